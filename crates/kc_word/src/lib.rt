@@ -1,0 +1,15 @@
+//! The words of a dump: numbers in bytes, hex text, plain data that several layers share, and the
+//! counter of steps.
+#![tactic(auto)]
+
+mod hex;
+mod memory;
+mod numbers;
+mod plain;
+mod steps;
+
+pub use hex::{hex16, read_hex};
+pub use memory::NoMemory;
+pub use numbers::{get_u16, get_u32, get_u64};
+pub use plain::{Pa, PageCfg, Segment};
+pub use steps::Steps;
