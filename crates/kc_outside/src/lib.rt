@@ -1,13 +1,11 @@
-// A library with one function.
+//! The outside of the program as two traits: a store of files that are read, and sinks that take text.
+//! Their meanings say what a call told and what it changed. What a real file holds is told by nobody.
 #![tactic(auto)]
 
-ghost use Rattle.std.specs.Prelude.{◌≡◌};
-ghost use Rattle.kc_outside.specs.Echo.{echo_of};
+mod known;
+mod sink;
+mod store;
 
-// The `ensures` clause is the contract: what `echo` returns is `echo_of` of its argument, a definition
-// in `specs/Echo.antt`, which a caller's clause can cite too.
-pub fn echo(x: usize) -> usize
-    ensures { result ≡ echo_of x }
-{
-    x
-}
+pub use known::{know_learnt, know_size};
+pub use sink::Sink;
+pub use store::{Failed, Slot, Store};
