@@ -1,0 +1,37 @@
+-- What the definitions of words say, in the words of the field.
+use Rattle.std.specs.Prelude.{◌≡◌, ℕ, ◌+◌, ◌-◌, ◌%◌, ◌<◌, ◌≤◌, Some, None, Ok, slice_get, List, drop}
+use Rattle.byteorder.specs.Endian.{little_number}
+use Rattle.kc_word.specs.declared.plain.Segment.{Segment}
+use Rattle.kc_found.specs.declared.words.PWord.{PWord}
+use Rattle.kc_found.specs.Image.{Physical, pword}
+use Rattle.kc_found.specs.Translation.{xlate}
+
+-- the segment at this place of the table holds the eight bytes from pa on
+pub record HoldsAt (segments : List Segment) (pa i : ℕ) (s : Segment) : Type 0 where
+  pub stands : slice_get segments i ≡ Some s
+  pub begins : s.paddr ≤ pa
+  pub ends : pa + 8 ≤ s.paddr + s.filesz
+
+-- and no segment before it does
+pub record HoldsFirst (segments : List Segment) (pa i : ℕ) (s : Segment) : Type 0 where
+  pub here : HoldsAt segments pa i s
+  pub none_before : (j : ℕ) (t : Segment) → j < i → HoldsAt segments pa j t → ⊥
+
+-- a word of the dump is the eight file bytes at its offset, which the first segment that holds them has
+abbrev pub WordsStandFirst : Type 0
+WordsStandFirst =
+    (physical : Physical) (pa : ℕ) (w : PWord) → pword physical pa ≡ Some w
+    → (i : ℕ) × (s : Segment) × HoldsFirst physical.segments pa i s
+    × (w.off ≡ s.offset + (pa - s.paddr)) × (w.value ≡ little_number 8 (drop w.off physical.bytes))
+
+-- a word is absent exactly where no segment holds its eight bytes
+abbrev pub AbsentWhereNone : Type 0
+AbsentWhereNone =
+    (physical : Physical) (pa : ℕ) → pword physical pa ≡ None
+    → (i : ℕ) (s : Segment) → HoldsAt physical.segments pa i s → ⊥
+
+-- a page moves whole: the low 12 bits stay, and two addresses of one page keep their distance
+abbrev pub PagesMoveWhole : Type 0
+PagesMoveWhole =
+    (physical : Physical) (mask level table va pa : ℕ) → table % 4096 ≡ 0 → xlate physical mask va level table ≡ Ok pa
+    → (pa % 4096 ≡ va % 4096)

@@ -1,0 +1,7 @@
+pub mod Frames
+pub mod Held
+pub mod Image
+pub mod Laws
+pub mod Space
+pub mod Stopped
+pub mod Translation

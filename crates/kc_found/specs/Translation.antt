@@ -1,0 +1,86 @@
+-- The words at virtual addresses.
+-- Source: Intel SDM volume 3A, chapter "Paging": four-level and five-level paging.
+use Rattle.std.specs.Prelude.{ℕ, zero, suc, ◌+◌, ◌-◌, ◌*◌, ◌/◌, ◌%◌, ◌^◌, Bool, ◌&&◌, ◌||◌, if◌then◌else◌, nat_eq, nat_lt, nat_le, bit_and, Option, Some, None, Result, Ok, Err}
+use Rattle.std.specs.Int.{bit_at}
+use Rattle.kc_word.specs.declared.plain.PageCfg.{PageCfg}
+use Rattle.kc_found.specs.declared.rule.Rule.{Rule}
+use Rattle.kc_found.specs.declared.rule.Rule.TheVariants.{M1, M2, M3, M4, M5, M6, M7}
+use Rattle.kc_found.specs.declared.words.PWord.{PWord}
+use Rattle.kc_found.specs.declared.words.VWord.{VWord}
+use Rattle.kc_found.specs.Stopped.{Stopped}
+use Rattle.kc_found.specs.Image.{Physical, Image, pword}
+
+-- the second step, where the first one didn't stop
+abbrev pub and_then : {A B : Type 0} → Result A Stopped → (A → Result B Stopped) → Result B Stopped
+and_then (Ok a) go = go a
+and_then (Err s) go = Err s
+
+abbrev pub stop : {A : Type 0} → ℕ → Rule → ℕ → ℕ → Option PWord → Result A Stopped
+stop va rule level pa entry = Err (record { va = va; rule = rule; level = level; pa = pa; entry = entry })
+
+-- the nine bits of an address that choose the entry of a table: from bit 12 for a PTE, and nine bits higher
+-- for each level above
+abbrev pub index_at : ℕ → ℕ → ℕ
+index_at level va = va / 2 ^ (12 + 9 * (level - 1)) % 512
+
+-- the physical address of the entry
+abbrev pub entry_address : ℕ → ℕ → ℕ → ℕ
+entry_address level table va = table + 8 * index_at level va
+
+-- an entry without the bits that memory encryption sets
+abbrev pub cleared : ℕ → ℕ → ℕ
+cleared mask entry = bit_and entry (2 ^ 64 - 1 - mask)
+
+-- bits 51 to 12 in their places: the next table, or the page
+abbrev pub frame_of : ℕ → ℕ
+frame_of entry = entry % 2 ^ 52 / 4096 * 4096
+
+-- why an entry is refused: it isn't present, it maps a large page, or a reserved bit is set
+abbrev pub refusal : ℕ → ℕ → Option Rule
+refusal level entry =
+    if nat_eq (bit_at entry 0) 0 then Some M4
+    else (if nat_eq (bit_at entry 7) 1 && (nat_eq level 3 || nat_eq level 2) then Some M7
+    else (if nat_eq (bit_at entry 7) 1 && nat_le 4 level then Some M5 else None))
+
+abbrev pub judged : ℕ → ℕ → ℕ → PWord → ℕ → Option Rule → Result ℕ Stopped
+judged va level pa word entry (Some rule) = stop va rule level pa (Some word)
+judged va level pa word entry None = Ok (frame_of entry)
+
+abbrev pub entered_by : ℕ → ℕ → ℕ → ℕ → Option PWord → Result ℕ Stopped
+entered_by mask va level pa None = stop va M3 level pa None
+entered_by mask va level pa (Some word) = judged va level pa word (cleared mask word.value) (refusal level (cleared mask word.value))
+
+-- the next table or the page that the entry at a level names
+abbrev pub entered : Physical → ℕ → ℕ → ℕ → ℕ → Result ℕ Stopped
+entered physical mask va level table = entered_by mask va level (entry_address level table va) (pword physical (entry_address level table va))
+
+-- the physical address of a virtual one, from a table of a level down. Level 0 is the page itself.
+unfoldable pub xlate : Physical → ℕ → ℕ → ℕ → ℕ → Result ℕ Stopped
+xlate physical mask va zero table = Ok (table + va % 4096)
+xlate physical mask va (suc level) table = and_then (entered physical mask va (suc level) table) (xlate physical mask va level)
+
+abbrev pub levels : PageCfg → ℕ
+levels paging = if paging.five then 5 else 4
+
+-- the number of bits of an address that the tables translate, less one: the bits from here on are equal
+abbrev pub sign_bit : PageCfg → ℕ
+sign_bit paging = if paging.five then 56 else 47
+
+abbrev pub is_canonical : PageCfg → ℕ → Bool
+is_canonical paging va = nat_lt va (2 ^ sign_bit paging) || nat_le (2 ^ 64 - 2 ^ sign_bit paging) va
+
+-- the translation of an address
+abbrev pub translated : Image → ℕ → Result ℕ Stopped
+translated image va =
+    if is_canonical image.paging va then xlate image.physical image.paging.sme va (levels image.paging) image.paging.table
+    else stop va M2 0 0 None
+
+abbrev pub word_or_stop : ℕ → ℕ → Option PWord → Result VWord Stopped
+word_or_stop va pa None = stop va M6 0 pa None
+word_or_stop va pa (Some word) = Ok (record { va = va; pa = pa; off = word.off; value = word.value })
+
+-- the word at a virtual address
+abbrev pub vword : Image → ℕ → Result VWord Stopped
+vword image va =
+    if nat_eq (va % 8) 0 then and_then (translated image va) (λ pa. word_or_stop va pa (pword image.physical pa))
+    else stop va M1 0 0 None

@@ -1,0 +1,15 @@
+//! The words of a dump's memory, physical and virtual: what they are, where they stand, and why one can't
+//! be read. The traits `Frames` and `Space` are the two ways to ask for them.
+#![tactic(auto)]
+
+mod frames;
+mod miss;
+mod rule;
+mod space;
+mod words;
+
+pub use frames::{FrameStop, Frames};
+pub use miss::Miss;
+pub use rule::Rule;
+pub use space::{Space, Stop};
+pub use words::{PWord, Place, VWord};
