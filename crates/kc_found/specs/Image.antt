@@ -1,6 +1,6 @@
 -- The memory of a dump as plain data, and its physical words.
 -- Source: ELF-64 object files (gABI), "Program Header". Where segments overlap, the first one counts.
-use Rattle.std.specs.Prelude.{ℕ, ◌+◌, ◌-◌, Bool, ◌&&◌, if◌then◌else◌, nat_le, List, [], ◌∷◌, drop, Option, Some, None, option_map}
+use Rattle.std.specs.Prelude.{ℕ, ◌+◌, ◌-◌, Bool, ◌&&◌, nat_le, List, drop, find, Option, option_map}
 use Rattle.byteorder.specs.Endian.{little_number}
 use Rattle.kc_word.specs.declared.plain.Segment.{Segment}
 use Rattle.kc_word.specs.declared.plain.PageCfg.{PageCfg}
@@ -22,8 +22,7 @@ holds pa s = nat_le s.paddr pa && nat_le (pa + 8) (s.paddr + s.filesz)
 
 -- the first segment that does
 abbrev pub holder : ℕ → List Segment → Option Segment
-holder pa [] = None
-holder pa (s ∷ ss) = if holds pa s then Some s else holder pa ss
+holder pa segments = find (holds pa) segments
 
 -- the file offset of a physical address of a segment
 abbrev pub offset_in : ℕ → Segment → ℕ

@@ -2,7 +2,6 @@
 use Rattle.std.specs.Prelude.{◌≡◌, ℕ, Option, Some, None, Result, Ok, Err, ⊤}
 use Rattle.kc_found.specs.declared.space.Stop.{Stop}
 use Rattle.kc_found.specs.declared.space.Stop.TheVariants.{Miss, Fault}
-use Rattle.kc_found.specs.declared.words.VWord.{VWord}
 use Rattle.kc_found.specs.Stopped.{Stopped}
 
 -- short of a fault, an answer is this one
@@ -26,8 +25,8 @@ UnlessFault (Ok a) P = P
 UnlessFault (Err (Miss s)) P = P
 UnlessFault (Err Fault) P = ⊤
 
--- an answer speaks of the address that was asked
-abbrev pub IsAbout : Result VWord Stop → ℕ → Type 0
-IsAbout (Ok w) va = w.va ≡ va
-IsAbout (Err (Miss s)) va = s.va ≡ va
-IsAbout (Err Fault) va = ⊤
+-- a miss speaks of the address that was asked
+abbrev pub StopsAt : {A : Type 0} → Result A Stop → ℕ → Type 0
+StopsAt (Ok a) va = ⊤
+StopsAt (Err (Miss s)) va = s.va ≡ va
+StopsAt (Err Fault) va = ⊤

@@ -1,9 +1,9 @@
 // Virtual memory as a trait.
-ghost use Rattle.std.specs.Prelude.{◌≡◌, ℕ, ◌+◌, ◌≤◌, List, Option};
+ghost use Rattle.std.specs.Prelude.{◌≡◌, ℕ, ◌+◌, ◌≤◌, List, Option, IfOk};
 ghost use Rattle.kc_outside.specs.Counts.{Rose};
 ghost use Rattle.kc_found.specs.Image.{Image};
 ghost use Rattle.kc_found.specs.Translation.{vword};
-ghost use Rattle.kc_found.specs.Space.{AnswersAs, OnFault, UnlessFault, IsAbout};
+ghost use Rattle.kc_found.specs.Space.{AnswersAs, OnFault, UnlessFault, StopsAt};
 
 use crate::miss::Miss;
 use crate::words::VWord;
@@ -36,7 +36,8 @@ pub trait Space {
     /// The word at a virtual address in bytes, of any value. It takes no memory.
     fn word<L: Ledger>(&mut self, va: u64, steps: &mut Steps<L>) -> Result<VWord, Stop>
         ensures word { AnswersAs (λ image. vword image va) (image self.old) result }
-        ensures about { IsAbout result va }
+        ensures asked { IfOk result (λ w. w.va ≡ va) }
+        ensures stopped { StopsAt result va }
         ensures steps { steps.new ≤ steps.old + most self.old }
 
         ensures image { image self.new ≡ image self.old }

@@ -1,0 +1,3 @@
+mod Descent
+mod Headers
+mod Segments
