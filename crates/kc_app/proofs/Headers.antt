@@ -1,9 +1,8 @@
 -- The program headers of a core file.
-use Rattle.std.proofs.Common.{◌≡◌, ℕ, zero, suc, ◌+◌, ◌-◌, ◌*◌, ◌<◌, ◌≤◌, Bool, true, false, cond, ◌&&◌, List, [], ◌∷◌, ◌++◌, length, drop, map, filter, Result, Ok, Err, arith, refl, sym, ap, ◌∙◌, append_assoc, get_or, IfOk, rules}
+use Rattle.std.proofs.Common.{◌≡◌, ℕ, zero, suc, ◌+◌, ◌-◌, ◌*◌, ◌<◌, ◌≤◌, Bool, true, false, cond, ◌&&◌, List, [], ◌∷◌, ◌++◌, length, drop, map, filter, arith, refl, sym, ap, ◌∙◌, append_assoc, get_or}
 use Rattle.std.specs.List.{All, list_all}
 use Rattle.std.proofs.lemmas.List.{append-nil, drop-drop}
 use Rattle.std.proofs.lemmas.Bool.Decides.{nat_tests}
-use Rattle.kc_word.specs.declared.plain.Segment.{Segment}
 use Rattle.kc_app.specs.declared.core_file.ProgramHeader.{ProgramHeader}
 use Rattle.kc_app.specs.Core.{program_header, program_headers, is_good, is_load, loads_of, segment_of}
 use Rattle.kc_app.specs.Stored.{IsInside}
@@ -16,7 +15,7 @@ headers_more n i table hs more =
     let left : n - i ≡ suc (n - (i + 1)) = omega arith in
     let next : 56 * i + 56 ≡ 56 * (i + 1) = omega arith in
     rw left (append_assoc hs (program_header (drop (56 * i) table) ∷ []) (program_headers (n - (i + 1)) (drop (56 * (i + 1)) table))
-        ∙ ap (λ t. hs ++ program_header (drop (56 * i) table) ∷ program_headers (n - (i + 1)) t) (sym (drop-drop 56 (56 * i) table ∙ ap (λ k. drop k table) next)))
+    ∙ ap (λ t. hs ++ program_header (drop (56 * i) table) ∷ program_headers (n - (i + 1)) t) (sym (drop-drop 56 (56 * i) table ∙ ap (λ k. drop k table) next)))
 
 pub headers_all : (n i : ℕ) (table : List ℕ) (hs : List ProgramHeader) → n ≤ i → hs ++ program_headers (n - i) (drop (56 * i) table) ≡ hs
 unfolding program_headers

@@ -1,3 +1,5 @@
 mod Descent
 mod Headers
+mod Pieces
 mod Segments
+mod Usage

@@ -15,6 +15,7 @@ use kc_word::Segment;
 use std::alloc::{AllocError, AllocFailed, Global};
 
 const ELF_HEADER: usize = 64;
+
 const PROGRAM_HEADER: usize = 56;
 
 /// Why a file is no core file that can be read yet.
@@ -152,7 +153,11 @@ fn header_fault(header: &[u8], size: u64) -> Option<CoreFault>
 }
 
 // The program headers of a table.
-fn program_headers(alloc: Global, table: &[u8], count: usize) -> Result<Vec<ProgramHeader>, CoreStop>
+fn program_headers(
+    alloc: Global,
+    table: &[u8],
+    count: usize,
+) -> Result<Vec<ProgramHeader>, CoreStop>
     requires { length table.now ≡ 56 * count }
     ensures headers { IfOk result (λ v. v.items ≡ program_headers count table.now) }
     ensures memory { IsOkUnless result CoreStop.NoMemory }
@@ -232,7 +237,11 @@ impl<T: Drop> From<AllocFailed<T>> for CoreStop {
 
 /// Reads the segments of the core file in slot Dump, whose size in bytes was learnt. E1, E2 and E11 come
 /// exactly where the file has them, the first in this order. It makes two store calls.
-pub fn read_core<S: Store>(alloc: Global, store: &mut S, size: u64) -> Result<Vec<Segment>, CoreStop>
+pub fn read_core<S: Store>(
+    alloc: Global,
+    store: &mut S,
+    size: u64,
+) -> Result<Vec<Segment>, CoreStop>
     requires { S.sizes store.old Dump ≡ Some size }
 
     ensures core { AnswersAs (λ v. v.items) core (content (S.files store.old) Dump (S.opened store.old Dump)) result }

@@ -15,10 +15,22 @@ use kc_word::{Segment, Steps};
 use std::sync::ledger::Ledger;
 
 /// The physical memory of the file in slot Dump, by its segments.
+#[derive(Drop)]
 pub struct DumpFrames<'s, 'g, S: Store> {
     pub store: &'s mut S,
     pub segments: &'g [Segment],
     ghost inside: { AreInside (S.sizes store.now Dump) segments.now },
+}
+
+impl<'s, 'g, S: Store> DumpFrames<'s, 'g, S> {
+    /// Hands the store back.
+    pub fn into_store(self) -> &'s mut S
+        ensures same { result.ghost_name ≡ self.entry.store.ghost_name }
+        ensures now { result.now ≡ self.entry.store.now }
+    {
+        let DumpFrames { store, segments: _ } = self;
+        store
+    }
 }
 
 // Whether the segment's file bytes hold all eight bytes from the physical address on.
@@ -71,6 +83,8 @@ fn offset_of<S: Store>(store: &S, segments: &[Segment], pa: u64) -> Option<u64>
 
 impl<'s, 'g, S: Store> Frames for DumpFrames<'s, 'g, S> {
     ghost image = { λ d. stored d.segments.now (content (S.files d.store.now) Dump (S.opened d.store.now Dump)) };
+
+    ghost files = { λ d. S.files d.store.now };
 
     ghost faults = { λ d. S.faults d.store.now };
 

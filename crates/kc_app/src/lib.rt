@@ -1,7 +1,15 @@
 //! The commands of kaudit: the words of a command line, its files, and what is printed.
 #![tactic(auto)]
 
+mod answer;
+mod command;
 mod core_file;
 mod frames;
 mod memory;
+mod print;
+mod text;
+mod top;
 mod walk;
+mod word;
+
+pub use top::kaudit;

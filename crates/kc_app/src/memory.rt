@@ -40,6 +40,7 @@ pub fn read_virtual<F: Frames, L: Ledger>(
     ensures stopped { StopsAt result va }
     ensures steps { steps.new ≤ steps.old + (levels paging.now + 1) }
     ensures image { F.image frames.new ≡ F.image frames.old }
+    ensures files { F.files frames.new ≡ F.files frames.old }
     ensures through { F.through frames.new ≡ F.through frames.old }
     ensures later { F.faults frames.old ≤ F.faults frames.new }
     ensures quiet { UnlessFault result (F.faults frames.new ≡ F.faults frames.old) }

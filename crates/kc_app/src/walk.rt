@@ -11,6 +11,7 @@ use kc_word::{Pa, PageCfg, Steps};
 use std::sync::ledger::Ledger;
 
 const LEVEL_BITS: u32 = 9;
+
 const PAGE_BITS: u32 = 12;
 
 // The nine bits of an address that choose the entry of a table.
@@ -75,6 +76,7 @@ fn enter<F: Frames, L: Ledger>(
     ensures small { IfOk result (λ next. next < 2 ^ 52) }
     ensures steps { steps.new ≡ steps.old + 1 }
     ensures image { F.image frames.new ≡ F.image frames.old }
+    ensures files { F.files frames.new ≡ F.files frames.old }
     ensures through { F.through frames.new ≡ F.through frames.old }
     ensures later { F.faults frames.old ≤ F.faults frames.new }
     ensures quiet { UnlessFault result (F.faults frames.new ≡ F.faults frames.old) }
@@ -136,6 +138,7 @@ fn descend<F: Frames, L: Ledger>(
     ensures small { IfOk result (λ pa. pa < 2 ^ 52) }
     ensures steps { steps.new ≤ steps.old + level }
     ensures image { F.image frames.new ≡ F.image frames.old }
+    ensures files { F.files frames.new ≡ F.files frames.old }
     ensures through { F.through frames.new ≡ F.through frames.old }
     ensures later { F.faults frames.old ≤ F.faults frames.new }
     ensures quiet { UnlessFault result (F.faults frames.new ≡ F.faults frames.old) }
@@ -173,6 +176,7 @@ pub fn walk<F: Frames, L: Ledger>(
     ensures small { IfOk result (λ pa. pa < 2 ^ 52) }
     ensures steps { steps.new ≤ steps.old + levels paging.now }
     ensures image { F.image frames.new ≡ F.image frames.old }
+    ensures files { F.files frames.new ≡ F.files frames.old }
     ensures through { F.through frames.new ≡ F.through frames.old }
     ensures later { F.faults frames.old ≤ F.faults frames.new }
     ensures quiet { UnlessFault result (F.faults frames.new ≡ F.faults frames.old) }

@@ -1,6 +1,7 @@
 // Physical memory as a trait.
 ghost use Rattle.std.specs.Prelude.{◌≡◌, ℕ, ◌+◌, ◌%◌, ◌≤◌, List, Option};
 ghost use Rattle.kc_outside.specs.Counts.{Rose};
+ghost use Rattle.kc_outside.specs.Files.{Files};
 ghost use Rattle.kc_found.specs.Image.{Physical};
 ghost use Rattle.kc_found.specs.Frames.{ReadsWord, OnFault, UnlessFault};
 
@@ -22,6 +23,9 @@ pub trait Frames {
     /// The dump's bytes and segments, or `None` where they aren't told.
     ghost image: { Self → Option Physical };
 
+    /// The files of the store that words are read from, or `None` where they aren't told.
+    ghost files: { Self → Option Files };
+
     /// How often reading failed.
     ghost faults: { Self → ℕ };
 
@@ -36,6 +40,7 @@ pub trait Frames {
         ensures steps { steps.new ≡ steps.old + 1 }
 
         ensures image { image self.new ≡ image self.old }
+        ensures files { files self.new ≡ files self.old }
         ensures through { through self.new ≡ through self.old }
         ensures later { faults self.old ≤ faults self.new }
         ensures quiet { UnlessFault result (faults self.new ≡ faults self.old) }

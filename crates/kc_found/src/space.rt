@@ -1,6 +1,7 @@
 // Virtual memory as a trait.
 ghost use Rattle.std.specs.Prelude.{◌≡◌, ℕ, ◌+◌, ◌≤◌, List, Option, IfOk};
 ghost use Rattle.kc_outside.specs.Counts.{Rose};
+ghost use Rattle.kc_outside.specs.Files.{Files};
 ghost use Rattle.kc_found.specs.Image.{Image};
 ghost use Rattle.kc_found.specs.Translation.{vword};
 ghost use Rattle.kc_found.specs.Space.{AnswersAs, OnFault, UnlessFault, StopsAt};
@@ -24,6 +25,9 @@ pub trait Space {
     /// The dump's memory and page tables, or `None` where they aren't told.
     ghost image: { Self → Option Image };
 
+    /// The files of the store that words are read from, or `None` where they aren't told.
+    ghost files: { Self → Option Files };
+
     /// How often reading failed.
     ghost faults: { Self → ℕ };
 
@@ -41,6 +45,7 @@ pub trait Space {
         ensures steps { steps.new ≤ steps.old + most self.old }
 
         ensures image { image self.new ≡ image self.old }
+        ensures files { files self.new ≡ files self.old }
         ensures through { through self.new ≡ through self.old }
         ensures most { most self.new ≡ most self.old }
         ensures later { faults self.old ≤ faults self.new }

@@ -1,4 +1,4 @@
-use Rattle.std.proofs.Common.{◌≡◌, ◌-◌, ◌*◌, ◌+◌, ◌++◌, take, drop, length, sym, ◌∙◌, rules, arith}
+use Rattle.std.proofs.Common.{◌*◌, sym, ◌∙◌, arith}
 use Rattle.std.proofs.lemmas.List.{take_rest}
 use Rattle.kc_app.proofs.Headers.{headers_more, headers_all}
 use Rattle.kc_app.proofs.core_file.program_headers.Goals as goal

@@ -1,7 +1,6 @@
-use Rattle.std.proofs.Common.{◌≡◌, ◌+◌, ◌≤◌, ◌<◌, ◌^◌, ℕ, Some, Option, arith, Fits, w64, sym}
-use Rattle.std.specs.Option.{ForSome}
+use Rattle.std.proofs.Common.{arith, sym}
 use Rattle.kc_outside.specs.declared.store.Slot.TheVariants.{Dump}
-use Rattle.kc_app.proofs.Segments.{holder_holds, Holds, a_size}
+use Rattle.kc_app.proofs.Segments.{holder_holds, a_size}
 use Rattle.kc_app.proofs.frames.offset_of.Goals as goal
 
 pub overflow_sub-result : goal.overflow_sub-result

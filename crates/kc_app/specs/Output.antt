@@ -1,0 +1,55 @@
+-- What a command prints and ends with, as a function of its words and files.
+use Rattle.std.specs.Prelude.{ℕ, false, List, [], Option, Some, None, option_map, option_and_then, Result, Ok, Err}
+use Rattle.kc_word.specs.declared.plain.Segment.{Segment}
+use Rattle.kc_outside.specs.declared.store.Slot.{Slot}
+use Rattle.kc_outside.specs.declared.store.Slot.TheVariants.{Dump}
+use Rattle.kc_outside.specs.Files.{Files}
+use Rattle.kc_found.specs.declared.words.VWord.{VWord}
+use Rattle.kc_found.specs.Stopped.{Stopped}
+use Rattle.kc_found.specs.Image.{Image}
+use Rattle.kc_found.specs.Translation.{vword}
+use Rattle.kc_app.specs.declared.core_file.CoreFault.{CoreFault}
+use Rattle.kc_app.specs.Core.{core}
+use Rattle.kc_app.specs.Command.{Asked, AsksWord, command, name_in, slot_word}
+use Rattle.kc_app.specs.Texts.{word_line, broken_text, refusal_line, usage_text}
+
+pub record Output : Type 0 where
+  pub out : List ℕ
+  pub err : List ℕ
+  pub status : ℕ
+
+-- the memory of a dump with these segments, translated by four levels from a top table
+abbrev pub image_of : List ℕ → List Segment → ℕ → Image
+image_of bytes segments table = record { physical = record { bytes = bytes; segments = segments }; paging = record { table = table; five = false; sme = 0 } }
+
+abbrev pub shown : Result VWord Stopped → Output
+shown (Ok w) = record { out = word_line w; err = []; status = 0 }
+shown (Err s) = record { out = broken_text s; err = []; status = 1 }
+
+abbrev pub word_behind : ℕ → ℕ → List ℕ → Result (List Segment) CoreFault → Output
+word_behind table address bytes (Ok segments) = shown (vword (image_of bytes segments table) address)
+word_behind table address bytes (Err fault) = record { out = []; err = refusal_line fault; status = 2 }
+
+-- the output of `word` on a dump with these bytes
+abbrev pub word_output : ℕ → ℕ → List ℕ → Output
+word_output table address bytes = word_behind table address bytes (core bytes)
+
+-- the output of a command, or none where it needs a file that is none
+abbrev pub asked_output : Asked → (Slot → Option (List ℕ)) → Option Output
+asked_output (AsksWord dump table address) files = option_map (λ bytes. word_output table address bytes) (files Dump)
+
+abbrev pub output_of : Option Asked → (Slot → Option (List ℕ)) → Option Output
+output_of None files = Some (record { out = []; err = usage_text; status = 6 })
+output_of (Some asked) files = asked_output asked files
+
+-- the output of the words behind the program's name. A file is the bytes that a slot's word stands for.
+abbrev pub out : List (List ℕ) → (Slot → Option (List ℕ)) → Option Output
+out words files = output_of (command words) files
+
+-- what the words of the slots stand for in a store
+abbrev pub word_files : List (List ℕ) → Files → Slot → Option (List ℕ)
+word_files words files slot = option_and_then (files slot) (slot_word words slot)
+
+-- the same for what a command asks
+abbrev pub asked_files : Asked → Files → Slot → Option (List ℕ)
+asked_files asked files slot = option_and_then (files slot) (name_in asked slot)
