@@ -1,10 +1,11 @@
 -- What the definitions of words say, in the words of the field.
-use Rattle.std.specs.Prelude.{◌≡◌, ℕ, ◌+◌, ◌-◌, ◌%◌, ◌<◌, ◌≤◌, Some, None, Ok, slice_get, List, drop}
+use Rattle.std.specs.Prelude.{◌≡◌, ℕ, ◌+◌, ◌-◌, ◌*◌, ◌%◌, ◌/◌, ◌<◌, ◌≤◌, Some, None, Ok, slice_get, List, drop}
 use Rattle.byteorder.specs.Endian.{little_number}
 use Rattle.kc_word.specs.declared.plain.Segment.{Segment}
 use Rattle.kc_found.specs.declared.words.PWord.{PWord}
-use Rattle.kc_found.specs.Image.{Physical, pword}
-use Rattle.kc_found.specs.Translation.{xlate}
+use Rattle.kc_found.specs.Image.{Physical, Image, pword}
+use Rattle.kc_found.specs.Translation.{xlate, vword}
+use Rattle.kc_found.specs.Places.{AllStandIn, places_of}
 
 -- the segment at this place of the table holds the eight bytes from pa on
 pub record HoldsAt (segments : List Segment) (pa i : ℕ) (s : Segment) : Type 0 where
@@ -24,14 +25,20 @@ WordsStandFirst =
     → (i : ℕ) × (s : Segment) × HoldsFirst physical.segments pa i s
     × (w.off ≡ s.offset + (pa - s.paddr)) × (w.value ≡ little_number 8 (drop w.off physical.bytes))
 
--- a word is absent exactly where no segment holds its eight bytes
+-- where a word is absent, no segment holds its eight bytes
 abbrev pub AbsentWhereNone : Type 0
 AbsentWhereNone =
     (physical : Physical) (pa : ℕ) → pword physical pa ≡ None
     → (i : ℕ) (s : Segment) → HoldsAt physical.segments pa i s → ⊥
 
--- a page moves whole: the low 12 bits stay, and two addresses of one page keep their distance
+-- a page moves whole: an address keeps its low 12 bits, and another address of its page goes where it goes, but
+-- for the low 12 bits
 abbrev pub PagesMoveWhole : Type 0
 PagesMoveWhole =
     (physical : Physical) (mask level table va pa : ℕ) → table % 4096 ≡ 0 → xlate physical mask va level table ≡ Ok pa
     → (pa % 4096 ≡ va % 4096)
+    × ((other : ℕ) → other / 4096 ≡ va / 4096 → xlate physical mask other level table ≡ Ok (pa / 4096 * 4096 + other % 4096))
+
+-- what an answer shows is true of the dump
+abbrev pub PlacesStand : Type 0
+PlacesStand = (image : Image) (va : ℕ) → AllStandIn image (places_of (vword image va))

@@ -1,10 +1,10 @@
 -- The words at virtual addresses.
 -- Source: Intel SDM volume 3A, chapter "Paging": four-level and five-level paging.
-use Rattle.std.specs.Prelude.{ℕ, zero, suc, ◌+◌, ◌-◌, ◌*◌, ◌/◌, ◌%◌, ◌^◌, Bool, ◌&&◌, ◌||◌, if◌then◌else◌, nat_eq, nat_lt, nat_le, bit_and, Option, Some, None, Result, Ok, Err}
+use Rattle.std.specs.Prelude.{ℕ, zero, suc, ◌+◌, ◌-◌, ◌*◌, ◌/◌, ◌%◌, ◌^◌, Bool, ◌&&◌, ◌||◌, if◌then◌else◌, not, nat_eq, nat_lt, nat_le, bit_and, Option, Some, None, Result, Ok, Err}
 use Rattle.std.specs.Int.{bit_at}
 use Rattle.kc_word.specs.declared.plain.PageCfg.{PageCfg}
 use Rattle.kc_found.specs.declared.rule.Rule.{Rule}
-use Rattle.kc_found.specs.declared.rule.Rule.TheVariants.{M1, M2, M3, M4, M5, M6, M7}
+use Rattle.kc_found.specs.declared.rule.Rule.TheVariants.{M1, M2, M3, M4, M5, M6}
 use Rattle.kc_found.specs.declared.words.PWord.{PWord}
 use Rattle.kc_found.specs.declared.words.VWord.{VWord}
 use Rattle.kc_found.specs.Stopped.{Stopped}
@@ -31,33 +31,66 @@ entry_address level table va = table + 8 * index_at level va
 abbrev pub cleared : ℕ → ℕ → ℕ
 cleared mask entry = bit_and entry (2 ^ 64 - 1 - mask)
 
--- bits 51 to 12 in their places: the next table, or the page
-abbrev pub frame_of : ℕ → ℕ
-frame_of entry = entry % 2 ^ 52 / 4096 * 4096
+-- the address bits of an entry from a bit on up to bit 51, in their places
+abbrev pub address_from : ℕ → ℕ → ℕ
+address_from bit entry = entry % 2 ^ 52 / 2 ^ bit * 2 ^ bit
 
--- why an entry is refused: it isn't present, it maps a large page, or a reserved bit is set
+abbrev pub is_set : ℕ → ℕ → Bool
+is_set bit entry = nat_eq (bit_at entry bit) 1
+
+-- A reserved bit: bit 7 of a PML5E or PML4E; with bit 7, bits 29 to 13 of a PDPTE and bits 20 to 13 of a PDE.
+-- Bit 12 of a large page is its memory type.
+abbrev pub has_reserved : ℕ → ℕ → Bool
+has_reserved level entry =
+    is_set 7 entry
+    && (nat_le 4 level
+    || (nat_eq level 3 && nat_lt 0 (entry % 2 ^ 30 / 2 ^ 13))
+    || (nat_eq level 2 && nat_lt 0 (entry % 2 ^ 21 / 2 ^ 13)))
+
+-- why an entry is refused: it isn't present, or a reserved bit is set
 abbrev pub refusal : ℕ → ℕ → Option Rule
 refusal level entry =
-    if nat_eq (bit_at entry 0) 0 then Some M4
-    else (if nat_eq (bit_at entry 7) 1 && (nat_eq level 3 || nat_eq level 2) then Some M7
-    else (if nat_eq (bit_at entry 7) 1 && nat_le 4 level then Some M5 else None))
+    if not (is_set 0 entry) then Some M4
+    else (if has_reserved level entry then Some M5 else None)
 
-abbrev pub judged : ℕ → ℕ → ℕ → PWord → ℕ → Option Rule → Result ℕ Stopped
+-- where an entry leads: to a table of the level below, which at level 1 is a page, or to the physical address
+-- of the virtual one, in a large page
+pub data Way : Type 0 where
+  Table : ℕ → Way
+  Large : ℕ → Way
+
+-- the physical address of a virtual one in a page whose offsets have these many bits
+abbrev pub in_page : ℕ → ℕ → ℕ → ℕ
+in_page bits entry va = address_from bits entry + va % 2 ^ bits
+
+-- with bit 7, a PDPTE maps 1 GiB and a PDE 2 MiB
+abbrev pub way : ℕ → ℕ → ℕ → Way
+way level entry va =
+    if is_set 7 entry && nat_eq level 3 then Large (in_page 30 entry va)
+    else (if is_set 7 entry && nat_eq level 2 then Large (in_page 21 entry va)
+    else Table (address_from 12 entry))
+
+abbrev pub judged : ℕ → ℕ → ℕ → PWord → ℕ → Option Rule → Result Way Stopped
 judged va level pa word entry (Some rule) = stop va rule level pa (Some word)
-judged va level pa word entry None = Ok (frame_of entry)
+judged va level pa word entry None = Ok (way level entry va)
 
-abbrev pub entered_by : ℕ → ℕ → ℕ → ℕ → Option PWord → Result ℕ Stopped
+abbrev pub entered_by : ℕ → ℕ → ℕ → ℕ → Option PWord → Result Way Stopped
 entered_by mask va level pa None = stop va M3 level pa None
 entered_by mask va level pa (Some word) = judged va level pa word (cleared mask word.value) (refusal level (cleared mask word.value))
 
--- the next table or the page that the entry at a level names
-abbrev pub entered : Physical → ℕ → ℕ → ℕ → ℕ → Result ℕ Stopped
+-- where the entry at a level leads
+abbrev pub entered : Physical → ℕ → ℕ → ℕ → ℕ → Result Way Stopped
 entered physical mask va level table = entered_by mask va level (entry_address level table va) (pword physical (entry_address level table va))
+
+-- on with the table of the level below, unless the page is reached
+abbrev pub follow : Way → (ℕ → Result ℕ Stopped) → Result ℕ Stopped
+follow (Table table) go = go table
+follow (Large pa) go = Ok pa
 
 -- the physical address of a virtual one, from a table of a level down. Level 0 is the page itself.
 unfoldable pub xlate : Physical → ℕ → ℕ → ℕ → ℕ → Result ℕ Stopped
 xlate physical mask va zero table = Ok (table + va % 4096)
-xlate physical mask va (suc level) table = and_then (entered physical mask va (suc level) table) (xlate physical mask va level)
+xlate physical mask va (suc level) table = and_then (entered physical mask va (suc level) table) (λ w. follow w (xlate physical mask va level))
 
 abbrev pub levels : PageCfg → ℕ
 levels paging = if paging.five then 5 else 4

@@ -3,12 +3,14 @@
 #![tactic(auto)]
 
 mod frames;
+mod laws;
 mod miss;
 mod rule;
 mod space;
 mod words;
 
 pub use frames::{FrameStop, Frames};
+pub use laws::{know_pages, know_places, know_words};
 pub use miss::Miss;
 pub use rule::Rule;
 pub use space::{Space, Stop};

@@ -7,7 +7,7 @@ use crate::words::PWord;
 use std::marker::Model;
 
 /// Reading a virtual address stopped. The level is 0 exactly for M1, M2 and M6, and else from 1 to 5. The
-/// entry is there exactly for M4, M5 and M7.
+/// entry is there exactly for M4 and M5.
 #[derive(Clone, Copy, Debug, PartialEq, Eq)]
 pub struct Miss {
     /// The virtual address that was asked.

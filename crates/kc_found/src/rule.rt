@@ -16,6 +16,4 @@ pub enum Rule {
     M5,
     /// The word at the translated address isn't in the dump.
     M6,
-    /// A paging entry maps a page larger than 4 KiB, which isn't followed yet.
-    M7,
 }

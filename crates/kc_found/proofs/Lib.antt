@@ -1,0 +1,3 @@
+mod PageLaws
+mod PlaceLaws
+mod WordLaws
