@@ -1,0 +1,153 @@
+// The words at virtual addresses.
+ghost use Rattle.std.specs.Prelude.{◌≡◌, ◌+◌, ◌%◌, ◌^◌, ◌<◌, ◌≤◌, None, IsTrue, IfOk};
+ghost use Rattle.kc_outside.specs.Counts.{Rose};
+ghost use Rattle.kc_found.specs.Image.{pword};
+ghost use Rattle.kc_found.specs.Stopped.{is_stop};
+ghost use Rattle.kc_found.specs.Space.{AnswersAs, OnFault, StopsAt, UnlessFault};
+ghost use Rattle.kc_found.specs.Translation.{levels, vword, word_or_stop};
+ghost use Rattle.kc_mem.specs.Paged.{with_paging, most_one, most_six};
+
+use kc_found::{FrameStop, Frames, Miss, Rule, Space, Stop, VWord};
+use kc_page::walk;
+use kc_word::{NoMemory, Pa, PageCfg, Steps};
+use std::alloc::Global;
+use std::sync::ledger::Ledger;
+
+/// The virtual memory over a physical one, by the page tables below its top table. It walks the tables for
+/// each word.
+#[derive(Drop)]
+pub struct Memory<F: Frames> {
+    pub frames: F,
+    pub paging: PageCfg,
+    ghost aligned: { paging.table % 4096 ≡ 0 },
+    ghost small: { paging.table < 2 ^ 52 },
+}
+
+impl<F: Frames> Memory<F> {
+    /// The memory over these frames. `kept` is how many translations it may keep; it keeps none yet.
+    pub fn new(alloc: Global, frames: F, paging: PageCfg, kept: usize) -> Result<Self, NoMemory>
+        requires aligned { paging.table % 4096 ≡ 0 }
+        requires small { paging.table < 2 ^ 52 }
+        requires some { 1 ≤ kept }
+        ensures frames { IfOk result (λ m. m.frames ≡ frames) }
+        ensures paging { IfOk result (λ m. m.paging ≡ paging) }
+    {
+        let _ = alloc;
+        let _ = kept;
+        Ok(Memory::over(frames, paging))
+    }
+
+    /// The same, with nothing to keep. It takes no memory.
+    pub fn over(frames: F, paging: PageCfg) -> Self
+        requires aligned { paging.table % 4096 ≡ 0 }
+        requires small { paging.table < 2 ^ 52 }
+        ensures frames { result.frames ≡ frames }
+        ensures paging { result.paging ≡ paging }
+    {
+        Memory { frames, paging }
+    }
+
+    /// Hands the frames back.
+    pub fn into_frames(self) -> F
+        ensures { result ≡ self.frames }
+    {
+        let Memory { frames, paging: _ } = self;
+        frames
+    }
+}
+
+impl<F: Frames> Space for Memory<F> {
+    ghost image = { λ m. with_paging m.paging (F.image m.frames) };
+
+    ghost files = { λ m. F.files m.frames };
+
+    ghost faults = { λ m. F.faults m.frames };
+
+    ghost through = { λ m. F.through m.frames };
+
+    ghost most = { λ m. levels m.paging + 1 };
+
+    ghost most_some = { λ m. most_one m.paging };
+
+    ghost most_small = { λ m. most_six m.paging };
+
+    fn word<L: Ledger>(&mut self, va: u64, steps: &mut Steps<L>) -> Result<VWord, Stop> {
+        read(&mut self.frames, &self.paging, va, steps)
+    }
+}
+
+// A stop with no level and no entry.
+fn stopped(va: u64, rule: Rule, pa: u64) -> Stop
+    requires { IsTrue (is_stop rule 0 None) }
+    ensures { result ≡ Stop.Miss (record { va = va; rule = rule; level = 0; pa = pa; entry = None }) }
+{
+    Stop::Miss(Miss {
+        va,
+        rule,
+        level: 0,
+        pa,
+        entry: None,
+    })
+}
+
+// The word at a virtual address: M1, else the stop of the walk, else M6, else the word.
+fn read<F: Frames, L: Ledger>(
+    frames: &mut F,
+    paging: &PageCfg,
+    va: u64,
+    steps: &mut Steps<L>,
+) -> Result<VWord, Stop>
+    requires aligned { paging.now.table % 4096 ≡ 0 }
+    requires small { paging.now.table < 2 ^ 52 }
+
+    ensures word { AnswersAs (λ physical. vword (record { physical = physical; paging = paging.now }) va) (F.image frames.old) result }
+    ensures asked { IfOk result (λ w. w.va ≡ va) }
+    ensures stopped { StopsAt result va }
+    ensures steps { steps.new ≤ steps.old + (levels paging.now + 1) }
+    ensures image { F.image frames.new ≡ F.image frames.old }
+    ensures files { F.files frames.new ≡ F.files frames.old }
+    ensures through { F.through frames.new ≡ F.through frames.old }
+    ensures later { F.faults frames.old ≤ F.faults frames.new }
+    ensures quiet { UnlessFault result (F.faults frames.new ≡ F.faults frames.old) }
+    ensures cause { OnFault result (Rose (F.faults frames.old) (F.faults frames.new)) }
+{
+    if va % 8 != 0 {
+        return Err(stopped(va, Rule::M1, 0));
+    }
+    match walk(frames, paging, va, steps) {
+        Ok(Pa(pa)) => read_at(frames, va, pa, steps),
+        Err(stop) => Err(stop),
+    }
+}
+
+// The word at a virtual address whose physical one is known.
+fn read_at<F: Frames, L: Ledger>(
+    frames: &mut F,
+    va: u64,
+    pa: u64,
+    steps: &mut Steps<L>,
+) -> Result<VWord, Stop>
+    requires { pa % 8 ≡ 0 }
+
+    ensures word { AnswersAs (λ physical. word_or_stop va pa (pword physical pa)) (F.image frames.old) result }
+    ensures asked { IfOk result (λ w. w.va ≡ va) }
+    ensures stopped { StopsAt result va }
+    ensures steps { steps.new ≡ steps.old + 1 }
+    ensures image { F.image frames.new ≡ F.image frames.old }
+    ensures files { F.files frames.new ≡ F.files frames.old }
+    ensures through { F.through frames.new ≡ F.through frames.old }
+    ensures later { F.faults frames.old ≤ F.faults frames.new }
+    ensures quiet { UnlessFault result (F.faults frames.new ≡ F.faults frames.old) }
+    ensures cause { OnFault result (Rose (F.faults frames.old) (F.faults frames.new)) }
+{
+    match frames.word(pa, steps) {
+        Ok(word) => Ok(VWord {
+            va,
+            pa,
+            off: word.off,
+            value: word.value,
+        }),
+        Err(FrameStop::Absent) => Err(stopped(va, Rule::M6, pa)),
+        Err(FrameStop::Fault) => Err(Stop::Fault),
+    }
+}
