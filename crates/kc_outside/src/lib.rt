@@ -3,9 +3,11 @@
 #![tactic(auto)]
 
 mod known;
+mod mem_sink;
 mod sink;
 mod store;
 
 pub use known::{know_learnt, know_size};
+pub use mem_sink::MemSink;
 pub use sink::Sink;
 pub use store::{Failed, Slot, Store};
