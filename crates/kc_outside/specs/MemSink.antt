@@ -12,8 +12,8 @@ limit_of sink = sink.limit
 
 -- how often a call failed
 abbrev pub faults_of : MemSink → ℕ
-faults_of sink = sink.faults
+faults_of sink = sink.counts.faults
 
 -- how many calls there were
 abbrev pub calls_of : MemSink → ℕ
-calls_of sink = sink.asked
+calls_of sink = sink.counts.asked

@@ -2,12 +2,17 @@
 //! Their meanings say what a call told and what it changed. What a real file holds is told by nobody.
 #![tactic(auto)]
 
+mod counts;
 mod known;
+mod mem_file;
 mod mem_sink;
+mod mem_store;
 mod sink;
+mod slots;
 mod store;
 
 pub use known::{know_learnt, know_size};
 pub use mem_sink::MemSink;
+pub use mem_store::MemStore;
 pub use sink::Sink;
 pub use store::{Failed, Slot, Store};

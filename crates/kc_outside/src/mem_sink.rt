@@ -2,6 +2,7 @@
 ghost use Rattle.std.specs.Prelude.{◌≤◌, vec_len};
 ghost use Rattle.std.specs.Vec.{vec_capacity};
 
+use crate::counts::Counts;
 use crate::sink::Sink;
 use crate::store::Failed;
 use kc_word::NoMemory;
@@ -12,8 +13,7 @@ use std::alloc::Global;
 pub struct MemSink {
     kept: Vec<u8>,
     limit: usize,
-    faults: u64,
-    asked: u64,
+    counts: Counts,
     ghost room: { limit ≤ vec_capacity kept },
     ghost within: { vec_len kept ≤ limit },
 }
@@ -33,8 +33,7 @@ impl MemSink {
         Ok(MemSink {
             kept,
             limit,
-            faults: 0,
-            asked: 0,
+            counts: Counts::new(),
         })
     }
 
@@ -47,8 +46,8 @@ impl MemSink {
 }
 
 impl Sink for MemSink {
-    ghost use Rattle.std.specs.Prelude.{◌≡◌, ◌+◌, ◌-◌, ◌^◌, ◌<◌, length, take, min, Some, IfOk, OnOk, OnErr, is_ok, nat_lt, if◌then◌else◌};
-    ghost use Rattle.kc_outside.specs.Counts.{Rose};
+    ghost use Rattle.std.specs.Prelude.{◌≡◌, ◌-◌, ◌<◌, length, take, min, Some, IfOk, OnOk, OnErr, is_ok, nat_lt, if◌then◌else◌};
+    ghost use Rattle.kc_outside.specs.Counts.{Rose, next_count};
     ghost use Rattle.kc_outside.specs.Texts.{with_piece};
     ghost use Rattle.kc_outside.specs.MemSink.{bytes_in, limit_of, faults_of, calls_of};
 
@@ -78,14 +77,13 @@ impl Sink for MemSink {
         ensures succeeds { is_ok result ≡ nat_lt (length (bytes_in self.old)) (limit_of self.old) }
         ensures count { IfOk result (λ n. n ≡ min (length piece.now) (limit_of self.old - length (bytes_in self.old))) }
         ensures limit { limit_of self.new ≡ limit_of self.old }
-        ensures faults { faults_of self.new ≡ (if is_ok result then faults_of self.old else min (faults_of self.old + 1) (2 ^ 64 - 1)) }
-        ensures calls { calls_of self.new ≡ min (calls_of self.old + 1) (2 ^ 64 - 1) }
+        ensures faults { faults_of self.new ≡ (if is_ok result then faults_of self.old else next_count (faults_of self.old)) }
+        ensures calls { calls_of self.new ≡ next_count (calls_of self.old) }
     {
-        self.asked = self.asked.saturating_add(1);
+        self.counts.ask();
         let left = self.limit - self.kept.len();
         if left == 0 {
-            self.faults = self.faults.saturating_add(1);
-            return Err(Failed);
+            return Err(self.counts.fail());
         }
         let count = piece.len().min(left);
         if self.kept.extend_from_slice(&piece[..count]).is_err() {
