@@ -4,5 +4,7 @@ pub mod MemFiles
 pub mod MemLaws
 pub mod MemSink
 pub mod MemStore
+pub mod Seen
+pub mod SeenLaws
 pub mod Slots
 pub mod Texts

@@ -3,16 +3,23 @@
 #![tactic(auto)]
 
 mod counts;
+mod file_store;
 mod known;
 mod mem_file;
 mod mem_sink;
 mod mem_store;
+mod seen;
 mod sink;
 mod slots;
 mod store;
+#[cfg(test)]
+mod tests;
+mod writer_sink;
 
+pub use file_store::FileStore;
 pub use known::{know_learnt, know_size};
 pub use mem_sink::MemSink;
 pub use mem_store::MemStore;
 pub use sink::Sink;
 pub use store::{Failed, Slot, Store};
+pub use writer_sink::{ErrSink, OutSink, WriterSink};
