@@ -8,12 +8,15 @@ use Rattle.kc_outside.specs.declared.mem_file.MemFile.{MemFile}
 use Rattle.kc_outside.specs.declared.mem_file.Held.{Held}
 use Rattle.kc_outside.specs.declared.mem_file.Held.TheVariants.{Nothing, Opened, Learnt}
 
+-- a file's name
 abbrev pub name_of : MemFile → List ℕ
 name_of file = string_bytes file.name
 
+-- a file's bytes
 abbrev pub bytes_of : MemFile → List ℕ
 bytes_of file = file.bytes.items
 
+-- whether it is a file of this name
 abbrev pub has_name : List ℕ → MemFile → Bool
 has_name name file = bytes_eq (name_of file) name
 

@@ -1,5 +1,6 @@
 // The files of the system.
-ghost use Rattle.std.specs.Prelude.{None};
+ghost use Rattle.std.specs.Prelude.{◌≡◌, None};
+ghost use Rattle.kc_outside.specs.declared.store.Slot.{Slot};
 ghost use Rattle.kc_outside.specs.Slots.{in_slot};
 ghost use Rattle.kc_outside.specs.Seen.{seen_name, seen_size};
 ghost use Rattle.kc_outside.specs.SeenLaws.{seen_size-name, seen_size-small};
@@ -23,8 +24,12 @@ pub struct FileStore<'r, R: Files> {
 }
 
 impl<'r, R: Files> FileStore<'r, R> {
-    /// A store that holds no file yet.
-    pub fn new(runtime: &'r R) -> Self {
+    /// A store that holds no file yet, of which no call was made.
+    pub fn new(runtime: &'r R) -> Self
+        ensures opened { (slot : Slot) → ⟦<FileStore<'r, R> as Store>⟧.opened result slot ≡ None }
+        ensures faults { ⟦<FileStore<'r, R> as Store>⟧.faults result ≡ 0 }
+        ensures asked { ⟦<FileStore<'r, R> as Store>⟧.asked result ≡ 0 }
+    {
         FileStore {
             runtime,
             files: Slots {

@@ -1,5 +1,8 @@
 //! The outside of the program as two traits: a store of files that are read, and sinks that take text.
 //! Their meanings say what a call told and what it changed. What a real file holds is told by nobody.
+//!
+//! `MemStore` and `MemSink` are both in memory, for tests, and fail where a test wants it. `FileStore`,
+//! `OutSink` and `ErrSink` are the files of the system and its standard output and error.
 #![tactic(auto)]
 
 mod counts;

@@ -13,7 +13,7 @@ use std::alloc::Global;
 use std::string::String;
 
 /// Files in memory, and a list of the calls that are to fail, numbered from 1 over all three calls of
-/// `Store` together.
+/// `Store` together. They fail exactly at the listed calls, and `open_file` at unknown names.
 #[derive(Drop)]
 pub struct MemStore {
     alloc: Global,
@@ -25,7 +25,7 @@ pub struct MemStore {
 }
 
 impl MemStore {
-    ghost use Rattle.std.specs.Prelude.{ℕ, List, [], ◌∷◌, ◌++◌, Some, None, OnOk, OnErr, nat_lt, if◌then◌else◌};
+    ghost use Rattle.std.specs.Prelude.{ℕ, ◌<◌, List, [], ◌∷◌, ◌++◌, Some, None, OnOk, OnErr, nat_lt, if◌then◌else◌};
     ghost use Rattle.std.specs.Str.{bytes_eq};
     ghost use Rattle.kc_outside.specs.MemFiles.{is_name};
     ghost use Rattle.kc_outside.specs.MemStore.{bytes_in, opened_in, size_in, failing_in, calls_of, faults_of};
@@ -86,6 +86,7 @@ impl MemStore {
     pub fn fail(&mut self, call: u64) -> Result<(), NoMemory>
         ensures failing { OnOk result (failing_in self.new ≡ (if nat_lt (calls_of self.old) call then failing_in self.old ++ call ∷ [] else failing_in self.old)) }
         ensures failing_stay { OnErr result (failing_in self.new ≡ failing_in self.old) }
+        ensures memory { OnErr result (calls_of self.old < call) }
         ensures bytes { (other : List ℕ) → bytes_in self.new other ≡ bytes_in self.old other }
         ensures opened { (slot : Slot) → opened_in self.new slot ≡ opened_in self.old slot }
         ensures sizes { (slot : Slot) → size_in self.new slot ≡ size_in self.old slot }
@@ -248,6 +249,7 @@ fn forget_sizes(slots: &Slots<Held>, at: usize) -> Slots<Held>
     }
 }
 
+// What a slot holds, without its size where it holds that place.
 fn forget_size(held: Held, at: usize) -> Held
     ensures { result ≡ without_size at held }
 {

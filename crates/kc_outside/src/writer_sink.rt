@@ -1,5 +1,5 @@
 // Standard output and standard error.
-ghost use Rattle.std.specs.Prelude.{None};
+ghost use Rattle.std.specs.Prelude.{◌≡◌, None};
 ghost use Rattle.std.specs.Io.{WritesAtMost};
 
 use crate::counts::Counts;
@@ -23,8 +23,11 @@ pub type OutSink<W> = WriterSink<W>;
 pub type ErrSink<W> = WriterSink<W>;
 
 impl<W: Write> WriterSink<W> {
-    /// A sink over a writer of std.
-    pub fn new(writer: W) -> Self {
+    /// A sink over a writer of std, of which no call was made.
+    pub fn new(writer: W) -> Self
+        ensures faults { ⟦<WriterSink<W> as Sink>⟧.faults result ≡ 0 }
+        ensures asked { ⟦<WriterSink<W> as Sink>⟧.asked result ≡ 0 }
+    {
         WriterSink {
             writer,
             counts: Counts::new(),
@@ -39,7 +42,7 @@ impl<W: Write> Sink for WriterSink<W> {
 
     ghost asked = { λ sink. sink.counts.asked };
 
-    /// Writes and flushes.
+    /// Writes some of the piece's first bytes, and flushes them.
     fn put(&mut self, piece: &[u8]) -> Result<usize, Failed> {
         self.counts.ask();
         match write_through(&mut self.writer, piece) {
