@@ -1,0 +1,5 @@
+pub mod Answers
+pub mod CoreFile
+pub mod FileHeader
+pub mod Headers
+pub mod Parts
