@@ -9,7 +9,7 @@ use Rattle.kc_elf.specs.declared.program_header.ProgramHeader.{ProgramHeader}
 use Rattle.kc_elf.specs.Headers.{is_bad, is_bad_of, of_kind}
 
 -- no element passes, from the first on
-none_passes : {X : Type 0} (p : X → Bool) (x : X) (xs : List X) → position p (x ∷ xs) ≡ None → (p x ≡ false) × (position p xs ≡ None)
+pub none_passes : {X : Type 0} (p : X → Bool) (x : X) (xs : List X) → position p (x ∷ xs) ≡ None → (p x ≡ false) × (position p xs ≡ None)
 none_passes p x xs none = grind (arith, nat_tests)
 
 one_more : (P : Segment → Type 0) (size : ℕ) (wanted : Kind) → ((s : Segment) → is_bad_of size wanted s ≡ false → P s) → (kind : Kind) (s : Segment) (hs : List ProgramHeader) → is_bad_of size kind s ≡ false → All P (of_kind wanted hs) → All P (of_kind wanted (record { kind = kind; segment = s } ∷ hs))
@@ -29,7 +29,7 @@ all_fit P size wanted fits (h ∷ hs) none =
     let step : (is_bad size h ≡ false) × (position (is_bad size) hs ≡ None) = none_passes (is_bad size) h hs none in
     one_more P size wanted fits h.kind h.segment hs step.0 (all_fit P size wanted fits hs step.1)
 
-load_inside : (size : ℕ) (s : Segment) → is_bad_of size Load s ≡ false → s.offset + s.filesz ≤ size
+pub load_inside : (size : ℕ) (s : Segment) → is_bad_of size Load s ≡ false → s.offset + s.filesz ≤ size
 load_inside size s good = grind (arith, nat_tests)
 
 load_below : (size : ℕ) (s : Segment) → is_bad_of size Load s ≡ false → s.paddr + max s.filesz s.memsz ≤ 2 ^ 64

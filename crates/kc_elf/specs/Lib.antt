@@ -3,3 +3,4 @@ pub mod CoreFile
 pub mod FileHeader
 pub mod Headers
 pub mod Parts
+pub mod Spelling
