@@ -1,5 +1,5 @@
 // What is read of a core file.
-ghost use Rattle.std.specs.Prelude.{◌≡◌, ◌<◌, length, map, Some, slice_get};
+ghost use Rattle.std.specs.Prelude.{◌≡◌, ◌<◌, ◌≤◌, length, map, vec_len, Some, slice_get};
 
 use kc_word::Segment;
 use std::marker::Model;
@@ -12,18 +12,21 @@ pub struct Core {
 }
 
 impl Model for Core {
-    ghost use Rattle.std.specs.Prelude.{map};
+    ghost use Rattle.std.specs.Prelude.{map, ◌≤◌, vec_len};
     ghost use Rattle.std.specs.Global.{Vec};
     ghost use Rattle.kc_elf.specs.Parts.{Parts};
 
     ghost Value = { Parts };
 
     ghost view = { λ c. record { segments = c.segments.items; notes = map (λ v. v.items) c.notes.items } };
+
+    ghost invariant = { λ c. vec_len c.notes ≤ 65536 };
 }
 
 impl Core {
     // The segments and the parts of notes.
     pub(crate) fn new(segments: Vec<Segment>, notes: Vec<Vec<u8>>) -> Self
+        requires { vec_len notes ≤ 65536 }
         ensures segments { result.segments ≡ segments.items }
         ensures notes { result.notes ≡ map (λ v. v.items) notes.items }
     {
@@ -39,7 +42,8 @@ impl Core {
 
     /// How many parts of notes there are, one for each PT_NOTE.
     pub fn notes(&self) -> usize
-        ensures { result ≡ length self.now.notes }
+        ensures count { result ≡ length self.now.notes }
+        ensures few { result ≤ 65536 }
     {
         self.notes.len()
     }

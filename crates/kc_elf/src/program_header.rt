@@ -133,7 +133,8 @@ pub fn of_kind(
     headers: &[ProgramHeader],
     kind: Kind,
 ) -> Result<Vec<Segment>, AllocError>
-    ensures { IfOk result (λ found. found.items ≡ of_kind kind headers.now) }
+    ensures found { IfOk result (λ found. found.items ≡ of_kind kind headers.now) }
+    ensures few { IfOk result (λ found. vec_len found ≤ length headers.now) }
 {
     let mut found = Vec::new(alloc);
     for header in headers {

@@ -191,6 +191,7 @@ fn split(
     ensures loads_inside { IfOk result (λ both. All (λ s. s.offset + s.filesz ≤ size) both.0.items) }
     ensures loads_below { IfOk result (λ both. All (λ s. s.paddr + max s.filesz s.memsz ≤ 2 ^ 64) both.0.items) }
     ensures notes_inside { IfOk result (λ both. All (λ s. s.offset + s.filesz ≤ size) both.1.items) }
+    ensures few { IfOk result (λ both. vec_len both.1 ≤ 65536) }
     ensures unread { OnReadFault result ⊥ }
 {
     if let Some(index) = first_bad(headers, size) {
@@ -216,6 +217,7 @@ fn read_parts<S: Store>(
     requires within { All (λ s. s.offset + s.filesz ≤ size) segments.now }
 
     ensures told { IfOk result (λ parts. IfSome (content (S.files store.old) slot (S.opened store.old slot)) (λ bytes. map (λ v. v.items) parts.items ≡ parts_of segments.now bytes)) }
+    ensures count { IfOk result (λ parts. vec_len parts ≡ length segments.now) }
     ensures faultless { IsFaultless result }
 
     ensures opened { S.opened store.new ≡ S.opened store.old }

@@ -1,4 +1,4 @@
-use Rattle.std.proofs.Common.{◌≡◌, ℕ, ◌≤◌, List, ◌++◌, drop, map, IfSome}
+use Rattle.std.proofs.Common.{vec_len, ◌≡◌, ℕ, ◌≤◌, List, ◌++◌, drop, map, IfSome}
 use Rattle.kc_outside.specs.declared.store.Slot.{Slot}
 use Rattle.kc_outside.specs.Files.{content}
 use Rattle.kc_elf.specs.CoreFile.{parts_of}
@@ -14,6 +14,7 @@ invariant-loop-segment g l = record {
   may_no_more : (s : Slot) (n : List ℕ) → g.S.Store.may l.store s n → g.S.Store.may l.initial.store s n;
   quiet : g.S.Store.faults l.store ≡ g.S.Store.faults l.initial.store;
   asked_later : g.S.Store.asked l.initial.store ≤ g.S.Store.asked l.store;
+  count : vec_len l.parts ≡ l.segment-index;
   whole : IfSome (content (g.S.Store.files l.initial.store) l.slot (g.S.Store.opened l.initial.store l.slot))
       (λ bytes. map (λ v. v.items) l.parts.items ++ parts_of (drop l.segment-index l.segments) bytes ≡ parts_of l.segments bytes);
 }
