@@ -1,6 +1,10 @@
 -- Counts of faults and of calls.
 use Rattle.std.specs.Prelude.{ℕ, ◌+◌, ◌-◌, ◌^◌, ◌≤◌, min}
 
+-- the count behind one more, in 64 bits; the last value stays
+abbrev pub next_count : ℕ → ℕ
+next_count count = min (count + 1) (2 ^ 64 - 1)
+
 -- The count rose in a call: it is greater than before, or it stands at its last value.
 abbrev pub Rose : ℕ → ℕ → Type 0
-Rose before after = min (before + 1) (2 ^ 64 - 1) ≤ after
+Rose before after = next_count before ≤ after

@@ -25,6 +25,7 @@ slot_number Plan = 3
 slot_number Report = 4
 slot_number Module = 5
 
+-- two slots aren't the same
 abbrev pub IsOther : Slot → Slot → Type 0
 IsOther slot other = IsTrue (not (nat_eq (slot_number slot) (slot_number other)))
 

@@ -1,3 +1,10 @@
 pub mod Counts
 pub mod Files
+pub mod MemFiles
+pub mod MemLaws
+pub mod MemSink
+pub mod MemStore
+pub mod Seen
+pub mod SeenLaws
+pub mod Slots
 pub mod Texts

@@ -1,11 +1,28 @@
 //! The outside of the program as two traits: a store of files that are read, and sinks that take text.
 //! Their meanings say what a call told and what it changed. What a real file holds is told by nobody.
+//!
+//! `MemStore` and `MemSink` are both in memory, for tests, and fail where a test wants it. `FileStore`,
+//! `OutSink` and `ErrSink` are the files of the system and its standard output and error.
 #![tactic(auto)]
 
+mod counts;
+mod file_store;
 mod known;
+mod mem_file;
+mod mem_sink;
+mod mem_store;
+mod seen;
 mod sink;
+mod slots;
 mod store;
+#[cfg(test)]
+mod tests;
+mod writer_sink;
 
+pub use file_store::FileStore;
 pub use known::{know_learnt, know_size};
+pub use mem_sink::MemSink;
+pub use mem_store::MemStore;
 pub use sink::Sink;
 pub use store::{Failed, Slot, Store};
+pub use writer_sink::{ErrSink, OutSink, WriterSink};

@@ -1,0 +1,107 @@
+// The stores, called through their trait.
+use crate::{Failed, FileStore, MemStore, Slot, Store};
+use std::alloc::Global;
+use std::fs;
+use std::io::{Seek, SeekFrom, Write};
+use std::test::Fail;
+
+// The size of the file of a name and its three bytes from an offset on, by way of one slot.
+fn read_three<S: Store>(store: &mut S, name: &str, off: u64) -> Result<(u64, [u8; 3]), Failed>
+    requires { S.may store.old Slot.Dump name.now }
+{
+    let mut part = [0; 3];
+    store.open_file(Slot::Dump, name)?;
+    let size = store.size(Slot::Dump)?;
+    if size >= 3 && off <= size - 3 {
+        store.read_at(Slot::Dump, off, &mut part)?;
+    }
+    Ok((size, part))
+}
+
+#[test]
+fn memory_reads_what_was_added(rt: HostRuntime) -> Result<(), Fail> {
+    let mut store = MemStore::new(rt.alloc());
+    store.add("dump", b"0123456789")?;
+    store.add("map", b"other")?;
+    assert_eq!(rt; read_three(&mut store, "dump", 7), Ok((10, *b"789")));
+    assert_eq!(rt;
+        read_three(&mut store, "none", 7),
+        Err(Failed),
+        "an unknown name"
+    );
+    assert_eq!(rt; store.calls(), 4);
+    store.add("dump", b"abcd")?;
+    assert_eq!(rt;
+        read_three(&mut store, "dump", 0),
+        Ok((4, *b"abc")),
+        "replaced"
+    );
+    assert_eq!(rt; read_three(&mut store, "map", 2), Ok((5, *b"her")));
+    Ok(())
+}
+
+// The call that failed of the three that read a file, or 0.
+fn failed_call(alloc: Global, fails: u64) -> Result<u64, Fail> {
+    let mut store = MemStore::new(alloc);
+    store.add("dump", b"0123456789")?;
+    store.fail(fails)?;
+    let Ok(()) = store.open_file(Slot::Dump, "dump") else {
+        return Ok(1);
+    };
+    let Ok(_) = store.size(Slot::Dump) else {
+        return Ok(2);
+    };
+    let Ok(()) = store.read_at(Slot::Dump, 0, &mut []) else {
+        return Ok(3);
+    };
+    Ok(0)
+}
+
+#[test]
+fn memory_fails_at_the_listed_call(rt: HostRuntime) -> Result<(), Fail> {
+    for (fails, want) in [(0, 0), (1, 1), (2, 2), (3, 3), (4, 0)] {
+        assert_eq!(rt; failed_call(rt.alloc(), fails)?, want);
+    }
+    Ok(())
+}
+
+#[test]
+fn files_are_read_by_parts(rt: HostRuntime) -> Result<(), Fail> {
+    let name = "kc_outside-parts";
+    fs::write(&rt, name, "0123456789")?;
+    let mut store = FileStore::new(&rt);
+    assert_eq!(rt; read_three(&mut store, name, 7), Ok((10, *b"789")));
+    assert_eq!(rt; read_three(&mut store, name, 0), Ok((10, *b"012")));
+
+    store.open_file(Slot::Map, name)?;
+    let size = store.size(Slot::Map)?;
+    assert_eq!(rt; size, 10);
+    fs::write(&rt, name, "01234567")?;
+    let mut part = [0; 3];
+    assert!(rt;
+        store.read_at(Slot::Map, 7, &mut part).is_err(),
+        "shorter by now"
+    );
+    fs::remove_file(&rt, name)?;
+
+    assert_eq!(rt;
+        read_three(&mut store, name, 0),
+        Err(Failed),
+        "a missing name"
+    );
+    assert_eq!(rt; read_three(&mut store, ".", 0), Err(Failed), "a directory");
+    Ok(())
+}
+
+#[test]
+fn files_are_read_past_four_gib(rt: HostRuntime) -> Result<(), Fail> {
+    let name = "kc_outside-long";
+    let far = 1 << 33;
+    let mut file = fs::create(&rt, name)?;
+    file.seek(SeekFrom::Start(far))?;
+    file.write_all(b"end")?;
+    let read = read_three(&mut FileStore::new(&rt), name, far);
+    fs::remove_file(&rt, name)?;
+    assert_eq!(rt; read, Ok((far + 3, *b"end")));
+    Ok(())
+}

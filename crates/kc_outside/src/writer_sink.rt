@@ -1,0 +1,116 @@
+// Standard output and standard error.
+ghost use Rattle.std.specs.Prelude.{◌≡◌, None};
+ghost use Rattle.std.specs.Io.{WritesAtMost};
+
+use crate::counts::Counts;
+use crate::sink::Sink;
+use crate::store::Failed;
+use std::io;
+use std::io::Write;
+
+/// A sink over a writer, which is flushed behind each piece. An error of the writer, a write of no byte
+/// and an error of the flush are failures. What reaches the system is told by nobody.
+#[derive(Drop)]
+pub struct WriterSink<W: Write> {
+    writer: W,
+    counts: Counts,
+}
+
+/// The sink over standard output.
+pub type OutSink<W> = WriterSink<W>;
+
+/// The sink over standard error.
+pub type ErrSink<W> = WriterSink<W>;
+
+impl<W: Write> WriterSink<W> {
+    /// A sink over a writer of std, of which no call was made.
+    pub fn new(writer: W) -> Self
+        ensures faults { ⟦<WriterSink<W> as Sink>⟧.faults result ≡ 0 }
+        ensures asked { ⟦<WriterSink<W> as Sink>⟧.asked result ≡ 0 }
+    {
+        WriterSink {
+            writer,
+            counts: Counts::new(),
+        }
+    }
+}
+
+impl<W: Write> Sink for WriterSink<W> {
+    ghost taken = { λ _. None };
+
+    ghost faults = { λ sink. sink.counts.faults };
+
+    ghost asked = { λ sink. sink.counts.asked };
+
+    /// Writes some of the piece's first bytes, and flushes them.
+    fn put(&mut self, piece: &[u8]) -> Result<usize, Failed> {
+        self.counts.ask();
+        match write_through(&mut self.writer, piece) {
+            Ok(count) if count > 0 => Ok(count),
+            _ => Err(self.counts.fail()),
+        }
+    }
+}
+
+// Writes some of the piece's first bytes, and flushes them.
+fn write_through<W: Write>(writer: &mut W, piece: &[u8]) -> io::Result<usize>
+    ensures { WritesAtMost result piece.now }
+{
+    let count = writer.write(piece)?;
+    writer.flush()?;
+    Ok(count)
+}
+
+#[cfg(test)]
+mod tests {
+    use super::*;
+    use std::test::Fail;
+
+    // A writer that takes so many bytes, or fails, and whose flush may fail.
+    #[derive(Drop)]
+    struct Fake {
+        takes: Option<usize>,
+        flushes: bool,
+    }
+
+    impl Write for Fake {
+        fn write(&mut self, buf: &[u8]) -> io::Result<usize> {
+            match self.takes {
+                Some(takes) => Ok(takes.min(buf.len())),
+                None => Err(io::Error::from(io::ErrorKind::BrokenPipe)),
+            }
+        }
+
+        fn flush(&mut self) -> io::Result<()> {
+            if self.flushes {
+                Ok(())
+            } else {
+                Err(io::Error::from(io::ErrorKind::BrokenPipe))
+            }
+        }
+    }
+
+    #[test]
+    fn out_sink_writes_and_flushes(rt: HostRuntime) -> Result<(), Fail> {
+        for (takes, flushes, want) in [
+            (Some(9), true, Ok(5)),
+            (Some(3), true, Ok(3)),
+            (Some(0), true, Err(Failed)),
+            (Some(3), false, Err(Failed)),
+            (None, true, Err(Failed)),
+        ] {
+            let mut sink = OutSink::new(Fake { takes, flushes });
+            assert_eq!(rt; sink.put(b"hello"), want, "{takes:?} {flushes}");
+        }
+        let mut sink = OutSink::new(rt.stdout());
+        assert_eq!(rt; sink.put(b"out\n"), Ok(4));
+        Ok(())
+    }
+
+    #[test]
+    fn err_sink_writes(rt: HostRuntime) -> Result<(), Fail> {
+        let mut sink = ErrSink::new(rt.stderr());
+        assert_eq!(rt; sink.put(b"err\n"), Ok(4));
+        Ok(())
+    }
+}
