@@ -2,12 +2,14 @@
 //! counter of steps.
 #![tactic(auto)]
 
+mod decimal;
 mod hex;
 mod memory;
 mod numbers;
 mod plain;
 mod steps;
 
+pub use decimal::read_dec;
 pub use hex::{hex16, read_hex};
 pub use memory::NoMemory;
 pub use numbers::{get_u16, get_u32, get_u64};

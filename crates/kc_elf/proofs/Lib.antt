@@ -1,0 +1,4 @@
+pub mod BoundLemmas
+pub mod HeaderLemmas
+pub mod SpellingLemmas
+pub mod CoreLaws

@@ -1,0 +1,6 @@
+pub mod Answers
+pub mod CoreFile
+pub mod FileHeader
+pub mod Headers
+pub mod Parts
+pub mod Spelling

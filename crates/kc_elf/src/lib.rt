@@ -1,0 +1,12 @@
+//! The reader of ELF core files: where the memory of a dump stands in its file, and the notes beside it.
+#![tactic(auto)]
+
+mod fault;
+mod file_header;
+mod parts;
+mod program_header;
+mod read;
+
+pub use fault::{CoreFault, CoreStop};
+pub use parts::Core;
+pub use read::read_core;

@@ -1,0 +1,17 @@
+//! The notes of a core file: the kernel's VMCOREINFO, and what it says of the kernel's memory.
+#![tactic(auto)]
+
+mod bytes;
+mod checks;
+mod fault;
+mod info;
+mod kernel;
+mod lines;
+mod note;
+mod search;
+
+pub use fault::{NoteFault, NoteKey};
+pub use info::Info;
+pub use kernel::kernel_info;
+pub use lines::value;
+pub use search::vmcoreinfo;
