@@ -1,5 +1,3 @@
-mod Descent
-mod Headers
+mod CommandLemmas
 mod Pieces
-mod Segments
 mod Usage

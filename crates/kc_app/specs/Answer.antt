@@ -1,5 +1,5 @@
 -- What the code's own types stand for.
-use Rattle.std.specs.Prelude.{◌≡◌, ℕ, ◌%◌, ◌^◌, ◌<◌, List, [], Option, Some, None, Result, Ok, Err, ⊤}
+use Rattle.std.specs.Prelude.{◌≡◌, ℕ, List, [], Option, IfSome, Some, None, Result, Ok, Err, ⊤}
 use Rattle.kc_app.specs.declared.command.Command.{Command}
 use Rattle.kc_app.specs.declared.command.Command.TheVariants.{Word}
 use Rattle.kc_app.specs.declared.answer.Answer.{Answer}
@@ -10,14 +10,15 @@ use Rattle.kc_outside.specs.Files.{Files}
 use Rattle.kc_app.specs.Command.{Asked, AsksWord}
 use Rattle.kc_found.specs.declared.space.Stop.{Stop}
 use Rattle.kc_found.specs.declared.space.Stop.TheVariants.{Miss, Fault}
+use Rattle.kc_app.specs.Paging.{IsTable}
 use Rattle.kc_app.specs.Output.{Output, shown}
 
 abbrev pub asked : Command → Asked
 asked (Word dump table address) = AsksWord dump.now table address
 
--- the top table can be one
+-- a top table that is named can be one
 abbrev pub HasTable : Command → Type 0
-HasTable (Word dump table address) = (table % 4096 ≡ 0) × (table < 2 ^ 52)
+HasTable (Word dump table address) = IfSome table IsTable
 
 -- what is printed of an answer
 abbrev pub printed : Answer → Output

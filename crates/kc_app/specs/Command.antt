@@ -1,26 +1,36 @@
 -- What a command line asks for.
-use Rattle.std.specs.Prelude.{ℕ, ◌%◌, ◌^◌, ◌&&◌, if◌then◌else◌, nat_eq, nat_lt, List, [], ◌∷◌, codes, Option, Some, None, option_and_then}
+use Rattle.std.specs.Prelude.{ℕ, ◌%◌, ◌^◌, ◌&&◌, if◌then◌else◌, nat_eq, nat_lt, List, [], ◌∷◌, codes, Option, Some, None, option_and_then, option_map}
 use Rattle.std.specs.Str.{bytes_eq}
 use Rattle.kc_outside.specs.declared.store.Slot.{Slot}
 use Rattle.kc_outside.specs.declared.store.Slot.TheVariants.{Dump, Btf, Map, Plan, Report, Module}
 use Rattle.kc_word.specs.Hex.{hex_number}
 
--- `word`: the dump's name, the physical address of the top table, and the virtual address
+-- `word`: the dump's name, the physical address of the top table, or none where the dump's notes name it, and
+-- the virtual address
 pub data Asked : Type 0 where
-  AsksWord : List ℕ → ℕ → ℕ → Asked
+  AsksWord : List ℕ → Option ℕ → ℕ → Asked
 
--- the top table's address: a multiple of 4096 below 2^52, in hex
-abbrev pub table_number : List ℕ → Option ℕ
-table_number text = option_and_then (λ t. if nat_eq (t % 4096) 0 && nat_lt t (2 ^ 52) then Some t else None) (hex_number text)
+-- the address of a top table: a multiple of 4096 below 2^52
+abbrev pub as_table : ℕ → Option ℕ
+as_table t = if nat_eq (t % 4096) 0 && nat_lt t (2 ^ 52) then Some t else None
 
-abbrev pub word_asked : List ℕ → Option ℕ → Option ℕ → Option Asked
+-- the top table that a word names: `-` is the one of the dump's notes
+abbrev pub table_word : List ℕ → Option (Option ℕ)
+table_word text =
+    if bytes_eq text (codes "-") then Some None
+    else option_map (λ (t : ℕ). Some t) (option_and_then as_table (hex_number text))
+
+abbrev pub word_asked : List ℕ → Option (Option ℕ) → Option ℕ → Option Asked
 word_asked dump (Some table) (Some address) = Some (AsksWord dump table address)
 word_asked dump (Some table) None = None
 word_asked dump None address = None
 
+abbrev pub of_four : List ℕ → List ℕ → List ℕ → List ℕ → Option Asked
+of_four name dump table address = if bytes_eq name (codes "word") then word_asked dump (table_word table) (hex_number address) else None
+
 -- what the words behind the program's name ask for, if they are one of the forms
 abbrev pub command : List (List ℕ) → Option Asked
-command (name ∷ dump ∷ table ∷ address ∷ []) = if bytes_eq name (codes "word") then word_asked dump (table_number table) (hex_number address) else None
+command (name ∷ dump ∷ table ∷ address ∷ []) = of_four name dump table address
 command _ = None
 
 -- the name that a command puts into a slot

@@ -1,6 +1,7 @@
 -- What a command prints and ends with, as a function of its words and files.
 use Rattle.std.specs.Prelude.{ℕ, false, List, [], Option, Some, None, option_map, option_and_then, Result, Ok, Err}
 use Rattle.kc_word.specs.declared.plain.Segment.{Segment}
+use Rattle.kc_word.specs.declared.plain.PageCfg.{PageCfg}
 use Rattle.kc_outside.specs.declared.store.Slot.{Slot}
 use Rattle.kc_outside.specs.declared.store.Slot.TheVariants.{Dump}
 use Rattle.kc_outside.specs.Files.{Files}
@@ -8,31 +9,41 @@ use Rattle.kc_found.specs.declared.words.VWord.{VWord}
 use Rattle.kc_found.specs.Stopped.{Stopped}
 use Rattle.kc_found.specs.Image.{Image}
 use Rattle.kc_found.specs.Translation.{vword}
-use Rattle.kc_app.specs.declared.core_file.CoreFault.{CoreFault}
-use Rattle.kc_app.specs.Core.{core}
+use Rattle.kc_elf.specs.declared.fault.CoreFault.{CoreFault}
+use Rattle.kc_elf.specs.Parts.{Parts}
+use Rattle.kc_elf.specs.CoreFile.{core}
+use Rattle.kc_notes.specs.declared.fault.NoteFault.{NoteFault}
+use Rattle.kc_app.specs.Paging.{paging_of}
 use Rattle.kc_app.specs.Command.{Asked, AsksWord, command, name_in, slot_word}
-use Rattle.kc_app.specs.Texts.{word_line, broken_text, refusal_line, usage_text}
+use Rattle.kc_app.specs.Texts.{word_line, broken_text, core_code, note_code, dump_line, usage_text}
 
 pub record Output : Type 0 where
   pub out : List ℕ
   pub err : List ℕ
   pub status : ℕ
 
--- the memory of a dump with these segments, translated by four levels from a top table
-abbrev pub image_of : List ℕ → List Segment → ℕ → Image
-image_of bytes segments table = record { physical = record { bytes = bytes; segments = segments }; paging = record { table = table; five = false; sme = 0 } }
-
 abbrev pub shown : Result VWord Stopped → Output
 shown (Ok w) = record { out = word_line w; err = []; status = 0 }
 shown (Err s) = record { out = broken_text s; err = []; status = 1 }
 
-abbrev pub word_behind : ℕ → ℕ → List ℕ → Result (List Segment) CoreFault → Output
-word_behind table address bytes (Ok segments) = shown (vword (image_of bytes segments table) address)
-word_behind table address bytes (Err fault) = record { out = []; err = refusal_line fault; status = 2 }
+abbrev pub refused : List ℕ → Output
+refused line = record { out = []; err = line; status = 2 }
+
+-- the memory of a dump with these bytes and segments
+abbrev pub image_of : List ℕ → List Segment → PageCfg → Image
+image_of bytes segments paging = record { physical = record { bytes = bytes; segments = segments }; paging = paging }
+
+abbrev pub word_by : List ℕ → List Segment → ℕ → Result PageCfg NoteFault → Output
+word_by bytes segments address (Ok paging) = shown (vword (image_of bytes segments paging) address)
+word_by bytes segments address (Err fault) = refused (dump_line (note_code fault))
+
+abbrev pub word_in : Option ℕ → ℕ → List ℕ → Result Parts CoreFault → Output
+word_in table address bytes (Ok parts) = word_by bytes parts.segments address (paging_of table parts.notes)
+word_in table address bytes (Err fault) = refused (dump_line (core_code fault))
 
 -- the output of `word` on a dump with these bytes
-abbrev pub word_output : ℕ → ℕ → List ℕ → Output
-word_output table address bytes = word_behind table address bytes (core bytes)
+abbrev pub word_output : Option ℕ → ℕ → List ℕ → Output
+word_output table address bytes = word_in table address bytes (core bytes)
 
 -- the output of a command, or none where it needs a file that is none
 abbrev pub asked_output : Asked → (Slot → Option (List ℕ)) → Option Output

@@ -1,13 +1,18 @@
 -- The texts that are printed.
-use Rattle.std.specs.Prelude.{ℕ, ◌+◌, Bool, true, false, if◌then◌else◌, List, [], ◌∷◌, ◌++◌, codes, Option, Some, None}
+use Rattle.std.specs.Prelude.{ℕ, ◌+◌, Bool, true, false, if◌then◌else◌, List, [], ◌∷◌, ◌++◌, codes, decimal, Option, Some, None}
 use Rattle.kc_word.specs.Hex.{hex_digits}
 use Rattle.kc_found.specs.declared.rule.Rule.{Rule}
-use Rattle.kc_found.specs.declared.rule.Rule.TheVariants.{M1, M2, M3, M4, M5, M6, M7}
+use Rattle.kc_found.specs.declared.rule.Rule.TheVariants.{M1, M2, M3, M4, M5, M6}
 use Rattle.kc_found.specs.declared.words.VWord.{VWord}
 use Rattle.kc_found.specs.declared.words.PWord.{PWord}
 use Rattle.kc_found.specs.Stopped.{Stopped}
-use Rattle.kc_app.specs.declared.core_file.CoreFault.{CoreFault}
-use Rattle.kc_app.specs.declared.core_file.CoreFault.TheVariants.{E1, E2, E11}
+use Rattle.kc_found.specs.Places.{entry_places}
+use Rattle.kc_elf.specs.declared.fault.CoreFault.{CoreFault}
+use Rattle.kc_elf.specs.declared.fault.CoreFault.TheVariants.{E1, E2, E3, E4, E5, E6, E7, E8, E9, E10}
+use Rattle.kc_notes.specs.declared.fault.NoteFault.{NoteFault}
+use Rattle.kc_notes.specs.declared.fault.NoteFault.TheVariants.{V1, V2, V3, V4, V5, V6, V7}
+use Rattle.kc_notes.specs.declared.fault.NoteKey.{NoteKey}
+use Rattle.kc_notes.specs.declared.fault.NoteKey.TheVariants.{L5, Offset, Sme}
 
 -- 16 digits
 abbrev pub hex : ℕ → List ℕ
@@ -24,7 +29,6 @@ rule_code M3 = codes "M3"
 rule_code M4 = codes "M4"
 rule_code M5 = codes "M5"
 rule_code M6 = codes "M6"
-rule_code M7 = codes "M7"
 
 -- the rule, and the address that was asked
 abbrev pub rule_lines : Rule → ℕ → List ℕ
@@ -38,7 +42,6 @@ tells_stop M3 = true
 tells_stop M4 = true
 tells_stop M5 = true
 tells_stop M6 = true
-tells_stop M7 = true
 
 -- the level in one digit, and the physical address of that word
 abbrev pub stop_line : Rule → ℕ → ℕ → List ℕ
@@ -55,10 +58,32 @@ broken_text s = rule_lines s.rule s.va ++ stop_line s.rule s.level s.pa ++ entry
 abbrev pub core_code : CoreFault → List ℕ
 core_code E1 = codes "E1"
 core_code E2 = codes "E2"
-core_code E11 = codes "E11"
+core_code E3 = codes "E3"
+core_code E4 = codes "E4"
+core_code E5 = codes "E5"
+core_code E6 = codes "E6"
+core_code E7 = codes "E7"
+core_code E8 = codes "E8"
+core_code (E9 index) = codes "E9 index " ++ decimal index
+core_code E10 = codes "E10"
 
-abbrev pub refusal_line : CoreFault → List ℕ
-refusal_line fault = codes "refused dump " ++ core_code fault ++ codes "\n"
+abbrev pub key_text : NoteKey → List ℕ
+key_text L5 = codes "NUMBER(pgtable_l5_enabled)"
+key_text Offset = codes "KERNELOFFSET"
+key_text Sme = codes "NUMBER(sme_mask)"
+
+abbrev pub note_code : NoteFault → List ℕ
+note_code (V1 part at) = codes "V1 index " ++ decimal part ++ codes " at " ++ decimal at
+note_code V2 = codes "V2"
+note_code V3 = codes "V3"
+note_code V4 = codes "V4"
+note_code V5 = codes "V5"
+note_code (V6 key) = codes "V6 key " ++ key_text key
+note_code V7 = codes "V7"
+
+-- the line of a refused dump
+abbrev pub dump_line : List ℕ → List ℕ
+dump_line code = codes "refused dump " ++ code ++ codes "\n"
 
 abbrev pub usage_text : List ℕ
 usage_text = codes "usage: kaudit word DUMP TABLE ADDRESS\n"

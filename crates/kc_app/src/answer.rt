@@ -4,6 +4,7 @@ ghost use Rattle.kc_app.specs.declared.answer.Halt.TheVariants.{Store, Memory};
 
 use kc_outside::Failed;
 use kc_word::NoMemory;
+use std::alloc::AllocError;
 
 /// The whole text of an answer, by the status that it is printed under.
 #[derive(Debug, Drop)]
@@ -37,6 +38,14 @@ impl From<NoMemory> for Halt {
     ghost from_gives = { λ _ e. e ≡ Memory };
 
     fn from(_: NoMemory) -> Self {
+        Halt::Memory
+    }
+}
+
+impl From<AllocError> for Halt {
+    ghost from_gives = { λ _ e. e ≡ Memory };
+
+    fn from(_: AllocError) -> Self {
         Halt::Memory
     }
 }

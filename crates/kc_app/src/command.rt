@@ -1,17 +1,20 @@
 // The words of a command line.
-ghost use Rattle.std.specs.Prelude.{◌≡◌, ◌%◌, ◌^◌, ◌<◌, map, option_map, IfSome};
+ghost use Rattle.std.specs.Prelude.{◌≡◌, map, option_and_then, option_map, IfSome};
 ghost use Rattle.std.specs.String.{string_bytes};
-ghost use Rattle.kc_app.specs.Command.{command, table_number};
+ghost use Rattle.kc_word.specs.Hex.{hex_number};
+ghost use Rattle.kc_app.specs.Command.{as_table, command, of_four, table_word};
+ghost use Rattle.kc_app.specs.Paging.{IsTable};
 
 use kc_word::read_hex;
 
 /// What a command line asks for.
 #[derive(Clone, Copy)]
 pub enum Command<'w> {
-    /// The word at a virtual address, by the page tables below a physical address.
+    /// The word at a virtual address, by the page tables below a physical address, or below the one that the
+    /// dump's notes name.
     Word {
         dump: &'w str,
-        table: u64,
+        table: Option<u64>,
         address: u64,
     },
 }
@@ -26,26 +29,57 @@ impl<'w> Command<'w> {
         ensures table { IfSome result HasTable }
     {
         match words {
-            [name, dump, table, address] if name.as_str() == "word" => Some(Command::Word {
-                dump: dump.as_str(),
-                table: table_number(table.as_bytes())?,
-                address: read_hex(address.as_bytes())?,
-            }),
+            [name, dump, table, address] => {
+                Command::of_four(name.as_str(), dump.as_str(), table.as_str(), address.as_str())
+            }
             _ => None,
         }
     }
+
+    // The command that four words are.
+    fn of_four(name: &str, dump: &'w str, table: &str, address: &str) -> Option<Command<'w>>
+        ensures command { option_map asked result ≡ of_four name.now dump.now table.now address.now }
+        ensures table { IfSome result HasTable }
+    {
+        if name != "word" {
+            return None;
+        }
+        Some(Command::Word {
+            dump,
+            table: table_word(table)?,
+            address: read_hex(address.as_bytes())?,
+        })
+    }
 }
 
-// The physical address of a top table.
-fn table_number(text: &[u8]) -> Option<u64>
-    ensures value { result ≡ table_number text.now }
-    ensures aligned { IfSome result (λ t. t % 4096 ≡ 0) }
-    ensures small { IfSome result (λ t. t < 2 ^ 52) }
+// The physical address of a top table, if it can be one.
+fn as_table(table: u64) -> Option<u64>
+    ensures value { result ≡ as_table table }
+    ensures fits { IfSome result IsTable }
 {
-    let table = read_hex(text)?;
     if table % 4096 == 0 && table < 1 << 52 {
         Some(table)
     } else {
         None
+    }
+}
+
+// The top table that a text writes in hex.
+fn read_table(text: &[u8]) -> Option<u64>
+    ensures value { result ≡ option_and_then as_table (hex_number text.now) }
+    ensures fits { IfSome result IsTable }
+{
+    as_table(read_hex(text)?)
+}
+
+// The top table that a word names: `-` is the one of the dump's notes.
+fn table_word(text: &str) -> Option<Option<u64>>
+    ensures value { result ≡ table_word text.now }
+    ensures fits { IfSome result (λ table. IfSome table IsTable) }
+{
+    if text == "-" {
+        Some(None)
+    } else {
+        Some(Some(read_table(text.as_bytes())?))
     }
 }

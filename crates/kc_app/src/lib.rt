@@ -3,13 +3,9 @@
 
 mod answer;
 mod command;
-mod core_file;
-mod frames;
-mod memory;
 mod print;
 mod text;
 mod top;
-mod walk;
 mod word;
 
 pub use top::kaudit;

@@ -5,7 +5,7 @@ use Rattle.std.specs.Option.{option_or}
 use Rattle.kc_word.specs.Decimal.{decimal_number}
 use Rattle.kc_word.specs.Hex.{hex_number}
 use Rattle.kc_notes.specs.declared.fault.NoteFault.{NoteFault}
-use Rattle.kc_notes.specs.declared.fault.NoteFault.TheVariants.{V3, V4, V5, V6, V7, V8}
+use Rattle.kc_notes.specs.declared.fault.NoteFault.TheVariants.{V3, V4, V5, V6, V7}
 use Rattle.kc_notes.specs.declared.fault.NoteKey.{NoteKey}
 use Rattle.kc_notes.specs.declared.fault.NoteKey.TheVariants.{L5, Offset, Sme}
 use Rattle.kc_notes.specs.declared.info.Info.{Info}
@@ -89,10 +89,6 @@ top_table symbol base =
     if (table_address symbol base % 4096 == 0) && nat_lt (table_address symbol base) (2 ^ 52)
     then Ok (table_address symbol base) else Err V7
 
--- Five levels and a mask aren't followed yet.
-unfoldable pub followed : Info → Result Info NoteFault
-followed info = if info.five || not (info.sme == 0) then Err V8 else Ok info
-
 -- what the text of VMCOREINFO says, or its first fault
 unfoldable pub info_of : List ℕ → Result Info NoteFault
 info_of text = do
@@ -103,7 +99,7 @@ info_of text = do
   kaslr ← kernel_offset text
   sme ← sme_mask text
   table ← top_table symbol base
-  followed (record {
+  Ok (record {
     table = table;
     five = five;
     sme = sme;

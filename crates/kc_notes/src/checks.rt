@@ -1,9 +1,9 @@
 // The values of VMCOREINFO, one by one.
-ghost use Rattle.std.specs.Prelude.{◌≡◌, option_and_then};
+ghost use Rattle.std.specs.Prelude.{◌≡◌, ◌%◌, ◌^◌, ◌<◌, option_and_then, IfOk};
 ghost use Rattle.std.specs.Option.{option_copied};
 ghost use Rattle.kc_word.specs.Decimal.{decimal_number};
 ghost use Rattle.kc_word.specs.Hex.{hex_number};
-ghost use Rattle.kc_notes.specs.Info.{bits_of, five_levels, followed, kernel_offset, mask_in, mask_of, page_size, phys_base, sme_mask, top_symbol, top_table, top_value};
+ghost use Rattle.kc_notes.specs.Info.{bits_of, five_levels, kernel_offset, mask_in, mask_of, page_size, phys_base, sme_mask, top_symbol, top_table, top_value};
 ghost use Rattle.kc_notes.specs.Values.{value_of};
 
 use crate::fault::{NoteFault, NoteKey};
@@ -151,24 +151,14 @@ pub fn sme_mask(text: &[u8]) -> Result<u64, NoteFault>
 /// The physical address of the top page table, in bytes.
 #[tactic(auto, unfolding(crate::specs::Info::top_table))]
 pub fn top_table(symbol: u64, base: u64) -> Result<u64, NoteFault>
-    ensures { result ≡ top_table symbol base }
+    ensures table { result ≡ top_table symbol base }
+    ensures aligned { IfOk result (λ t. t % 4096 ≡ 0) }
+    ensures small { IfOk result (λ t. t < 2 ^ 52) }
 {
     let table = symbol.wrapping_sub(TEXT_BASE).wrapping_add(base);
     if table % 4096 == 0 && table < 1 << 52 {
         Ok(table)
     } else {
         Err(NoteFault::V7)
-    }
-}
-
-/// The kernel's memory, where it has four levels of page tables and no mask.
-#[tactic(auto, unfolding(crate::specs::Info::followed))]
-pub fn followed(info: Info) -> Result<Info, NoteFault>
-    ensures { result ≡ followed info }
-{
-    if info.five || info.sme != 0 {
-        Err(NoteFault::V8)
-    } else {
-        Ok(info)
     }
 }

@@ -37,7 +37,4 @@ pub enum NoteFault {
     /// The top page table isn't at a multiple of 4096 below 2^52.
     #[error("V7: the top page table is out of place")]
     V7,
-    /// The kernel has five levels of page tables, or a mask of encryption, which aren't followed yet.
-    #[error("V8: five levels or memory encryption")]
-    V8,
 }

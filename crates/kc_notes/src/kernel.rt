@@ -1,9 +1,9 @@
 // What VMCOREINFO says, as a whole.
-ghost use Rattle.std.specs.Prelude.{◌≡◌};
+ghost use Rattle.std.specs.Prelude.{◌≡◌, ◌%◌, ◌^◌, ◌<◌, IfOk};
 ghost use Rattle.kc_notes.specs.Info.{info_of};
 
 use crate::checks::{
-    five_levels, followed, kernel_offset, page_size, phys_base, sme_mask, top_symbol, top_table,
+    five_levels, kernel_offset, page_size, phys_base, sme_mask, top_symbol, top_table,
 };
 use crate::fault::NoteFault;
 use crate::info::Info;
@@ -14,10 +14,12 @@ use crate::info::Info;
 ///
 /// # Errors
 ///
-/// The first of `V3` to `V8`.
+/// The first of `V3` to `V7`.
 #[tactic(auto, unfolding(crate::specs::Info::info_of))]
 pub fn kernel_info(text: &[u8]) -> Result<Info, NoteFault>
-    ensures { result ≡ info_of text.now }
+    ensures info { result ≡ info_of text.now }
+    ensures aligned { IfOk result (λ i. i.table % 4096 ≡ 0) }
+    ensures small { IfOk result (λ i. i.table < 2 ^ 52) }
 {
     let _ = page_size(text)?;
     let phys_base = phys_base(text)?;
@@ -26,7 +28,7 @@ pub fn kernel_info(text: &[u8]) -> Result<Info, NoteFault>
     let kaslr = kernel_offset(text)?;
     let sme = sme_mask(text)?;
     let table = top_table(symbol, phys_base)?;
-    followed(Info {
+    Ok(Info {
         table,
         five,
         sme,
