@@ -175,7 +175,8 @@ in_kept bytes header table types id is same first last =
       last = last;
       numbered = record_numbered-kept bytes header table id first last;
       found = is.found (id - 1) 0 (omega arith);
-      refer = subst (λ (n : ℕ). Refers (length (kept bytes header table).strings) n (record_at bytes place)) (sym count) refer } in
+      refer = subst (λ (n : ℕ). Refers (length (kept bytes header table).strings) n (record_at bytes place)) (sym count) refer;
+    } in
     subst (λ (x : Types). Numbered bytes header table x id) same here
 
 pub numbered : (bytes : List ℕ) (header : Header) (table : List ℕ) (types : Types) (id : ℕ) → IsKept bytes header table → kept bytes header table ≡ types → 0 < id → id ≤ length types.records → Numbered bytes header table types id

@@ -63,7 +63,7 @@ none-outside bytes strings count types (x ∷ xs) none zero d more = (passes (re
     (find (λ place. not (refers_inside strings count (record_at bytes place))) (map (λ place. types + place) xs)) (λ place. record { rule = B8; at = place }) none).0
 none-outside bytes strings count types (x ∷ xs) none (suc k) d more =
     let rest = passes (refers_inside strings count (record_at bytes (types + x))) (types + x)
-          (find (λ place. not (refers_inside strings count (record_at bytes place))) (map (λ place. types + place) xs)) (λ place. record { rule = B8; at = place }) none in
+    (find (λ place. not (refers_inside strings count (record_at bytes place))) (map (λ place. types + place) xs)) (λ place. record { rule = B8; at = place }) none in
     none-outside bytes strings count types xs rest.1 k d (omega arith)
 
 -- the types that are kept, written out
@@ -86,4 +86,4 @@ inside-kept bytes header table is =
     let count : length (kept bytes header table).records ≡ length table = simp length-map in
     let strings = length (kept bytes header table).strings in
     All-map (RefersInside (kept bytes header table)) (λ place. record_at bytes (header.types + place)) table
-      (λ k d more. subst (λ n. refers_inside strings n (record_at bytes (header.types + get_or table k d)) ≡ true) (sym count) (is.refer k d more))
+    (λ k d more. subst (λ n. refers_inside strings n (record_at bytes (header.types + get_or table k d)) ≡ true) (sym count) (is.refer k d more))

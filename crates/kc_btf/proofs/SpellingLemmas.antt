@@ -145,20 +145,21 @@ spelled-places zero at end bytes ps fit within order enough found =
     rw (none, size) refl
 spelled-places (suc most) at end bytes ps fit within order enough found =
     elim (opened (nat_le end at) (record_fault bytes at end) at (places most bytes (at + record_size (record_at bytes at)) end) ps found) [
-      inl last ↦
-        let past : end ≤ at = grind (arith, nat_tests) in
-        let size : end - at ≡ 0 = omega arith in
-        rw (last.1, size) refl
-    | inr next ↦
-        let here = stands bytes at end within next.1 in
-        let size = record_size (record_at bytes at) in
-        let rest = spelled-places most (at + size) end bytes next.2 fit within here.1 (omega arith) next.3 in
-        let length : size + (end - (at + size)) ≡ end - at = omega arith in
-        rw next.4 (ap (λ x. x ++ flat_map (λ place. spelled (record_at bytes place)) next.2) (spelled-record_at bytes at fit here.0)
-        ∙ ap (λ x. take size (drop at bytes) ++ x) rest
-        ∙ ap (λ x. take size (drop at bytes) ++ take (end - (at + size)) x) (sym (drop-drop size at bytes))
-        ∙ sym (take-add size (end - (at + size)) (drop at bytes))
-        ∙ ap (λ m. take m (drop at bytes)) length) ]
+      | inl last ↦
+          let past : end ≤ at = grind (arith, nat_tests) in
+          let size : end - at ≡ 0 = omega arith in
+          rw (last.1, size) refl
+      | inr next ↦
+          let here = stands bytes at end within next.1 in
+          let size = record_size (record_at bytes at) in
+          let rest = spelled-places most (at + size) end bytes next.2 fit within here.1 (omega arith) next.3 in
+          let length : size + (end - (at + size)) ≡ end - at = omega arith in
+          rw next.4 (ap (λ x. x ++ flat_map (λ place. spelled (record_at bytes place)) next.2) (spelled-record_at bytes at fit here.0)
+          ∙ ap (λ x. take size (drop at bytes) ++ x) rest
+          ∙ ap (λ x. take size (drop at bytes) ++ take (end - (at + size)) x) (sym (drop-drop size at bytes))
+          ∙ sym (take-add size (end - (at + size)) (drop at bytes))
+          ∙ ap (λ m. take m (drop at bytes)) length)
+    ]
 
 -- each record that was read has a form
 words-small : (n at : ℕ) (bytes : List ℕ) → IsBytes bytes → All (λ x. x < 2 ^ 32) (words n bytes at)

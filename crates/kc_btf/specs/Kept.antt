@@ -10,7 +10,8 @@ use Rattle.kc_btf.specs.Btf.{Types}
 abbrev pub kept : List ℕ → Header → List ℕ → Types
 kept bytes header table = record {
   records = map (λ place. record_at bytes (header.types + place)) table;
-  strings = slice_range bytes header.strings header.strings_end }
+  strings = slice_range bytes header.strings header.strings_end;
+}
 
 -- what is kept is sound
 pub record IsKept (bytes : List ℕ) (header : Header) (table : List ℕ) : Type 0 where

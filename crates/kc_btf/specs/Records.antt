@@ -44,7 +44,8 @@ record_of kind bytes at = record {
   rest = word bytes (at + 8);
   words = words (following kind (vlen_at bytes at)) bytes (at + 12);
   low_spare = word bytes (at + 4) / 2 ^ 16 % 2 ^ 8;
-  high_spare = word bytes (at + 4) / 2 ^ 29 % 4 }
+  high_spare = word bytes (at + 4) / 2 ^ 29 % 4;
+}
 
 -- the record at a byte place, of the kind that its info has
 unfoldable pub record_at : List ℕ → ℕ → Record

@@ -56,7 +56,11 @@ impl Btf {
         let table = places(alloc, &bytes, header.types, header.types_end)?;
         let strings = header.strings_end - header.strings;
         check_inside(&bytes, header.types, &table, strings)?;
-        Ok(Btf { bytes, header, table })
+        Ok(Btf {
+            bytes,
+            header,
+            table,
+        })
     }
 
     /// How many types there are, without void.

@@ -60,15 +60,26 @@ fn refers_inside(bytes: &[u8], at: usize, limits: &Limits) -> bool
 }
 
 // Finds the first record whose names and types don't lie inside.
-pub(crate) fn check_inside(bytes: &[u8], types: usize, table: &[u32], strings: usize) -> Result<(), BtfFault>
+pub(crate) fn check_inside(
+    bytes: &[u8],
+    types: usize,
+    table: &[u32],
+    strings: usize,
+) -> Result<(), BtfFault>
     requires { All (λ place. IsRecord bytes.now (types + place)) table.now }
     ensures { FaultIs result (outside_fault bytes.now strings (length table.now) (map (λ place. types + place) table.now)) }
 {
-    let limits = Limits { strings, types: table.len() };
+    let limits = Limits {
+        strings,
+        types: table.len(),
+    };
     for place in table {
         let at = types + *place as usize;
         if !refers_inside(bytes, at, &limits) {
-            return Err(BtfFault { rule: BRule::B8, at: at as u64 });
+            return Err(BtfFault {
+                rule: BRule::B8,
+                at: at as u64,
+            });
         }
     }
     Ok(())

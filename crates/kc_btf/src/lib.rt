@@ -2,15 +2,17 @@
 //! by the kernel's document "BPF Type Format", header version 1, kinds 1 to 19.
 #![tactic(auto)]
 
-mod kind;
-mod stop;
-mod header;
-mod record;
-mod places;
-mod inside;
-mod types;
-mod members;
 mod btf;
+mod header;
+mod inside;
+mod kind;
+mod members;
+mod places;
+mod record;
+mod stop;
+#[cfg(test)]
+mod tests;
+mod types;
 
 pub use btf::Btf;
 pub use kind::Kind;

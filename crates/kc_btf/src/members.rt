@@ -39,7 +39,12 @@ impl<'b> Members<'b> {
         requires { at + 12 * left ≤ length bytes.now }
         ensures { result ≡ members flag (words (3 * left) bytes.now at) }
     {
-        Members { bytes, at, left, flag }
+        Members {
+            bytes,
+            at,
+            left,
+            flag,
+        }
     }
 }
 
@@ -76,8 +81,18 @@ fn member_at(bytes: &[u8], at: usize, flag: bool) -> Member
     let ty = word(bytes, at + 4);
     let offset = word(bytes, at + 8);
     if flag {
-        Member { name, ty, bit: offset % (1 << 24), width: (offset / (1 << 24)) as u8 }
+        Member {
+            name,
+            ty,
+            bit: offset % (1 << 24),
+            width: (offset / (1 << 24)) as u8,
+        }
     } else {
-        Member { name, ty, bit: offset, width: 0 }
+        Member {
+            name,
+            ty,
+            bit: offset,
+            width: 0,
+        }
     }
 }

@@ -9,7 +9,12 @@ use std::alloc::Global;
 
 // The places of the records, counted from the types' first byte, or the first rule that one breaks. The
 // types' section has fewer bytes than 32 bits count.
-pub(crate) fn places(alloc: Global, bytes: &[u8], types: usize, end: usize) -> Result<Vec<u32>, BtfStop>
+pub(crate) fn places(
+    alloc: Global,
+    bytes: &[u8],
+    types: usize,
+    end: usize,
+) -> Result<Vec<u32>, BtfStop>
     requires start { types ≤ end }
     requires inside { end ≤ length bytes.now }
     requires short { end - types < 2 ^ 32 }

@@ -62,7 +62,10 @@ pub(crate) fn array_at(bytes: &[u8], at: usize) -> ArrayOf
     ensures { array_of (record_at bytes.now at) ≡ Some result }
 {
     let behind = at + RECORD;
-    ArrayOf { ty: word(bytes, behind), nelems: word(bytes, behind + 8) }
+    ArrayOf {
+        ty: word(bytes, behind),
+        nelems: word(bytes, behind + 8),
+    }
 }
 
 // How a number lies in its bytes.
@@ -91,13 +94,23 @@ pub(crate) fn record_size(bytes: &[u8], at: usize, end: usize) -> Result<usize, 
     ensures within { IfOk result (λ size. at + size ≤ end) }
     ensures found { OnOk result (IsRecord bytes.now at) }
 {
-    let short = BtfFault { rule: BRule::B7, at: at as u64 };
+    let short = BtfFault {
+        rule: BRule::B7,
+        at: at as u64,
+    };
     if end - at < RECORD {
         return Err(short);
     }
     let Some(kind) = kind_at(bytes, at) else {
-        return Err(BtfFault { rule: BRule::B6, at: at as u64 });
+        return Err(BtfFault {
+            rule: BRule::B6,
+            at: at as u64,
+        });
     };
     let size = RECORD + 4 * kind.following(vlen_at(bytes, at));
-    if end - at < size { Err(short) } else { Ok(size) }
+    if end - at < size {
+        Err(short)
+    } else {
+        Ok(size)
+    }
 }

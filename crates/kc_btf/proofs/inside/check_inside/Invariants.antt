@@ -7,5 +7,5 @@ abbrev pub invariant-loop-place : goal.invariant-loop-place
 invariant-loop-place l = record {
   limits : l.limits ≡ record { strings = l.strings; types = length l.table };
   rest : outside_fault l.bytes l.strings (length l.table) (map (λ place. l.types + place) (drop l.place-index l.table))
-    ≡ outside_fault l.bytes l.strings (length l.table) (map (λ place. l.types + place) l.table);
+      ≡ outside_fault l.bytes l.strings (length l.table) (map (λ place. l.types + place) l.table);
 }

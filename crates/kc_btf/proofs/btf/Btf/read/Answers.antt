@@ -21,7 +21,7 @@ returns-in_err-check_inside-clause-exact c =
     let none : header_fault bytes ≡ None = rw c.deref.ensures.value at c.in_ok-header.ensures.fault in
     let found : places (length bytes) bytes header.types header.types_end ≡ Ok (map (λ place. header.types + place) table) = rw c.deref-2.ensures.value at c.in_ok-table.ensures.exact in
     let outside : outside_fault bytes (header.strings_end - header.strings) (length table) (map (λ place. header.types + place) table) ≡ Some c.in_err-check_inside.field-0.0 =
-        rw (c.deref-3.ensures.value, c.deref-4.ensures.value) at c.in_err-check_inside.ensures in
+    rw (c.deref-3.ensures.value, c.deref-4.ensures.value) at c.in_err-check_inside.ensures in
     rw (gave.1, gave.2) (btf-table bytes header table is inside none found ∙ ap (λ (f : Option BtfFault). unless f (Ok (kept bytes header table))) outside)
 
 -- the table is kept
@@ -32,7 +32,7 @@ keeps c =
     let table = c.in_ok-table.table.items in
     let inside : IsInside bytes header = rw c.deref.ensures.value at c.in_ok-header.ensures.inside in
     let outside : outside_fault bytes (header.strings_end - header.strings) (length table) (map (λ place. header.types + place) table) ≡ None =
-        rw (c.deref-3.ensures.value, c.deref-4.ensures.value) at c.in_ok-check_inside.ensures in
+    rw (c.deref-3.ensures.value, c.deref-4.ensures.value) at c.in_ok-check_inside.ensures in
     record {
       sections = inside;
       few = omega (arith, inside.short, c.in_ok-table.ensures.few);
@@ -53,7 +53,7 @@ returns-clause-exact c =
     let none : header_fault bytes ≡ None = rw c.deref.ensures.value at c.in_ok-header.ensures.fault in
     let found : places (length bytes) bytes header.types header.types_end ≡ Ok (map (λ place. header.types + place) table) = rw c.deref-2.ensures.value at c.in_ok-table.ensures.exact in
     let outside : outside_fault bytes (header.strings_end - header.strings) (length table) (map (λ place. header.types + place) table) ≡ None =
-        rw (c.deref-3.ensures.value, c.deref-4.ensures.value) at c.in_ok-check_inside.ensures in
+    rw (c.deref-3.ensures.value, c.deref-4.ensures.value) at c.in_ok-check_inside.ensures in
     btf-table bytes header table is inside none found ∙ ap (λ (f : Option BtfFault). unless f (Ok (kept bytes header table))) outside
 
 pub returns-clause-spelled : goal.returns-clause-spelled
