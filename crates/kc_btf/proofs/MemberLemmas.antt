@@ -1,5 +1,5 @@
 -- Members one after the other.
-use Rattle.std.proofs.Common.{◌≡◌, ℕ, zero, suc, ◌+◌, ◌-◌, ◌*◌, ◌<◌, Bool, List, [], ◌∷◌, ap, ◌∙◌, refl, arith}
+use Rattle.std.proofs.Common.{◌≡◌, ℕ, suc, ◌+◌, ◌-◌, ◌*◌, ◌<◌, Bool, List, [], ◌∷◌, refl, arith}
 use Rattle.kc_btf.specs.declared.types.Member.{Member}
 use Rattle.kc_btf.specs.Numbers.{word, words}
 use Rattle.kc_btf.specs.Readers.{members, member_of}

@@ -1,5 +1,5 @@
 -- Numbers one after the other.
-use Rattle.std.proofs.Common.{◌≡◌, ℕ, zero, suc, ◌+◌, ◌-◌, ◌*◌, ◌<◌, Bool, true, false, List, [], ◌∷◌, ◌&&◌, ap, ◌∙◌, sym, refl, arith}
+use Rattle.std.proofs.Common.{◌≡◌, ℕ, suc, ◌+◌, ◌-◌, ◌*◌, ◌<◌, true, false, List, ◌∷◌, ap, ◌∙◌, refl, arith}
 use Rattle.kc_btf.specs.declared.kind.Kind.{Kind}
 use Rattle.kc_btf.specs.Numbers.{word, words}
 use Rattle.kc_btf.specs.Role.{is_inside, role_of}

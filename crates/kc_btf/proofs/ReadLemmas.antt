@@ -1,5 +1,5 @@
 -- From the parts of a reading to the types of the file.
-use Rattle.std.proofs.Common.{◌≡◌, ℕ, zero, suc, ◌+◌, ◌-◌, ◌<◌, ◌≤◌, Bool, true, false, not, List, [], ◌∷◌, length, map, get_or, drop, slice_range, subst, Option, Some, None, option_map, cond, Result, Ok, Err, ap, ◌∙◌, sym, refl, arith}
+use Rattle.std.proofs.Common.{Result, ◌≡◌, ℕ, zero, suc, ◌+◌, ◌-◌, ◌<◌, Bool, true, false, not, List, [], ◌∷◌, length, map, get_or, drop, slice_range, subst, Option, Some, None, option_map, cond, Ok, ap, ◌∙◌, sym, refl, arith}
 use Rattle.std.specs.List.{find, flat_map}
 use Rattle.std.proofs.lemmas.List.{length-map, length-take-le, length-drop}
 use Rattle.std.proofs.lemmas.Simd.{map-map}
@@ -7,7 +7,7 @@ use Rattle.kc_btf.specs.declared.header.Header.{Header}
 use Rattle.kc_btf.specs.declared.stop.BtfFault.{BtfFault}
 use Rattle.kc_btf.specs.declared.stop.BRule.TheVariants.{B8}
 use Rattle.kc_btf.specs.Answers.{unless}
-use Rattle.kc_btf.specs.Header.{header_fault, types_at, types_end, strings_at, strings_end, string_section, type_section, IsHeader, IsInside}
+use Rattle.kc_btf.specs.Header.{header_fault, types_at, types_end, strings_end, string_section, type_section, IsHeader, IsInside}
 use Rattle.kc_btf.specs.Records.{Record, record_at, places, refers_inside}
 use Rattle.kc_btf.specs.Btf.{Types, btf, types_of, outside_fault, RefersInside}
 use Rattle.kc_btf.specs.Kept.{kept, IsKept}
@@ -16,6 +16,13 @@ use Rattle.kc_btf.proofs.SpellingLemmas.{IsBytes, spelled-places, form-record_at
 use Rattle.std.specs.Prelude.{All}
 use Rattle.std.proofs.lemmas.List.Elements.{All-map}
 use Rattle.std.proofs.lemmas.List.Folds.{flat_map-map}
+
+-- what is known once the places of the records are in a table
+pub record IsTabled (bytes : List ℕ) (header : Header) (table : List ℕ) : Type 0 where
+  pub read : IsHeader bytes header
+  pub inside : IsInside bytes header
+  pub sound : header_fault bytes ≡ None
+  pub places : places (length bytes) bytes header.types header.types_end ≡ Ok (map (λ place. header.types + place) table)
 
 -- a header that breaks no rule
 pub btf-header : (bytes : List ℕ) (header : Header) → IsHeader bytes header → header_fault bytes ≡ None → btf bytes ≡ types_of bytes (places (length bytes) bytes header.types header.types_end)
@@ -32,23 +39,23 @@ section bytes header is =
 pub length-strings : (bytes : List ℕ) (header : Header) → IsInside bytes header → length (slice_range bytes header.strings header.strings_end) ≡ header.strings_end - header.strings
 length-strings bytes header is = length-take-le (header.strings_end - header.strings) (drop header.strings bytes) (simp length-drop (omega arith))
 
--- a table of the records' places
-pub btf-table : (bytes : List ℕ) (header : Header) (table : List ℕ) → IsHeader bytes header → IsInside bytes header → header_fault bytes ≡ None →
-    places (length bytes) bytes header.types header.types_end ≡ Ok (map (λ place. header.types + place) table) →
+-- the records of a table
+pub btf-table : (bytes : List ℕ) (header : Header) (table : List ℕ) → IsTabled bytes header table →
     btf bytes ≡ unless (outside_fault bytes (header.strings_end - header.strings) (length table) (map (λ place. header.types + place) table)) (Ok (kept bytes header table))
-btf-table bytes header table is inside none found =
+btf-table bytes header table is =
     let shift : ℕ → ℕ = λ place. header.types + place in
-    let strings = slice_range bytes header.strings header.strings_end in
+    let there = map (record_at bytes) (map shift table) in
+    let judged : ℕ → ℕ → List Record → List ℕ → Result Types BtfFault = λ limit count rs ss. unless (outside_fault bytes limit count (map shift table)) (Ok (record { records = rs; strings = ss })) in
     let count : length (map shift table) ≡ length table = simp length-map in
-    let records : map (record_at bytes) (map shift table) ≡ map (λ place. record_at bytes (header.types + place)) table = simp map-map in
-    let kept_as : List Record → List ℕ → Types = λ rs ss. record { records = rs; strings = ss } in
-    let limits = ap length (section bytes header is) ∙ length-strings bytes header inside in
-    btf-header bytes header is none
-    ∙ ap (types_of bytes) found
-    ∙ ap (λ n. unless (outside_fault bytes n (length (map shift table)) (map shift table)) (Ok (kept_as (map (record_at bytes) (map shift table)) (string_section bytes)))) limits
-    ∙ ap (λ n. unless (outside_fault bytes (header.strings_end - header.strings) n (map shift table)) (Ok (kept_as (map (record_at bytes) (map shift table)) (string_section bytes)))) count
-    ∙ ap (λ rs. unless (outside_fault bytes (header.strings_end - header.strings) (length table) (map shift table)) (Ok (kept_as rs (string_section bytes)))) records
-    ∙ ap (λ ss. unless (outside_fault bytes (header.strings_end - header.strings) (length table) (map shift table)) (Ok (kept_as (map (λ place. record_at bytes (header.types + place)) table) ss))) (section bytes header is)
+    let records : there ≡ map (λ place. record_at bytes (header.types + place)) table = simp map-map in
+    let strings = section bytes header is.read in
+    let limit = ap length strings ∙ length-strings bytes header is.inside in
+    btf-header bytes header is.read is.sound
+    ∙ ap (types_of bytes) is.places
+    ∙ ap (λ n. judged n (length (map shift table)) there (string_section bytes)) limit
+    ∙ ap (λ n. judged (header.strings_end - header.strings) n there (string_section bytes)) count
+    ∙ ap (λ rs. judged (header.strings_end - header.strings) (length table) rs (string_section bytes)) records
+    ∙ ap (judged (header.strings_end - header.strings) (length table) (map (λ place. record_at bytes (header.types + place)) table)) strings
 
 -- the first of places, where no fault was found
 passes : (b : Bool) (place : ℕ) (rest : Option ℕ) (fault : ℕ → BtfFault) → option_map fault (cond (not b) (Some place) rest) ≡ None → (b ≡ true) × (option_map fault rest ≡ None)
@@ -67,15 +74,15 @@ none-outside bytes strings count types (x ∷ xs) none (suc k) d more =
     none-outside bytes strings count types xs rest.1 k d (omega arith)
 
 -- the types that are kept, written out
-pub spelled-kept : (bytes : List ℕ) (header : Header) (table : List ℕ) → IsBytes bytes → IsHeader bytes header → IsInside bytes header →
-    places (length bytes) bytes header.types header.types_end ≡ Ok (map (λ place. header.types + place) table) → flat_map spelled (kept bytes header table).records ≡ type_section bytes
-spelled-kept bytes header table fit is inside found =
+pub spelled-kept : (bytes : List ℕ) (header : Header) (table : List ℕ) → IsBytes bytes → IsTabled bytes header table → flat_map spelled (kept bytes header table).records ≡ type_section bytes
+spelled-kept bytes header table fit is =
     let shift : ℕ → ℕ = λ place. header.types + place in
+    let inside = is.inside in
     flat_map-map spelled (λ place. record_at bytes (header.types + place)) table
     ∙ sym (flat_map-map (λ place. spelled (record_at bytes place)) shift table)
-    ∙ spelled-places (length bytes) header.types header.types_end bytes (map shift table) fit inside.types_end inside.types (omega (arith, inside.types_end)) found
-    ∙ ap (λ at. slice_range bytes at header.types_end) is.types
-    ∙ ap (λ end. slice_range bytes (types_at bytes) end) is.types_end
+    ∙ spelled-places (length bytes) header.types header.types_end bytes (map shift table) fit inside.types_end inside.types (omega (arith, inside.types_end)) is.places
+    ∙ ap (λ at. slice_range bytes at header.types_end) is.read.types
+    ∙ ap (λ end. slice_range bytes (types_at bytes) end) is.read.types_end
 
 pub form-kept : (bytes : List ℕ) (header : Header) (table : List ℕ) → IsBytes bytes → IsKept bytes header table → All HasForm (kept bytes header table).records
 form-kept bytes header table fit is =

@@ -1,9 +1,8 @@
 -- Records that were read, written out again, are the bytes of the types.
-use Rattle.std.proofs.Common.{◌≡◌, ℕ, zero, suc, ◌+◌, ◌-◌, ◌*◌, ◌/◌, ◌%◌, ◌^◌, ◌<◌, ◌≤◌, Bool, true, false, List, [], ◌∷◌, ◌++◌, length, map, get_or, take, drop, slice_range, subst, Option, Some, None, cond, ◌==◌, if◌then◌else◌, Result, Ok, Err, ap, ◌∙◌, sym, refl, arith, append-nil, IsSome, unwrap_or, inl, inr, ◌⊎◌, nat_le}
+use Rattle.std.proofs.Common.{◌≡◌, ℕ, zero, suc, ◌+◌, ◌-◌, ◌*◌, ◌/◌, ◌%◌, ◌^◌, ◌<◌, ◌≤◌, Bool, true, false, List, [], ◌∷◌, ◌++◌, length, get_or, take, drop, slice_range, subst, Option, Some, None, cond, ◌==◌, if◌then◌else◌, Result, Ok, Err, ap, ◌∙◌, sym, refl, arith, IsSome, unwrap_or, inl, inr, ◌⊎◌, nat_le}
 use Rattle.std.specs.Prelude.{All}
 use Rattle.std.specs.List.{find, flat_map}
 use Rattle.std.proofs.lemmas.List.{length-drop, drop-drop, get_or-drop}
-use Rattle.std.proofs.lemmas.Simd.{map-map}
 use Rattle.std.proofs.Math.Seq.{take-add}
 use Rattle.std.proofs.lemmas.Bool.Decides.{nat_tests}
 use Rattle.byteorder.specs.Endian.{little_bytes, little_number}
@@ -13,7 +12,7 @@ use Rattle.kc_btf.specs.declared.stop.BtfFault.{BtfFault}
 use Rattle.kc_btf.proofs.MemberLemmas.{words-three}
 use Rattle.kc_btf.specs.Numbers.{word, words}
 use Rattle.kc_btf.specs.Kind.{kind_number, kind_of, kinds, following}
-use Rattle.kc_btf.specs.Records.{Record, kind_number_at, vlen_at, record_of, record_at, record_size, record_fault, kind_fault, places, before, IsRecord}
+use Rattle.kc_btf.specs.Records.{kind_number_at, record_of, record_at, record_size, record_fault, kind_fault, places, before, IsRecord}
 use Rattle.kc_btf.specs.Answers.{unless}
 use Rattle.kc_btf.specs.Spelling.{info, numbers, spelled, HasForm}
 

@@ -1,5 +1,5 @@
 -- The types of a file: its records with their strings, or the first rule that it breaks.
-use Rattle.std.specs.Prelude.{IsTrue, ℕ, List, length, map, Option, Some, None, Result, Ok, Err, option_map, not}
+use Rattle.std.specs.Prelude.{IsTrue, ℕ, List, length, map, Option, Result, Ok, Err, option_map, not}
 use Rattle.std.specs.List.{find}
 use Rattle.kc_btf.specs.declared.stop.BtfFault.{BtfFault}
 use Rattle.kc_btf.specs.declared.stop.BRule.TheVariants.{B8}

@@ -2,7 +2,7 @@
 -- five numbers of 32 bits: the header's length, and the place and the length of the types and of the
 -- strings. The places count from the header's end. Flags and bytes behind the numbers are skipped.
 -- Source: the kernel's document "BPF Type Format", "Type and String Encoding".
-use Rattle.std.specs.Prelude.{◌≡◌, ◌<◌, ◌≤◌, ◌^◌, IsTrue, ℕ, ◌+◌, ◌-◌, Bool, List, length, Option, Some, None, Result, ◌==◌, ◌&&◌, ◌||◌, not, nat_lt, nat_le, if◌then◌else◌, slice_index, slice_range}
+use Rattle.std.specs.Prelude.{◌≡◌, ◌<◌, ◌≤◌, ◌^◌, IsTrue, ℕ, ◌+◌, ◌-◌, Bool, List, length, Option, Some, None, ◌==◌, ◌&&◌, not, nat_lt, nat_le, if◌then◌else◌, slice_index, slice_range}
 use Rattle.byteorder.specs.Endian.{little_number}
 use Rattle.kc_btf.specs.declared.header.Header.{Header}
 use Rattle.kc_btf.specs.declared.stop.BtfFault.{BtfFault}

@@ -1,6 +1,6 @@
 -- How the code keeps the types of a file: the file itself, where its sections lie, and where each record
 -- lies, counted from the first byte of the types.
-use Rattle.std.specs.Prelude.{◌≡◌, ℕ, ◌+◌, ◌-◌, ◌<◌, ◌^◌, List, length, map, All, IsTrue, slice_range}
+use Rattle.std.specs.Prelude.{ℕ, ◌+◌, ◌<◌, ◌^◌, List, length, map, All, IsTrue, slice_range}
 use Rattle.kc_btf.specs.declared.header.Header.{Header}
 use Rattle.kc_btf.specs.Header.{IsInside}
 use Rattle.kc_btf.specs.Records.{record_at, refers_inside, IsRecord}

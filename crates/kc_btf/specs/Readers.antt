@@ -1,11 +1,16 @@
 -- What the readers give of a record.
-use Rattle.std.specs.Prelude.{ℕ, zero, suc, ◌/◌, ◌%◌, ◌^◌, Bool, true, false, List, [], ◌∷◌, Option, Some, None, option_map, option_and_then, ◌==◌, slice_get}
+use Rattle.std.specs.Prelude.{ℕ, zero, suc, ◌/◌, ◌%◌, ◌^◌, Bool, true, false, List, [], ◌∷◌, Option, Some, None, option_map, ◌==◌, drop, slice_get}
+use Rattle.std.specs.List.{before_first}
 use Rattle.kc_btf.specs.declared.types.TypeRef.{TypeRef}
 use Rattle.kc_btf.specs.declared.types.Member.{Member}
 use Rattle.kc_btf.specs.declared.types.ArrayOf.{ArrayOf}
 use Rattle.kc_btf.specs.declared.types.IntOf.{IntOf}
 use Rattle.kc_btf.specs.Records.{Record}
 use Rattle.kc_btf.specs.Btf.{Types}
+
+-- the name at an offset of the strings: the bytes up to the next NUL
+abbrev pub name_at : List ℕ → ℕ → List ℕ
+name_at strings offset = before_first (λ c. c == 0) (drop offset strings)
 
 -- the record of a type number. Type 0 is void and has none.
 abbrev pub record_numbered : Types → ℕ → Option Record

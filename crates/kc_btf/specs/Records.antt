@@ -2,7 +2,7 @@
 -- info, and a size or the number of a type. The info has the count of items (vlen) in bits 0 to 15, the
 -- kind in bits 24 to 28 and the kind flag in bit 31. Numbers that depend on the kind follow.
 -- Source: the kernel's document "BPF Type Format", "Type Encoding".
-use Rattle.std.specs.Prelude.{◌≤◌, IsSome, ℕ, zero, suc, ◌+◌, ◌*◌, ◌/◌, ◌%◌, ◌^◌, Bool, true, List, [], ◌∷◌, length, Option, Some, None, unwrap_or, Result, Ok, Err, ◌==◌, ◌&&◌, not, nat_lt, nat_le, if◌then◌else◌}
+use Rattle.std.specs.Prelude.{◌≤◌, IsSome, ℕ, zero, suc, ◌+◌, ◌*◌, ◌/◌, ◌%◌, ◌^◌, Bool, true, List, [], ◌∷◌, length, Option, Some, None, unwrap_or, Result, Ok, Err, ◌==◌, ◌&&◌, nat_lt, nat_le, if◌then◌else◌}
 use Rattle.kc_btf.specs.declared.kind.Kind.{Kind}
 use Rattle.kc_btf.specs.declared.kind.Kind.TheVariants.{Int}
 use Rattle.kc_btf.specs.declared.kind.Role.TheVariants.{ToName}

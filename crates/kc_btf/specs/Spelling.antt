@@ -1,7 +1,7 @@
 -- Records written out as the kernel's document lays them: three numbers of 32 bits, the lowest byte first,
 -- and the numbers behind them. The info has the count of items in bits 0 to 15, the kind in bits 24 to 28
 -- and the kind flag in bit 31; the other bits mean nothing.
-use Rattle.std.specs.Prelude.{◌≡◌, ◌<◌, ℕ, ◌+◌, ◌*◌, ◌^◌, List, [], ◌∷◌, length, All, if◌then◌else◌}
+use Rattle.std.specs.Prelude.{◌≡◌, ◌<◌, ℕ, ◌+◌, ◌*◌, ◌^◌, List, ◌∷◌, length, All, if◌then◌else◌}
 use Rattle.std.specs.List.{flat_map}
 use Rattle.byteorder.specs.Endian.{little_bytes}
 use Rattle.kc_btf.specs.Kind.{kind_number, following}

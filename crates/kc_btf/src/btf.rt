@@ -31,19 +31,19 @@ impl Model for Btf {
 }
 
 impl Btf {
-    ghost use Rattle.std.specs.Prelude.{◌≡◌, ◌+◌, ◌<◌, ◌≤◌, length, drop, Some, option_map, option_and_then, All, IsTrue, IfOk, ◌==◌};
-    ghost use Rattle.std.specs.List.{before_first, flat_map};
+    ghost use Rattle.std.specs.Prelude.{◌≡◌, ◌+◌, ◌<◌, ◌≤◌, length, Some, option_map, option_and_then, All, IsTrue, IfOk};
+    ghost use Rattle.std.specs.List.{flat_map};
     ghost use Rattle.kc_btf.specs.Answers.{Gives};
     ghost use Rattle.kc_btf.specs.Btf.{btf, RefersInside};
     ghost use Rattle.kc_btf.specs.Header.{type_section};
     ghost use Rattle.kc_btf.specs.Spelling.{spelled, HasForm};
     ghost use Rattle.kc_btf.specs.Kind.{is_compound};
     ghost use Rattle.kc_btf.specs.Role.{rest_role, LiesInside};
-    ghost use Rattle.kc_btf.specs.Readers.{record_numbered, type_numbered, members_of, array_of, int_of};
+    ghost use Rattle.kc_btf.specs.Readers.{name_at, record_numbered, type_numbered, members_of, array_of, int_of};
 
     /// Reads a file, the raw bytes of a kernel's section `.BTF`. A file that breaks a rule is refused
-    /// with the first one; both answers that aren't a `Btf` drop the bytes. It takes time in proportion
-    /// to the bytes, and keeps 4 bytes for each type beside them.
+    /// with the first one; both answers that aren't a `Btf` drop the bytes. The records are gone through
+    /// twice, and a table keeps the place of each in 4 bytes.
     pub fn read(alloc: Global, bytes: Vec<u8>) -> Result<Btf, BtfStop>
         ensures exact { Gives (λ types. types) result (btf bytes.items) }
         // The records, written out again, are the bytes of the types.
@@ -70,7 +70,7 @@ impl Btf {
         self.table.len() as u32
     }
 
-    /// The type of a number, in constant time.
+    /// The type of a number, looked up in the table.
     pub fn ty(&self, id: u32) -> TypeRef
         requires first { 0 < id }
         requires last { id ≤ length self.now.records }
@@ -84,7 +84,7 @@ impl Btf {
     /// The bytes of a name, without the NUL that ends it.
     pub fn name(&self, off: u32) -> &[u8]
         requires { off < length self.now.strings }
-        ensures exact { result.now ≡ before_first (λ c. c == 0) (drop off self.now.strings) }
+        ensures exact { result.now ≡ name_at self.now.strings off }
         ensures inside { off + length result.now < length self.now.strings }
     {
         let strings = &self.bytes[self.header.strings..self.header.strings_end];

@@ -42,35 +42,20 @@ impl Header {
         ensures inside { IfOk result (IsInside bytes.now) }
     {
         if bytes.len() < HEADER {
-            return Err(BtfFault {
-                rule: BRule::B1,
-                at: bytes.len() as u64,
-            });
+            return Err(BRule::B1.at(bytes.len()));
         }
         if get_u16(bytes, 0).unwrap() != MAGIC {
-            return Err(BtfFault {
-                rule: BRule::B2,
-                at: 0,
-            });
+            return Err(BRule::B2.at(0));
         }
         if bytes[2] != 1 {
-            return Err(BtfFault {
-                rule: BRule::B3,
-                at: 2,
-            });
+            return Err(BRule::B3.at(2));
         }
         let header = Header::sections(bytes);
         if !header.is_inside(bytes) {
-            return Err(BtfFault {
-                rule: BRule::B4,
-                at: 4,
-            });
+            return Err(BRule::B4.at(4));
         }
         if !are_strings(&bytes[header.strings..header.strings_end]) {
-            return Err(BtfFault {
-                rule: BRule::B5,
-                at: header.strings as u64,
-            });
+            return Err(BRule::B5.at(header.strings));
         }
         Ok(header)
     }

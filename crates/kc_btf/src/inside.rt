@@ -76,10 +76,7 @@ pub(crate) fn check_inside(
     for place in table {
         let at = types + *place as usize;
         if !refers_inside(bytes, at, &limits) {
-            return Err(BtfFault {
-                rule: BRule::B8,
-                at: at as u64,
-            });
+            return Err(BRule::B8.at(at));
         }
     }
     Ok(())

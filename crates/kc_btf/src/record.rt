@@ -94,18 +94,12 @@ pub(crate) fn record_size(bytes: &[u8], at: usize, end: usize) -> Result<usize, 
     ensures within { IfOk result (λ size. at + size ≤ end) }
     ensures found { OnOk result (IsRecord bytes.now at) }
 {
-    let short = BtfFault {
-        rule: BRule::B7,
-        at: at as u64,
-    };
+    let short = BRule::B7.at(at);
     if end - at < RECORD {
         return Err(short);
     }
     let Some(kind) = kind_at(bytes, at) else {
-        return Err(BtfFault {
-            rule: BRule::B6,
-            at: at as u64,
-        });
+        return Err(BRule::B6.at(at));
     };
     let size = RECORD + 4 * kind.following(vlen_at(bytes, at));
     if end - at < size {

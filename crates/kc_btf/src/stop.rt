@@ -24,6 +24,20 @@ pub enum BRule {
     B8,
 }
 
+impl BRule {
+    ghost use Rattle.std.specs.Prelude.{◌≡◌};
+
+    // That a file breaks the rule at a place.
+    pub(crate) fn at(self, place: usize) -> BtfFault
+        ensures { result ≡ record { rule = self; at = place } }
+    {
+        BtfFault {
+            rule: self,
+            at: place as u64,
+        }
+    }
+}
+
 /// The first rule that a file breaks, and where.
 #[derive(Clone, Copy, Debug, PartialEq, Eq, Error)]
 #[error("{rule:?} at {at}")]

@@ -1,4 +1,4 @@
-use Rattle.std.proofs.Common.{◌≡◌, ◌≤◌, true, length, Some, ap, sym, ◌∙◌, option_and_then}
+use Rattle.std.proofs.Common.{◌≡◌, true, length, ap, ◌∙◌, option_and_then}
 use Rattle.kc_btf.specs.Readers.{array_of}
 use Rattle.kc_btf.specs.Records.{record_at, words_inside}
 use Rattle.kc_btf.specs.declared.kind.Kind.TheVariants.{Array}

@@ -1,4 +1,4 @@
-use Rattle.std.proofs.Common.{◌≡◌, Some, ap, sym, ◌∙◌, option_and_then}
+use Rattle.std.proofs.Common.{◌≡◌, ap, ◌∙◌, option_and_then}
 use Rattle.kc_btf.specs.Readers.{int_of}
 use Rattle.kc_btf.specs.Records.{record_at}
 use Rattle.kc_btf.specs.declared.kind.Kind.TheVariants.{Int}

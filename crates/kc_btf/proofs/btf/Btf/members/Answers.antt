@@ -1,4 +1,4 @@
-use Rattle.std.proofs.Common.{◌≡◌, ◌≤◌, ◌<◌, ◌+◌, ◌*◌, true, length, ap, sym, ◌∙◌, Some, option_map, subst, List}
+use Rattle.std.proofs.Common.{◌≡◌, ◌≤◌, ◌<◌, true, length, ap, sym, ◌∙◌, Some, option_map, subst, List}
 use Rattle.std.specs.Prelude.{All}
 use Rattle.kc_btf.specs.declared.types.Member.{Member}
 use Rattle.kc_btf.specs.Kind.{is_compound}

@@ -1,4 +1,4 @@
-use Rattle.std.proofs.Common.{◌≡◌, ◌∷◌, [], sym, ◌∙◌, arith, rules}
+use Rattle.std.proofs.Common.{◌≡◌, [], sym, ◌∙◌, arith, rules}
 use Rattle.kc_btf.proofs.MemberLemmas.{members-next, members-none}
 use Rattle.kc_btf.proofs.members.MembersIterator.next.Goals as goal
 
