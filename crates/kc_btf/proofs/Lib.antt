@@ -1,0 +1,6 @@
+mod NumberLemmas
+mod PlaceLemmas
+mod MemberLemmas
+mod KeptLemmas
+mod ReadLemmas
+mod SpellingLemmas

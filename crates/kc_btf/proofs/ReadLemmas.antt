@@ -1,0 +1,96 @@
+-- From the parts of a reading to the types of the file.
+use Rattle.std.proofs.Common.{Result, ◌≡◌, ℕ, zero, suc, ◌+◌, ◌-◌, ◌<◌, Bool, true, false, not, List, [], ◌∷◌, length, map, get_or, drop, slice_range, subst, Option, Some, None, option_map, cond, Ok, ap, ◌∙◌, sym, refl, arith}
+use Rattle.std.specs.List.{find, flat_map}
+use Rattle.std.proofs.lemmas.List.{length-map, length-take-le, length-drop}
+use Rattle.std.proofs.lemmas.Simd.{map-map}
+use Rattle.kc_btf.specs.declared.header.Header.{Header}
+use Rattle.kc_btf.specs.declared.stop.BtfFault.{BtfFault}
+use Rattle.kc_btf.specs.declared.stop.BRule.TheVariants.{B8}
+use Rattle.kc_btf.specs.Answers.{unless}
+use Rattle.kc_btf.specs.Header.{header_fault, types_at, types_end, strings_end, string_section, type_section, IsHeader, IsInside}
+use Rattle.kc_btf.specs.Records.{Record, record_at, places, refers_inside}
+use Rattle.kc_btf.specs.Btf.{Types, btf, types_of, outside_fault, RefersInside}
+use Rattle.kc_btf.specs.Kept.{kept, IsKept}
+use Rattle.kc_btf.specs.Spelling.{spelled, HasForm}
+use Rattle.kc_btf.proofs.SpellingLemmas.{IsBytes, spelled-places, form-record_at}
+use Rattle.std.specs.Prelude.{All}
+use Rattle.std.proofs.lemmas.List.Elements.{All-map}
+use Rattle.std.proofs.lemmas.List.Folds.{flat_map-map}
+
+-- what is known once the places of the records are in a table
+pub record IsTabled (bytes : List ℕ) (header : Header) (table : List ℕ) : Type 0 where
+  pub read : IsHeader bytes header
+  pub inside : IsInside bytes header
+  pub sound : header_fault bytes ≡ None
+  pub places : places (length bytes) bytes header.types header.types_end ≡ Ok (map (λ place. header.types + place) table)
+
+-- a header that breaks no rule
+pub btf-header : (bytes : List ℕ) (header : Header) → IsHeader bytes header → header_fault bytes ≡ None → btf bytes ≡ types_of bytes (places (length bytes) bytes header.types header.types_end)
+btf-header bytes header is none =
+    ap (λ (fault : Option BtfFault). unless fault (types_of bytes (places (length bytes) bytes (types_at bytes) (types_end bytes)))) none
+    ∙ ap (λ at. types_of bytes (places (length bytes) bytes at (types_end bytes))) (sym is.types)
+    ∙ ap (λ end. types_of bytes (places (length bytes) bytes header.types end)) (sym is.types_end)
+
+-- the strings by the header
+section : (bytes : List ℕ) (header : Header) → IsHeader bytes header → string_section bytes ≡ slice_range bytes header.strings header.strings_end
+section bytes header is =
+    ap (λ at. slice_range bytes at (strings_end bytes)) (sym is.strings) ∙ ap (λ end. slice_range bytes header.strings end) (sym is.strings_end)
+
+pub length-strings : (bytes : List ℕ) (header : Header) → IsInside bytes header → length (slice_range bytes header.strings header.strings_end) ≡ header.strings_end - header.strings
+length-strings bytes header is = length-take-le (header.strings_end - header.strings) (drop header.strings bytes) (simp length-drop (omega arith))
+
+-- the records of a table
+pub btf-table : (bytes : List ℕ) (header : Header) (table : List ℕ) → IsTabled bytes header table →
+    btf bytes ≡ unless (outside_fault bytes (header.strings_end - header.strings) (length table) (map (λ place. header.types + place) table)) (Ok (kept bytes header table))
+btf-table bytes header table is =
+    let shift : ℕ → ℕ = λ place. header.types + place in
+    let there = map (record_at bytes) (map shift table) in
+    let judged : ℕ → ℕ → List Record → List ℕ → Result Types BtfFault = λ limit count rs ss. unless (outside_fault bytes limit count (map shift table)) (Ok (record { records = rs; strings = ss })) in
+    let count : length (map shift table) ≡ length table = simp length-map in
+    let records : there ≡ map (λ place. record_at bytes (header.types + place)) table = simp map-map in
+    let strings = section bytes header is.read in
+    let limit = ap length strings ∙ length-strings bytes header is.inside in
+    btf-header bytes header is.read is.sound
+    ∙ ap (types_of bytes) is.places
+    ∙ ap (λ n. judged n (length (map shift table)) there (string_section bytes)) limit
+    ∙ ap (λ n. judged (header.strings_end - header.strings) n there (string_section bytes)) count
+    ∙ ap (λ rs. judged (header.strings_end - header.strings) (length table) rs (string_section bytes)) records
+    ∙ ap (judged (header.strings_end - header.strings) (length table) (map (λ place. record_at bytes (header.types + place)) table)) strings
+
+-- the first of places, where no fault was found
+passes : (b : Bool) (place : ℕ) (rest : Option ℕ) (fault : ℕ → BtfFault) → option_map fault (cond (not b) (Some place) rest) ≡ None → (b ≡ true) × (option_map fault rest ≡ None)
+passes true place rest fault none = (refl, none)
+passes false place rest fault none = let no_fault : ⊥ = cc in absurd no_fault
+
+-- no record refers outside
+pub none-outside : (bytes : List ℕ) (strings count types : ℕ) (table : List ℕ) → outside_fault bytes strings count (map (λ place. types + place) table) ≡ None →
+    (k d : ℕ) → k < length table → refers_inside strings count (record_at bytes (types + get_or table k d)) ≡ true
+none-outside bytes strings count types [] none k d more = absurd (omega arith)
+none-outside bytes strings count types (x ∷ xs) none zero d more = (passes (refers_inside strings count (record_at bytes (types + x))) (types + x)
+    (find (λ place. not (refers_inside strings count (record_at bytes place))) (map (λ place. types + place) xs)) (λ place. record { rule = B8; at = place }) none).0
+none-outside bytes strings count types (x ∷ xs) none (suc k) d more =
+    let rest = passes (refers_inside strings count (record_at bytes (types + x))) (types + x)
+    (find (λ place. not (refers_inside strings count (record_at bytes place))) (map (λ place. types + place) xs)) (λ place. record { rule = B8; at = place }) none in
+    none-outside bytes strings count types xs rest.1 k d (omega arith)
+
+-- the types that are kept, written out
+pub spelled-kept : (bytes : List ℕ) (header : Header) (table : List ℕ) → IsBytes bytes → IsTabled bytes header table → flat_map spelled (kept bytes header table).records ≡ type_section bytes
+spelled-kept bytes header table fit is =
+    let shift : ℕ → ℕ = λ place. header.types + place in
+    let inside = is.inside in
+    flat_map-map spelled (λ place. record_at bytes (header.types + place)) table
+    ∙ sym (flat_map-map (λ place. spelled (record_at bytes place)) shift table)
+    ∙ spelled-places (length bytes) header.types header.types_end bytes (map shift table) fit inside.types_end inside.types (omega (arith, inside.types_end)) is.places
+    ∙ ap (λ at. slice_range bytes at header.types_end) is.read.types
+    ∙ ap (λ end. slice_range bytes (types_at bytes) end) is.read.types_end
+
+pub form-kept : (bytes : List ℕ) (header : Header) (table : List ℕ) → IsBytes bytes → IsKept bytes header table → All HasForm (kept bytes header table).records
+form-kept bytes header table fit is =
+    All-map HasForm (λ place. record_at bytes (header.types + place)) table (λ k d more. form-record_at bytes (header.types + get_or table k d) fit (is.found k d more))
+
+pub inside-kept : (bytes : List ℕ) (header : Header) (table : List ℕ) → IsKept bytes header table → All (RefersInside (kept bytes header table)) (kept bytes header table).records
+inside-kept bytes header table is =
+    let count : length (kept bytes header table).records ≡ length table = simp length-map in
+    let strings = length (kept bytes header table).strings in
+    All-map (RefersInside (kept bytes header table)) (λ place. record_at bytes (header.types + place)) table
+    (λ k d more. subst (λ n. refers_inside strings n (record_at bytes (header.types + get_or table k d)) ≡ true) (sym count) (is.refer k d more))

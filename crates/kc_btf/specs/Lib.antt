@@ -1,0 +1,10 @@
+pub mod Answers
+pub mod Btf
+pub mod Header
+pub mod Kept
+pub mod Kind
+pub mod Numbers
+pub mod Readers
+pub mod Records
+pub mod Role
+pub mod Spelling

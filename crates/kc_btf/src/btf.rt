@@ -1,0 +1,149 @@
+// The types of a file, and their readers.
+use crate::header::Header;
+use crate::inside::check_inside;
+use crate::kind::Kind;
+use crate::members::Members;
+use crate::places::places;
+use crate::record::{RECORD, array_at, int_at, type_at};
+use crate::stop::BtfStop;
+use crate::types::{ArrayOf, IntOf, TypeRef};
+use std::alloc::Global;
+use std::marker::Model;
+
+/// The types of a kernel, seen as their records in order with the strings of their names.
+#[derive(Drop)]
+pub struct Btf {
+    bytes: Vec<u8>,
+    header: Header,
+    // where each record lies, counted from the types' first byte
+    table: Vec<u32>,
+}
+
+impl Model for Btf {
+    ghost use Rattle.kc_btf.specs.Btf.{Types};
+    ghost use Rattle.kc_btf.specs.Kept.{kept, IsKept};
+
+    ghost Value = { Types };
+
+    ghost view = { λ b. kept b.bytes.items b.header b.table.items };
+
+    ghost invariant = { λ b. IsKept b.bytes.items b.header b.table.items };
+}
+
+impl Btf {
+    ghost use Rattle.std.specs.Prelude.{◌≡◌, ◌+◌, ◌<◌, ◌≤◌, length, Some, option_map, option_and_then, All, IsTrue, IfOk};
+    ghost use Rattle.std.specs.List.{flat_map};
+    ghost use Rattle.kc_btf.specs.Answers.{Gives};
+    ghost use Rattle.kc_btf.specs.Btf.{btf, RefersInside};
+    ghost use Rattle.kc_btf.specs.Header.{type_section};
+    ghost use Rattle.kc_btf.specs.Spelling.{spelled, HasForm};
+    ghost use Rattle.kc_btf.specs.Kind.{is_compound};
+    ghost use Rattle.kc_btf.specs.Role.{rest_role, LiesInside};
+    ghost use Rattle.kc_btf.specs.Readers.{name_at, record_numbered, type_numbered, members_of, array_of, int_of};
+
+    /// Reads a file, the raw bytes of a kernel's section `.BTF`. A file that breaks a rule is refused
+    /// with the first one; both answers that aren't a `Btf` drop the bytes. The records are gone through
+    /// twice, and a table keeps the place of each in 4 bytes.
+    pub fn read(alloc: Global, bytes: Vec<u8>) -> Result<Btf, BtfStop>
+        ensures exact { Gives (λ types. types) result (btf bytes.items) }
+        // The records, written out again, are the bytes of the types.
+        ensures spelled { IfOk result (λ types. flat_map spelled types.records ≡ type_section bytes.items) }
+        ensures form { IfOk result (λ types. All HasForm types.records) }
+        // Each name and type that a record refers to is there.
+        ensures inside { IfOk result (λ types. All (RefersInside types) types.records) }
+    {
+        let header = Header::read(&bytes)?;
+        let table = places(alloc, &bytes, header.types, header.types_end)?;
+        let strings = header.strings_end - header.strings;
+        check_inside(&bytes, header.types, &table, strings)?;
+        Ok(Btf {
+            bytes,
+            header,
+            table,
+        })
+    }
+
+    /// How many types there are, without void.
+    pub fn count(&self) -> u32
+        ensures { result ≡ length self.now.records }
+    {
+        self.table.len() as u32
+    }
+
+    /// The type of a number, looked up in the table.
+    pub fn ty(&self, id: u32) -> TypeRef
+        requires first { 0 < id }
+        requires last { id ≤ length self.now.records }
+        ensures exact { type_numbered self.now id ≡ Some result }
+        ensures name { result.name < length self.now.strings }
+        ensures target { LiesInside (length self.now.strings) (length self.now.records) (rest_role result.kind) result.rest }
+    {
+        type_at(&self.bytes, place(&self.table, self.header.types, id), id)
+    }
+
+    /// The bytes of a name, without the NUL that ends it.
+    pub fn name(&self, off: u32) -> &[u8]
+        requires { off < length self.now.strings }
+        ensures exact { result.now ≡ name_at self.now.strings off }
+        ensures inside { off + length result.now < length self.now.strings }
+    {
+        let strings = &self.bytes[self.header.strings..self.header.strings_end];
+        before_nul(&strings[off as usize..])
+    }
+
+    /// The members of a struct or union, in their order.
+    pub fn members(&self, t: TypeRef) -> Members<'_>
+        requires ours { type_numbered self.now t.id ≡ Some t }
+        requires compound { IsTrue (is_compound t.kind) }
+        ensures exact { option_map members_of (record_numbered self.now t.id) ≡ Some result }
+        ensures inside { All (λ m. (m.name < length self.now.strings) × (m.ty ≤ length self.now.records)) result }
+    {
+        let behind = place(&self.table, self.header.types, t.id) + RECORD;
+        Members::new(&self.bytes, behind, t.vlen, t.flag)
+    }
+
+    /// What an array is of.
+    pub fn array(&self, t: TypeRef) -> ArrayOf
+        requires ours { type_numbered self.now t.id ≡ Some t }
+        requires array { t.kind ≡ Kind.Array }
+        ensures exact { option_and_then array_of (record_numbered self.now t.id) ≡ Some result }
+        ensures inside { result.ty ≤ length self.now.records }
+    {
+        array_at(&self.bytes, place(&self.table, self.header.types, t.id))
+    }
+
+    /// How a number lies in its bytes.
+    pub fn int(&self, t: TypeRef) -> IntOf
+        requires ours { type_numbered self.now t.id ≡ Some t }
+        requires int { t.kind ≡ Kind.Int }
+        ensures { option_and_then int_of (record_numbered self.now t.id) ≡ Some result }
+    {
+        int_at(&self.bytes, place(&self.table, self.header.types, t.id))
+    }
+}
+
+ghost use Rattle.std.specs.Prelude.{◌≡◌, ◌+◌, ◌-◌, ◌^◌, ◌<◌, ◌≤◌, length, slice_index, ◌==◌};
+ghost use Rattle.std.specs.List.{before_first};
+
+// Where the record of a type lies in the file.
+fn place(table: &[u32], types: usize, id: u32) -> usize
+    requires first { 0 < id }
+    requires last { id ≤ length table.now }
+    requires fits { types + slice_index table.now (id - 1) < 2 ^ 64 }
+    ensures { result ≡ types + slice_index table.now (id - 1) }
+{
+    types + table[id as usize - 1] as usize
+}
+
+// The bytes before the first NUL.
+fn before_nul(text: &[u8]) -> &[u8]
+    requires some { 0 < length text.now }
+    requires ended { slice_index text.now (length text.now - 1) ≡ 0 }
+    ensures exact { result.now ≡ before_first (λ c. c == 0) text.now }
+    ensures inside { length result.now < length text.now }
+{
+    match text.iter().position(|c| *c == 0) {
+        Some(length) => &text[..length],
+        None => unreachable!(),
+    }
+}

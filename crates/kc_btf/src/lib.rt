@@ -1,0 +1,21 @@
+//! A reader of the kernel's type information, BTF: the types of a kernel as its build wrote them,
+//! by the kernel's document "BPF Type Format", header version 1, kinds 1 to 19.
+#![tactic(auto)]
+
+mod btf;
+mod header;
+mod inside;
+mod kind;
+mod members;
+mod places;
+mod record;
+mod stop;
+#[cfg(test)]
+mod tests;
+mod types;
+
+pub use btf::Btf;
+pub use kind::Kind;
+pub use members::Members;
+pub use stop::{BRule, BtfFault, BtfStop};
+pub use types::{ArrayOf, IntOf, Member, TypeRef};

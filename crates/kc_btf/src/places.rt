@@ -1,0 +1,34 @@
+// The table of the records' places.
+ghost use Rattle.std.specs.Prelude.{◌≡◌, ◌+◌, ◌-◌, ◌*◌, ◌^◌, ◌<◌, ◌≤◌, length, map, All, IfOk};
+ghost use Rattle.kc_btf.specs.Records.{places, IsRecord};
+ghost use Rattle.kc_btf.specs.Answers.{Gives};
+
+use crate::record::record_size;
+use crate::stop::BtfStop;
+use std::alloc::Global;
+
+// The places of the records, counted from the types' first byte, or the first rule that one breaks. The
+// types' section has fewer bytes than 32 bits count.
+pub(crate) fn places(
+    alloc: Global,
+    bytes: &[u8],
+    types: usize,
+    end: usize,
+) -> Result<Vec<u32>, BtfStop>
+    requires start { types ≤ end }
+    requires inside { end ≤ length bytes.now }
+    requires short { end - types < 2 ^ 32 }
+    ensures exact { Gives (λ table. map (λ place. types + place) table.items) result
+        (places (length bytes.now) bytes.now types end) }
+    ensures found { IfOk result (λ table. All (λ place. IsRecord bytes.now (types + place)) table.items) }
+    ensures few { IfOk result (λ table. 12 * length table.items ≤ end - types) }
+{
+    let mut table = Vec::new(alloc);
+    let mut at = types;
+    while at < end {
+        let size = record_size(bytes, at, end)?;
+        table.push((at - types) as u32)?;
+        at += size;
+    }
+    Ok(table)
+}
