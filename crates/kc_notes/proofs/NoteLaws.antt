@@ -1,15 +1,16 @@
 -- What the search of a part says in the words of the format: whole notes lead to the place where it stops,
 -- none of them is VMCOREINFO, and there VMCOREINFO stands, or a broken note, or the part's end.
-use Rattle.std.proofs.Common.{◌≡◌, ℕ, zero, suc, ◌+◌, ◌-◌, ◌*◌, ◌/◌, ◌<◌, ◌≤◌, ◌⊎◌, min, Bool, true, false, ◌&&◌, ◌==◌, List, [], ◌∷◌, length, take, drop, Option, Some, None, Result, Ok, Err, refl, sym, ap, ◌∙◌, subst, inl, inr, ⊎_elim, arith, length-take, length-drop, if◌then◌else◌}
+use Rattle.std.proofs.Common.{◌≡◌, ℕ, zero, suc, ◌+◌, ◌-◌, ◌*◌, ◌/◌, ◌<◌, ◌≤◌, ◌⊎◌, min, Bool, true, false, ◌&&◌, ◌==◌, List, [], ◌∷◌, ◌++◌, All, length, take, drop, Option, Some, None, Result, Ok, Err, refl, sym, ap, ◌∙◌, subst, inl, inr, ⊎_elim, arith, length-take, length-drop, if◌then◌else◌}
 use Rattle.std.specs.List.{before_first}
 use Rattle.std.specs.Str.{bytes_eq}
 use Rattle.std.proofs.lemmas.Bool.Decides.{nat_tests}
+use Rattle.std.proofs.lemmas.List.Elements.{All-cons}
 use Rattle.std.proofs.lemmas.Slice.Eq.{bytes_eq-Decides}
 use Rattle.kc_elf.specs.Headers.{number, part}
 use Rattle.kc_notes.specs.declared.note.Note.{Note}
 use Rattle.kc_notes.specs.declared.note.Step.{Step}
 use Rattle.kc_notes.specs.declared.note.Step.TheVariants.{End, Broken, Whole}
-use Rattle.kc_notes.specs.Notes.{padded, note_at, note_by, note_end, vmcoreinfo_name, is_vmcoreinfo, note_text, on_step, search_from, part_text}
+use Rattle.kc_notes.specs.Notes.{padded, note_at, note_by, note_end, vmcoreinfo_name, is_vmcoreinfo, note_text, on_step, search_from, part_text, on_part, text_from}
 use Rattle.kc_notes.specs.Spelling.{IsNote, LeadsTo, EndsAt, BreaksAt, HasTextAt, StopsAt}
 use Rattle.kc_notes.proofs.SearchLemmas.{past_end, further, search_ends}
 
@@ -61,6 +62,13 @@ same_part : (bytes : List ℕ) (count a b : ℕ) → (0 < count → a ≡ b) →
 same_part bytes zero a b same = refl
 same_part bytes (suc count) a b same = ap (λ n. take (suc count) (drop n bytes)) (same (omega arith))
 
+descriptor_fits : (size place count behind : ℕ) → place ≡ min size behind → (0 < count → behind + count ≤ size) → place + count ≤ size
+descriptor_fits size place zero behind is within = omega arith
+descriptor_fits size place (suc count) behind is within = let fits = within (omega arith) in omega arith
+
+descriptor_there : (size place count behind : ℕ) → place ≡ min size behind → (0 < count → behind + count ≤ size) → 0 < count → behind ≡ place
+descriptor_there size place count behind is within some = let fits = within some in omega arith
+
 -- a whole note is spelled so
 note_is : (bytes : List ℕ) (place : ℕ) (note : Note) → Facts bytes place note
     → IsNote bytes place (part note.name note.name_size bytes) (part note.descriptor note.descriptor_size bytes) note.kind
@@ -68,7 +76,7 @@ note_is bytes place note f =
     let name = part note.name note.name_size bytes in
     let descriptor = part note.descriptor note.descriptor_size bytes in
     let named : length name ≡ note.name_size = length-part bytes note.name note.name_size (omega (arith, f.name, f.name_within)) in
-    let described : length descriptor ≡ note.descriptor_size = length-part bytes note.descriptor note.descriptor_size (omega (arith, f.descriptor, f.descriptor_within)) in
+    let described : length descriptor ≡ note.descriptor_size = length-part bytes note.descriptor note.descriptor_size (descriptor_fits (length bytes) note.descriptor note.descriptor_size (place + 12 + padded note.name_size) f.descriptor f.descriptor_within) in
     record {
       header = f.header;
       name_size = sym f.name_size ∙ sym named;
@@ -78,7 +86,7 @@ note_is bytes place note f =
       descriptor_is =
         ap (λ n. take n (drop (place + 12 + padded (length name)) bytes)) described
         ∙ ap (λ n. take note.descriptor_size (drop (place + 12 + padded n) bytes)) named
-        ∙ same_part bytes note.descriptor_size (place + 12 + padded note.name_size) note.descriptor (λ some. omega (arith, f.descriptor, f.descriptor_within));
+        ∙ same_part bytes note.descriptor_size (place + 12 + padded note.name_size) note.descriptor (descriptor_there (length bytes) note.descriptor note.descriptor_size (place + 12 + padded note.name_size) f.descriptor f.descriptor_within);
     }
 
 both_true : (a b : Bool) → (a && b) ≡ true → (a ≡ true) × (b ≡ true)
@@ -104,7 +112,7 @@ unsearched bytes note is named =
     cc
 
 -- what an answer says of the notes from a place on
-Means : List ℕ → ℕ → Result (Option (List ℕ)) ℕ → Type 0
+unfoldable pub Means : List ℕ → ℕ → Result (Option (List ℕ)) ℕ → Type 0
 Means bytes place answer = (count : ℕ) × (last : ℕ) × LeadsTo count bytes place last × StopsAt bytes last answer
 
 -- a note before
@@ -169,3 +177,23 @@ search_means (suc count) bytes place enough =
 pub part_means : (bytes : List ℕ) → (count : ℕ) × (last : ℕ) × LeadsTo count bytes 0 last × StopsAt bytes last (part_text bytes)
 unfolding Means
 part_means bytes = search_means (length bytes) bytes 0 (omega arith)
+
+-- The text that is found stands in some part, and the parts before it have none and no broken note.
+unfoldable pub IsFound : List (List ℕ) → List ℕ → Type 0
+IsFound parts text = (before : List (List ℕ)) × (bytes : List ℕ) × (behind : List (List ℕ)) × (parts ≡ before ++ bytes ∷ behind)
+    × All (λ p. part_text p ≡ Ok None) before × (part_text bytes ≡ Ok (Some text))
+
+part_finds : (index : ℕ) (part : List ℕ) (parts : List (List ℕ)) (text : List ℕ) (answer : Result (Option (List ℕ)) ℕ) → part_text part ≡ answer
+    → (text_from (index + 1) parts ≡ Ok text → IsFound parts text) → on_part index answer (text_from (index + 1) parts) ≡ Ok text → IsFound (part ∷ parts) text
+unfolding IsFound
+part_finds index part parts text (Ok (Some found)) here behind is =
+    let same : found ≡ text = cc in
+    ([], part, parts, refl, (λ k d below. absurd (omega arith)), here ∙ ap (λ t. Ok (Some t)) same)
+part_finds index part parts text (Ok None) here behind is =
+    let rest = behind is in
+    (part ∷ rest.0, rest.1, rest.2, ap (λ ps. part ∷ ps) rest.3, All-cons (λ p. part_text p ≡ Ok None) part rest.0 here rest.4, rest.5)
+part_finds index part parts text (Err place) here behind is = absurd (let none : ⊥ = cc in none)
+
+pub text_found : (index : ℕ) (parts : List (List ℕ)) (text : List ℕ) → text_from index parts ≡ Ok text → IsFound parts text
+text_found index [] text is = absurd (let none : ⊥ = cc in none)
+text_found index (part ∷ parts) text is = part_finds index part parts text (part_text part) refl (text_found (index + 1) parts text) is
