@@ -1,7 +1,6 @@
 -- What the search of a part says in the words of the format: whole notes lead to the place where it stops,
 -- none of them is VMCOREINFO, and there VMCOREINFO stands, or a broken note, or the part's end.
-use Rattle.std.proofs.Common.{◌≡◌, ℕ, zero, suc, ◌+◌, ◌-◌, ◌*◌, ◌/◌, ◌<◌, ◌≤◌, ◌⊎◌, min, Bool, true, false, ◌&&◌, ◌==◌, List, [], ◌∷◌, ◌++◌, All, length, take, drop, Option, Some, None, Result, Ok, Err, refl, sym, ap, ◌∙◌, subst, inl, inr, ⊎_elim, arith, length-take, length-drop, if◌then◌else◌}
-use Rattle.std.specs.List.{before_first}
+use Rattle.std.proofs.Common.{◌≡◌, ℕ, zero, suc, ◌+◌, ◌<◌, ◌≤◌, ◌⊎◌, min, Bool, true, false, ◌&&◌, ◌==◌, List, [], ◌∷◌, ◌++◌, All, length, take, drop, Option, Some, None, Result, Ok, Err, refl, sym, ap, ◌∙◌, subst, inl, inr, ⊎_elim, arith, length-take, length-drop, if◌then◌else◌}
 use Rattle.std.specs.Str.{bytes_eq}
 use Rattle.std.proofs.lemmas.Bool.Decides.{nat_tests}
 use Rattle.std.proofs.lemmas.List.Elements.{All-cons}
@@ -11,8 +10,8 @@ use Rattle.kc_notes.specs.declared.note.Note.{Note}
 use Rattle.kc_notes.specs.declared.note.Step.{Step}
 use Rattle.kc_notes.specs.declared.note.Step.TheVariants.{End, Broken, Whole}
 use Rattle.kc_notes.specs.Notes.{padded, note_at, note_by, note_end, vmcoreinfo_name, is_vmcoreinfo, note_text, on_step, search_from, part_text, on_part, text_from}
-use Rattle.kc_notes.specs.Spelling.{IsNote, LeadsTo, EndsAt, BreaksAt, HasTextAt, StopsAt}
-use Rattle.kc_notes.proofs.SearchLemmas.{past_end, further, search_ends}
+use Rattle.kc_notes.specs.Spelling.{IsNote, LeadsTo, EndsAt, BreaksAt, StopsAt}
+use Rattle.kc_notes.proofs.SearchLemmas.{further, search_ends}
 
 lt_or_le : (m n : ℕ) → (m < n) ⊎ (n ≤ m)
 lt_or_le m n = grind arith
@@ -21,15 +20,15 @@ end_means : (bytes : List ℕ) (place : ℕ) → note_at bytes place ≡ End →
 unfolding note_by
 end_means bytes place is =
     ⊎_elim (λ (short : length bytes < place + 12). inl short)
-      (λ (long : place + 12 ≤ length bytes). inr (grind (arith, nat_tests), grind (arith, nat_tests), grind (arith, nat_tests)))
-      (lt_or_le (length bytes) (place + 12))
+    (λ (long : place + 12 ≤ length bytes). inr (grind (arith, nat_tests), grind (arith, nat_tests), grind (arith, nat_tests)))
+    (lt_or_le (length bytes) (place + 12))
 
 broken_means : (bytes : List ℕ) (place : ℕ) → note_at bytes place ≡ Broken → BreaksAt bytes place
 unfolding note_by
 broken_means bytes place is =
     ⊎_elim (λ (name : length bytes < place + 12 + number 4 bytes place). (grind (arith, nat_tests), inl name))
-      (λ (named : place + 12 + number 4 bytes place ≤ length bytes). (grind (arith, nat_tests), inr (grind (arith, nat_tests), grind (arith, nat_tests))))
-      (lt_or_le (length bytes) (place + 12 + number 4 bytes place))
+    (λ (named : place + 12 + number 4 bytes place ≤ length bytes). (grind (arith, nat_tests), inr (grind (arith, nat_tests), grind (arith, nat_tests))))
+    (lt_or_le (length bytes) (place + 12 + number 4 bytes place))
 
 -- where the parts of a whole note stand
 record Facts (bytes : List ℕ) (place : ℕ) (note : Note) : Type 0 where
@@ -84,9 +83,9 @@ note_is bytes place note f =
       type_is = sym f.kind;
       name_is = ap (λ n. take n (drop (place + 12) bytes)) named ∙ ap (λ n. take note.name_size (drop n bytes)) (sym f.name);
       descriptor_is =
-        ap (λ n. take n (drop (place + 12 + padded (length name)) bytes)) described
-        ∙ ap (λ n. take note.descriptor_size (drop (place + 12 + padded n) bytes)) named
-        ∙ same_part bytes note.descriptor_size (place + 12 + padded note.name_size) note.descriptor (descriptor_there (length bytes) note.descriptor note.descriptor_size (place + 12 + padded note.name_size) f.descriptor f.descriptor_within);
+          ap (λ n. take n (drop (place + 12 + padded (length name)) bytes)) described
+          ∙ ap (λ n. take note.descriptor_size (drop (place + 12 + padded n) bytes)) named
+          ∙ same_part bytes note.descriptor_size (place + 12 + padded note.name_size) note.descriptor (descriptor_there (length bytes) note.descriptor note.descriptor_size (place + 12 + padded note.name_size) f.descriptor f.descriptor_within);
     }
 
 both_true : (a b : Bool) → (a && b) ≡ true → (a ≡ true) × (b ≡ true)
@@ -127,12 +126,12 @@ note_more bytes place note answer f other none behind =
     let described : length descriptor ≡ note.descriptor_size = sym is.descriptor_size ∙ sym f.descriptor_size in
     let next = place + 12 + padded (length name) + padded (length descriptor) in
     ⊎_elim (λ (short : length bytes < note_end (length bytes) note + 12).
-        let past : length bytes < next + 12 = rw (named, described) (omega (arith, f.descriptor)) in
-        (1, next, (name, descriptor, note.kind, is, unsearched bytes note other, refl), subst (StopsAt bytes next) (sym (none short)) (inl past)))
-      (λ (long : note_end (length bytes) note + 12 ≤ length bytes).
-        let same : note_end (length bytes) note ≡ next = rw (named, described) (omega (arith, f.descriptor)) in
-        (suc behind.0, behind.1, (name, descriptor, note.kind, is, unsearched bytes note other, subst (λ n. LeadsTo behind.0 bytes n behind.1) same behind.2), behind.3))
-      (lt_or_le (length bytes) (note_end (length bytes) note + 12))
+    let past : length bytes < next + 12 = rw (named, described) (omega (arith, f.descriptor)) in
+    (1, next, (name, descriptor, note.kind, is, unsearched bytes note other, refl), subst (StopsAt bytes next) (sym (none short)) (inl past)))
+    (λ (long : note_end (length bytes) note + 12 ≤ length bytes).
+    let same : note_end (length bytes) note ≡ next = rw (named, described) (omega (arith, f.descriptor)) in
+    (suc behind.0, behind.1, (name, descriptor, note.kind, is, unsearched bytes note other, subst (λ n. LeadsTo behind.0 bytes n behind.1) same behind.2), behind.3))
+    (lt_or_le (length bytes) (note_end (length bytes) note + 12))
 
 -- the note that is searched
 note_found : (bytes : List ℕ) (place : ℕ) (note : Note) → Facts bytes place note → is_vmcoreinfo bytes note ≡ true → Means bytes place (Ok (Some (note_text bytes note)))
@@ -169,8 +168,8 @@ unfolding search_from Means
 search_means zero bytes place enough = (0, place, refl, inl (omega arith))
 search_means (suc count) bytes place enough =
     step_means bytes place (note_at bytes place) (λ next. search_from count bytes next) refl
-      (λ next short. search_ends count bytes next (short_end bytes next short))
-      (λ note is. let far = further bytes place note is in search_means count bytes (note_end (length bytes) note) (omega arith))
+    (λ next short. search_ends count bytes next (short_end bytes next short))
+    (λ note is. let far = further bytes place note is in search_means count bytes (note_end (length bytes) note) (omega arith))
 
 -- From the part's first byte on stand whole notes, none of them VMCOREINFO, up to a place. There stands
 -- VMCOREINFO, which has the text that is found, or a note that is broken, or the part ends.

@@ -33,8 +33,8 @@ abbrev pub BreaksAt : List ℕ → ℕ → Type 0
 BreaksAt bytes place =
     (place + 12 ≤ length bytes)
     × ((length bytes < place + 12 + number 4 bytes place)
-      ⊎ ((0 < number 4 bytes (place + 4))
-        × (length bytes < place + 12 + padded (number 4 bytes place) + number 4 bytes (place + 4))))
+    ⊎ ((0 < number 4 bytes (place + 4))
+    × (length bytes < place + 12 + padded (number 4 bytes place) + number 4 bytes (place + 4))))
 
 -- VMCOREINFO stands at a place, and has this text.
 abbrev pub HasTextAt : List ℕ → ℕ → List ℕ → Type 0

@@ -1,6 +1,6 @@
 // Notes and texts, whole and at fault.
 use super::*;
-use kc_elf::{read_core, Core};
+use kc_elf::{Core, read_core};
 use kc_outside::{MemStore, Slot, Store};
 use std::alloc::Global;
 use std::test::Fail;
