@@ -6,6 +6,8 @@ mod file_header;
 mod parts;
 mod program_header;
 mod read;
+#[cfg(test)]
+mod tests;
 
 pub use fault::{CoreFault, CoreStop};
 pub use parts::Core;

@@ -11,11 +11,11 @@ use Rattle.kc_notes.specs.declared.note.Step.TheVariants.{End, Broken, Whole}
 use Rattle.kc_notes.specs.Notes.{note_at, note_by, note_end, is_vmcoreinfo, note_text, on_step, search_from, part_text, on_part, text_from}
 
 -- behind the part's last byte there is no note
-past_end : (bytes : List ℕ) (place : ℕ) → length bytes ≤ place → note_at bytes place ≡ End
+pub past_end : (bytes : List ℕ) (place : ℕ) → length bytes ≤ place → note_at bytes place ≡ End
 past_end bytes place past = grind (arith, nat_tests)
 
 -- a note has at least its header
-further : (bytes : List ℕ) (place : ℕ) (note : Note) → note_at bytes place ≡ Whole note → place + 12 ≤ note_end (length bytes) note
+pub further : (bytes : List ℕ) (place : ℕ) (note : Note) → note_at bytes place ≡ Whole note → place + 12 ≤ note_end (length bytes) note
 unfolding note_by
 further bytes place note is = grind (arith, nat_tests)
 

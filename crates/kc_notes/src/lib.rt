@@ -9,6 +9,8 @@ mod kernel;
 mod lines;
 mod note;
 mod search;
+#[cfg(test)]
+mod tests;
 
 pub use fault::{NoteFault, NoteKey};
 pub use info::Info;
