@@ -169,11 +169,23 @@ fn reads_the_values(rt: HostRuntime) {
         ),
         (
             b"PAGESIZE=4096\nNUMBER(phys_base)=0\nSYMBOL(init_top_pgt)=ffffffff80012000\nNUMBER(pgtable_l5_enabled)=1",
-            Err(NoteFault::V8),
+            Ok(Info {
+                table: 0x12000,
+                five: true,
+                sme: 0,
+                kaslr: 0,
+                phys_base: 0,
+            }),
         ),
         (
             b"PAGESIZE=4096\nNUMBER(phys_base)=0\nSYMBOL(init_top_pgt)=ffffffff80012000\nNUMBER(sme_mask)=4096",
-            Err(NoteFault::V8),
+            Ok(Info {
+                table: 0x12000,
+                five: false,
+                sme: 4096,
+                kaslr: 0,
+                phys_base: 0,
+            }),
         ),
     ];
     for (text, wanted) in rows {
