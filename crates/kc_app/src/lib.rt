@@ -9,3 +9,6 @@ mod top;
 mod word;
 
 pub use top::kaudit;
+
+#[cfg(test)]
+mod tests;

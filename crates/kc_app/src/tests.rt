@@ -1,0 +1,178 @@
+// The program over made dumps: each case gives its words, what is changed in the dump, and what is wanted.
+mod cases;
+
+use crate::kaudit;
+use kc_fixture::{NOTE, core_with_note, set_bytes, set_word};
+use kc_outside::{MemSink, MemStore};
+use kc_word::{NoMemory, read_hex};
+use std::alloc::{AllocError, Global};
+use std::process::Abort;
+use std::test::Fail;
+
+// The longest text that a sink takes, where a case doesn't limit it.
+const ENOUGH: usize = 1000;
+
+// A case as its lines tell it.
+#[derive(Drop)]
+struct Case {
+    words: Vec<String>,
+    dump: Vec<u8>,
+    fails: u64,
+    out_limit: usize,
+    err_limit: usize,
+    status: u64,
+    out: Vec<u8>,
+    err: Vec<u8>,
+}
+
+// The text of the note: the lines `note ..`, if there are any.
+fn read_note(alloc: Global, lines: &str) -> Result<Vec<u8>, AllocError> {
+    let mut note = Vec::new(alloc);
+    for line in lines.lines() {
+        if let Some(value) = line.strip_prefix("note ") {
+            note.extend_from_slice(value.as_bytes())?;
+            note.push(b'\n')?;
+        }
+    }
+    if note.is_empty() {
+        note.extend_from_slice(NOTE)?;
+    }
+    Ok(note)
+}
+
+fn hex(text: &str) -> u64 {
+    read_hex(text.as_bytes()).unwrap_or(u64::MAX)
+}
+
+// A number, or a length, that is meant to be small.
+fn small(text: &str) -> usize {
+    usize::try_from(hex(text)).unwrap_or(usize::MAX)
+}
+
+// Puts bytes that are given as pairs of hex digits.
+fn put_pairs(file: &mut Vec<u8>, offset: usize, pairs: &str) {
+    let mut at = offset;
+    for pair in pairs.split(' ') {
+        set_bytes(file, at, &[(hex(pair) & 0xff) as u8]);
+        at = at.saturating_add(1);
+    }
+}
+
+fn push_line(text: &mut Vec<u8>, line: &str) -> Result<(), AllocError> {
+    text.extend_from_slice(line.as_bytes())?;
+    text.push(b'\n')?;
+    Ok(())
+}
+
+impl Case {
+    fn new(alloc: Global, lines: &str) -> Result<Case, AllocError> {
+        let note = read_note(alloc, lines)?;
+        Ok(Case {
+            words: Vec::new(alloc),
+            dump: core_with_note(alloc, &note)?,
+            fails: 0,
+            out_limit: ENOUGH,
+            err_limit: ENOUGH,
+            status: 0,
+            out: Vec::new(alloc),
+            err: Vec::new(alloc),
+        })
+    }
+
+    // Takes one line: the words, a change of the dump, a limit, or a line that is wanted.
+    fn take(&mut self, alloc: Global, name: &str, value: &str) -> Result<(), AllocError> {
+        match name {
+            "word" => {
+                self.words.push(String::from_str(alloc, value)?)?;
+            }
+            "put" => {
+                if let Some((pa, word)) = value.split_once(' ') {
+                    set_word(&mut self.dump, hex(pa), hex(word));
+                }
+            }
+            "bytes" => {
+                if let Some((offset, pairs)) = value.split_once(' ') {
+                    put_pairs(&mut self.dump, small(offset), pairs);
+                }
+            }
+            "length" => self.dump.truncate(small(value)),
+            "fails" => self.fails = hex(value),
+            "out_limit" => self.out_limit = small(value),
+            "err_limit" => self.err_limit = small(value),
+            "status" => self.status = hex(value),
+            "out" => push_line(&mut self.out, value)?,
+            "err" => push_line(&mut self.err, value)?,
+            _ => {}
+        }
+        Ok(())
+    }
+}
+
+fn make_store(alloc: Global, case: &Case) -> Result<MemStore, NoMemory> {
+    let mut store = MemStore::new(alloc);
+    store.add("z.core", &case.dump)?;
+    store.fail(case.fails)?;
+    Ok(store)
+}
+
+// What a sink of this limit takes of a text.
+fn taken(text: &[u8], limit: usize) -> &[u8] {
+    &text[..text.len().min(limit)]
+}
+
+fn read_case(alloc: Global, lines: &str) -> Result<Case, AllocError> {
+    let mut case = Case::new(alloc, lines)?;
+    for line in lines.lines() {
+        let (name, value) = line.split_once(' ').unwrap_or((line, ""));
+        case.take(alloc, name, value)?;
+    }
+    Ok(case)
+}
+
+fn run_case(rt: &(impl Abort + AllocGlobal), lines: &str) -> Result<(), Fail> {
+    let alloc = rt.alloc();
+    let case = read_case(alloc, lines)?;
+    let mut store = make_store(alloc, &case)?;
+    let mut out = MemSink::new(alloc, case.out_limit)?;
+    let mut err = MemSink::new(alloc, case.err_limit)?;
+    let status = kaudit(alloc, &case.words, &mut store, &mut out, &mut err);
+    assert_eq!(rt; u64::from(status), case.status, "{lines}");
+    assert_eq!(rt; out.bytes(), taken(&case.out, case.out_limit), "{lines}");
+    assert_eq!(rt; err.bytes(), taken(&case.err, case.err_limit), "{lines}");
+    Ok(())
+}
+
+fn run_cases(rt: &(impl Abort + AllocGlobal), text: &str) -> Result<usize, Fail> {
+    let mut count: usize = 0;
+    for lines in text.split("\n\n") {
+        run_case(rt, lines)?;
+        count = count.saturating_add(1);
+    }
+    Ok(count)
+}
+
+#[test]
+fn words_are_found_by_every_kind_of_page(rt: HostRuntime) -> Result<(), Fail> {
+    assert_eq!(rt; run_cases(&rt, cases::PAGES)?, 16);
+    assert_eq!(rt; run_cases(&rt, cases::SEGMENTS)?, 8);
+    Ok(())
+}
+
+#[test]
+fn each_rule_stops_at_each_level(rt: HostRuntime) -> Result<(), Fail> {
+    assert_eq!(rt; run_cases(&rt, cases::STOPS)?, 32);
+    Ok(())
+}
+
+#[test]
+fn the_first_fault_is_told(rt: HostRuntime) -> Result<(), Fail> {
+    assert_eq!(rt; run_cases(&rt, cases::REFUSALS)?, 38);
+    assert_eq!(rt; run_cases(&rt, cases::COMMANDS)?, 18);
+    Ok(())
+}
+
+#[test]
+fn failing_calls_and_sinks_are_told(rt: HostRuntime) -> Result<(), Fail> {
+    assert_eq!(rt; run_cases(&rt, cases::FAILURES)?, 23);
+    Ok(())
+}
