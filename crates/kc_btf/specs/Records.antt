@@ -47,7 +47,7 @@ record_of kind bytes at = record {
   high_spare = word bytes (at + 4) / 2 ^ 29 % 4;
 }
 
--- the record at a byte place, of the kind that its info has
+-- the record at a byte place, of the kind that its info has. Only places whose kind is known are read.
 unfoldable pub record_at : List ℕ → ℕ → Record
 record_at bytes at = record_of (unwrap_or (kind_of (kind_number_at bytes at)) Int) bytes at
 
@@ -76,8 +76,8 @@ abbrev pub before : ℕ → Result (List ℕ) BtfFault → Result (List ℕ) Btf
 before place (Ok places) = Ok (place ∷ places)
 before place (Err fault) = Err fault
 
--- the places of the records from a byte place to the types' end, of which at most `most` come; or the
--- first fault
+-- the places of the records from a byte place to the types' end, or the first fault. No more than `most`
+-- are read; the bytes that are left are enough, since each record takes some.
 unfoldable pub places : ℕ → List ℕ → ℕ → ℕ → Result (List ℕ) BtfFault
 places zero bytes at end = Ok []
 places (suc most) bytes at end =
