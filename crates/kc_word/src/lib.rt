@@ -2,6 +2,7 @@
 //! counter of steps.
 #![tactic(auto)]
 
+mod bits;
 mod decimal;
 mod hex;
 mod memory;
@@ -9,9 +10,13 @@ mod numbers;
 mod plain;
 mod steps;
 
+pub use bits::Bits;
 pub use decimal::read_dec;
 pub use hex::{hex16, read_hex};
 pub use memory::NoMemory;
 pub use numbers::{get_u16, get_u32, get_u64};
 pub use plain::{Pa, PageCfg, Segment};
 pub use steps::Steps;
+
+#[cfg(test)]
+mod tests;
