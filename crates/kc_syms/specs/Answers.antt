@@ -21,13 +21,14 @@ IsAnswer (Err NoMemory) meant = ⊤
 abbrev pub IsSpelled : Symbols → List (List ℕ) → Type 0
 IsSpelled symbols lines = (rows : List RowText) × SpellAll lines rows × Stands (symbol symbols) rows
 
--- The line with this number, from 1, spells no row, and each one before it spells one.
-pub record IsFirstBad (number : ℕ) (lines : List (List ℕ)) : Type 0 where
+-- Of lines that are counted from a number on, the one with this number spells no row, and each before it
+-- spells one.
+pub record IsFirstBad (first number : ℕ) (lines : List (List ℕ)) : Type 0 where
   pub front : List (List ℕ)
   pub line : List ℕ
   pub back : List (List ℕ)
   pub split : lines ≡ front ++ line ∷ back
-  pub place : number ≡ length front + 1
+  pub place : number ≡ first + length front
   pub rows : List RowText
   pub before : SpellAll front rows
   pub none : SpellsNone line
@@ -35,5 +36,5 @@ pub record IsFirstBad (number : ℕ) (lines : List (List ℕ)) : Type 0 where
 -- what the answer says of the lines
 abbrev pub IsAnswerBySpelling : Result Symbols SymStop → List (List ℕ) → Type 0
 IsAnswerBySpelling (Ok symbols) lines = IsSpelled symbols lines
-IsAnswerBySpelling (Err (S1 number)) lines = IsFirstBad number lines
+IsAnswerBySpelling (Err (S1 number)) lines = IsFirstBad 1 number lines
 IsAnswerBySpelling (Err NoMemory) lines = ⊤

@@ -1,8 +1,9 @@
 // The symbols of a map.
 ghost use Rattle.std.specs.Prelude.{◌≡◌, map};
 ghost use Rattle.kc_syms.specs.Addresses.{another, at_run, common_of};
-ghost use Rattle.kc_syms.specs.Answers.{IsAnswer};
-ghost use Rattle.kc_syms.specs.Rows.{rows};
+ghost use Rattle.kc_syms.specs.Agreement.{Agrees};
+ghost use Rattle.kc_syms.specs.Answers.{IsAnswer, IsAnswerBySpelling};
+ghost use Rattle.kc_syms.specs.Rows.{lines, rows};
 ghost use Rattle.kc_syms.specs.Symbols.{symbol};
 
 use crate::fault::{SymFault, SymStop};
@@ -32,7 +33,8 @@ impl<'a> Symbols<'a> {
     ///
     /// `S1` with the number of the first line that is no row, from 1. An empty line is none either.
     pub fn read(alloc: Global, bytes: &'a [u8]) -> Result<Self, SymStop>
-        ensures { IsAnswer result (rows bytes.now) }
+        ensures exact { IsAnswer result (rows bytes.now) }
+        ensures spelled { IsAnswerBySpelling result (lines bytes.now) }
     {
         let mut index = IndexMap::new(alloc);
         let mut number = 1;
@@ -56,7 +58,8 @@ impl<'a> Symbols<'a> {
     /// `S2` where no row has the name, and `S3` where its rows have different addresses at run time: that of
     /// the first row, and that of the first row where it is another.
     pub fn address(&self, name: &[u8], kaslr: u64) -> Result<u64, SymFault>
-        ensures { result ≡ common_of kaslr (symbol self.now name.now) }
+        ensures exact { result ≡ common_of kaslr (symbol self.now name.now) }
+        ensures agrees { Agrees kaslr (symbol self.now name.now) result }
     {
         let Some(listed) = self.index.get(&name) else {
             return Err(SymFault::S2);
