@@ -5,6 +5,8 @@ mod fault;
 mod index;
 mod row;
 mod symbols;
+#[cfg(test)]
+mod tests;
 
 pub use fault::{SymFault, SymStop};
 pub use symbols::Symbols;

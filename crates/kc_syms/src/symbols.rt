@@ -1,6 +1,6 @@
 // The symbols of a map.
 ghost use Rattle.std.specs.Prelude.{◌≡◌, map};
-ghost use Rattle.kc_syms.specs.Addresses.{another, at_run, common_of};
+ghost use Rattle.kc_syms.specs.Addresses.{agreed, another, at_run, common_of};
 ghost use Rattle.kc_syms.specs.Agreement.{Agrees};
 ghost use Rattle.kc_syms.specs.Answers.{IsAnswer, IsAnswerBySpelling};
 ghost use Rattle.kc_syms.specs.Rows.{lines, rows};
@@ -65,10 +65,17 @@ impl<'a> Symbols<'a> {
             return Err(SymFault::S2);
         };
         let first = at_run(listed.first, kaslr);
-        match another(first, &listed.rest, kaslr) {
-            Some(other) => Err(SymFault::S3(first, other)),
-            None => Ok(first),
-        }
+        agreed(first, another(first, &listed.rest, kaslr))
+    }
+}
+
+// The address, where no row has another.
+fn agreed(address: u64, other: Option<u64>) -> Result<u64, SymFault>
+    ensures { result ≡ agreed address other }
+{
+    match other {
+        Some(other) => Err(SymFault::S3(address, other)),
+        None => Ok(address),
     }
 }
 
