@@ -1,0 +1,5 @@
+mod AgreementLaws
+mod HexBack
+mod IndexLemmas
+mod ReadLemmas
+mod SpellingLaws

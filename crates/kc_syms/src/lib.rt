@@ -1,0 +1,12 @@
+//! The reader of System.map: which address each symbol of a kernel has.
+#![tactic(auto)]
+
+mod fault;
+mod index;
+mod row;
+mod symbols;
+#[cfg(test)]
+mod tests;
+
+pub use fault::{SymFault, SymStop};
+pub use symbols::Symbols;

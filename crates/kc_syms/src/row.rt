@@ -1,0 +1,96 @@
+// A row of a map.
+ghost use Rattle.std.specs.Prelude.{◌≡◌, option_map};
+ghost use Rattle.std.specs.Option.{option_copied};
+ghost use Rattle.std.specs.List.{list_all};
+ghost use Rattle.kc_syms.specs.Rows.{is_digit, is_kind, is_name_byte, listed_in, name_in, name_behind, row_of};
+ghost use Rattle.kc_syms.specs.Views.{row_text};
+
+use kc_word::read_hex;
+
+// A row: the address that it lists, and its name, a part of the file.
+#[derive(Clone, Copy)]
+pub struct Row<'a> {
+    pub listed: u64,
+    pub name: &'a [u8],
+}
+
+// The row of a line, or `None` exactly for a line that is no row.
+#[tactic(auto, unfolding(crate::specs::Rows::row_of))]
+pub fn read_row(line: &[u8]) -> Option<Row<'_>>
+    ensures { option_map row_text result ≡ row_of line.now }
+{
+    if line.len() < 16 {
+        return None;
+    }
+    let (digits, behind) = line.split_at(16);
+    let listed = listed_in(digits)?;
+    let name = name_behind(behind)?;
+    Some(Row { listed, name })
+}
+
+// The address that 16 digits list.
+fn listed_in(digits: &[u8]) -> Option<u64>
+    ensures { result ≡ listed_in digits.now }
+{
+    if are_digits(digits) {
+        read_hex(digits)
+    } else {
+        None
+    }
+}
+
+// All are hex digits, of lower case.
+fn are_digits(text: &[u8]) -> bool
+    ensures { result ≡ list_all is_digit text.now }
+{
+    text.iter().all(|c| is_digit(*c))
+}
+
+// The name behind a space, a kind and a space.
+fn name_behind(text: &[u8]) -> Option<&[u8]>
+    ensures { option_copied result ≡ name_behind text.now }
+{
+    match text {
+        [b' ', kind, b' ', name @ ..] if is_kind(*kind) => name_in(name),
+        _ => None,
+    }
+}
+
+// A name, of one or more bytes.
+fn name_in(text: &[u8]) -> Option<&[u8]>
+    ensures { option_copied result ≡ name_in text.now }
+{
+    if !text.is_empty() && are_name_bytes(text) {
+        Some(text)
+    } else {
+        None
+    }
+}
+
+// All are bytes of a name.
+fn are_name_bytes(text: &[u8]) -> bool
+    ensures { result ≡ list_all is_name_byte text.now }
+{
+    text.iter().all(|c| is_name_byte(*c))
+}
+
+// A hex digit, of lower case.
+fn is_digit(c: u8) -> bool
+    ensures { result ≡ is_digit c }
+{
+    matches!(c, b'0'..=b'9' | b'a'..=b'f')
+}
+
+// The kind of a symbol.
+fn is_kind(c: u8) -> bool
+    ensures { result ≡ is_kind c }
+{
+    c.is_ascii_alphabetic() || c == b'?'
+}
+
+// A byte of a name.
+fn is_name_byte(c: u8) -> bool
+    ensures { result ≡ is_name_byte c }
+{
+    matches!(c, b'!'..=b'~')
+}
