@@ -1,3 +1,4 @@
 mod CommandLemmas
 mod Pieces
+mod ShownLemmas
 mod Usage

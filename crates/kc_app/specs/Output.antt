@@ -1,5 +1,5 @@
 -- What a command prints and ends with, as a function of its words and files.
-use Rattle.std.specs.Prelude.{ℕ, false, List, [], Option, Some, None, option_map, option_and_then, Result, Ok, Err}
+use Rattle.std.specs.Prelude.{ℕ, false, List, [], Option, Some, None, IfSome, option_map, option_and_then, Result, Ok, Err}
 use Rattle.kc_word.specs.declared.plain.Segment.{Segment}
 use Rattle.kc_word.specs.declared.plain.PageCfg.{PageCfg}
 use Rattle.kc_outside.specs.declared.store.Slot.{Slot}
@@ -8,7 +8,9 @@ use Rattle.kc_outside.specs.Files.{Files}
 use Rattle.kc_found.specs.declared.words.VWord.{VWord}
 use Rattle.kc_found.specs.Stopped.{Stopped}
 use Rattle.kc_found.specs.Image.{Image}
+use Rattle.kc_found.specs.declared.words.Place.{Place}
 use Rattle.kc_found.specs.Translation.{vword}
+use Rattle.kc_found.specs.Places.{AllStandIn, places_of}
 use Rattle.kc_elf.specs.declared.fault.CoreFault.{CoreFault}
 use Rattle.kc_elf.specs.Parts.{Parts}
 use Rattle.kc_elf.specs.CoreFile.{core}
@@ -64,3 +66,28 @@ word_files words files slot = option_and_then (files slot) (slot_word words slot
 -- the same for what a command asks
 abbrev pub asked_files : Asked → Files → Slot → Option (List ℕ)
 asked_files asked files slot = option_and_then (files slot) (name_in asked slot)
+
+-- the words of a dump that an output shows
+pub record Places : Type 0 where
+  pub image : Image
+  pub places : List Place
+
+abbrev pub places_by : List ℕ → List Segment → ℕ → Result PageCfg NoteFault → Option Places
+places_by bytes segments address (Ok paging) = Some (record { image = image_of bytes segments paging; places = places_of (vword (image_of bytes segments paging) address) })
+places_by bytes segments address (Err fault) = None
+
+abbrev pub places_in : Option ℕ → ℕ → List ℕ → Result Parts CoreFault → Option Places
+places_in table address bytes (Ok parts) = places_by bytes parts.segments address (paging_of table parts.notes)
+places_in table address bytes (Err fault) = None
+
+abbrev pub places_asked : Option Asked → (Slot → Option (List ℕ)) → Option Places
+places_asked None files = None
+places_asked (Some (AsksWord dump table address)) files = option_and_then (λ bytes. places_in table address bytes (core bytes)) (files Dump)
+
+-- the words that the output of a command line and its files shows
+abbrev pub places_shown : List (List ℕ) → (Slot → Option (List ℕ)) → Option Places
+places_shown words files = places_asked (command words) files
+
+-- all of them stand in the dump
+abbrev pub ShownStand : Type 0
+ShownStand = (words : List (List ℕ)) (files : Slot → Option (List ℕ)) → IfSome (places_shown words files) (λ shown. AllStandIn shown.image shown.places)

@@ -3,8 +3,8 @@ use Rattle.std.specs.Prelude.{ℕ, ◌+◌, Bool, true, false, if◌then◌else�
 use Rattle.kc_word.specs.Hex.{hex_digits}
 use Rattle.kc_found.specs.declared.rule.Rule.{Rule}
 use Rattle.kc_found.specs.declared.rule.Rule.TheVariants.{M1, M2, M3, M4, M5, M6}
+use Rattle.kc_found.specs.declared.words.Place.{Place}
 use Rattle.kc_found.specs.declared.words.VWord.{VWord}
-use Rattle.kc_found.specs.declared.words.PWord.{PWord}
 use Rattle.kc_found.specs.Stopped.{Stopped}
 use Rattle.kc_found.specs.Places.{entry_places}
 use Rattle.kc_elf.specs.declared.fault.CoreFault.{CoreFault}
@@ -18,7 +18,7 @@ use Rattle.kc_notes.specs.declared.fault.NoteKey.TheVariants.{L5, Offset, Sme}
 abbrev pub hex : ℕ → List ℕ
 hex n = hex_digits 16 n
 
--- a word with its places
+-- a word: its virtual address, its physical address, its file offset and its value
 abbrev pub word_line : VWord → List ℕ
 word_line w = hex w.va ++ codes " " ++ hex w.pa ++ codes " " ++ hex w.off ++ codes " " ++ hex w.value ++ codes "\n"
 
@@ -47,13 +47,21 @@ tells_stop M6 = true
 abbrev pub stop_line : Rule → ℕ → ℕ → List ℕ
 stop_line rule level pa = if tells_stop rule then codes "stop " ++ (48 + level) ∷ [] ++ codes " " ++ hex pa ++ codes "\n" else []
 
--- a paging entry with its place
-abbrev pub entry_line : ℕ → Option PWord → List ℕ
-entry_line pa None = []
-entry_line pa (Some word) = codes "place - " ++ hex pa ++ codes " " ++ hex word.off ++ codes " " ++ hex word.value ++ codes "\n"
+-- a word that shows something: its virtual address, or `-` for a paging entry, its physical address, its file
+-- offset and its value
+abbrev pub address_text : Option ℕ → List ℕ
+address_text None = codes "-"
+address_text (Some va) = hex va
+
+abbrev pub place_line : Place → List ℕ
+place_line p = codes "place " ++ address_text p.va ++ codes " " ++ hex p.pa ++ codes " " ++ hex p.off ++ codes " " ++ hex p.value ++ codes "\n"
+
+abbrev pub place_lines : List Place → List ℕ
+place_lines [] = []
+place_lines (p ∷ ps) = place_line p ++ place_lines ps
 
 abbrev pub broken_text : Stopped → List ℕ
-broken_text s = rule_lines s.rule s.va ++ stop_line s.rule s.level s.pa ++ entry_line s.pa s.entry
+broken_text s = rule_lines s.rule s.va ++ stop_line s.rule s.level s.pa ++ place_lines (entry_places s.pa s.entry)
 
 abbrev pub core_code : CoreFault → List ℕ
 core_code E1 = codes "E1"

@@ -3,11 +3,13 @@
 
 mod answer;
 mod command;
+mod laws;
 mod print;
 mod text;
 mod top;
 mod word;
 
+pub use laws::know_shown;
 pub use top::kaudit;
 
 #[cfg(test)]

@@ -1,7 +1,7 @@
 // The texts that are printed, made whole before a byte of them is put anywhere.
 ghost use Rattle.std.specs.Prelude.{◌≡◌, ◌+◌, ◌≤◌, ◌++◌, ◌∷◌, [], codes, decimal, IfOk, OnOk};
-ghost use Rattle.kc_found.specs.Stopped.{Stopped};
-ghost use Rattle.kc_app.specs.Texts.{hex, word_line, rule_code, rule_lines, stop_line, entry_line, broken_text, core_code, dump_line, key_text, note_code, tells_stop};
+ghost use Rattle.kc_found.specs.Places.{entry_places};
+ghost use Rattle.kc_app.specs.Texts.{hex, word_line, rule_code, rule_lines, stop_line, place_lines, broken_text, core_code, dump_line, key_text, note_code, tells_stop};
 
 use itoa::Buffer;
 use kc_elf::CoreFault;
@@ -89,7 +89,7 @@ fn push_stop(text: &mut Vec<u8>, rule: Rule, level: u8, pa: u64) -> Result<(), N
 }
 
 fn push_entry(text: &mut Vec<u8>, pa: u64, entry: Option<PWord>) -> Result<(), NoMemory>
-    ensures { OnOk result (text.new.items ≡ text.old.items ++ entry_line pa entry) }
+    ensures { OnOk result (text.new.items ≡ text.old.items ++ place_lines (entry_places pa entry)) }
 {
     let Some(word) = entry else { return Ok(()) };
     push(text, b"place - ")?;

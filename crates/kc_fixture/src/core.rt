@@ -5,15 +5,19 @@ use byteorder::{ByteOrder, LittleEndian};
 use std::alloc::{AllocError, Global};
 
 /// The text of its VMCOREINFO note.
-pub const NOTE: &[u8] = b"PAGESIZE=4096\nNUMBER(phys_base)=0\nSYMBOL(init_top_pgt)=ffffffff80001000\nNUMBER(pgtable_l5_enabled)=0\nKERNELOFFSET=0\nNUMBER(sme_mask)=0\n";
+pub const NOTE: &[u8] =
+    b"PAGESIZE=4096\nNUMBER(phys_base)=0\nSYMBOL(init_top_pgt)=ffffffff80001000\nNUMBER(pgtable_l5_enabled)=0\nKERNELOFFSET=0\nNUMBER(sme_mask)=0\n";
 
 // Where physical memory begins in the file.
 const MEMORY: u64 = 0x2000;
+
 const SIZE: usize = 0x22000;
+
 const PART: usize = 0x1000;
 
 // The kernel's image and the direct map: both lead to the physical address that is added.
 const I: u64 = 0xffff_ffff_8000_0000;
+
 const D: u64 = 0xffff_8880_0000_0000;
 
 /// The core file, whose notes hold `NOTE`.
@@ -83,7 +87,14 @@ fn put_header(file: &mut Vec<u8>, length: usize) {
     put_program_header(file, 176, 1, 0x12000, 0x10000, 0x10000);
 }
 
-fn put_program_header(file: &mut Vec<u8>, place: usize, kind: u64, offset: u64, paddr: u64, size: u64)
+fn put_program_header(
+    file: &mut Vec<u8>,
+    place: usize,
+    kind: u64,
+    offset: u64,
+    paddr: u64,
+    size: u64,
+)
     requires { place < 4096 }
 {
     for (field, number, width) in [

@@ -1,0 +1,11 @@
+// What the definition of the output says.
+ghost use Rattle.kc_app.specs.Output.{ShownStand};
+
+use kc_found::know_places;
+
+/// Does nothing. Every word of a dump that an output shows stands in the dump at the printed places.
+pub fn know_shown()
+    ensures { ShownStand }
+{
+    know_places();
+}
