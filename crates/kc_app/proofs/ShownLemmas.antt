@@ -12,7 +12,7 @@ use Rattle.kc_elf.specs.CoreFile.{core}
 use Rattle.kc_notes.specs.declared.fault.NoteFault.{NoteFault}
 use Rattle.kc_app.specs.Paging.{paging_of}
 use Rattle.kc_app.specs.Command.{Asked, AsksWord, command}
-use Rattle.kc_app.specs.Output.{Places, places_by, places_in, places_asked, places_shown, image_of, ShownStand}
+use Rattle.kc_app.specs.Output.{Places, places_by, places_in, places_asked, image_of, ShownStand}
 
 abbrev Stand : Option Places → Type 0
 Stand shown = IfSome shown (λ s. AllStandIn s.image s.places)

@@ -1,5 +1,5 @@
 -- What a command prints and ends with, as a function of its words and files.
-use Rattle.std.specs.Prelude.{ℕ, false, List, [], Option, Some, None, IfSome, option_map, option_and_then, Result, Ok, Err}
+use Rattle.std.specs.Prelude.{ℕ, List, [], Option, Some, None, IfSome, option_map, option_and_then, Result, Ok, Err}
 use Rattle.kc_word.specs.declared.plain.Segment.{Segment}
 use Rattle.kc_word.specs.declared.plain.PageCfg.{PageCfg}
 use Rattle.kc_outside.specs.declared.store.Slot.{Slot}

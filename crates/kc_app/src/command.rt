@@ -30,7 +30,12 @@ impl<'w> Command<'w> {
     {
         match words {
             [name, dump, table, address] => {
-                Command::of_four(name.as_str(), dump.as_str(), table.as_str(), address.as_str())
+                Command::of_four(
+                    name.as_str(),
+                    dump.as_str(),
+                    table.as_str(),
+                    address.as_str(),
+                )
             }
             _ => None,
         }

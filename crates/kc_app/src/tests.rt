@@ -1,12 +1,22 @@
 // The program over made dumps: each case gives its words, what is changed in the dump, and what is wanted.
 mod cases;
 
+ghost use Rattle.std.specs.Prelude.{◌≡◌, ◌<◌, codes};
+ghost use Rattle.kc_outside.specs.declared.store.Slot.TheVariants.{Dump};
+ghost use Rattle.kc_phys.specs.Stored.{AreInside};
+
 use crate::kaudit;
-use kc_fixture::{NOTE, core_with_note, set_bytes, set_word};
-use kc_outside::{MemSink, MemStore};
-use kc_word::{NoMemory, read_hex};
+use kc_elf::read_core;
+use kc_fixture::{NOTE, core_file, core_with_note, set_bytes, set_word};
+use kc_found::{Space, VWord};
+use kc_mem::Memory;
+use kc_outside::{MemSink, MemStore, Slot, Store};
+use kc_phys::Phys;
+use kc_word::{NoMemory, PageCfg, Segment, Steps, read_hex};
 use std::alloc::{AllocError, Global};
+use std::marker::Brand;
 use std::process::Abort;
+use std::sync::ledger::{Blank, Ledger};
 use std::test::Fail;
 
 // The longest text that a sink takes, where a case doesn't limit it.
@@ -174,5 +184,60 @@ fn the_first_fault_is_told(rt: HostRuntime) -> Result<(), Fail> {
 #[test]
 fn failing_calls_and_sinks_are_told(rt: HostRuntime) -> Result<(), Fail> {
     assert_eq!(rt; run_cases(&rt, cases::FAILURES)?, 23);
+    Ok(())
+}
+
+// Reads a word through the calls that take memory.
+fn read_counted<S: Store, L: Ledger>(
+    alloc: Global,
+    store: &mut S,
+    segments: &[Segment],
+    va: u64,
+    blank: Blank,
+) -> Result<Option<VWord>, NoMemory>
+    requires name { blank.name ≡ L.name }
+    requires parts { blank.parts ≡ L.parts }
+    requires some { 0 < L.parts }
+    requires inside { AreInside (S.sizes store.old Dump) segments.now }
+{
+    let paging = PageCfg {
+        table: 0x1000,
+        five: false,
+        sme: 0,
+    };
+    let frames = Phys::new(alloc, store, segments)?;
+    let mut memory = Memory::new(alloc, frames, paging, 4096)?;
+    let mut steps = Steps::<L>::new(blank);
+    Ok(memory.word(va, &mut steps).ok())
+}
+
+fn read_word<S: Store>(alloc: Global, store: &mut S, va: u64) -> Result<Option<VWord>, NoMemory>
+    requires { S.may store.old Dump (codes "z.core") }
+{
+    let Ok(()) = store.open_file(Slot::Dump, "z.core") else {
+        return Ok(None);
+    };
+    let Ok(_) = store.size(Slot::Dump) else {
+        return Ok(None);
+    };
+    let Ok(core) = read_core(alloc, store, Slot::Dump) else {
+        return Ok(None);
+    };
+    read_counted::<S, Brand>(alloc, store, core.segments(), va, Blank::new(1))
+}
+
+#[test]
+fn memory_is_made_from_a_core(rt: HostRuntime) -> Result<(), Fail> {
+    let alloc = rt.alloc();
+    let mut store = MemStore::new(alloc);
+    store.add("z.core", &core_file(alloc)?)?;
+    let word = VWord {
+        va: 0xffff_ffff_8000_b120,
+        pa: 0xb120,
+        off: 0xd120,
+        value: 0xffff_8880_0001_1000,
+    };
+    assert_eq!(rt; read_word(alloc, &mut store, word.va)?, Some(word));
+    assert_eq!(rt; read_word(alloc, &mut store, word.va + 1)?, None);
     Ok(())
 }
