@@ -170,7 +170,8 @@ fn words_are_found_by_every_kind_of_page(rt: HostRuntime) -> Result<(), Fail> {
 
 #[test]
 fn each_rule_stops_at_each_level(rt: HostRuntime) -> Result<(), Fail> {
-    assert_eq!(rt; run_cases(&rt, cases::STOPS)?, 32);
+    assert_eq!(rt; run_cases(&rt, cases::STOPS)?, 33);
+    assert_eq!(rt; run_cases(&rt, cases::RESERVED)?, 25);
     Ok(())
 }
 
