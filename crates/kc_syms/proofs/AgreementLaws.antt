@@ -1,11 +1,11 @@
 -- That the address of a symbol is that of its rows.
-use Rattle.std.proofs.Common.{◌≡◌, ◌≢◌, ℕ, ◌+◌, ◌<◌, ◌==◌, Bool, true, false, not, cond, List, [], ◌∷◌, ◌++◌, All, length, map, Option, Some, None, Result, refl, sym, ap, subst, ◌∙◌, arith, append_assoc}
+use Rattle.std.proofs.Common.{◌≡◌, ◌≢◌, ℕ, ◌==◌, Bool, true, false, not, cond, List, [], ◌∷◌, ◌++◌, All, map, Option, Some, None, Result, refl, sym, subst, arith, append_assoc}
 use Rattle.std.proofs.lemmas.Bool.Decides.{nat_tests}
 use Rattle.std.proofs.lemmas.List.{append-nil}
 use Rattle.std.proofs.lemmas.List.Elements.{All-append, All-cons, All-nil}
 use Rattle.kc_syms.specs.declared.fault.SymFault.{SymFault}
 use Rattle.kc_syms.specs.Addresses.{at_run, another, agreed, common_of}
-use Rattle.kc_syms.specs.Agreement.{AllAt, Agrees, Differ}
+use Rattle.kc_syms.specs.Agreement.{AllAt, Agrees}
 
 -- a fact of one element
 All-one : {X : Type 0} (P : X → Type 0) (x : X) → P x → All P (x ∷ [])

@@ -1,5 +1,5 @@
 -- How a row is spelled on its line.
-use Rattle.std.specs.Prelude.{◌≡◌, ◌≢◌, ℕ, ◌+◌, ◌^◌, ◌<◌, ◌≤◌, ◌⊎◌, List, [], ◌∷◌, ◌++◌, All, Result, Ok, Err, ⊤}
+use Rattle.std.specs.Prelude.{◌≡◌, ◌≢◌, ℕ, ◌^◌, ◌<◌, ◌≤◌, ◌⊎◌, List, [], ◌∷◌, ◌++◌, All, ⊤}
 use Rattle.kc_word.specs.Hex.{hex_digits}
 use Rattle.kc_syms.specs.Rows.{RowText}
 

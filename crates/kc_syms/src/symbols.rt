@@ -27,11 +27,12 @@ impl<'a> Symbols<'a> {
     ///
     /// A row is a line of 16 lower-case hex digits, a space, an ASCII letter or `?`, a space, and a name of
     /// one or more bytes from 0x21 to 0x7e. A line ends at a newline, which goes with a carriage return
-    /// directly before it; the last may be without one. The time is in proportion to the bytes.
+    /// directly before it; the last may be without one.
     ///
     /// # Errors
     ///
-    /// `S1` with the number of the first line that is no row, from 1. An empty line is none either.
+    /// `S1` with the number of the first line that is no row, from 1; an empty line is none either. `NoMemory`
+    /// where no memory was left.
     pub fn read(alloc: Global, bytes: &'a [u8]) -> Result<Self, SymStop>
         ensures exact { IsAnswer result (rows bytes.now) }
         ensures spelled { IsAnswerBySpelling result (lines bytes.now) }

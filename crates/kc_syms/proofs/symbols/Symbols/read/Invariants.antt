@@ -1,6 +1,5 @@
-use Rattle.std.proofs.Common.{◌≡◌, ℕ, ◌+◌, ◌≤◌, List, length}
-use Rattle.kc_syms.specs.Answers.{Stands}
-use Rattle.kc_syms.specs.Rows.{RowText, rows}
+use Rattle.std.proofs.Common.{◌+◌, ◌≤◌, length}
+use Rattle.kc_syms.specs.Rows.{rows}
 use Rattle.kc_syms.specs.Listed.{listed}
 use Rattle.kc_syms.proofs.ReadLemmas.{IsReadTo}
 use Rattle.kc_syms.proofs.symbols.Symbols.read.Given as goal
