@@ -2,6 +2,6 @@
 //! ring, trees, a slab cache and two tasks.
 #![tactic(auto)]
 
-mod core;
+mod dump;
 
-pub use core::{NOTE, core_file, core_with_note, set_bytes, set_word};
+pub use dump::{NOTE, core_file, core_with_note, set_bytes, set_word};
