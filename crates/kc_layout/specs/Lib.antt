@@ -1,0 +1,4 @@
+pub mod Find
+pub mod Modifiers
+pub mod Numbered
+pub mod Size
