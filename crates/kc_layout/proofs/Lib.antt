@@ -1,2 +1,4 @@
 pub mod FindLemmas
 pub mod LayerLemmas
+pub mod PathLemmas
+pub mod SearchLemmas

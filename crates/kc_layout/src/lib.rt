@@ -2,10 +2,22 @@
 //! place of a member that a path names.
 #![tactic(auto)]
 
+mod ends;
+mod fault;
 mod find;
+mod hops;
 mod modifiers;
+mod number;
 mod numbered;
+mod path;
+mod place;
+mod search;
 mod size;
+mod spot;
+mod step;
 
+pub use ends::{Field, Located};
+pub use fault::{PathFault, QRule};
 pub use find::find_type;
+pub use hops::Hops;
 pub use size::size_of;

@@ -24,6 +24,7 @@ pub(crate) fn compound_of(btf: &Btf, id: u32) -> Option<TypeRef>
     requires { id ≤ length btf.now.records }
     ensures exact { result ≡ compound_numbered btf.now id }
     ensures own { IfSome result (λ t. type_numbered btf.now t.id ≡ Some t) }
+    ensures same { IfSome result (λ t. t.id ≡ id) }
     ensures compound { IfSome result (λ t. IsTrue (is_compound t.kind)) }
 {
     let t = type_of(btf, id)?;

@@ -2,6 +2,7 @@
 //! counter of steps.
 #![tactic(auto)]
 
+mod bits;
 mod decimal;
 mod hex;
 mod memory;
@@ -9,6 +10,7 @@ mod numbers;
 mod plain;
 mod steps;
 
+pub use bits::Bits;
 pub use decimal::read_dec;
 pub use hex::{hex16, read_hex};
 pub use memory::NoMemory;
