@@ -1,5 +1,5 @@
 -- The steps of a path, one by one.
-use Rattle.std.proofs.Common.{◌≡◌, ℕ, zero, suc, ◌+◌, ◌-◌, ◌<◌, ◌≤◌, Bool, true, false, List, [], ◌∷◌, length, ◌==◌, Option, Some, None, option_map, option_and_then, is_some, not, cond, nat_lt, nat_eq, ap, ◌∙◌, sym, refl, arith}
+use Rattle.std.proofs.Common.{◌≡◌, ℕ, zero, suc, ◌+◌, ◌-◌, ◌<◌, ◌≤◌, Bool, true, false, List, [], ◌∷◌, length, ◌==◌, Option, Some, None, option_map, is_some, not, cond, nat_lt, nat_eq, ap, ◌∙◌, sym, refl, arith}
 use Rattle.std.specs.Prelude.{position}
 use Rattle.std.specs.List.{position_or_len}
 use Rattle.std.proofs.lemmas.Bool.Decides.{nat_tests}
@@ -55,14 +55,35 @@ steps-full zero first [] full = refl
 steps-full zero first (c ∷ cs) full = grind (arith, nat_tests)
 steps-full (suc most) first text full = absurd (omega arith)
 
+-- a step is cut off some text
+some_text : (first : Bool) (text : List ℕ) (here : Cut) → Some here ≡ cut first text → (length text == 0) ≡ false
+some_text true [] here is = let none : ⊥ = cc in absurd none
+some_text false [] here is = let none : ⊥ = cc in absurd none
+some_text first (c ∷ cs) here is = grind (arith, nat_tests)
+
+-- the same, where so many steps were taken
+pub steps-after : (taken : ℕ) (first : Bool) (text : List ℕ) (here : Cut) → taken < 256 → Some here ≡ cut first text →
+    steps_from (256 - taken) first text ≡ option_map (λ more. here.step ∷ more) (steps_from (256 - (taken + 1)) (nat_eq (taken + 1) 0) here.rest)
+steps-after taken first text here some is =
+    let fewer : 256 - (taken + 1) ≡ 256 - taken - 1 = omega arith in
+    let later : nat_eq (taken + 1) 0 ≡ false = grind (arith, nat_tests) in
+    rw (fewer, later) (steps-next (256 - taken) first text here (omega arith) (some_text first text here is) is)
+
 is_some-map : {X Y : Type 0} (f : X → Y) (o : Option X) → is_some (option_map f o) ≡ is_some o
 is_some-map f None = refl
 is_some-map f (Some x) = refl
 
-pub is_some-next : (taken : ℕ) (first : Bool) (text : List ℕ) (here : Cut) → taken < 256 → (length text == 0) ≡ false → Some here ≡ cut first text →
+pub is_some-next : (taken : ℕ) (first : Bool) (text : List ℕ) (here : Cut) → taken < 256 → Some here ≡ cut first text →
     is_some (steps_from (256 - (taken + 1)) (nat_eq (taken + 1) 0) here.rest) ≡ is_some (steps_from (256 - taken) first text)
-is_some-next taken first text here some more is =
-    let fewer : 256 - (taken + 1) ≡ 256 - taken - 1 = omega arith in
-    let later : nat_eq (taken + 1) 0 ≡ false = grind (arith, nat_tests) in
-    rw (fewer, later)
-    (sym (ap (λ (o : Option (List Step)). is_some o) (steps-next (256 - taken) first text here (omega arith) more is) ∙ is_some-map (λ more. here.step ∷ more) (steps_from (256 - taken - 1) false here.rest)))
+is_some-next taken first text here some is =
+    sym (ap (λ (o : Option (List Step)). is_some o) (steps-after taken first text here some is) ∙ is_some-map (λ more. here.step ∷ more) (steps_from (256 - (taken + 1)) (nat_eq (taken + 1) 0) here.rest))
+
+-- where a path goes on with no step, it is at its end
+pub steps-ended : (most : ℕ) (first : Bool) (text : List ℕ) → is_some (steps_from most first text) ≡ true → None ≡ cut first text → steps_from most first text ≡ Some []
+steps-ended most first [] path stop = steps-empty most first [] refl
+steps-ended most first (c ∷ cs) path stop =
+    let none : is_some (steps_from most first (c ∷ cs)) ≡ false = rw (steps-stop most first (c ∷ cs) (grind (arith, nat_tests)) stop) refl in
+    let wrong : ⊥ = cc in absurd wrong
+
+pub steps-all : (most : ℕ) (first : Bool) (text : List ℕ) → most ≡ 0 → is_some (steps_from most first text) ≡ true → steps_from most first text ≡ Some []
+steps-all most first text full path = steps-empty most first text (steps-full most first text full ∙ path)

@@ -1,5 +1,5 @@
 -- The search through members, one by one.
-use Rattle.std.proofs.Common.{◌≡◌, ℕ, zero, suc, ◌-◌, ◌<◌, Bool, true, false, List, [], ◌∷◌, ap, ◌∙◌, sym, refl, arith}
+use Rattle.std.proofs.Common.{◌≡◌, ℕ, zero, suc, ◌-◌, ◌<◌, true, false, List, [], ◌∷◌, ap, ◌∙◌, sym, refl, arith}
 use Rattle.std.specs.Prelude.{bytes_eq}
 use Rattle.kc_btf.specs.declared.types.Member.{Member}
 use Rattle.kc_btf.specs.Btf.{Types}

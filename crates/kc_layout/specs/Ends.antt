@@ -1,5 +1,5 @@
 -- What the calls on paths answer: the byte or the bits that a path leads to.
-use Rattle.std.specs.Prelude.{ℕ, ◌+◌, ◌*◌, ◌^◌, Bool, false, List, [], ◌∷◌, take, Option, Some, None, Result, Ok, Err, option_map, option_and_then, ◌==◌, ◌&&◌, nat_lt, nat_le, if◌then◌else◌}
+use Rattle.std.specs.Prelude.{ℕ, ◌+◌, ◌*◌, ◌^◌, Bool, false, List, Option, Some, None, Result, Ok, Err, option_map, option_and_then, ◌==◌, ◌&&◌, nat_lt, nat_le, if◌then◌else◌}
 use Rattle.std.specs.Option.{ok_or}
 use Rattle.kc_btf.specs.declared.kind.Kind.{Kind}
 use Rattle.kc_btf.specs.declared.kind.Kind.TheVariants.{Int, Ptr, Enum, Enum64}
@@ -12,7 +12,7 @@ use Rattle.kc_layout.specs.declared.fault.QRule.TheVariants.{Q5, Q6}
 use Rattle.kc_layout.specs.declared.fault.PathFault.{PathFault}
 use Rattle.kc_layout.specs.declared.number.Number.{Number}
 use Rattle.kc_layout.specs.declared.spot.Spot.{Spot}
-use Rattle.kc_layout.specs.Places.{◌>>=◌, Place, End, at_step, bare, end_of, whole_byte}
+use Rattle.kc_layout.specs.Places.{◌>>=◌, Place, at_step, bare, end_of, whole_byte}
 
 -- a byte: the byte offsets of the pointers that lead to a struct, a byte in it, and the type there
 pub record ByteAt : Type 0 where

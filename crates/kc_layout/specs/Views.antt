@@ -1,7 +1,6 @@
 -- What the code answers, as the definitions have it.
-use Rattle.std.specs.Prelude.{◌≡◌, ℕ, List, [], ◌∷◌, take, Result, Ok, Err}
+use Rattle.std.specs.Prelude.{◌≡◌, Result, Ok, Err}
 use Rattle.kc_word.specs.declared.bits.Bits.{Bits}
-use Rattle.kc_layout.specs.declared.hops.Hops.{Hops}
 use Rattle.kc_layout.specs.declared.ends.Located.{Located}
 use Rattle.kc_layout.specs.declared.ends.Field.{Field}
 use Rattle.kc_layout.specs.declared.place.Place.{Place as CodePlace}

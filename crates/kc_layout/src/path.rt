@@ -117,7 +117,11 @@ fn index_of(digits: &[u8]) -> Option<u64>
 fn natural(number: i64) -> Option<u64>
     ensures { result ≡ natural number }
 {
-    if number >= 0 { Some(number as u64) } else { None }
+    if number >= 0 {
+        Some(number as u64)
+    } else {
+        None
+    }
 }
 
 // The text behind a `]`.

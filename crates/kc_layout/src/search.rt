@@ -71,14 +71,7 @@ fn spot_of(base: u64, member: Member) -> Spot
 
 // Searches what a member without a name lends.
 #[cycle(search)]
-fn search_lent(
-    btf: &Btf,
-    member: Member,
-    name: &[u8],
-    base: u64,
-    left: u32,
-    levels: u8,
-) -> Search
+fn search_lent(btf: &Btf, member: Member, name: &[u8], base: u64, left: u32, levels: u8) -> Search
     requires name { member.name < length btf.now.strings }
     requires ty { member.ty ≤ length btf.now.records }
     requires room { base + 2 ^ 32 * (levels + 1) ≤ 2 ^ 40 }

@@ -1,8 +1,6 @@
 // The steps of a path.
 ghost use Rattle.std.specs.Prelude.{◌≡◌, ℕ, ◌+◌, ◌*◌, ◌^◌, ◌<◌, ◌≤◌, ◌∷◌, [], length, take, option_map, IfOk, IfSome};
-
 ghost use Rattle.kc_layout.specs.HopList.{hop_list};
-
 ghost use Rattle.kc_layout.specs.Places.{start_of, if_near, bare, behind, member_step, element_step, target_numbered, whole_byte, with_hop, follow, member_of, take_step, IsReached};
 ghost use Rattle.kc_layout.specs.PathViews.{step_view};
 ghost use Rattle.kc_layout.specs.Views.{Gives, place_view};

@@ -1,4 +1,4 @@
-use Rattle.std.proofs.Common.{ℕ, List, Option, ◌-◌, nat_eq, is_some, ap, ◌∙◌, sym, arith}
+use Rattle.std.proofs.Common.{List, Option, ◌-◌, nat_eq, is_some, ap, ◌∙◌, sym, arith}
 use Rattle.kc_layout.specs.Path.{Step}
 use Rattle.kc_layout.specs.PathViews.{cut_view}
 use Rattle.kc_layout.proofs.PathLemmas.{steps-empty, steps-stop, steps-full, is_some-next}
@@ -17,7 +17,7 @@ returns-in-None c =
 pub loop-taken-preserved : goal.loop-taken-preserved
 loop-taken-preserved c =
     let l = c.loop-taken in
-    is_some-next l.taken (nat_eq l.taken 0) l.rest.now (cut_view c.in-Some.cut) c.loop-taken-test.true (sym c.is_empty.ensures ∙ c.if-is_empty.false) c.in-Some.ensures ∙ l.invariant
+    is_some-next l.taken (nat_eq l.taken 0) l.rest.now (cut_view c.in-Some.cut) c.loop-taken-test.true c.in-Some.ensures ∙ l.invariant
 
 pub returns : goal.returns
 returns c =

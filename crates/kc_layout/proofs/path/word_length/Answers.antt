@@ -1,5 +1,5 @@
 use Rattle.std.proofs.Common.{not}
-use Rattle.kc_layout.specs.Path.{is_word, is_digit}
+use Rattle.kc_layout.specs.Path.{is_word}
 use Rattle.kc_layout.proofs.PathLemmas.{position_or_len-Some, position_or_len-None}
 use Rattle.kc_layout.proofs.path.word_length.Goals as goal
 

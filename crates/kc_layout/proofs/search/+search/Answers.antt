@@ -1,11 +1,10 @@
-use Rattle.std.proofs.Common.{◌≡◌, ℕ, ◌-◌, ◌<◌, ◌≤◌, length, true, false, ap, arith, ◌∙◌, sym}
+use Rattle.std.proofs.Common.{◌≡◌, ◌-◌, ◌<◌, ◌≤◌, length, true, false, ap, arith, ◌∙◌, sym}
 use Rattle.std.specs.Prelude.{bytes_eq}
 use Rattle.std.proofs.lemmas.List.Elements.{All-tail}
 use Rattle.kc_btf.specs.declared.types.Member.{Member}
 use Rattle.kc_btf.specs.Readers.{name_at}
 use Rattle.kc_layout.specs.declared.search.Search.TheVariants.{Found, Absent, Beyond}
-use Rattle.kc_layout.specs.Numbered.{members_numbered}
-use Rattle.kc_layout.specs.Search.{among, search, and_on}
+use Rattle.kc_layout.specs.Search.{search}
 use Rattle.kc_layout.proofs.SearchLemmas.{search-next, search-last, among-end, among-last, among-found, search-lent}
 use Rattle.kc_layout.proofs.search.+search.Goals as goal
 
