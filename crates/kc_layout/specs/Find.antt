@@ -1,5 +1,5 @@
 -- The type with a name.
-use Rattle.std.specs.Prelude.{ℕ, suc, Bool, true, false, List, [], ◌∷◌, Option, None, option_map, is_some, option_and_then, ◌&&◌, position}
+use Rattle.std.specs.Prelude.{◌≡◌, ◌<◌, IsTrue, ℕ, suc, Bool, true, false, List, [], ◌∷◌, Option, Some, None, option_map, is_some, option_and_then, ◌&&◌, position}
 use Rattle.std.specs.Option.{option_or}
 use Rattle.std.specs.Str.{bytes_eq}
 use Rattle.kc_btf.specs.declared.kind.Kind.{Kind}
@@ -7,7 +7,8 @@ use Rattle.kc_btf.specs.declared.kind.Kind.TheVariants.{Typedef}
 use Rattle.kc_btf.specs.Btf.{Types}
 use Rattle.kc_btf.specs.Kind.{is_compound}
 use Rattle.kc_btf.specs.Records.{Record}
-use Rattle.kc_btf.specs.Readers.{name_at}
+use Rattle.kc_btf.specs.declared.types.TypeRef.{TypeRef}
+use Rattle.kc_btf.specs.Readers.{name_at, type_numbered}
 use Rattle.kc_layout.specs.declared.find.Wanted.{Wanted}
 use Rattle.kc_layout.specs.declared.find.Wanted.TheVariants.{Compound, Alias}
 use Rattle.kc_layout.specs.Modifiers.{under}
@@ -40,3 +41,12 @@ least types name wanted = option_map (λ i. suc i) (position (is_named types nam
 abbrev pub find : Types → List ℕ → Option ℕ
 find types [] = None
 find types (c ∷ cs) = option_or (least types (c ∷ cs) Compound) (least types (c ∷ cs) Alias)
+
+-- what a type that is found is: it has the name, and leads to a struct or union under at most 32 modifiers;
+-- and no struct or union with a lesser number has the name
+pub record IsFound (types : Types) (name : List ℕ) (id : ℕ) : Type 0 where
+  pub type_ref : TypeRef
+  pub there : type_numbered types id ≡ Some type_ref
+  pub named : IsTrue (bytes_eq (name_at types.strings type_ref.name) name)
+  pub leads : IsTrue (leads_to_compound 32 types id)
+  pub least : (k : ℕ) (t : TypeRef) → k < id → type_numbered types k ≡ Some t → IsTrue (is_compound t.kind) → bytes_eq (name_at types.strings t.name) name ≡ false

@@ -1,5 +1,5 @@
 -- A member by its name.
-use Rattle.std.specs.Prelude.{◌≤◌, ⊤, ℕ, zero, suc, ◌+◌, List, [], ◌∷◌, length, Option, Some, None, ◌==◌, bytes_eq, if◌then◌else◌}
+use Rattle.std.specs.Prelude.{◌≡◌, ◌≤◌, ⊤, Contains, true, ℕ, zero, suc, ◌+◌, List, [], ◌∷◌, length, Option, Some, None, ◌==◌, bytes_eq, if◌then◌else◌}
 use Rattle.std.specs.Option.{option_map_or}
 use Rattle.kc_btf.specs.declared.types.Member.{Member}
 use Rattle.kc_btf.specs.Btf.{Types}
@@ -50,3 +50,22 @@ search (suc levels) types name id base left = among (search levels types name) t
 abbrev pub LiesBehind : ℕ → ℕ → Search → Type 0
 LiesBehind base count (Found spot) = (base ≤ spot.bit) × (spot.ty ≤ count)
 LiesBehind base count _ = ⊤
+
+-- a member with a name lies at a bit of a type: it is one of the type's own members, or it lies in a struct
+-- or union without a name that is one of them, and then the bits on the way add up
+pub data Lies : Types → List ℕ → ℕ → ℕ → Member → Type 0 where
+  own : (types : Types) (name : List ℕ) (id : ℕ) (m : Member) → Contains (members_numbered types id) m →
+      bytes_eq (name_at types.strings m.name) name ≡ true → Lies types name id m.bit m
+  inner : (types : Types) (name : List ℕ) (id within bit : ℕ) (m last : Member) → Contains (members_numbered types id) m →
+      length (name_at types.strings m.name) ≡ 0 → under 32 types m.ty ≡ Some within → Lies types name within bit last → Lies types name id (m.bit + bit) last
+
+-- a spot that was found from a bit on is a member's with the name
+pub record IsMember (types : Types) (name : List ℕ) (id base : ℕ) (spot : Spot) : Type 0 where
+  pub bit : ℕ
+  pub member : Member
+  pub lies : Lies types name id bit member
+  pub same : spot ≡ record { bit = base + bit; width = member.width; ty = member.ty }
+
+abbrev pub FindsMember : Types → List ℕ → ℕ → ℕ → Search → Type 0
+FindsMember types name id base (Found spot) = IsMember types name id base spot
+FindsMember types name id base _ = ⊤

@@ -2,7 +2,7 @@
 ghost use Rattle.std.specs.Prelude.{◌≡◌, ℕ, ◌<◌, ◌≤◌, length, Some, option_and_then, is_some, bytes_eq, ◌&&◌, IfSome};
 ghost use Rattle.kc_btf.specs.Role.{LiesInside, rest_role};
 ghost use Rattle.kc_btf.specs.Readers.{name_at};
-ghost use Rattle.kc_layout.specs.Find.{find, least, is_wanted, leads_to_compound};
+ghost use Rattle.kc_layout.specs.Find.{find, least, is_wanted, leads_to_compound, IsFound};
 
 use crate::modifiers::{MODIFIERS, under};
 use crate::numbered::compound_of;
@@ -21,7 +21,20 @@ pub(crate) enum Wanted {
 /// least typedef that leads to one under at most 32 modifiers, itself among them. `None` for other names and
 /// for the empty one.
 pub fn find_type(btf: &Btf, name: &[u8]) -> Option<u32>
-    ensures { result ≡ find btf.now name.now }
+    ensures exact { result ≡ find btf.now name.now }
+    ensures some { IfSome result (λ id. 0 < id) }
+    ensures there { IfSome result (λ id. id ≤ length btf.now.records) }
+    // It has the name, leads to a struct or union, and no struct or union before it has the name.
+    ensures found { IfSome result (IsFound btf.now name.now) }
+{
+    find_named(btf, name)
+}
+
+// The type with a name.
+fn find_named(btf: &Btf, name: &[u8]) -> Option<u32>
+    ensures exact { result ≡ find btf.now name.now }
+    ensures some { IfSome result (λ id. 0 < id) }
+    ensures there { IfSome result (λ id. id ≤ length btf.now.records) }
 {
     if name.is_empty() {
         return None;
@@ -34,7 +47,9 @@ pub fn find_type(btf: &Btf, name: &[u8]) -> Option<u32>
 
 // The least number of a type that is wanted and has a name.
 fn least(btf: &Btf, name: &[u8], wanted: Wanted) -> Option<u32>
-    ensures { result ≡ least btf.now name.now wanted }
+    ensures exact { result ≡ least btf.now name.now wanted }
+    ensures some { IfSome result (λ id. 0 < id) }
+    ensures there { IfSome result (λ id. id ≤ length btf.now.records) }
 {
     for index in 0..btf.count() {
         let t = btf.ty(index + 1);

@@ -17,6 +17,8 @@ mod search;
 mod size;
 mod spot;
 mod step;
+#[cfg(test)]
+mod tests;
 mod walk;
 
 pub use ends::{Field, Located};

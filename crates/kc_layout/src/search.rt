@@ -2,7 +2,7 @@
 ghost use Rattle.std.specs.Prelude.{◌≡◌, ◌+◌, ◌*◌, ◌^◌, ◌<◌, ◌≤◌, length, Some, IsTrue};
 ghost use Rattle.kc_btf.specs.Kind.{is_compound};
 ghost use Rattle.kc_btf.specs.Readers.{type_numbered};
-ghost use Rattle.kc_layout.specs.Search.{lent, search, spot_of, LiesBehind};
+ghost use Rattle.kc_layout.specs.Search.{lent, search, spot_of, FindsMember, LiesBehind};
 
 use crate::modifiers::{MODIFIERS, under};
 use crate::numbered::compound_of;
@@ -20,17 +20,30 @@ pub(crate) enum Search {
     Beyond,
 }
 
+/// How many members are looked at for one name.
+const MEMBERS: u32 = 65536;
+
+/// How many levels of structs and unions a name is looked for in: the one that is named, and 32 without a
+/// name.
+const LEVELS: u8 = 33;
+
+// Searches a struct or union, whose first bit is given, for a member.
+pub(crate) fn find_member(btf: &Btf, t: TypeRef, name: &[u8], base: u64) -> Search
+    requires ours { type_numbered btf.now t.id ≡ Some t }
+    requires compound { IsTrue (is_compound t.kind) }
+    requires near { base < 2 ^ 36 }
+    ensures exact { result ≡ search 33 btf.now name.now t.id base 65536 }
+    ensures inside { LiesBehind base (length btf.now.records) result }
+    // What is found is a member with the name, and the bits on the way to it add up.
+    ensures member { FindsMember btf.now name.now t.id base result }
+{
+    search_type(btf, t, name, base, MEMBERS, LEVELS)
+}
+
 // Searches a struct or union and those without a name in it, from a bit on, through so many members and
 // levels at most.
 #[cycle(search)]
-pub(crate) fn search_type(
-    btf: &Btf,
-    t: TypeRef,
-    name: &[u8],
-    base: u64,
-    left: u32,
-    levels: u8,
-) -> Search
+fn search_type(btf: &Btf, t: TypeRef, name: &[u8], base: u64, left: u32, levels: u8) -> Search
     requires ours { type_numbered btf.now t.id ≡ Some t }
     requires compound { IsTrue (is_compound t.kind) }
     requires room { base + 2 ^ 32 * levels ≤ 2 ^ 40 }

@@ -11,17 +11,10 @@ use crate::modifiers::{MODIFIERS, under};
 use crate::numbered::{array_of, compound_of, type_of};
 use crate::path::Step;
 use crate::place::Place;
-use crate::search::{Search, search_type};
+use crate::search::{Search, find_member};
 use crate::size::size_of;
 use crate::spot::Spot;
 use kc_btf::{Btf, Kind};
-
-/// How many members are looked at for one name.
-const MEMBERS: u32 = 65536;
-
-/// How many levels of structs and unions a name is looked for in: the one that is named, and 32 without a
-/// name.
-const LEVELS: u8 = 33;
 
 /// Bits from here on aren't counted.
 const FAR: u64 = 1 << 36;
@@ -57,7 +50,7 @@ pub(crate) fn member_step(btf: &Btf, spot: Spot, name: &[u8]) -> Result<Spot, QR
 {
     let bare = bare_of(btf, spot.ty)?;
     let t = compound_of(btf, bare).ok_or(QRule::Q3)?;
-    match search_type(btf, t, name, spot.bit, MEMBERS, LEVELS) {
+    match find_member(btf, t, name, spot.bit) {
         Search::Found(found) => if_near(found),
         Search::Absent(_) => Err(QRule::Q2),
         Search::Beyond => Err(QRule::Q5),
