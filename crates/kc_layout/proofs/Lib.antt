@@ -1,0 +1,7 @@
+pub mod FindLemmas
+pub mod FoundLemmas
+pub mod LayerLemmas
+pub mod MemberLemmas
+pub mod PathLemmas
+pub mod PlaceLemmas
+pub mod SearchLemmas

@@ -1,0 +1,11 @@
+pub mod Ends
+pub mod Find
+pub mod HopList
+pub mod Modifiers
+pub mod Numbered
+pub mod Path
+pub mod PathViews
+pub mod Places
+pub mod Search
+pub mod Size
+pub mod Views

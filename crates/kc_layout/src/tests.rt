@@ -1,0 +1,239 @@
+// Types and paths over files made here.
+use crate::{Field, Located, PathFault, QRule, find_type, locate, resolve, size_of};
+use kc_btf::Btf;
+use std::test::Fail;
+
+mod fixture;
+
+use fixture::{crowds, levels, types};
+
+#[test]
+fn names_are_found(rt: HostRuntime) -> Result<(), Fail> {
+    let btf = types(rt.alloc())?;
+    let rows: [(&[u8], Option<u32>); 12] = [
+        (b"slab", Some(8)),
+        (b"twice", Some(19)),
+        // a struct stands before a typedef of the same name
+        (b"list_head", Some(5)),
+        (b"union_alias", Some(39)),
+        (b"through32", Some(73)),
+        (b"through33", None),
+        (b"circle", None),
+        (b"int", None),
+        (b"mode", None),
+        (b"sla", None),
+        (b"slabs", None),
+        (b"", None),
+    ];
+    for (name, found) in rows.iter() {
+        assert_eq!(rt; find_type(&btf, *name), *found);
+    }
+    Ok(())
+}
+
+#[test]
+fn sizes_are_known(rt: HostRuntime) -> Result<(), Fail> {
+    let btf = types(rt.alloc())?;
+    let rows: [(u32, Option<u64>); 18] = [
+        (0, None),
+        (1, Some(8)),
+        (4, Some(8)),
+        (8, Some(64)),
+        (7, Some(8)),
+        (15, Some(8)),
+        (21, None),
+        (23, Some(0xffff_ffff)),
+        (26, Some(0)),
+        (28, None),
+        (29, None),
+        (32, Some(4)),
+        (33, Some(8)),
+        (35, Some(48)),
+        (40, None),
+        (41, None),
+        (73, Some(16)),
+        (74, None),
+    ];
+    assert_eq!(rt; btf.count(), 74);
+    for (id, size) in rows.iter() {
+        if *id <= btf.count() {
+            assert_eq!(rt; size_of(&btf, *id), *size);
+        }
+    }
+    Ok(())
+}
+
+// The pointers of a field, its first bit, its width, whether it is signed, and its type.
+type Shown = (u8, [u64; 4], u64, u8, bool, u32);
+
+fn shown(field: &Field) -> Shown {
+    let hops = &field.hops;
+    (
+        hops.count,
+        [hops.a, hops.b, hops.c, hops.d],
+        field.bits.bit,
+        field.bits.width,
+        field.bits.signed,
+        field.ty,
+    )
+}
+
+// The number that a path of a type leads to.
+fn number(btf: &Btf, name: &[u8], path: &[u8]) -> Result<Result<Shown, PathFault>, Fail> {
+    let id = find_type(btf, name).ok_or("no type")?;
+    match resolve(btf, id, path) {
+        Ok(field) => Ok(Ok(shown(&field))),
+        Err(fault) => Ok(Err(fault)),
+    }
+}
+
+#[test]
+fn numbers_are_resolved(rt: HostRuntime) -> Result<(), Fail> {
+    let btf = types(rt.alloc())?;
+    let rows: [(&[u8], &[u8], Shown); 16] = [
+        (b"slab", b"frozen", (0, [0; 4], 351, 1, false, 3)),
+        (b"slab", b"objects", (0, [0; 4], 336, 15, false, 3)),
+        (b"slab", b"counters", (0, [0; 4], 320, 64, false, 1)),
+        (
+            b"task_struct",
+            b"signal->thread_head.next",
+            (1, [80, 0, 0, 0], 0, 64, false, 4),
+        ),
+        (b"item", b"small", (0, [0; 4], 288, 3, true, 2)),
+        (b"item", b"at", (0, [0; 4], 320, 64, false, 4)),
+        (b"item", b"row[3]", (0, [0; 4], 608, 32, true, 2)),
+        (
+            b"kmem_cache",
+            b"node[0]->nr_partial",
+            (1, [40, 0, 0, 0], 64, 64, false, 1),
+        ),
+        (
+            b"rows",
+            b"bytes[4294967294]",
+            (0, [0; 4], 34359738352, 8, false, 24),
+        ),
+        (
+            b"rows",
+            b"words[1073741823]",
+            (0, [0; 4], 68719476672, 64, false, 1),
+        ),
+        (b"rows", b"large[0]", (0, [0; 4], 0, 64, false, 1)),
+        (b"rows", b"parts[2][3]", (0, [0; 4], 352, 32, true, 2)),
+        (b"chain", b"mode", (0, [0; 4], 128, 32, true, 32)),
+        (
+            b"chain",
+            b"next->next->next->next->id",
+            (4, [8, 8, 8, 8], 0, 64, false, 1),
+        ),
+        (b"odds", b"odd", (0, [0; 4], 11, 5, false, 36)),
+        (b"odds", b"fits.prev", (0, [0; 4], 64, 64, false, 4)),
+    ];
+    for (name, path, expected) in rows.iter() {
+        assert_eq!(rt; number(&btf, *name, *path)?, Ok(*expected));
+    }
+    Ok(())
+}
+
+#[test]
+fn paths_are_refused(rt: HostRuntime) -> Result<(), Fail> {
+    let btf = types(rt.alloc())?;
+    let rows: [(&[u8], &[u8], QRule, u32); 36] = [
+        (b"slab", b"smell", QRule::Q2, 1),
+        (b"slab", b"slab_list.first", QRule::Q2, 2),
+        (b"kmem_cache", b"node[1]", QRule::Q4, 2),
+        (b"kmem_cache", b"node[9999999999]", QRule::Q4, 2),
+        (b"kmem_cache", b"size->x", QRule::Q7, 2),
+        (b"kmem_cache", b"size.x", QRule::Q3, 2),
+        (b"kmem_cache", b"size[0]", QRule::Q3, 2),
+        (b"kmem_cache", b"node.x", QRule::Q3, 2),
+        (b"kmem_cache", b"list", QRule::Q6, 1),
+        (b"kmem_cache", b"node", QRule::Q6, 1),
+        (b"kmem_cache", b"", QRule::Q6, 0),
+        (b"kmem_cache", b"a b", QRule::Q8, 0),
+        (b"rows", b"bytes[4294967295]", QRule::Q4, 2),
+        (b"rows", b"none[0]", QRule::Q4, 2),
+        (b"rows", b"twofold[0]", QRule::Q5, 2),
+        (b"rows", b"words[1073741824]", QRule::Q5, 2),
+        (b"rows", b"far[0]", QRule::Q4, 2),
+        (b"rows", b"void->x", QRule::Q7, 2),
+        (b"slab", b"freelist->x", QRule::Q3, 2),
+        (b"item", b"at->next", QRule::Q7, 2),
+        (b"item", b"wide", QRule::Q6, 1),
+        (b"chain", b"ratio", QRule::Q6, 1),
+        (b"odds", b"huge", QRule::Q6, 1),
+        (b"odds", b"beyond", QRule::Q5, 1),
+        (b"odds", b"beyond.next", QRule::Q5, 2),
+        // a member behind one that lies under too many modifiers
+        (b"odds", b"last", QRule::Q5, 1),
+        (b"endless", b"behind", QRule::Q5, 1),
+        (b"chain", b"next->next->next->next->next->id", QRule::Q5, 6),
+        // the text is judged before its steps
+        (b"slab", b"smell.", QRule::Q8, 0),
+        (b"slab", b".frozen", QRule::Q8, 0),
+        (b"slab", b"0", QRule::Q8, 0),
+        (b"slab", b"a[]", QRule::Q8, 0),
+        (b"slab", b"a[-1]", QRule::Q8, 0),
+        (b"slab", b"a[00000000001]", QRule::Q8, 0),
+        (b"slab", b"a[1", QRule::Q8, 0),
+        (b"slab", b"a-b", QRule::Q8, 0),
+    ];
+    for (name, path, rule, step) in rows.iter() {
+        let fault = PathFault {
+            rule: *rule,
+            step: *step,
+        };
+        assert_eq!(rt; number(&btf, *name, *path)?, Err(fault));
+    }
+    Ok(())
+}
+
+#[test]
+fn bytes_are_located(rt: HostRuntime) -> Result<(), Fail> {
+    let btf = types(rt.alloc())?;
+    let slab = find_type(&btf, b"slab").ok_or("no slab")?;
+    let rows: [(&[u8], Result<(u64, u32), (QRule, u32)>); 6] = [
+        (b"", Ok((0, 8))),
+        (b"slab_list.prev", Ok((24, 4))),
+        (b"inuse", Err((QRule::Q6, 1))),
+        (b"counters", Ok((40, 1))),
+        (b"slab_list.next->prev", Ok((8, 4))),
+        (b"x", Err((QRule::Q2, 1))),
+    ];
+    for (path, expected) in rows.iter() {
+        match locate(&btf, slab, *path) {
+            Ok(Located { hops: _, byte, ty }) => assert_eq!(rt; Ok((byte, ty)), *expected),
+            Err(PathFault { rule, step }) => assert_eq!(rt; Err((rule, step)), *expected),
+        }
+    }
+    Ok(())
+}
+
+#[test]
+fn limits_are_kept(rt: HostRuntime) -> Result<(), Fail> {
+    let alloc = rt.alloc();
+    let beyond = PathFault {
+        rule: QRule::Q5,
+        step: 1,
+    };
+    let found = (0, [0; 4], 0, 64, false, 1);
+    let crowds = crowds(alloc)?;
+    assert_eq!(rt; number(&crowds, b"crowd", b"sought")?, Ok(found));
+    assert_eq!(rt; number(&crowds, b"larger crowd", b"sought")?, Err(beyond));
+    let levels = levels(alloc)?;
+    assert_eq!(rt; number(&levels, b"levels", b"sought")?, Ok(found));
+    assert_eq!(rt; number(&levels, b"more levels", b"sought")?, Err(beyond));
+    let types = types(alloc)?;
+    let mut path = vec![in alloc; b'a'; 256]?;
+    let missing = PathFault {
+        rule: QRule::Q2,
+        step: 1,
+    };
+    assert_eq!(rt; number(&types, b"slab", path.as_slice())?, Err(missing));
+    path.push(b'a')?;
+    let refused = PathFault {
+        rule: QRule::Q8,
+        step: 0,
+    };
+    assert_eq!(rt; number(&types, b"slab", path.as_slice())?, Err(refused));
+    Ok(())
+}
