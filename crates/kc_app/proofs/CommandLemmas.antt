@@ -2,10 +2,10 @@
 use Rattle.std.proofs.Common.{◌≡◌, ◌≢◌, ℕ, List, [], ◌∷◌, length, map, None, refl}
 use Rattle.kc_app.specs.Command.{command}
 
-pub command-not_four : {X : Type 0} (view : X → List ℕ) (words : List X) → length words ≢ 4 → command (map view words) ≡ None
-command-not_four view [] other = refl
-command-not_four view (a ∷ []) other = refl
-command-not_four view (a ∷ b ∷ []) other = refl
-command-not_four view (a ∷ b ∷ c ∷ []) other = refl
-command-not_four view (a ∷ b ∷ c ∷ d ∷ []) other = absurd (other refl)
-command-not_four view (a ∷ b ∷ c ∷ d ∷ e ∷ words) other = refl
+pub command-other : {X : Type 0} (view : X → List ℕ) (words : List X) → length words ≢ 3 → length words ≢ 4 → command (map view words) ≡ None
+command-other view [] three four = refl
+command-other view (a ∷ []) three four = refl
+command-other view (a ∷ b ∷ []) three four = refl
+command-other view (a ∷ b ∷ c ∷ []) three four = absurd (three refl)
+command-other view (a ∷ b ∷ c ∷ d ∷ []) three four = absurd (four refl)
+command-other view (a ∷ b ∷ c ∷ d ∷ e ∷ words) three four = refl

@@ -1,52 +1,54 @@
 -- What the code's own types stand for.
 use Rattle.std.specs.Prelude.{◌≡◌, ℕ, List, [], Option, IfSome, Some, None, Result, Ok, Err, ⊤}
 use Rattle.kc_app.specs.declared.command.Command.{Command}
-use Rattle.kc_app.specs.declared.command.Command.TheVariants.{Word}
+use Rattle.kc_app.specs.declared.command.Command.TheVariants.{Word, Layout}
 use Rattle.kc_app.specs.declared.answer.Answer.{Answer}
-use Rattle.kc_app.specs.declared.answer.Answer.TheVariants.{Done, Broken, Refused}
+use Rattle.kc_app.specs.declared.answer.Answer.TheVariants.{Done, Broken}
 use Rattle.kc_app.specs.declared.answer.Halt.{Halt}
-use Rattle.kc_app.specs.declared.answer.Halt.TheVariants.{Store, Memory}
-use Rattle.kc_outside.specs.Files.{Files}
-use Rattle.kc_app.specs.Command.{Asked, AsksWord}
+use Rattle.kc_app.specs.declared.answer.Halt.TheVariants.{Refused, Store, Memory}
+use Rattle.kc_found.specs.declared.words.VWord.{VWord}
 use Rattle.kc_found.specs.declared.space.Stop.{Stop}
 use Rattle.kc_found.specs.declared.space.Stop.TheVariants.{Miss, Fault}
+use Rattle.kc_app.specs.Command.{Asked, AsksWord, AsksLayout}
+use Rattle.kc_app.specs.Made.{Is, gives}
 use Rattle.kc_app.specs.Paging.{IsTable}
-use Rattle.kc_app.specs.Output.{Output, shown}
+use Rattle.kc_app.specs.Output.{Shown, broken, word_shown}
 
 abbrev pub asked : Command → Asked
 asked (Word dump table address) = AsksWord dump.now table address
+asked (Layout btf name) = AsksLayout btf.now name.now
 
 -- a top table that is named can be one
 abbrev pub HasTable : Command → Type 0
 HasTable (Word dump table address) = IfSome table IsTable
+HasTable (Layout btf name) = ⊤
 
--- what is printed of an answer
-abbrev pub printed : Answer → Output
-printed (Done text) = record { out = text.items; err = []; status = 0 }
-printed (Broken text) = record { out = text.items; err = []; status = 1 }
-printed (Refused text) = record { out = []; err = text.items; status = 2 }
+-- what an answer shows on standard output, and the status
+abbrev pub shown_by : Answer → Shown
+shown_by (Done text) = record { text = text.items; status = 0 }
+shown_by (Broken text) = record { text = text.items; status = 1 }
 
--- the answer is printed as this output, if there is one
-abbrev pub IsPrinted : Option Output → Result Answer Halt → Type 0
-IsPrinted output (Ok answer) = output ≡ Some (printed answer)
-IsPrinted output (Err halt) = ⊤
-
--- an answer is what a definition gives of the files, where they are told
-abbrev pub Prints : (Files → Option Output) → Option Files → Result Answer Halt → Type 0
-Prints output None r = ⊤
-Prints output (Some files) r = IsPrinted (output files) r
-
--- the same for the bytes of one file
-abbrev pub PrintsOf : (List ℕ → Output) → Option (List ℕ) → Result Answer Halt → Type 0
-PrintsOf output None r = ⊤
-PrintsOf output (Some bytes) r = IsPrinted (Some (output bytes)) r
-
-abbrev pub OnStore : Result Answer Halt → Type 0 → Type 0
+abbrev pub OnStore : {A : Type 0} → Result A Halt → Type 0 → Type 0
 OnStore (Ok answer) P = ⊤
+OnStore (Err (Refused line)) P = ⊤
 OnStore (Err Store) P = P
 OnStore (Err Memory) P = ⊤
 
--- a miss is printed, and a fault of the space is one of the store
+abbrev pub NotStore : {A : Type 0} → Result A Halt → Type 0
+NotStore r = OnStore r ⊥
+
+abbrev pub NotRefused : {A : Type 0} → Result A Halt → Type 0
+NotRefused (Ok answer) = ⊤
+NotRefused (Err (Refused line)) = ⊥
+NotRefused (Err Store) = ⊤
+NotRefused (Err Memory) = ⊤
+
+-- a miss is shown, and a fault of the space is one of the store
 abbrev pub IsStopped : Stop → Result Answer Halt → Type 0
-IsStopped (Miss s) r = IsPrinted (Some (shown (Err s))) r × OnStore r ⊥
+IsStopped (Miss s) r = Is shown_by (gives (broken s)) r × NotStore r
 IsStopped Fault r = r ≡ Err Store
+
+-- the answer on a word
+abbrev pub IsAnswer : Result VWord Stop → Result Answer Halt → Type 0
+IsAnswer (Ok word) r = Is shown_by (gives (word_shown (Ok word))) r × NotStore r
+IsAnswer (Err stop) r = IsStopped stop r

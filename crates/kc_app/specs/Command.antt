@@ -6,9 +6,10 @@ use Rattle.kc_outside.specs.declared.store.Slot.TheVariants.{Dump, Btf, Map, Pla
 use Rattle.kc_word.specs.Hex.{hex_number}
 
 -- `word`: the dump's name, the physical address of the top table, or none where the dump's notes name it, and
--- the virtual address
+-- the virtual address. `layout`: the name of the file of types, and the type's name.
 pub data Asked : Type 0 where
   AsksWord : List ℕ → Option ℕ → ℕ → Asked
+  AsksLayout : List ℕ → List ℕ → Asked
 
 -- the address of a top table: a multiple of 4096 below 2^52
 abbrev pub as_table : ℕ → Option ℕ
@@ -28,8 +29,12 @@ word_asked dump None address = None
 abbrev pub of_four : List ℕ → List ℕ → List ℕ → List ℕ → Option Asked
 of_four name dump table address = if bytes_eq name (codes "word") then word_asked dump (table_word table) (hex_number address) else None
 
+abbrev pub of_three : List ℕ → List ℕ → List ℕ → Option Asked
+of_three name btf ty = if bytes_eq name (codes "layout") then Some (AsksLayout btf ty) else None
+
 -- what the words behind the program's name ask for, if they are one of the forms
 abbrev pub command : List (List ℕ) → Option Asked
+command (name ∷ btf ∷ ty ∷ []) = of_three name btf ty
 command (name ∷ dump ∷ table ∷ address ∷ []) = of_four name dump table address
 command _ = None
 
@@ -41,6 +46,12 @@ name_in (AsksWord dump table address) Map = None
 name_in (AsksWord dump table address) Plan = None
 name_in (AsksWord dump table address) Report = None
 name_in (AsksWord dump table address) Module = None
+name_in (AsksLayout btf ty) Dump = None
+name_in (AsksLayout btf ty) Btf = Some btf
+name_in (AsksLayout btf ty) Map = None
+name_in (AsksLayout btf ty) Plan = None
+name_in (AsksLayout btf ty) Report = None
+name_in (AsksLayout btf ty) Module = None
 
 -- the word of a slot
 abbrev pub slot_word : List (List ℕ) → Slot → Option (List ℕ)

@@ -1,9 +1,9 @@
 -- What a command prints and ends with, as a function of its words and files.
-use Rattle.std.specs.Prelude.{ℕ, List, [], Option, Some, None, IfSome, option_map, option_and_then, Result, Ok, Err}
+use Rattle.std.specs.Prelude.{ℕ, List, [], ◌++◌, Option, Some, None, IfSome, option_map, option_and_then, Result, Ok, Err}
 use Rattle.kc_word.specs.declared.plain.Segment.{Segment}
 use Rattle.kc_word.specs.declared.plain.PageCfg.{PageCfg}
 use Rattle.kc_outside.specs.declared.store.Slot.{Slot}
-use Rattle.kc_outside.specs.declared.store.Slot.TheVariants.{Dump}
+use Rattle.kc_outside.specs.declared.store.Slot.TheVariants.{Dump, Btf}
 use Rattle.kc_outside.specs.Files.{Files}
 use Rattle.kc_found.specs.declared.words.VWord.{VWord}
 use Rattle.kc_found.specs.Stopped.{Stopped}
@@ -15,41 +15,114 @@ use Rattle.kc_elf.specs.declared.fault.CoreFault.{CoreFault}
 use Rattle.kc_elf.specs.Parts.{Parts}
 use Rattle.kc_elf.specs.CoreFile.{core}
 use Rattle.kc_notes.specs.declared.fault.NoteFault.{NoteFault}
+use Rattle.kc_btf.specs.declared.stop.BtfFault.{BtfFault}
+use Rattle.kc_btf.specs.Btf.{Types, btf}
+use Rattle.kc_layout.specs.declared.fault.QRule.TheVariants.{Q5}
+use Rattle.kc_layout.specs.Find.{find}
+use Rattle.kc_layout.specs.Listing.{Listed, compound_under, listing}
+use Rattle.kc_app.specs.Made.{◌>>=◌, gives, refuses, short_file}
 use Rattle.kc_app.specs.Paging.{paging_of}
-use Rattle.kc_app.specs.Command.{Asked, AsksWord, command, name_in, slot_word}
+use Rattle.kc_app.specs.Command.{Asked, AsksWord, AsksLayout, command, name_in, slot_word}
 use Rattle.kc_app.specs.Texts.{word_line, broken_text, core_code, note_code, dump_line, usage_text}
+use Rattle.kc_app.specs.LayoutTexts.{btf_line, btf_long, path_line, no_type, compound_line, member_lines}
 
 pub record Output : Type 0 where
   pub out : List ℕ
   pub err : List ℕ
   pub status : ℕ
 
-abbrev pub shown : Result VWord Stopped → Output
-shown (Ok w) = record { out = word_line w; err = []; status = 0 }
-shown (Err s) = record { out = broken_text s; err = []; status = 1 }
+-- what a command shows on standard output, and its status
+pub record Shown : Type 0 where
+  pub text : List ℕ
+  pub status : ℕ
 
-abbrev pub refused : List ℕ → Output
-refused line = record { out = []; err = line; status = 2 }
+-- where reading stops
+abbrev pub broken : Stopped → Shown
+broken s = record { text = broken_text s; status = 1 }
+
+abbrev pub word_shown : Result VWord Stopped → Shown
+word_shown (Ok w) = record { text = word_line w; status = 0 }
+word_shown (Err s) = broken s
+
+-- the segments and notes of a dump, or its first fault
+abbrev pub parts_of : Result Parts CoreFault → Option (Result Parts (List ℕ))
+parts_of (Ok parts) = gives parts
+parts_of (Err fault) = refuses (dump_line (core_code fault))
+
+abbrev pub dump_parts : Option (List ℕ) → Option (Result Parts (List ℕ))
+dump_parts None = None
+dump_parts (Some bytes) = parts_of (core bytes)
+
+-- what its notes tell, or their first fault
+abbrev pub noted : {A : Type 0} → Result A NoteFault → Option (Result A (List ℕ))
+noted (Ok a) = gives a
+noted (Err fault) = refuses (dump_line (note_code fault))
 
 -- the memory of a dump with these bytes and segments
 abbrev pub image_of : List ℕ → List Segment → PageCfg → Image
 image_of bytes segments paging = record { physical = record { bytes = bytes; segments = segments }; paging = paging }
 
-abbrev pub word_by : List ℕ → List Segment → ℕ → Result PageCfg NoteFault → Output
-word_by bytes segments address (Ok paging) = shown (vword (image_of bytes segments paging) address)
-word_by bytes segments address (Err fault) = refused (dump_line (note_code fault))
+-- the bytes of a file, where it is there
+abbrev pub bytes_of : Option (List ℕ) → List ℕ
+bytes_of None = []
+bytes_of (Some bytes) = bytes
 
-abbrev pub word_in : Option ℕ → ℕ → List ℕ → Result Parts CoreFault → Output
-word_in table address bytes (Ok parts) = word_by bytes parts.segments address (paging_of table parts.notes)
-word_in table address bytes (Err fault) = refused (dump_line (core_code fault))
+-- `word`: the memory that is read
+abbrev pub word_image : Option ℕ → Option (List ℕ) → Option (Result Image (List ℕ))
+word_image table dump = do
+  parts ← dump_parts dump
+  paging ← noted (paging_of table parts.notes)
+  gives (image_of (bytes_of dump) parts.segments paging)
 
--- the output of `word` on a dump with these bytes
-abbrev pub word_output : Option ℕ → ℕ → List ℕ → Output
-word_output table address bytes = word_in table address bytes (core bytes)
+abbrev pub word_made : Option ℕ → ℕ → Option (List ℕ) → Option (Result Shown (List ℕ))
+word_made table address dump = do
+  image ← word_image table dump
+  gives (word_shown (vword image address))
+
+-- the types of a kernel, or the first fault of their file
+abbrev pub types_of : Result Types BtfFault → Option (Result Types (List ℕ))
+types_of (Ok types) = gives types
+types_of (Err fault) = refuses (btf_line fault)
+
+abbrev pub types_in : Option (List ℕ) → Option (Result Types (List ℕ))
+types_in file = do
+  bytes ← short_file btf_long file
+  types_of (btf bytes)
+
+-- something of this name, or there is no such type
+abbrev pub named : {A : Type 0} → Option A → Option (Result A (List ℕ))
+named (Some a) = gives a
+named None = refuses no_type
+
+-- the lines of a struct's or union's members, unless there are too many
+abbrev pub listed : Option (List Listed) → Option (Result (List Listed) (List ℕ))
+listed (Some lines) = gives lines
+listed None = refuses (path_line (record { rule = Q5; step = 0 }))
+
+-- the struct or union of a name
+abbrev pub layout_of : Types → List ℕ → Option (Result Shown (List ℕ))
+layout_of types name = do
+  t ← named (option_and_then (compound_under types) (find types name))
+  lines ← listed (listing types t.id)
+  gives (record { text = compound_line t name ++ member_lines types.strings lines; status = 0 })
+
+-- `layout`
+abbrev pub layout_made : List ℕ → Option (List ℕ) → Option (Result Shown (List ℕ))
+layout_made name file = types_in file >>= (λ types. layout_of types name)
+
+-- what a command makes of its files
+abbrev pub asked_made : Asked → (Slot → Option (List ℕ)) → Option (Result Shown (List ℕ))
+asked_made (AsksWord dump table address) files = word_made table address (files Dump)
+asked_made (AsksLayout btf name) files = layout_made name (files Btf)
+
+-- how it ends: with what it shows on standard output, or with a refusal on standard error
+abbrev pub ended : Result Shown (List ℕ) → Output
+ended (Ok shown) = record { out = shown.text; err = []; status = shown.status }
+ended (Err line) = record { out = []; err = line; status = 2 }
 
 -- the output of a command, or none where it needs a file that is none
 abbrev pub asked_output : Asked → (Slot → Option (List ℕ)) → Option Output
-asked_output (AsksWord dump table address) files = option_map (λ bytes. word_output table address bytes) (files Dump)
+asked_output asked files = option_map ended (asked_made asked files)
 
 abbrev pub output_of : Option Asked → (Slot → Option (List ℕ)) → Option Output
 output_of None files = Some (record { out = []; err = usage_text; status = 6 })
@@ -72,17 +145,15 @@ pub record Places : Type 0 where
   pub image : Image
   pub places : List Place
 
-abbrev pub places_by : List ℕ → List Segment → ℕ → Result PageCfg NoteFault → Option Places
-places_by bytes segments address (Ok paging) = Some (record { image = image_of bytes segments paging; places = places_of (vword (image_of bytes segments paging) address) })
-places_by bytes segments address (Err fault) = None
-
-abbrev pub places_in : Option ℕ → ℕ → List ℕ → Result Parts CoreFault → Option Places
-places_in table address bytes (Ok parts) = places_by bytes parts.segments address (paging_of table parts.notes)
-places_in table address bytes (Err fault) = None
+abbrev pub places_in : ℕ → Option (Result Image (List ℕ)) → Option Places
+places_in address None = None
+places_in address (Some (Err line)) = None
+places_in address (Some (Ok image)) = Some (record { image = image; places = places_of (vword image address) })
 
 abbrev pub places_asked : Option Asked → (Slot → Option (List ℕ)) → Option Places
 places_asked None files = None
-places_asked (Some (AsksWord dump table address)) files = option_and_then (λ bytes. places_in table address bytes (core bytes)) (files Dump)
+places_asked (Some (AsksWord dump table address)) files = places_in address (word_image table (files Dump))
+places_asked (Some (AsksLayout btf name)) files = None
 
 -- the words that the output of a command line and its files shows
 abbrev pub places_shown : List (List ℕ) → (Slot → Option (List ℕ)) → Option Places

@@ -14,11 +14,14 @@ abbrev pub by_table : ℕ → PageCfg
 by_table table = record { table = table; five = false; sme = 0 }
 
 -- what the notes say
-abbrev pub by_info : Result Info NoteFault → Result PageCfg NoteFault
-by_info (Ok i) = Ok (record { table = i.table; five = i.five; sme = i.sme })
-by_info (Err fault) = Err fault
+abbrev pub by_info : Info → PageCfg
+by_info i = record { table = i.table; five = i.five; sme = i.sme }
+
+abbrev pub by_notes : Result Info NoteFault → Result PageCfg NoteFault
+by_notes (Ok i) = Ok (by_info i)
+by_notes (Err fault) = Err fault
 
 -- by the table that is named, or else by the notes of the dump
 abbrev pub paging_of : Option ℕ → List (List ℕ) → Result PageCfg NoteFault
 paging_of (Some table) notes = Ok (by_table table)
-paging_of None notes = by_info (info notes)
+paging_of None notes = by_notes (info notes)

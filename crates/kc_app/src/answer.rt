@@ -13,13 +13,13 @@ pub enum Answer {
     Done(Vec<u8>),
     /// A rule is broken.
     Broken(Vec<u8>),
-    /// A file is refused.
-    Refused(Vec<u8>),
 }
 
 /// Why there is no answer.
-#[derive(Clone, Copy, Debug, PartialEq, Eq)]
+#[derive(Debug, Drop)]
 pub enum Halt {
+    /// A file, a symbol, a type or a path is refused, by this line.
+    Refused(Vec<u8>),
     /// A call of the store failed. Its count of faults rose.
     Store,
     /// No memory was left.

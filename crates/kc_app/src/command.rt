@@ -2,7 +2,7 @@
 ghost use Rattle.std.specs.Prelude.{◌≡◌, map, option_and_then, option_map, IfSome};
 ghost use Rattle.std.specs.String.{string_bytes};
 ghost use Rattle.kc_word.specs.Hex.{hex_number};
-ghost use Rattle.kc_app.specs.Command.{as_table, command, of_four, table_word};
+ghost use Rattle.kc_app.specs.Command.{as_table, command, of_four, of_three, table_word};
 ghost use Rattle.kc_app.specs.Paging.{IsTable};
 
 use kc_word::read_hex;
@@ -17,6 +17,8 @@ pub enum Command<'w> {
         table: Option<u64>,
         address: u64,
     },
+    /// The members of a struct or union by its name, of the types in a file.
+    Layout { btf: &'w str, name: &'w str },
 }
 
 impl<'w> Command<'w> {
@@ -29,6 +31,7 @@ impl<'w> Command<'w> {
         ensures table { IfSome result HasTable }
     {
         match words {
+            [name, btf, ty] => Command::of_three(name.as_str(), btf.as_str(), ty.as_str()),
             [name, dump, table, address] => {
                 Command::of_four(
                     name.as_str(),
@@ -38,6 +41,18 @@ impl<'w> Command<'w> {
                 )
             }
             _ => None,
+        }
+    }
+
+    // The command that three words are.
+    fn of_three(name: &str, btf: &'w str, ty: &'w str) -> Option<Command<'w>>
+        ensures command { option_map asked result ≡ of_three name.now btf.now ty.now }
+        ensures table { IfSome result HasTable }
+    {
+        if name == "layout" {
+            Some(Command::Layout { btf, name: ty })
+        } else {
+            None
         }
     }
 

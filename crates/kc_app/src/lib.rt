@@ -3,10 +3,16 @@
 
 mod answer;
 mod command;
+mod dump;
+mod file;
 mod laws;
+mod layout;
+mod layout_text;
 mod print;
+mod push;
 mod text;
 mod top;
+mod types;
 mod word;
 
 pub use laws::know_shown;

@@ -1,29 +1,14 @@
 // The texts that are printed, made whole before a byte of them is put anywhere.
 ghost use Rattle.std.specs.Prelude.{◌≡◌, ◌+◌, ◌≤◌, ◌++◌, ◌∷◌, [], codes, decimal, IfOk, OnOk};
 ghost use Rattle.kc_found.specs.Places.{entry_places};
-ghost use Rattle.kc_app.specs.Texts.{hex, word_line, rule_code, rule_lines, stop_line, place_lines, broken_text, core_code, dump_line, key_text, note_code, tells_stop};
+ghost use Rattle.kc_app.specs.Texts.{word_line, rule_code, rule_lines, stop_line, place_lines, broken_text, core_code, dump_line, key_text, note_code, tells_stop};
 
-use itoa::Buffer;
+use crate::push::{push, push_hex, push_numbered};
 use kc_elf::CoreFault;
 use kc_found::{Miss, PWord, Rule, VWord};
 use kc_notes::{NoteFault, NoteKey};
-use kc_word::{NoMemory, hex16};
+use kc_word::NoMemory;
 use std::alloc::Global;
-
-// Adds a number in hex.
-fn push_hex(text: &mut Vec<u8>, n: u64) -> Result<(), NoMemory>
-    ensures { OnOk result (text.new.items ≡ text.old.items ++ hex n) }
-{
-    text.extend_from_slice(&hex16(n))?;
-    Ok(())
-}
-
-fn push(text: &mut Vec<u8>, piece: &[u8]) -> Result<(), NoMemory>
-    ensures { OnOk result (text.new.items ≡ text.old.items ++ piece.now) }
-{
-    text.extend_from_slice(piece)?;
-    Ok(())
-}
 
 /// The line of a word: its virtual address, physical address, file offset and value.
 pub fn word_line(alloc: Global, word: &VWord) -> Result<Vec<u8>, NoMemory>
@@ -112,14 +97,6 @@ pub fn broken_text(alloc: Global, miss: Miss) -> Result<Vec<u8>, NoMemory>
     Ok(text)
 }
 
-// Adds a number in decimal.
-fn push_decimal(text: &mut Vec<u8>, n: u64) -> Result<(), NoMemory>
-    ensures { OnOk result (text.new.items ≡ text.old.items ++ decimal n) }
-{
-    let mut buffer = Buffer::new();
-    push(text, buffer.format(n).as_bytes())
-}
-
 fn push_core_code(text: &mut Vec<u8>, fault: CoreFault) -> Result<(), NoMemory>
     ensures { OnOk result (text.new.items ≡ text.old.items ++ core_code fault) }
 {
@@ -135,14 +112,6 @@ fn push_core_code(text: &mut Vec<u8>, fault: CoreFault) -> Result<(), NoMemory>
         CoreFault::E9(index) => push_numbered(text, b"E9 index ", u64::from(index)),
         CoreFault::E10 => push(text, b"E10"),
     }
-}
-
-// Adds some text and a number in decimal.
-fn push_numbered(text: &mut Vec<u8>, name: &[u8], n: u64) -> Result<(), NoMemory>
-    ensures { OnOk result (text.new.items ≡ text.old.items ++ (name.now ++ decimal n)) }
-{
-    push(text, name)?;
-    push_decimal(text, n)
 }
 
 fn key_text(key: NoteKey) -> &'static [u8]

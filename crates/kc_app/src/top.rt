@@ -8,12 +8,14 @@ ghost use Rattle.kc_outside.specs.Counts.{Rose};
 ghost use Rattle.kc_outside.specs.Texts.{with_piece};
 ghost use Rattle.kc_app.specs.Command.{command, name_in, slot_word};
 ghost use Rattle.kc_app.specs.Texts.{store_failed, memory_refused, sink_failed};
-ghost use Rattle.kc_app.specs.Output.{out as output, output_of, asked_output, asked_files, word_files};
-ghost use Rattle.kc_app.specs.Answer.{OnStore, Prints, asked, HasTable};
+ghost use Rattle.kc_app.specs.Output.{out as output, output_of, asked_made, asked_files, word_files};
+ghost use Rattle.kc_app.specs.Answer.{OnStore, asked, shown_by, HasTable};
+ghost use Rattle.kc_app.specs.Made.{IsOf};
 ghost use Rattle.kc_app.specs.Ends.{AtStatus, ErrFailed, IsTold, TookOut, TookPrefix, is_answer, is_silent};
 
 use crate::answer::{Answer, Halt};
 use crate::command::Command;
+use crate::layout::layout;
 use crate::print::put_all;
 use crate::word::word;
 use kc_outside::{Failed, Sink, Store};
@@ -24,7 +26,7 @@ fn run<S: Store>(alloc: Global, request: Command<'_>, store: &mut S) -> Result<A
     requires table { HasTable request }
     requires may { (slot : Slot) → ForSome (name_in (asked request) slot) (S.may store.old slot) }
 
-    ensures output { Prints (λ files. asked_output (asked request.entry) (asked_files (asked request.entry) files)) (S.files store.old) result }
+    ensures output { IsOf shown_by (λ files. asked_made (asked request.entry) (asked_files (asked request.entry) files)) (S.files store.old) result }
     ensures files { S.files store.new ≡ S.files store.old }
     ensures later { S.faults store.old ≤ S.faults store.new }
     ensures cause { OnStore result (Rose (S.faults store.old) (S.faults store.new)) }
@@ -35,10 +37,12 @@ fn run<S: Store>(alloc: Global, request: Command<'_>, store: &mut S) -> Result<A
             table,
             address,
         } => word(alloc, store, dump, table, address),
+        Command::Layout { btf, name } => layout(alloc, store, btf, name),
     }
 }
 
-const USAGE: &[u8] = b"usage: kaudit word DUMP TABLE ADDRESS\n";
+const USAGE: &[u8] =
+    b"usage: kaudit word DUMP TABLE ADDRESS\nusage: kaudit layout BTF TYPE\n";
 
 const STORE_FAILED: &[u8] = b"store failed\n";
 
@@ -143,7 +147,7 @@ pub fn kaudit<S: Store, O: Sink, E: Sink>(
             Ok(()) => 1,
             Err(Failed) => 4,
         },
-        Ok(Answer::Refused(line)) => match put_all(err, &line) {
+        Err(Halt::Refused(line)) => match put_all(err, &line) {
             Ok(()) => 2,
             Err(Failed) => 4,
         },

@@ -7,16 +7,17 @@ ghost use Rattle.kc_found.specs.Space.{AnswersAs, OnFault};
 ghost use Rattle.kc_found.specs.Translation.{vword};
 ghost use Rattle.kc_phys.specs.Stored.{AreInside};
 ghost use Rattle.kc_app.specs.Paging.{IsTable, paging_of};
-ghost use Rattle.kc_app.specs.Output.{image_of, shown, word_by, word_output};
-ghost use Rattle.kc_app.specs.Answer.{IsStopped, OnStore, Prints, PrintsOf};
+ghost use Rattle.kc_app.specs.Output.{image_of, noted, word_made};
+ghost use Rattle.kc_app.specs.Made.{Is, IsOf};
+ghost use Rattle.kc_app.specs.Answer.{IsAnswer, NotStore, OnStore, shown_by};
 
 use crate::answer::{Answer, Halt};
-use crate::text::{broken_text, core_line, note_line, word_line};
-use kc_elf::{Core, CoreStop, read_core};
+use crate::dump::{read_dump, read_info, stopped};
+use crate::text::word_line;
+use kc_elf::Core;
 use kc_found::{Space, Stop, VWord};
 use kc_mem::Memory;
-use kc_notes::{NoteFault, kernel_info, vmcoreinfo};
-use kc_outside::{Slot, Store};
+use kc_outside::Store;
 use kc_phys::Phys;
 use kc_word::{PageCfg, Segment, Steps};
 use std::alloc::Global;
@@ -35,26 +36,24 @@ pub fn word<S: Store>(
     requires may { S.may store.old Dump dump.now }
     requires table { IfSome table IsTable }
 
-    ensures output { Prints (λ files. option_map (λ bytes. word_output table address bytes) (files Dump dump.now)) (S.files store.old) result }
+    ensures output { IsOf shown_by (λ files. word_made table address (files Dump dump.now)) (S.files store.old) result }
     ensures files { S.files store.new ≡ S.files store.old }
     ensures later { S.faults store.old ≤ S.faults store.new }
     ensures cause { OnStore result (Rose (S.faults store.old) (S.faults store.new)) }
 {
-    store.open_file(Slot::Dump, dump)?;
-    let _ = store.size(Slot::Dump)?;
-    match read_core(alloc, store, Slot::Dump) {
-        Ok(core) => show(alloc, store, &core, table, address),
-        Err(CoreStop::Fault(fault)) => Ok(Answer::Refused(core_line(alloc, fault)?)),
-        Err(CoreStop::ReadFault) => Err(Halt::Store),
-        Err(CoreStop::NoMemory) => Err(Halt::Memory),
-    }
+    let core = read_dump(alloc, store, dump)?;
+    let paging = find_paging(alloc, &core, table)?;
+    let segments = core.segments().to_vec(alloc)?;
+    let word = read_word(store, segments, paging, address);
+    answer(alloc, word)
 }
 
 // The page tables that are named, or else those of the notes.
-fn find_paging(core: &Core, table: Option<u64>) -> Result<PageCfg, NoteFault>
+fn find_paging(alloc: Global, core: &Core, table: Option<u64>) -> Result<PageCfg, Halt>
     requires { IfSome table IsTable }
-    ensures paging { result ≡ paging_of table core.now.notes }
+    ensures made { Is (λ p. p) (noted (paging_of table core.now.notes)) result }
     ensures table { IfOk result (λ p. IsTable p.table) }
+    ensures no_call { NotStore result }
 {
     if let Some(table) = table {
         return Ok(PageCfg {
@@ -63,7 +62,7 @@ fn find_paging(core: &Core, table: Option<u64>) -> Result<PageCfg, NoteFault>
             sme: 0,
         });
     }
-    let info = kernel_info(vmcoreinfo(core)?)?;
+    let info = read_info(alloc, core)?;
     Ok(PageCfg {
         table: info.table,
         five: info.five,
@@ -71,40 +70,13 @@ fn find_paging(core: &Core, table: Option<u64>) -> Result<PageCfg, NoteFault>
     })
 }
 
-// The answer on a core that was read.
-fn show<S: Store>(
-    alloc: Global,
-    store: &mut S,
-    core: &Core,
-    table: Option<u64>,
-    address: u64,
-) -> Result<Answer, Halt>
-    requires table { IfSome table IsTable }
-    requires inside { AreInside (S.sizes store.old Dump) core.now.segments }
-
-    ensures output { PrintsOf (λ bytes. word_by bytes core.now.segments address (paging_of table core.now.notes)) (content (S.files store.old) Dump (S.opened store.old Dump)) result }
-    ensures files { S.files store.new ≡ S.files store.old }
-    ensures later { S.faults store.old ≤ S.faults store.new }
-    ensures cause { OnStore result (Rose (S.faults store.old) (S.faults store.new)) }
+// The answer on a word that was read or not.
+fn answer(alloc: Global, word: Result<VWord, Stop>) -> Result<Answer, Halt>
+    ensures output { IsAnswer word result }
 {
-    let paging = match find_paging(core, table) {
-        Ok(paging) => paging,
-        Err(fault) => return Ok(Answer::Refused(note_line(alloc, fault)?)),
-    };
-    let segments = core.segments().to_vec(alloc)?;
-    match read_word(store, segments, paging, address) {
+    match word {
         Ok(word) => Ok(Answer::Done(word_line(alloc, &word)?)),
         Err(stop) => stopped(alloc, stop),
-    }
-}
-
-// The answer where a word can't be read.
-fn stopped(alloc: Global, stop: Stop) -> Result<Answer, Halt>
-    ensures output { IsStopped stop result }
-{
-    match stop {
-        Stop::Miss(miss) => Ok(Answer::Broken(broken_text(alloc, miss)?)),
-        Stop::Fault => Err(Halt::Store),
     }
 }
 
