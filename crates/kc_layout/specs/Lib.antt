@@ -1,6 +1,7 @@
 pub mod Ends
 pub mod Find
 pub mod HopList
+pub mod Listing
 pub mod Modifiers
 pub mod Numbered
 pub mod Path

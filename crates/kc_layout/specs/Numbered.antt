@@ -1,13 +1,14 @@
 -- What stands under a type number.
 use Rattle.std.specs.Prelude.{ℕ, List, [], Option, Some, None, unwrap_or, option_map, option_and_then, if◌then◌else◌}
 use Rattle.kc_btf.specs.declared.kind.Kind.{Kind}
-use Rattle.kc_btf.specs.declared.kind.Kind.TheVariants.{Array}
+use Rattle.kc_btf.specs.declared.kind.Kind.TheVariants.{Int, Array}
 use Rattle.kc_btf.specs.declared.types.TypeRef.{TypeRef}
 use Rattle.kc_btf.specs.declared.types.Member.{Member}
 use Rattle.kc_btf.specs.declared.types.ArrayOf.{ArrayOf}
+use Rattle.kc_btf.specs.declared.types.IntOf.{IntOf}
 use Rattle.kc_btf.specs.Btf.{Types}
 use Rattle.kc_btf.specs.Kind.{is_compound}
-use Rattle.kc_btf.specs.Readers.{record_numbered, type_numbered, members_of, array_of}
+use Rattle.kc_btf.specs.Readers.{record_numbered, type_numbered, members_of, array_of, int_of}
 
 -- the type of a number, where it is a struct or union
 abbrev pub if_compound : TypeRef → Option TypeRef
@@ -27,3 +28,11 @@ array_if _ array = None
 
 abbrev pub array_numbered : Types → ℕ → Option ArrayOf
 array_numbered types id = option_and_then (λ r. array_if r.kind (array_of r)) (record_numbered types id)
+
+-- how the whole number of a type number lies, where it is one
+abbrev pub int_if : Kind → Option IntOf → Option IntOf
+int_if Int int = int
+int_if _ int = None
+
+abbrev pub int_numbered : Types → ℕ → Option IntOf
+int_numbered types id = option_and_then (λ r. int_if r.kind (int_of r)) (record_numbered types id)

@@ -3,9 +3,9 @@ ghost use Rattle.std.specs.Prelude.{◌≡◌, ◌<◌, ◌≤◌, length, Some,
 ghost use Rattle.kc_btf.specs.Kind.{is_compound};
 ghost use Rattle.kc_btf.specs.Role.{LiesInside, rest_role};
 ghost use Rattle.kc_btf.specs.Readers.{type_numbered};
-ghost use Rattle.kc_layout.specs.Numbered.{compound_numbered, array_numbered};
+ghost use Rattle.kc_layout.specs.Numbered.{compound_numbered, array_numbered, int_numbered};
 
-use kc_btf::{ArrayOf, Btf, Kind, TypeRef};
+use kc_btf::{ArrayOf, Btf, IntOf, Kind, TypeRef};
 
 // The type of a number; void is none.
 pub(crate) fn type_of(btf: &Btf, id: u32) -> Option<TypeRef>
@@ -40,6 +40,19 @@ pub(crate) fn array_of(btf: &Btf, id: u32) -> Option<ArrayOf>
     let t = type_of(btf, id)?;
     if t.kind == Kind::Array {
         Some(btf.array(t))
+    } else {
+        None
+    }
+}
+
+// How the whole number of a type number lies, where it is one.
+pub(crate) fn int_of(btf: &Btf, id: u32) -> Option<IntOf>
+    requires { id ≤ length btf.now.records }
+    ensures { result ≡ int_numbered btf.now id }
+{
+    let t = type_of(btf, id)?;
+    if t.kind == Kind::Int {
+        Some(btf.int(t))
     } else {
         None
     }

@@ -20,12 +20,11 @@ pub(crate) enum Search {
     Beyond,
 }
 
-/// How many members are looked at for one name.
-const MEMBERS: u32 = 65536;
+/// How many members are looked at, for one name or one layout.
+pub(crate) const MEMBERS: u32 = 65536;
 
-/// How many levels of structs and unions a name is looked for in: the one that is named, and 32 without a
-/// name.
-const LEVELS: u8 = 33;
+/// How many levels of structs and unions are entered: the one that is given, and 32 without a name.
+pub(crate) const LEVELS: u8 = 33;
 
 // Searches a struct or union, whose first bit is given, for a member.
 pub(crate) fn find_member(btf: &Btf, t: TypeRef, name: &[u8], base: u64) -> Search

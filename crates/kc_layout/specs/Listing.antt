@@ -1,0 +1,81 @@
+-- The members of a struct or union, line by line.
+use Rattle.std.specs.Prelude.{◌<◌, ℕ, zero, suc, ◌+◌, ◌*◌, List, [], ◌∷◌, ◌++◌, length, All, Option, Some, None, option_map, option_and_then, ◌==◌, if◌then◌else◌}
+use Rattle.std.specs.Option.{option_map_or}
+use Rattle.kc_btf.specs.declared.types.IntOf.{IntOf}
+use Rattle.kc_btf.specs.declared.types.Member.{Member}
+use Rattle.kc_btf.specs.declared.types.TypeRef.{TypeRef}
+use Rattle.kc_btf.specs.Btf.{Types}
+use Rattle.kc_btf.specs.Readers.{name_at}
+use Rattle.kc_layout.specs.declared.listing.Line.{Line}
+use Rattle.kc_layout.specs.Modifiers.{under}
+use Rattle.kc_layout.specs.Numbered.{compound_numbered, int_numbered, members_numbered}
+use Rattle.kc_layout.specs.Size.{size}
+
+-- the struct or union under the modifiers of a type
+abbrev pub compound_under : Types → ℕ → Option TypeRef
+compound_under types id = option_and_then (compound_numbered types) (under 32 types id)
+
+-- how the whole number under the modifiers of a type lies
+abbrev pub int_under : Types → ℕ → Option IntOf
+int_under types id = option_and_then (int_numbered types) (under 32 types id)
+
+-- the line of a member that is no bit-field and begins at a bit: a whole number lies there as its type says,
+-- and another type fills its bytes
+abbrev pub whole_line : Types → ℕ → Member → Option IntOf → Line
+whole_line types bit m (Some int) = record { bit = bit + int.offset; width = Some int.bits; name = m.name }
+whole_line types bit m None = record { bit = bit; width = option_map (λ bytes. 8 * bytes) (size types m.ty); name = m.name }
+
+-- the line of a member that begins at a bit. A bit-field has its own width.
+abbrev pub line_at : Types → ℕ → Member → Line
+line_at types bit m =
+    if m.width == 0 then whole_line types bit m (int_under types m.ty)
+    else record { bit = bit; width = Some m.width; name = m.name }
+
+-- the struct or union that stands without a name in place of its members
+abbrev pub anonymous : Types → Member → Option TypeRef
+anonymous types m = if length (name_at types.strings m.name) == 0 then compound_under types m.ty else None
+
+-- lines, and how many members may still be looked at
+pub record Listed : Type 0 where
+  pub lines : List Line
+  pub left : ℕ
+
+-- what is listed, behind other lines
+abbrev pub behind : List Line → Listed → Listed
+behind lines listed = record { lines = lines ++ listed.lines; left = listed.left }
+
+-- the lines so far, where no limit was passed
+abbrev pub so_far : List Line → Option ℕ → Option Listed
+so_far lines left = option_map (λ n. record { lines = lines; left = n }) left
+
+-- where no limit was passed, the list goes on
+abbrev pub and_list : (ℕ → Option Listed) → Option Listed → Option Listed
+and_list next None = None
+and_list next (Some first) = option_map (behind first.lines) (next first.left)
+
+-- what a member lists: its line, or what a struct or union without a name does, at its bit. `inner` lists a
+-- type, from a bit on, through so many members at most.
+abbrev pub listed : (ℕ → ℕ → ℕ → Option Listed) → Types → ℕ → ℕ → Member → Option Listed
+listed inner types base left m =
+    option_map_or (λ t. inner t.id (base + m.bit) left) (anonymous types m)
+    (Some (record { lines = line_at types (base + m.bit) m ∷ []; left = left }))
+
+-- what members list in their order, of which so many may still be looked at, at a bit; none where there are more
+unfoldable pub listed_all : (ℕ → ℕ → ℕ → Option Listed) → Types → ℕ → ℕ → List Member → Option Listed
+listed_all inner types base left [] = Some (record { lines = []; left = left })
+listed_all inner types base zero (m ∷ ms) = None
+listed_all inner types base (suc left) (m ∷ ms) = and_list (λ rest. listed_all inner types base rest ms) (listed inner types base left m)
+
+-- what a struct or union lists from a bit on, depth first, of which so many levels may be entered
+unfoldable pub lists : ℕ → Types → ℕ → ℕ → ℕ → Option Listed
+lists zero types id base left = None
+lists (suc levels) types id base left = listed_all (lists levels types) types base left (members_numbered types id)
+
+-- the lines of a struct or union, where at most 65,536 members are looked at, in itself and at most 32 levels
+-- without a name
+unfoldable pub listing : Types → ℕ → Option (List Line)
+listing types id = option_map (λ l. l.lines) (lists 33 types id 0 65536)
+
+-- the names of lines stand in the strings
+abbrev pub AreNamed : Types → List Line → Type 0
+AreNamed types lines = All (λ line. line.name < length types.strings) lines
