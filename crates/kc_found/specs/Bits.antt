@@ -1,5 +1,5 @@
 -- A whole number in virtual memory, bit by bit. Bit n of memory is bit n % 8 of the byte at address n / 8.
-use Rattle.std.specs.Prelude.{◌≡◌, ℕ, ◌+◌, ◌-◌, ◌*◌, ◌/◌, ◌%◌, ◌^◌, ℤ, pos, ◌-ℤ◌, ◌≤ℤ◌, ◌<ℤ◌, Bool, true, false, ◌&&◌, nat_le, if◌then◌else◌, Option, Some, None, Result, Ok, Err, ◌⊎◌, ⊤}
+use Rattle.std.specs.Prelude.{◌≡◌, ℕ, ◌+◌, ◌-◌, ◌*◌, ◌/◌, ◌%◌, ◌^◌, ℤ, pos, ◌-ℤ◌, ◌≤ℤ◌, ◌<ℤ◌, Bool, true, false, ◌&&◌, nat_le, if◌then◌else◌, List, ◌∷◌, Option, Some, None, option_to_list, Result, Ok, Err, ◌⊎◌, ⊤}
 use Rattle.kc_found.specs.declared.space.Stop.{Stop}
 use Rattle.kc_found.specs.declared.space.Stop.TheVariants.{Miss, Fault}
 use Rattle.kc_found.specs.declared.words.VWord.{VWord}
@@ -7,7 +7,7 @@ use Rattle.kc_found.specs.declared.words.Place.{Place}
 use Rattle.kc_found.specs.Stopped.{Stopped}
 use Rattle.kc_found.specs.Image.{Image}
 use Rattle.kc_found.specs.Translation.{and_then, vword}
-use Rattle.kc_found.specs.Places.{place_of}
+use Rattle.kc_found.specs.Places.{place_of, entry_places}
 
 -- what was read: a number, and the places of the one or two words that hold it
 pub record Number : Type 0 where
@@ -36,10 +36,10 @@ abbrev pub number_of : Bool → ℕ → ℕ → ℤ
 number_of signed width pattern =
     if signed && nat_le (2 ^ (width - 1)) pattern then pos pattern -ℤ pos (2 ^ width) else pos pattern
 
--- 64 bits hold a number, in two's complement where it is signed
-abbrev pub InWord : Bool → ℤ → Type 0
-InWord false number = (pos 0 ≤ℤ number) × (number <ℤ pos (2 ^ 64))
-InWord true number = ((pos 0 -ℤ pos (2 ^ 63)) ≤ℤ number) × (number <ℤ pos (2 ^ 63))
+-- so many bits hold a number, in two's complement where it is signed
+abbrev pub InBits : Bool → ℕ → ℤ → Type 0
+InBits false width number = (pos 0 ≤ℤ number) × (number <ℤ pos (2 ^ width))
+InBits true width number = ((pos 0 -ℤ pos (2 ^ (width - 1))) ≤ℤ number) × (number <ℤ pos (2 ^ (width - 1)))
 
 -- the number in one word, from a bit of the word on
 abbrev pub in_one : ℕ → ℕ → Bool → VWord → Number
@@ -76,3 +76,8 @@ abbrev pub StopsIn : {A : Type 0} → Result A Stop → ℕ → Type 0
 StopsIn (Ok a) word = ⊤
 StopsIn (Err (Miss s)) word = (s.va ≡ word) ⊎ (s.va ≡ next_word word)
 StopsIn (Err Fault) word = ⊤
+
+-- the places that a number shows, or a stop
+abbrev pub number_places : Result Number Stopped → List Place
+number_places (Ok number) = number.first ∷ option_to_list number.second
+number_places (Err s) = entry_places s.pa s.entry

@@ -13,7 +13,7 @@ mod space;
 mod words;
 
 pub use frames::{FrameStop, Frames};
-pub use laws::{know_pages, know_places, know_words};
+pub use laws::{know_numbers, know_pages, know_places, know_words};
 pub use miss::Miss;
 pub use place::{entry_place, place_of};
 pub use read::read_bits;

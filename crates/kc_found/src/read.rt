@@ -1,7 +1,7 @@
 // Reading a whole number, bit by bit.
 ghost use Rattle.std.specs.Prelude.{◌≡◌, ◌+◌, ◌*◌, ◌<◌, ◌≤◌, ◌^◌, pos, ◌-ℤ◌, ◌≤ℤ◌, ◌<ℤ◌, Some, IfOk, IfSome};
 ghost use Rattle.kc_outside.specs.Counts.{Rose};
-ghost use Rattle.kc_found.specs.Bits.{bits as bits_of, bits_from, first_bit, in_one, in_two, next_word, number_of, word_of, InWord, StopsIn};
+ghost use Rattle.kc_found.specs.Bits.{bits as bits_of, bits_from, first_bit, in_one, in_two, next_word, number_of, word_of, InBits, StopsIn};
 ghost use Rattle.kc_found.specs.Space.{AnswersAs, OnFault, UnlessFault};
 
 use crate::place::place_of;
@@ -23,7 +23,7 @@ pub fn read_bits<S: Space, L: Ledger>(
     ensures exact { AnswersAs (λ image. bits_of image at bits.bit bits.width bits.signed) (S.image space.old) result }
     ensures first { IfOk result (λ s. s.first.va ≡ Some (word_of (first_bit at bits.bit))) }
     ensures second { IfOk result (λ s. IfSome s.second (λ p. p.va ≡ Some (next_word (word_of (first_bit at bits.bit))))) }
-    ensures range { IfOk result (λ s. InWord bits.signed s.value) }
+    ensures range { IfOk result (λ s. InBits bits.signed 64 s.value) }
     ensures stopped { StopsIn result (word_of (first_bit at bits.bit)) }
     ensures steps { steps.new ≤ steps.old + 2 * S.most space.old }
 
@@ -85,7 +85,7 @@ fn number_of(signed: bool, width: u8, pattern: u128) -> i128
     requires word { width ≤ 64 }
     requires within { pattern < 2 ^ width }
     ensures value { result ≡ number_of signed width pattern }
-    ensures range { InWord signed result }
+    ensures range { InBits signed 64 result }
     ensures least { (pos 0 -ℤ pos (2 ^ 63)) ≤ℤ result }
     ensures most { result <ℤ pos (2 ^ 64) }
 {
@@ -100,7 +100,7 @@ fn number_of(signed: bool, width: u8, pattern: u128) -> i128
 fn in_one(from: u8, bits: &Bits, word: &VWord) -> Scalar
     requires { from < 64 }
     ensures number { result ≡ in_one from bits.now.width bits.now.signed word.now }
-    ensures range { InWord bits.now.signed result.value }
+    ensures range { InBits bits.now.signed 64 result.value }
 {
     let pattern = bits_from(from, bits.width, u128::from(word.value));
     Scalar {
@@ -114,7 +114,7 @@ fn in_one(from: u8, bits: &Bits, word: &VWord) -> Scalar
 fn in_two(from: u8, bits: &Bits, low: &VWord, high: &VWord) -> Scalar
     requires { from < 64 }
     ensures number { result ≡ in_two from bits.now.width bits.now.signed low.now high.now }
-    ensures range { InWord bits.now.signed result.value }
+    ensures range { InBits bits.now.signed 64 result.value }
 {
     let both = u128::from(low.value) + (u128::from(high.value) << 64);
     let pattern = bits_from(from, bits.width, both);
