@@ -21,3 +21,6 @@ pub use rule::Rule;
 pub use scalar::Scalar;
 pub use space::{Space, Stop};
 pub use words::{PWord, Place, VWord};
+
+#[cfg(test)]
+mod tests;
