@@ -1,3 +1,4 @@
+mod NumberLaws
 mod PageLaws
 mod PlaceLaws
 mod WordLaws

@@ -75,9 +75,9 @@ stop_entry image va false s is =
     subst P same tt
 
 -- a word that is read stands where it says
-record WordStands (image : Image) (va : ℕ) (w : VWord) : Type 0 where
-  asked : w.va ≡ va
-  stands : pword image.physical w.pa ≡ Some (record { value = w.value; off = w.off })
+pub record WordStands (image : Image) (va : ℕ) (w : VWord) : Type 0 where
+  pub asked : w.va ≡ va
+  pub stands : pword image.physical w.pa ≡ Some (record { value = w.value; off = w.off })
 
 last_word : (image : Image) (va pa : ℕ) (o : Option PWord) (w : VWord) → pword image.physical pa ≡ o → word_or_stop va pa o ≡ Ok w → WordStands image va w
 last_word image va pa None w there is = let none : ⊥ = cc in absurd none
@@ -89,7 +89,7 @@ behind_word : (image : Image) (va : ℕ) (r : Result ℕ Stopped) (w : VWord) �
 behind_word image va (Ok pa) w is = last_word image va pa (pword image.physical pa) w refl is
 behind_word image va (Err t) w is = let none : ⊥ = cc in absurd none
 
-word_stands : (image : Image) (va : ℕ) (b : Bool) (w : VWord) → (if b then and_then (translated image va) (λ pa. word_or_stop va pa (pword image.physical pa)) else stop va M1 0 0 None) ≡ Ok w → WordStands image va w
+pub word_stands : (image : Image) (va : ℕ) (b : Bool) (w : VWord) → (if b then and_then (translated image va) (λ pa. word_or_stop va pa (pword image.physical pa)) else stop va M1 0 0 None) ≡ Ok w → WordStands image va w
 word_stands image va true w is = behind_word image va (translated image va) w is
 word_stands image va false w is = let none : ⊥ = cc in absurd none
 

@@ -1,11 +1,16 @@
 -- What the definitions of words say, in the words of the field.
-use Rattle.std.specs.Prelude.{◌≡◌, ℕ, ◌+◌, ◌-◌, ◌*◌, ◌%◌, ◌/◌, ◌<◌, ◌≤◌, Some, None, Ok, slice_get, List, drop}
+use Rattle.std.specs.Prelude.{◌≡◌, ℕ, ◌+◌, ◌-◌, ◌*◌, ◌%◌, ◌/◌, ◌^◌, ◌<◌, ◌≤◌, ℤ, pos, Bool, Some, None, Ok, slice_get, List, drop}
+use Rattle.std.specs.Int.{bit_at, int_rem_euclid}
+use Rattle.std.specs.Int.RustNames.{unsigned_abs}
+use Rattle.std.specs.List.{All}
 use Rattle.byteorder.specs.Endian.{little_number}
 use Rattle.kc_word.specs.declared.plain.Segment.{Segment}
 use Rattle.kc_found.specs.declared.words.PWord.{PWord}
+use Rattle.kc_found.specs.declared.words.VWord.{VWord}
 use Rattle.kc_found.specs.Image.{Physical, Image, pword}
 use Rattle.kc_found.specs.Translation.{xlate, vword}
 use Rattle.kc_found.specs.Places.{AllStandIn, places_of}
+use Rattle.kc_found.specs.Bits.{Number, bits, first_bit, word_of, InBits, number_places}
 
 -- the segment at this place of the table holds the eight bytes from pa on
 pub record HoldsAt (segments : List Segment) (pa i : ℕ) (s : Segment) : Type 0 where
@@ -42,3 +47,27 @@ PagesMoveWhole =
 -- what an answer shows is true of the dump
 abbrev pub PlacesStand : Type 0
 PlacesStand = (image : Image) (va : ℕ) → AllStandIn image (places_of (vword image va))
+
+-- what a number shows is true of the dump, and what a stop shows in its place
+abbrev pub NumbersStand : Type 0
+NumbersStand =
+    (image : Image) (at bit width : ℕ) (signed : Bool) → AllStandIn image (number_places (bits image at bit width signed))
+
+-- so many bits hold the number
+abbrev pub NumbersFit : Type 0
+NumbersFit =
+    (image : Image) (at bit width : ℕ) (signed : Bool) (number : Number) → 1 ≤ width
+    → bits image at bit width signed ≡ Ok number → InBits signed width number.value
+
+-- the pattern of a number in so many bits: the number modulo 2^width
+abbrev pub pattern : ℕ → ℤ → ℕ
+pattern width number = unsigned_abs (int_rem_euclid number (pos (2 ^ width)))
+
+-- the bits of a number are those of memory: its bit i is i behind the first one, in the word that holds it
+abbrev pub BitsAreOfMemory : Type 0
+BitsAreOfMemory =
+    (image : Image) (at bit width i : ℕ) (signed : Bool) (number : Number) (word : VWord)
+    → All (λ b. b < 256) image.physical.bytes → width ≤ 64 → i < width
+    → bits image at bit width signed ≡ Ok number
+    → vword image (word_of ((first_bit at bit + i) % 2 ^ 67)) ≡ Ok word
+    → bit_at (pattern width number.value) i ≡ bit_at word.value ((first_bit at bit + i) % 64)

@@ -1,6 +1,6 @@
 // What the definitions of words say, for a reader to believe and a caller to learn. These functions do
 // nothing: each carries a law.
-ghost use Rattle.kc_found.specs.Laws.{WordsStandFirst, AbsentWhereNone, PagesMoveWhole, PlacesStand};
+ghost use Rattle.kc_found.specs.Laws.{WordsStandFirst, AbsentWhereNone, PagesMoveWhole, PlacesStand, NumbersStand, NumbersFit, BitsAreOfMemory};
 
 /// A word of the dump is the eight bytes at its file offset, and no earlier segment holds them. It is
 /// absent only where no segment does.
@@ -17,4 +17,12 @@ pub fn know_pages()
 /// The places that an answer shows are true of the dump.
 pub fn know_places()
     ensures { PlacesStand }
+{}
+
+/// The places that a whole number shows are true of the dump. Its bits hold the number, and they are the bits of
+/// memory.
+pub fn know_numbers()
+    ensures stand { NumbersStand }
+    ensures fit { NumbersFit }
+    ensures bits { BitsAreOfMemory }
 {}

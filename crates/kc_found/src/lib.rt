@@ -5,13 +5,22 @@
 mod frames;
 mod laws;
 mod miss;
+mod place;
+mod read;
 mod rule;
+mod scalar;
 mod space;
 mod words;
 
 pub use frames::{FrameStop, Frames};
-pub use laws::{know_pages, know_places, know_words};
+pub use laws::{know_numbers, know_pages, know_places, know_words};
 pub use miss::Miss;
+pub use place::{entry_place, place_of};
+pub use read::read_bits;
 pub use rule::Rule;
+pub use scalar::Scalar;
 pub use space::{Space, Stop};
 pub use words::{PWord, Place, VWord};
+
+#[cfg(test)]
+mod tests;
