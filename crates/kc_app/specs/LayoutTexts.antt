@@ -10,7 +10,7 @@ use Rattle.kc_btf.specs.Readers.{name_at}
 use Rattle.kc_layout.specs.declared.fault.QRule.{QRule}
 use Rattle.kc_layout.specs.declared.fault.QRule.TheVariants.{Q2, Q3, Q4, Q5, Q6, Q7, Q8}
 use Rattle.kc_layout.specs.declared.fault.PathFault.{PathFault}
-use Rattle.kc_layout.specs.Listing.{Listed}
+use Rattle.kc_layout.specs.declared.listing.Line.{Line}
 
 abbrev pub btf_code : BRule → List ℕ
 btf_code B1 = codes "B1"
@@ -62,10 +62,10 @@ width_text None = codes "-"
 width_text (Some width) = decimal width
 
 -- the line of a member whose name stands in the strings
-abbrev pub member_line : List ℕ → Listed → List ℕ
+abbrev pub member_line : List ℕ → Line → List ℕ
 member_line strings l = codes "member " ++ decimal l.bit ++ codes " " ++ width_text l.width ++ codes " " ++ name_text (name_at strings l.name) ++ codes "\n"
 
-abbrev pub member_lines : List ℕ → List Listed → List ℕ
+abbrev pub member_lines : List ℕ → List Line → List ℕ
 member_lines strings [] = []
 member_lines strings (l ∷ ls) = member_line strings l ++ member_lines strings ls
 

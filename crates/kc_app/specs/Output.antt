@@ -17,9 +17,10 @@ use Rattle.kc_elf.specs.CoreFile.{core}
 use Rattle.kc_notes.specs.declared.fault.NoteFault.{NoteFault}
 use Rattle.kc_btf.specs.declared.stop.BtfFault.{BtfFault}
 use Rattle.kc_btf.specs.Btf.{Types, btf}
+use Rattle.kc_layout.specs.declared.listing.Line.{Line}
 use Rattle.kc_layout.specs.declared.fault.QRule.TheVariants.{Q5}
 use Rattle.kc_layout.specs.Find.{find}
-use Rattle.kc_layout.specs.Listing.{Listed, compound_under, listing}
+use Rattle.kc_layout.specs.Listing.{compound_under, listing}
 use Rattle.kc_app.specs.Made.{◌>>=◌, gives, refuses, short_file}
 use Rattle.kc_app.specs.Paging.{paging_of}
 use Rattle.kc_app.specs.Command.{Asked, AsksWord, AsksLayout, command, name_in, slot_word}
@@ -95,7 +96,7 @@ named (Some a) = gives a
 named None = refuses no_type
 
 -- the lines of a struct's or union's members, unless there are too many
-abbrev pub listed : Option (List Listed) → Option (Result (List Listed) (List ℕ))
+abbrev pub listed : Option (List Line) → Option (Result (List Line) (List ℕ))
 listed (Some lines) = gives lines
 listed None = refuses (path_line (record { rule = Q5; step = 0 }))
 

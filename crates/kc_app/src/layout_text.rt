@@ -125,7 +125,7 @@ fn push_member(text: &mut Vec<u8>, types: &Btf, line: &Line) -> Result<(), NoMem
 }
 
 fn push_members(text: &mut Vec<u8>, types: &Btf, lines: &[Line]) -> Result<(), NoMemory>
-    requires { AreNamed (length types.now.strings) lines.now }
+    requires { AreNamed types.now lines.now }
     ensures { OnOk result (text.new.items ≡ text.old.items ++ member_lines types.now.strings lines.now) }
 {
     for line in lines {
@@ -152,7 +152,7 @@ pub fn layout_text(
     name: &[u8],
     lines: &[Line],
 ) -> Result<Vec<u8>, NoMemory>
-    requires { AreNamed (length types.now.strings) lines.now }
+    requires { AreNamed types.now lines.now }
     ensures { IfOk result (λ text. text.items ≡ compound_line t name.now ++ member_lines types.now.strings lines.now) }
 {
     let mut text = Vec::new(alloc);

@@ -1,0 +1,24 @@
+-- The texts of a number, and of what refuses a map or a symbol.
+use Rattle.std.specs.Prelude.{ℕ, List, ◌++◌, codes, decimal, Ok}
+use Rattle.std.specs.Fmt.{signed_decimal}
+use Rattle.kc_found.specs.Bits.{Number, number_places}
+use Rattle.kc_syms.specs.declared.fault.SymFault.{SymFault}
+use Rattle.kc_syms.specs.declared.fault.SymFault.TheVariants.{S2, S3}
+use Rattle.kc_app.specs.Texts.{hex, place_lines}
+
+-- the line of a refused map, by the number of its first line that is no row
+abbrev pub map_line : ℕ → List ℕ
+map_line line = codes "refused map S1 line " ++ decimal line ++ codes "\n"
+
+-- of one that is above the limit
+abbrev pub map_long : List ℕ
+map_long = codes "refused map F1\n"
+
+-- the line of a refused symbol
+abbrev pub symbol_line : SymFault → List ℕ
+symbol_line S2 = codes "refused symbol S2\n"
+symbol_line (S3 first other) = codes "refused symbol S3 " ++ hex first ++ codes " " ++ hex other ++ codes "\n"
+
+-- a number in decimal, and the words that hold it
+abbrev pub number_text : Number → List ℕ
+number_text n = codes "value " ++ signed_decimal n.value ++ codes "\n" ++ place_lines (number_places (Ok n))

@@ -1,0 +1,170 @@
+// The command `show`: a number of a symbol's struct, with its places.
+ghost use Rattle.std.specs.Prelude.{◌≡◌, ◌<◌, ◌≤◌, length, IfOk};
+ghost use Rattle.kc_outside.specs.declared.store.Slot.{Slot};
+ghost use Rattle.kc_outside.specs.declared.store.Slot.TheVariants.{Dump, Map};
+ghost use Rattle.kc_outside.specs.Counts.{Rose};
+ghost use Rattle.kc_outside.specs.Files.{content};
+ghost use Rattle.kc_found.specs.Space.{AnswersAs, OnFault};
+ghost use Rattle.kc_layout.specs.HopList.{hop_list};
+ghost use Rattle.kc_layout.specs.Views.{bits_view, number_view};
+ghost use Rattle.kc_phys.specs.Stored.{AreInside};
+ghost use Rattle.kc_view.specs.Pointers.{value_at};
+ghost use Rattle.kc_app.specs.Paging.{IsTable};
+ghost use Rattle.kc_app.specs.Answer.{IsNumber, NotStore, OnStore, asked_question, shown_by};
+ghost use Rattle.kc_app.specs.Made.{Is, IsOf};
+ghost use Rattle.kc_app.specs.Output.{field_in, image_of, show_made, symbol_in};
+
+use crate::answer::{Answer, Halt};
+use crate::command::Question;
+use crate::dump::{read_dump, read_info, stopped};
+use crate::file::read_file;
+use crate::layout_text::{no_type_line, path_line};
+use crate::show_text::{map_line, number_text, symbol_line};
+use crate::types::read_types;
+use kc_btf::Btf;
+use kc_found::{Scalar, Stop};
+use kc_layout::{Field, find_type, resolve};
+use kc_mem::Memory;
+use kc_notes::Info;
+use kc_outside::{Slot, Store};
+use kc_phys::Phys;
+use kc_syms::{SymStop, Symbols};
+use kc_view::View;
+use kc_word::{PageCfg, Segment, Steps};
+use std::alloc::Global;
+use std::marker::Brand;
+use std::sync::ledger::{Blank, Ledger};
+
+const MAP_TOO_LONG: &[u8] = b"refused map F1\n";
+
+/// The answer of `show`: the first fault of the dump, the types, the map, the symbol, the type or the path,
+/// else the number that the path leads to, or why it can't be read.
+pub fn show<S: Store>(
+    alloc: Global,
+    store: &mut S,
+    question: &Question<'_>,
+) -> Result<Answer, Halt>
+    requires dump { S.may store.old Dump question.now.dump.now }
+    requires btf { S.may store.old Slot.Btf question.now.btf.now }
+    requires map { S.may store.old Map question.now.map.now }
+
+    ensures output { IsOf shown_by (λ files. show_made (asked_question question.now) (files Dump question.now.dump.now) (files Slot.Btf question.now.btf.now) (files Map question.now.map.now)) (S.files store.old) result }
+    ensures files { S.files store.new ≡ S.files store.old }
+    ensures later { S.faults store.old ≤ S.faults store.new }
+    ensures cause { OnStore result (Rose (S.faults store.old) (S.faults store.new)) }
+{
+    let core = read_dump(alloc, store, question.dump)?;
+    let info = read_info(alloc, &core)?;
+    let types = read_types(alloc, store, question.btf)?;
+    let map = read_file(alloc, store, Slot::Map, question.map, MAP_TOO_LONG)?;
+    let at = find_symbol(alloc, &map, question.symbol.as_bytes(), info.kaslr)?;
+    let field = find_field(
+        alloc,
+        &types,
+        question.name.as_bytes(),
+        question.path.as_bytes(),
+    )?;
+    let segments = core.segments().to_vec(alloc)?;
+    let view = View::new(&types, field.ty, at);
+    let number = read_number(store, segments, paging_by(info), &view, &field);
+    answer(alloc, number)
+}
+
+// The page tables that the notes tell.
+fn paging_by(info: Info) -> PageCfg
+    ensures { result ≡ by_info info }
+{
+    PageCfg {
+        table: info.table,
+        five: info.five,
+        sme: info.sme,
+    }
+}
+
+// The address of a symbol, by a map with these bytes.
+fn find_symbol(alloc: Global, map: &[u8], name: &[u8], kaslr: u64) -> Result<u64, Halt>
+    ensures made { Is (λ at. at) (symbol_in name.now kaslr map.now) result }
+    ensures no_call { NotStore result }
+{
+    let symbols = match Symbols::read(alloc, map) {
+        Ok(symbols) => symbols,
+        Err(SymStop::S1(line)) => return Err(Halt::Refused(map_line(alloc, line)?)),
+        Err(SymStop::NoMemory) => return Err(Halt::Memory),
+    };
+    match symbols.address(name, kaslr) {
+        Ok(at) => Ok(at),
+        Err(fault) => Err(Halt::Refused(symbol_line(alloc, fault)?)),
+    }
+}
+
+// The number that a path leads to, in the type of a name.
+fn find_field(alloc: Global, types: &Btf, name: &[u8], path: &[u8]) -> Result<Field, Halt>
+    ensures made { Is number_view (field_in types.now name.now path.now) result }
+    ensures there { IfOk result (λ field. field.ty ≤ length types.now.records) }
+    ensures no_call { NotStore result }
+{
+    let Some(id) = find_type(types, name) else {
+        return Err(Halt::Refused(no_type_line(alloc)?));
+    };
+    match resolve(types, id, path) {
+        Ok(field) => Ok(field),
+        Err(fault) => Err(Halt::Refused(path_line(alloc, fault)?)),
+    }
+}
+
+// The answer on a number that was read or not.
+fn answer(alloc: Global, number: Result<Scalar, Stop>) -> Result<Answer, Halt>
+    ensures output { IsNumber number result }
+{
+    match number {
+        Ok(number) => Ok(Answer::Done(number_text(alloc, number)?)),
+        Err(stop) => stopped(alloc, stop),
+    }
+}
+
+// Reads a number of the dump in slot Dump, from a view's address.
+fn read_number<S: Store>(
+    store: &mut S,
+    segments: Vec<Segment>,
+    paging: PageCfg,
+    view: &View<'_>,
+    field: &Field,
+) -> Result<Scalar, Stop>
+    requires table { IsTable paging.table }
+    requires inside { AreInside (S.sizes store.old Dump) segments.items }
+
+    ensures number { AnswersAs (λ bytes. value_at (image_of bytes segments.items paging) view.now.at (hop_list field.now.hops) (bits_view field.now.bits)) (content (S.files store.old) Dump (S.opened store.old Dump)) result }
+    ensures files { S.files store.new ≡ S.files store.old }
+    ensures later { S.faults store.old ≤ S.faults store.new }
+    ensures cause { OnFault result (Rose (S.faults store.old) (S.faults store.new)) }
+{
+    read_counted::<S, Brand>(store, segments, paging, view, field, Blank::new(1))
+}
+
+// The same, with steps on a blank of the caller's.
+fn read_counted<S: Store, L: Ledger>(
+    store: &mut S,
+    segments: Vec<Segment>,
+    paging: PageCfg,
+    view: &View<'_>,
+    field: &Field,
+    blank: Blank,
+) -> Result<Scalar, Stop>
+    requires name { blank.name ≡ L.name }
+    requires parts { blank.parts ≡ L.parts }
+    requires some { 0 < L.parts }
+    requires table { IsTable paging.table }
+    requires inside { AreInside (S.sizes store.old Dump) segments.items }
+
+    ensures number { AnswersAs (λ bytes. value_at (image_of bytes segments.items paging) view.now.at (hop_list field.now.hops) (bits_view field.now.bits)) (content (S.files store.old) Dump (S.opened store.old Dump)) result }
+    ensures files { S.files store.new ≡ S.files store.old }
+    ensures later { S.faults store.old ≤ S.faults store.new }
+    ensures cause { OnFault result (Rose (S.faults store.old) (S.faults store.new)) }
+{
+    let mut steps = Steps::<L>::new(blank);
+    let mut memory = Memory::over(Phys::over(store, segments), paging);
+    let number = view.read(&mut memory, field, &mut steps);
+    let frames = memory.into_frames();
+    let _store = frames.into_store();
+    number
+}
