@@ -1,5 +1,6 @@
 //! The words of a dump's memory, physical and virtual: what they are, where they stand, and why one can't
-//! be read. The traits `Frames` and `Space` are the two ways to ask for them.
+//! be read. The traits `Frames` and `Space` are the two ways to ask for them, and `read_bits` reads whole
+//! numbers from them.
 #![tactic(auto)]
 
 mod frames;

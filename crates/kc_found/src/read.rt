@@ -12,8 +12,8 @@ use kc_word::{Bits, Steps};
 use std::sync::ledger::Ledger;
 
 /// The whole number of these bits, counted from the byte at virtual address `at`. Addresses wrap at 2^64. It
-/// reads the word of the first bit, and the word behind that one only where the number reaches into it. It
-/// takes no memory.
+/// reads the word of the first bit, and the word behind that one only where the number reaches into it. A
+/// word that can't be read is the answer, the first one before the second is asked. It takes no memory.
 pub fn read_bits<S: Space, L: Ledger>(
     space: &mut S,
     at: u64,
