@@ -1,7 +1,7 @@
 -- What the code's own types stand for.
 use Rattle.std.specs.Prelude.{◌≡◌, ℕ, List, [], Option, IfSome, Some, None, Result, Ok, Err, ⊤}
 use Rattle.kc_app.specs.declared.command.Command.{Command}
-use Rattle.kc_app.specs.declared.command.Command.TheVariants.{Word, Layout}
+use Rattle.kc_app.specs.declared.command.Command.TheVariants.{Word, Layout, Show}
 use Rattle.kc_app.specs.declared.answer.Answer.{Answer}
 use Rattle.kc_app.specs.declared.answer.Answer.TheVariants.{Done, Broken}
 use Rattle.kc_app.specs.declared.answer.Halt.{Halt}
@@ -9,19 +9,27 @@ use Rattle.kc_app.specs.declared.answer.Halt.TheVariants.{Refused, Store, Memory
 use Rattle.kc_found.specs.declared.words.VWord.{VWord}
 use Rattle.kc_found.specs.declared.space.Stop.{Stop}
 use Rattle.kc_found.specs.declared.space.Stop.TheVariants.{Miss, Fault}
-use Rattle.kc_app.specs.Command.{Asked, AsksWord, AsksLayout}
+use Rattle.kc_app.specs.declared.command.Question.{Question as CodeQuestion}
+use Rattle.kc_found.specs.Bits.{Number}
+use Rattle.kc_app.specs.Command.{Asked, AsksWord, AsksLayout, AsksShow, Question}
 use Rattle.kc_app.specs.Made.{Is, gives}
 use Rattle.kc_app.specs.Paging.{IsTable}
-use Rattle.kc_app.specs.Output.{Shown, broken, word_shown}
+use Rattle.kc_app.specs.Output.{Shown, broken, number_shown, word_shown}
+
+-- the words of a question
+abbrev pub worded : CodeQuestion → Question
+worded q = record { dump = q.dump.now; btf = q.btf.now; map = q.map.now; symbol = q.symbol.now; name = q.name.now; path = q.path.now }
 
 abbrev pub asked : Command → Asked
 asked (Word dump table address) = AsksWord dump.now table address
 asked (Layout btf name) = AsksLayout btf.now name.now
+asked (Show question) = AsksShow (worded question)
 
 -- a top table that is named can be one
 abbrev pub HasTable : Command → Type 0
 HasTable (Word dump table address) = IfSome table IsTable
 HasTable (Layout btf name) = ⊤
+HasTable (Show question) = ⊤
 
 -- what an answer shows on standard output, and the status
 abbrev pub shown_by : Answer → Shown
@@ -47,6 +55,11 @@ NotRefused (Err Memory) = ⊤
 abbrev pub IsStopped : Stop → Result Answer Halt → Type 0
 IsStopped (Miss s) r = Is shown_by (gives (broken s)) r × NotStore r
 IsStopped Fault r = r ≡ Err Store
+
+-- the answer on a number
+abbrev pub IsNumber : Result Number Stop → Result Answer Halt → Type 0
+IsNumber (Ok number) r = Is shown_by (gives (number_shown (Ok number))) r × NotStore r
+IsNumber (Err stop) r = IsStopped stop r
 
 -- the answer on a word
 abbrev pub IsAnswer : Result VWord Stop → Result Answer Halt → Type 0

@@ -5,4 +5,5 @@ pub mod LayoutTexts
 pub mod Made
 pub mod Output
 pub mod Paging
+pub mod ShowTexts
 pub mod Texts

@@ -3,7 +3,7 @@ use Rattle.std.specs.Prelude.{ℕ, List, [], ◌++◌, Option, Some, None, IfSom
 use Rattle.kc_word.specs.declared.plain.Segment.{Segment}
 use Rattle.kc_word.specs.declared.plain.PageCfg.{PageCfg}
 use Rattle.kc_outside.specs.declared.store.Slot.{Slot}
-use Rattle.kc_outside.specs.declared.store.Slot.TheVariants.{Dump, Btf}
+use Rattle.kc_outside.specs.declared.store.Slot.TheVariants.{Dump, Btf, Map}
 use Rattle.kc_outside.specs.Files.{Files}
 use Rattle.kc_found.specs.declared.words.VWord.{VWord}
 use Rattle.kc_found.specs.Stopped.{Stopped}
@@ -22,10 +22,19 @@ use Rattle.kc_layout.specs.declared.fault.QRule.TheVariants.{Q5}
 use Rattle.kc_layout.specs.Find.{find}
 use Rattle.kc_layout.specs.Listing.{compound_under, listing}
 use Rattle.kc_app.specs.Made.{◌>>=◌, gives, refuses, short_file}
-use Rattle.kc_app.specs.Paging.{paging_of}
-use Rattle.kc_app.specs.Command.{Asked, AsksWord, AsksLayout, command, name_in, slot_word}
+use Rattle.kc_found.specs.Bits.{Number, number_places}
+use Rattle.kc_notes.specs.Info.{info}
+use Rattle.kc_layout.specs.declared.fault.PathFault.{PathFault}
+use Rattle.kc_layout.specs.Ends.{NumberAt, field}
+use Rattle.kc_syms.specs.declared.fault.SymFault.{SymFault}
+use Rattle.kc_syms.specs.Addresses.{common_of}
+use Rattle.kc_syms.specs.Rows.{RowText, addresses, rows}
+use Rattle.kc_view.specs.Pointers.{value_at}
+use Rattle.kc_app.specs.Paging.{by_info, paging_of}
+use Rattle.kc_app.specs.Command.{Asked, AsksWord, AsksLayout, AsksShow, Question, command, name_in, slot_word}
 use Rattle.kc_app.specs.Texts.{word_line, broken_text, core_code, note_code, dump_line, usage_text}
 use Rattle.kc_app.specs.LayoutTexts.{btf_line, btf_long, path_line, no_type, compound_line, member_lines}
+use Rattle.kc_app.specs.ShowTexts.{map_line, map_long, symbol_line, number_text}
 
 pub record Output : Type 0 where
   pub out : List ℕ
@@ -111,10 +120,69 @@ layout_of types name = do
 abbrev pub layout_made : List ℕ → Option (List ℕ) → Option (Result Shown (List ℕ))
 layout_made name file = types_in file >>= (λ types. layout_of types name)
 
+-- the bytes of a map, unless it is above the limit
+abbrev pub map_in : Option (List ℕ) → Option (Result (List ℕ) (List ℕ))
+map_in file = short_file map_long file
+
+-- the rows of a map, or its first line that is none
+abbrev pub rows_of : Result (List RowText) ℕ → Option (Result (List RowText) (List ℕ))
+rows_of (Ok rows) = gives rows
+rows_of (Err line) = refuses (map_line line)
+
+-- the address of a symbol
+abbrev pub address_of : Result ℕ SymFault → Option (Result ℕ (List ℕ))
+address_of (Ok at) = gives at
+address_of (Err fault) = refuses (symbol_line fault)
+
+abbrev pub symbol_in : List ℕ → ℕ → List ℕ → Option (Result ℕ (List ℕ))
+symbol_in name kaslr map = do
+  listed ← rows_of (rows map)
+  address_of (common_of kaslr (addresses name listed))
+
+-- where the number lies that a path leads to
+abbrev pub number_of : Result NumberAt PathFault → Option (Result NumberAt (List ℕ))
+number_of (Ok number) = gives number
+number_of (Err fault) = refuses (path_line fault)
+
+abbrev pub number_in : Types → List ℕ → List ℕ → Option (Result NumberAt (List ℕ))
+number_in types name path = do
+  id ← named (find types name)
+  number_of (field types id path)
+
+-- `show`: the memory, the address of the symbol, and where the number lies from there
+pub record Sought : Type 0 where
+  pub image : Image
+  pub at : ℕ
+  pub number : NumberAt
+
+abbrev pub show_sought : Question → Option (List ℕ) → Option (List ℕ) → Option (List ℕ) → Option (Result Sought (List ℕ))
+show_sought question dump btf map = do
+  parts ← dump_parts dump
+  kernel ← noted (info parts.notes)
+  types ← types_in btf
+  bytes ← map_in map
+  at ← symbol_in question.symbol kernel.kaslr bytes
+  number ← number_in types question.name question.path
+  gives (record { image = image_of (bytes_of dump) parts.segments (by_info kernel); at = at; number = number })
+
+-- the number in memory
+abbrev pub number_read : Sought → Result Number Stopped
+number_read sought = value_at sought.image sought.at sought.number.hops sought.number.bits
+
+abbrev pub number_shown : Result Number Stopped → Shown
+number_shown (Ok n) = record { text = number_text n; status = 0 }
+number_shown (Err s) = broken s
+
+abbrev pub show_made : Question → Option (List ℕ) → Option (List ℕ) → Option (List ℕ) → Option (Result Shown (List ℕ))
+show_made question dump btf map = do
+  sought ← show_sought question dump btf map
+  gives (number_shown (number_read sought))
+
 -- what a command makes of its files
 abbrev pub asked_made : Asked → (Slot → Option (List ℕ)) → Option (Result Shown (List ℕ))
 asked_made (AsksWord dump table address) files = word_made table address (files Dump)
 asked_made (AsksLayout btf name) files = layout_made name (files Btf)
+asked_made (AsksShow question) files = show_made question (files Dump) (files Btf) (files Map)
 
 -- how it ends: with what it shows on standard output, or with a refusal on standard error
 abbrev pub ended : Result Shown (List ℕ) → Output
@@ -151,10 +219,16 @@ places_in address None = None
 places_in address (Some (Err line)) = None
 places_in address (Some (Ok image)) = Some (record { image = image; places = places_of (vword image address) })
 
+abbrev pub places_sought : Option (Result Sought (List ℕ)) → Option Places
+places_sought None = None
+places_sought (Some (Err line)) = None
+places_sought (Some (Ok sought)) = Some (record { image = sought.image; places = number_places (number_read sought) })
+
 abbrev pub places_asked : Option Asked → (Slot → Option (List ℕ)) → Option Places
 places_asked None files = None
 places_asked (Some (AsksWord dump table address)) files = places_in address (word_image table (files Dump))
 places_asked (Some (AsksLayout btf name)) files = None
+places_asked (Some (AsksShow question)) files = places_sought (show_sought question (files Dump) (files Btf) (files Map))
 
 -- the words that the output of a command line and its files shows
 abbrev pub places_shown : List (List ℕ) → (Slot → Option (List ℕ)) → Option Places

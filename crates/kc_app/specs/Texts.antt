@@ -94,7 +94,7 @@ abbrev pub dump_line : List ℕ → List ℕ
 dump_line code = codes "refused dump " ++ code ++ codes "\n"
 
 abbrev pub usage_text : List ℕ
-usage_text = codes "usage: kaudit word DUMP TABLE ADDRESS\nusage: kaudit layout BTF TYPE\n"
+usage_text = codes "usage: kaudit word DUMP TABLE ADDRESS\nusage: kaudit layout BTF TYPE\nusage: kaudit show DUMP BTF MAP SYMBOL TYPE PATH\n"
 
 abbrev pub store_failed : List ℕ
 store_failed = codes "store failed\n"

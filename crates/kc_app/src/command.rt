@@ -2,10 +2,27 @@
 ghost use Rattle.std.specs.Prelude.{◌≡◌, map, option_and_then, option_map, IfSome};
 ghost use Rattle.std.specs.String.{string_bytes};
 ghost use Rattle.kc_word.specs.Hex.{hex_number};
-ghost use Rattle.kc_app.specs.Command.{as_table, command, of_four, of_three, table_word};
+ghost use Rattle.kc_app.specs.Command.{as_table, command, of_four, of_seven, of_three, table_word};
 ghost use Rattle.kc_app.specs.Paging.{IsTable};
 
 use kc_word::read_hex;
+
+/// What `show` asks: the number that a path leads to from a type, which lies at a symbol.
+#[derive(Clone, Copy)]
+pub struct Question<'w> {
+    /// The name of the dump.
+    pub dump: &'w str,
+    /// The name of the file of types.
+    pub btf: &'w str,
+    /// The name of the map.
+    pub map: &'w str,
+    /// The symbol.
+    pub symbol: &'w str,
+    /// The name of the type.
+    pub name: &'w str,
+    /// The path.
+    pub path: &'w str,
+}
 
 /// What a command line asks for.
 #[derive(Clone, Copy)]
@@ -18,11 +35,16 @@ pub enum Command<'w> {
         address: u64,
     },
     /// The members of a struct or union by its name, of the types in a file.
-    Layout { btf: &'w str, name: &'w str },
+    Layout {
+        btf: &'w str,
+        name: &'w str,
+    },
+    /// A number in memory.
+    Show(Question<'w>),
 }
 
 impl<'w> Command<'w> {
-    ghost use Rattle.kc_app.specs.Answer.{asked, HasTable};
+    ghost use Rattle.kc_app.specs.Answer.{asked, worded, HasTable};
 
     /// The command that the words behind the program's name are. None exactly where they are none of
     /// the forms.
@@ -40,7 +62,30 @@ impl<'w> Command<'w> {
                     address.as_str(),
                 )
             }
+            [name, dump, btf, map, symbol, ty, path] => Command::of_seven(
+                name.as_str(),
+                Question {
+                    dump: dump.as_str(),
+                    btf: btf.as_str(),
+                    map: map.as_str(),
+                    symbol: symbol.as_str(),
+                    name: ty.as_str(),
+                    path: path.as_str(),
+                },
+            ),
             _ => None,
+        }
+    }
+
+    // The command that seven words are.
+    fn of_seven(name: &str, question: Question<'w>) -> Option<Command<'w>>
+        ensures command { option_map asked result ≡ of_seven name.now (worded question) }
+        ensures table { IfSome result HasTable }
+    {
+        if name == "show" {
+            Some(Command::Show(question))
+        } else {
+            None
         }
     }
 

@@ -2,10 +2,12 @@
 ghost use Rattle.kc_app.specs.Output.{ShownStand};
 
 use kc_found::know_places;
+use kc_view::know_values;
 
 /// Does nothing. Every word of a dump that an output shows stands in the dump at the printed places.
 pub fn know_shown()
     ensures { ShownStand }
 {
     know_places();
+    know_values();
 }

@@ -20,12 +20,7 @@ use std::alloc::Global;
 
 /// The answer of `layout`: the first fault of the file of types, else the members of the struct or union
 /// with a name.
-pub fn layout<S: Store>(
-    alloc: Global,
-    store: &mut S,
-    btf: &str,
-    name: &str,
-) -> Result<Answer, Halt>
+pub fn layout<S: Store>(alloc: Global, store: &mut S, btf: &str, name: &str) -> Result<Answer, Halt>
     requires may { S.may store.old Slot.Btf btf.now }
 
     ensures output { IsOf shown_by (λ files. layout_made name.now (files Slot.Btf btf.now)) (S.files store.old) result }

@@ -76,11 +76,7 @@ pub fn no_type_line(alloc: Global) -> Result<Vec<u8>, NoMemory>
 fn visible(c: u8) -> u8
     ensures { result ≡ visible c }
 {
-    if (0x21..=0x7e).contains(&c) {
-        c
-    } else {
-        b'?'
-    }
+    if (0x21..=0x7e).contains(&c) { c } else { b'?' }
 }
 
 // Adds the bytes of a name.

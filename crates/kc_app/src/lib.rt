@@ -10,6 +10,8 @@ mod layout;
 mod layout_text;
 mod print;
 mod push;
+mod show;
+mod show_text;
 mod text;
 mod top;
 mod types;

@@ -9,10 +9,10 @@ ghost use Rattle.kc_layout.specs.HopList.{hop_list};
 ghost use Rattle.kc_layout.specs.Views.{bits_view, number_view};
 ghost use Rattle.kc_phys.specs.Stored.{AreInside};
 ghost use Rattle.kc_view.specs.Pointers.{value_at};
-ghost use Rattle.kc_app.specs.Paging.{IsTable};
-ghost use Rattle.kc_app.specs.Answer.{IsNumber, NotStore, OnStore, asked_question, shown_by};
+ghost use Rattle.kc_app.specs.Paging.{IsTable, by_info};
+ghost use Rattle.kc_app.specs.Answer.{IsNumber, NotStore, OnStore, shown_by, worded};
 ghost use Rattle.kc_app.specs.Made.{Is, IsOf};
-ghost use Rattle.kc_app.specs.Output.{field_in, image_of, show_made, symbol_in};
+ghost use Rattle.kc_app.specs.Output.{image_of, number_in, show_made, symbol_in};
 
 use crate::answer::{Answer, Halt};
 use crate::command::Question;
@@ -39,16 +39,12 @@ const MAP_TOO_LONG: &[u8] = b"refused map F1\n";
 
 /// The answer of `show`: the first fault of the dump, the types, the map, the symbol, the type or the path,
 /// else the number that the path leads to, or why it can't be read.
-pub fn show<S: Store>(
-    alloc: Global,
-    store: &mut S,
-    question: &Question<'_>,
-) -> Result<Answer, Halt>
+pub fn show<S: Store>(alloc: Global, store: &mut S, question: &Question<'_>) -> Result<Answer, Halt>
     requires dump { S.may store.old Dump question.now.dump.now }
     requires btf { S.may store.old Slot.Btf question.now.btf.now }
     requires map { S.may store.old Map question.now.map.now }
 
-    ensures output { IsOf shown_by (λ files. show_made (asked_question question.now) (files Dump question.now.dump.now) (files Slot.Btf question.now.btf.now) (files Map question.now.map.now)) (S.files store.old) result }
+    ensures output { IsOf shown_by (λ files. show_made (worded question.now) (files Dump question.now.dump.now) (files Slot.Btf question.now.btf.now) (files Map question.now.map.now)) (S.files store.old) result }
     ensures files { S.files store.new ≡ S.files store.old }
     ensures later { S.faults store.old ≤ S.faults store.new }
     ensures cause { OnStore result (Rose (S.faults store.old) (S.faults store.new)) }
@@ -99,7 +95,7 @@ fn find_symbol(alloc: Global, map: &[u8], name: &[u8], kaslr: u64) -> Result<u64
 
 // The number that a path leads to, in the type of a name.
 fn find_field(alloc: Global, types: &Btf, name: &[u8], path: &[u8]) -> Result<Field, Halt>
-    ensures made { Is number_view (field_in types.now name.now path.now) result }
+    ensures made { Is number_view (number_in types.now name.now path.now) result }
     ensures there { IfOk result (λ field. field.ty ≤ length types.now.records) }
     ensures no_call { NotStore result }
 {

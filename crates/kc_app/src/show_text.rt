@@ -1,7 +1,7 @@
 // The texts of a number, and of what refuses a map or a symbol.
-ghost use Rattle.std.specs.Prelude.{◌≡◌, ◌++◌, ◌∷◌, [], option_to_list, IfOk, OnOk};
+ghost use Rattle.std.specs.Prelude.{◌≡◌, ◌++◌, codes, option_to_list, IfOk, OnOk};
 ghost use Rattle.std.specs.Fmt.{signed_decimal};
-ghost use Rattle.kc_app.specs.Texts.{address_text, place_line, place_lines};
+ghost use Rattle.kc_app.specs.Texts.{address_text, hex, place_line, place_lines};
 ghost use Rattle.kc_app.specs.ShowTexts.{map_line, symbol_line, number_text};
 
 use crate::push::{push, push_hex, push_numbered};
@@ -34,7 +34,7 @@ pub fn symbol_line(alloc: Global, fault: SymFault) -> Result<Vec<u8>, NoMemory>
 }
 
 fn push_addresses(text: &mut Vec<u8>, first: u64, other: u64) -> Result<(), NoMemory>
-    ensures { OnOk result (text.new.items ≡ text.old.items ++ symbol_line (SymFault.S3 first other)) }
+    ensures { OnOk result (text.new.items ≡ text.old.items ++ (codes "refused symbol S3 " ++ hex first ++ codes " " ++ hex other ++ codes "\n")) }
 {
     push(text, b"refused symbol S3 ")?;
     push_hex(text, first)?;

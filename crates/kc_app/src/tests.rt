@@ -1,5 +1,6 @@
 // The program over made dumps: each case gives its words, what is changed in the dump, and what is wanted.
 mod cases;
+mod numbers;
 
 ghost use Rattle.std.specs.Prelude.{◌≡◌, ◌<◌, codes};
 ghost use Rattle.kc_outside.specs.declared.store.Slot.TheVariants.{Dump};
@@ -7,7 +8,7 @@ ghost use Rattle.kc_phys.specs.Stored.{AreInside};
 
 use crate::kaudit;
 use kc_elf::read_core;
-use kc_fixture::{NOTE, core_file, core_with_note, set_bytes, set_word};
+use kc_fixture::{MAP, NOTE, btf_file, core_file, core_with_note, set_bytes, set_word};
 use kc_found::{Space, VWord};
 use kc_mem::Memory;
 use kc_outside::{MemSink, MemStore, Slot, Store};
@@ -27,6 +28,8 @@ const ENOUGH: usize = 1000;
 struct Case {
     words: Vec<String>,
     dump: Vec<u8>,
+    types: Vec<u8>,
+    map: Vec<u8>,
     fails: u64,
     out_limit: usize,
     err_limit: usize,
@@ -35,19 +38,23 @@ struct Case {
     err: Vec<u8>,
 }
 
-// The text of the note: the lines `note ..`, if there are any.
-fn read_note(alloc: Global, lines: &str) -> Result<Vec<u8>, AllocError> {
-    let mut note = Vec::new(alloc);
+// The text of a file: the lines that a case has for it, if there are any.
+fn read_text(
+    alloc: Global,
+    lines: &str,
+    prefix: &str,
+    usual: &[u8],
+) -> Result<Vec<u8>, AllocError> {
+    let mut text = Vec::new(alloc);
     for line in lines.lines() {
-        if let Some(value) = line.strip_prefix("note ") {
-            note.extend_from_slice(value.as_bytes())?;
-            note.push(b'\n')?;
+        if let Some(value) = line.strip_prefix(prefix) {
+            push_line(&mut text, value)?;
         }
     }
-    if note.is_empty() {
-        note.extend_from_slice(NOTE)?;
+    if text.is_empty() {
+        text.extend_from_slice(usual)?;
     }
-    Ok(note)
+    Ok(text)
 }
 
 fn hex(text: &str) -> u64 {
@@ -76,10 +83,12 @@ fn push_line(text: &mut Vec<u8>, line: &str) -> Result<(), AllocError> {
 
 impl Case {
     fn new(alloc: Global, lines: &str) -> Result<Case, AllocError> {
-        let note = read_note(alloc, lines)?;
+        let note = read_text(alloc, lines, "note ", NOTE)?;
         Ok(Case {
             words: Vec::new(alloc),
             dump: core_with_note(alloc, &note)?,
+            types: btf_file(alloc)?,
+            map: read_text(alloc, lines, "map ", MAP.as_bytes())?,
             fails: 0,
             out_limit: ENOUGH,
             err_limit: ENOUGH,
@@ -105,6 +114,19 @@ impl Case {
                     put_pairs(&mut self.dump, small(offset), pairs);
                 }
             }
+            "types" => {
+                if let Some((offset, pairs)) = value.split_once(' ') {
+                    put_pairs(&mut self.types, small(offset), pairs);
+                }
+            }
+            "typefile" => {
+                self.types.truncate(0);
+                for pair in value.split(' ') {
+                    self.types.push((hex(pair) & 0xff) as u8)?;
+                }
+            }
+            "types_length" => self.types.truncate(small(value)),
+            "row" => push_line(&mut self.map, value)?,
             "length" => self.dump.truncate(small(value)),
             "fails" => self.fails = hex(value),
             "out_limit" => self.out_limit = small(value),
@@ -121,6 +143,8 @@ impl Case {
 fn make_store(alloc: Global, case: &Case) -> Result<MemStore, NoMemory> {
     let mut store = MemStore::new(alloc);
     store.add("z.core", &case.dump)?;
+    store.add("z.btf", &case.types)?;
+    store.add("z.map", &case.map)?;
     store.fail(case.fails)?;
     Ok(store)
 }
@@ -185,6 +209,73 @@ fn the_first_fault_is_told(rt: HostRuntime) -> Result<(), Fail> {
 #[test]
 fn failing_calls_and_sinks_are_told(rt: HostRuntime) -> Result<(), Fail> {
     assert_eq!(rt; run_cases(&rt, cases::FAILURES)?, 23);
+    Ok(())
+}
+
+#[test]
+fn layouts_are_listed_or_refused(rt: HostRuntime) -> Result<(), Fail> {
+    assert_eq!(rt; run_cases(&rt, numbers::LAYOUTS)?, 29);
+    Ok(())
+}
+
+#[test]
+fn numbers_are_shown_with_their_words(rt: HostRuntime) -> Result<(), Fail> {
+    assert_eq!(rt; run_cases(&rt, numbers::NUMBERS)?, 17);
+    assert_eq!(rt; run_cases(&rt, numbers::QUESTIONS)?, 28);
+    Ok(())
+}
+
+// The status of a command over a file of types and a map, and what it says on standard error.
+fn refusal(
+    alloc: Global,
+    words: &[&str],
+    types: &[u8],
+    map: &[u8],
+) -> Result<(u8, Vec<u8>), NoMemory> {
+    let mut store = MemStore::new(alloc);
+    store.add("z.core", &core_file(alloc)?)?;
+    store.add("z.btf", types)?;
+    store.add("z.map", map)?;
+    let mut line = Vec::new(alloc);
+    for word in words {
+        line.push(String::from_str(alloc, word)?)?;
+    }
+    let mut out = MemSink::new(alloc, ENOUGH)?;
+    let mut err = MemSink::new(alloc, ENOUGH)?;
+    let status = kaudit(alloc, &line, &mut store, &mut out, &mut err);
+    Ok((status, Vec::from_slice(alloc, err.bytes())?))
+}
+
+#[test]
+fn files_above_64_mib_are_refused(rt: HostRuntime) -> Result<(), Fail> {
+    let alloc = rt.alloc();
+    let mut bytes = vec![in alloc; 0; 1 << 26]?;
+    let layout = ["layout", "z.btf", "slab"];
+    let show = [
+        "show", "z.core", "z.btf", "z.map", "a_slab", "slab", "inuse",
+    ];
+    let types = btf_file(alloc)?;
+    let (status, line) = refusal(alloc, &layout, &bytes, b"")?;
+    assert_eq!(rt;
+        (status, line.as_slice()),
+        (2, b"refused btf B2 at 0\n".as_slice())
+    );
+    let (status, line) = refusal(alloc, &show, &types, &bytes)?;
+    assert_eq!(rt;
+        (status, line.as_slice()),
+        (2, b"refused map S1 line 1\n".as_slice())
+    );
+    bytes.push(0)?;
+    let (status, line) = refusal(alloc, &layout, &bytes, b"")?;
+    assert_eq!(rt;
+        (status, line.as_slice()),
+        (2, b"refused btf F1\n".as_slice())
+    );
+    let (status, line) = refusal(alloc, &show, &types, &bytes)?;
+    assert_eq!(rt;
+        (status, line.as_slice()),
+        (2, b"refused map F1\n".as_slice())
+    );
     Ok(())
 }
 

@@ -17,6 +17,7 @@ use crate::answer::{Answer, Halt};
 use crate::command::Command;
 use crate::layout::layout;
 use crate::print::put_all;
+use crate::show::show;
 use crate::word::word;
 use kc_outside::{Failed, Sink, Store};
 use std::alloc::Global;
@@ -38,11 +39,12 @@ fn run<S: Store>(alloc: Global, request: Command<'_>, store: &mut S) -> Result<A
             address,
         } => word(alloc, store, dump, table, address),
         Command::Layout { btf, name } => layout(alloc, store, btf, name),
+        Command::Show(question) => show(alloc, store, &question),
     }
 }
 
 const USAGE: &[u8] =
-    b"usage: kaudit word DUMP TABLE ADDRESS\nusage: kaudit layout BTF TYPE\n";
+    b"usage: kaudit word DUMP TABLE ADDRESS\nusage: kaudit layout BTF TYPE\nusage: kaudit show DUMP BTF MAP SYMBOL TYPE PATH\n";
 
 const STORE_FAILED: &[u8] = b"store failed\n";
 

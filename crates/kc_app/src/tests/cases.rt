@@ -20,6 +20,8 @@ word 0x00001000
 word 0XFFFF
 status 6
 err usage: kaudit word DUMP TABLE ADDRESS
+err usage: kaudit layout BTF TYPE
+err usage: kaudit show DUMP BTF MAP SYMBOL TYPE PATH
 
 word word
 word z.core
@@ -1279,16 +1281,22 @@ err refused dump V7";
 /// Words that are no command, and names that aren't there.
 pub const COMMANDS: &str = "status 6
 err usage: kaudit word DUMP TABLE ADDRESS
+err usage: kaudit layout BTF TYPE
+err usage: kaudit show DUMP BTF MAP SYMBOL TYPE PATH
 
 word word
 status 6
 err usage: kaudit word DUMP TABLE ADDRESS
+err usage: kaudit layout BTF TYPE
+err usage: kaudit show DUMP BTF MAP SYMBOL TYPE PATH
 
 word word
 word z.core
 word 1000
 status 6
 err usage: kaudit word DUMP TABLE ADDRESS
+err usage: kaudit layout BTF TYPE
+err usage: kaudit show DUMP BTF MAP SYMBOL TYPE PATH
 
 word check
 word a
@@ -1296,6 +1304,8 @@ word b
 word c
 status 6
 err usage: kaudit word DUMP TABLE ADDRESS
+err usage: kaudit layout BTF TYPE
+err usage: kaudit show DUMP BTF MAP SYMBOL TYPE PATH
 
 word word
 word z.core
@@ -1304,6 +1314,8 @@ word 0
 word 0
 status 6
 err usage: kaudit word DUMP TABLE ADDRESS
+err usage: kaudit layout BTF TYPE
+err usage: kaudit show DUMP BTF MAP SYMBOL TYPE PATH
 
 word word
 word z.core
@@ -1311,6 +1323,8 @@ word fff
 word 0
 status 6
 err usage: kaudit word DUMP TABLE ADDRESS
+err usage: kaudit layout BTF TYPE
+err usage: kaudit show DUMP BTF MAP SYMBOL TYPE PATH
 
 word word
 word z.core
@@ -1318,6 +1332,8 @@ word 1001
 word 0
 status 6
 err usage: kaudit word DUMP TABLE ADDRESS
+err usage: kaudit layout BTF TYPE
+err usage: kaudit show DUMP BTF MAP SYMBOL TYPE PATH
 
 word word
 word z.core
@@ -1325,6 +1341,8 @@ word 10000000000000
 word 0
 status 6
 err usage: kaudit word DUMP TABLE ADDRESS
+err usage: kaudit layout BTF TYPE
+err usage: kaudit show DUMP BTF MAP SYMBOL TYPE PATH
 
 word word
 word z.core
@@ -1332,6 +1350,8 @@ word
 word 0
 status 6
 err usage: kaudit word DUMP TABLE ADDRESS
+err usage: kaudit layout BTF TYPE
+err usage: kaudit show DUMP BTF MAP SYMBOL TYPE PATH
 
 word word
 word z.core
@@ -1339,6 +1359,8 @@ word --
 word 0
 status 6
 err usage: kaudit word DUMP TABLE ADDRESS
+err usage: kaudit layout BTF TYPE
+err usage: kaudit show DUMP BTF MAP SYMBOL TYPE PATH
 
 word word
 word z.core
@@ -1346,6 +1368,8 @@ word 1000
 word 
 status 6
 err usage: kaudit word DUMP TABLE ADDRESS
+err usage: kaudit layout BTF TYPE
+err usage: kaudit show DUMP BTF MAP SYMBOL TYPE PATH
 
 word word
 word z.core
@@ -1353,6 +1377,8 @@ word 1000
 word 0x
 status 6
 err usage: kaudit word DUMP TABLE ADDRESS
+err usage: kaudit layout BTF TYPE
+err usage: kaudit show DUMP BTF MAP SYMBOL TYPE PATH
 
 word word
 word z.core
@@ -1360,6 +1386,8 @@ word 1000
 word g
 status 6
 err usage: kaudit word DUMP TABLE ADDRESS
+err usage: kaudit layout BTF TYPE
+err usage: kaudit show DUMP BTF MAP SYMBOL TYPE PATH
 
 word word
 word z.core
@@ -1367,6 +1395,8 @@ word 1000
 word 00000000000000000
 status 6
 err usage: kaudit word DUMP TABLE ADDRESS
+err usage: kaudit layout BTF TYPE
+err usage: kaudit show DUMP BTF MAP SYMBOL TYPE PATH
 
 word Word
 word z.core
@@ -1374,6 +1404,8 @@ word 1000
 word 0
 status 6
 err usage: kaudit word DUMP TABLE ADDRESS
+err usage: kaudit layout BTF TYPE
+err usage: kaudit show DUMP BTF MAP SYMBOL TYPE PATH
 
 word word
 word z.core
@@ -1396,7 +1428,9 @@ word fff
 word 0
 fails 1
 status 6
-err usage: kaudit word DUMP TABLE ADDRESS";
+err usage: kaudit word DUMP TABLE ADDRESS
+err usage: kaudit layout BTF TYPE
+err usage: kaudit show DUMP BTF MAP SYMBOL TYPE PATH";
 
 /// Failing calls of the store, one after another, and sinks that take so many bytes.
 pub const FAILURES: &str = "word word
@@ -1586,4 +1620,6 @@ err store failed
 word word
 err_limit 3
 status 4
-err usage: kaudit word DUMP TABLE ADDRESS";
+err usage: kaudit word DUMP TABLE ADDRESS
+err usage: kaudit layout BTF TYPE
+err usage: kaudit show DUMP BTF MAP SYMBOL TYPE PATH";

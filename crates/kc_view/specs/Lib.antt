@@ -1,0 +1,4 @@
+pub mod Elements
+pub mod Laws
+pub mod Pointers
+pub mod Typed
