@@ -1,6 +1,7 @@
 pub mod FindLemmas
 pub mod FoundLemmas
 pub mod LayerLemmas
+pub mod LineLemmas
 pub mod ListingLemmas
 pub mod MemberLemmas
 pub mod PathLemmas

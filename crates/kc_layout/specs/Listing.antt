@@ -1,5 +1,5 @@
 -- The members of a struct or union, line by line.
-use Rattle.std.specs.Prelude.{◌<◌, ℕ, zero, suc, ◌+◌, ◌*◌, List, [], ◌∷◌, ◌++◌, length, All, Option, Some, None, option_map, option_and_then, ◌==◌, if◌then◌else◌}
+use Rattle.std.specs.Prelude.{◌≡◌, ◌<◌, ℕ, zero, suc, ◌+◌, ◌*◌, List, [], ◌∷◌, ◌++◌, length, All, Option, Some, None, option_map, option_and_then, ◌==◌, if◌then◌else◌}
 use Rattle.std.specs.Option.{option_map_or}
 use Rattle.kc_btf.specs.declared.types.IntOf.{IntOf}
 use Rattle.kc_btf.specs.declared.types.Member.{Member}
@@ -9,6 +9,7 @@ use Rattle.kc_btf.specs.Readers.{name_at}
 use Rattle.kc_layout.specs.declared.listing.Line.{Line}
 use Rattle.kc_layout.specs.Modifiers.{under}
 use Rattle.kc_layout.specs.Numbered.{compound_numbered, int_numbered, members_numbered}
+use Rattle.kc_layout.specs.Search.{Lies}
 use Rattle.kc_layout.specs.Size.{size}
 
 -- the struct or union under the modifiers of a type
@@ -79,3 +80,10 @@ listing types id = option_map (λ l. l.lines) (lists 33 types id 0 65536)
 -- the names of lines stand in the strings
 abbrev pub AreNamed : Types → List Line → Type 0
 AreNamed types lines = All (λ line. line.name < length types.strings) lines
+
+-- a line is that of a member which lies in a type that begins at a bit
+pub record IsLine (types : Types) (id base : ℕ) (line : Line) : Type 0 where
+  pub bit : ℕ
+  pub member : Member
+  pub lies : Lies types (name_at types.strings member.name) id bit member
+  pub same : line ≡ line_at types (base + bit) member

@@ -1,6 +1,13 @@
 // Types and paths over files made here.
-use crate::{Field, Located, PathFault, QRule, find_type, locate, resolve, size_of};
+ghost use Rattle.std.specs.Prelude.{IfOk, IfSome};
+ghost use Rattle.kc_layout.specs.Listing.{AreNamed};
+
+use crate::{
+    Field, Line, Located, PathFault, QRule, compound_under, find_type, list_members, locate,
+    resolve, size_of,
+};
 use kc_btf::Btf;
+use std::alloc::Global;
 use std::test::Fail;
 
 mod fixture;
@@ -235,5 +242,95 @@ fn limits_are_kept(rt: HostRuntime) -> Result<(), Fail> {
         step: 0,
     };
     assert_eq!(rt; number(&types, b"slab", path.as_slice())?, Err(refused));
+    Ok(())
+}
+
+// The lines of the struct with a name.
+fn lines_of(alloc: Global, btf: &Btf, name: &[u8]) -> Result<Option<Vec<Line>>, Fail>
+    ensures { IfOk result (λ lines. IfSome lines (λ v. AreNamed btf.now v.items)) }
+{
+    let id = find_type(btf, name).ok_or("no type")?;
+    let t = compound_under(btf, id).ok_or("no struct")?;
+    Ok(list_members(alloc, btf, t)?)
+}
+
+// The first bit, the width and the name of a line.
+type Printed<'b> = (u64, Option<u64>, &'b [u8]);
+
+fn printed<'b>(alloc: Global, btf: &'b Btf, lines: &[Line]) -> Result<Vec<Printed<'b>>, Fail>
+    requires { AreNamed btf.now lines.now }
+{
+    let mut printed = Vec::new(alloc);
+    for line in lines {
+        printed.push((line.bit, line.width, btf.name(line.name)))?;
+    }
+    Ok(printed)
+}
+
+#[test]
+fn members_are_listed(rt: HostRuntime) -> Result<(), Fail> {
+    let btf = types(rt.alloc())?;
+    let rows: [(&[u8], &[Printed<'static>]); 3] = [
+        (
+            b"slab",
+            &[
+                (0, Some(64), b"__page_flags"),
+                (64, Some(64), b"slab_cache"),
+                (128, Some(128), b"slab_list"),
+                (256, Some(64), b"freelist"),
+                (320, Some(64), b"counters"),
+                (320, Some(16), b"inuse"),
+                (336, Some(15), b"objects"),
+                (351, Some(1), b"frozen"),
+            ],
+        ),
+        (
+            b"item",
+            &[
+                (0, Some(128), b"link"),
+                (256, Some(32), b"key"),
+                (288, Some(3), b"small"),
+                (320, Some(64), b"at"),
+                (384, Some(65), b"wide"),
+                (512, Some(32), b"row"),
+            ],
+        ),
+        // a number at bit 3 of its bytes, and members under more than 32 modifiers, one without a name
+        (
+            b"odds",
+            &[
+                (11, Some(5), b"odd"),
+                (64, Some(72), b"huge"),
+                (0, Some(128), b"fits"),
+                (0, None, b"beyond"),
+                (0, None, b""),
+                (0, Some(64), b"last"),
+            ],
+        ),
+    ];
+    for (name, expected) in rows.iter() {
+        let lines = lines_of(rt.alloc(), &btf, *name)?.ok_or("beyond")?;
+        assert_eq!(rt; printed(rt.alloc(), &btf, &lines)?.as_slice(), *expected);
+    }
+    Ok(())
+}
+
+#[test]
+fn limits_of_lists_are_kept(rt: HostRuntime) -> Result<(), Fail> {
+    let alloc = rt.alloc();
+    let crowds = crowds(alloc)?;
+    let levels = levels(alloc)?;
+    let types = types(alloc)?;
+    let rows: [(&Btf, &[u8], Option<usize>); 5] = [
+        (&crowds, b"crowd", Some(65535)),
+        (&crowds, b"larger crowd", None),
+        (&levels, b"levels", Some(1)),
+        (&levels, b"more levels", None),
+        (&types, b"endless", None),
+    ];
+    for (btf, name, count) in rows.iter() {
+        let lines = lines_of(alloc, *btf, *name)?;
+        assert_eq!(rt; lines.map(|lines| lines.len()), *count);
+    }
     Ok(())
 }
