@@ -20,7 +20,7 @@ in_stand law address (Some (Ok image)) = law image address
 sought_stand : ValuesStand → (made : Option (Result Sought (List ℕ))) → Stand (places_sought made)
 sought_stand law None = tt
 sought_stand law (Some (Err line)) = tt
-sought_stand law (Some (Ok sought)) = law sought.image sought.at sought.number.hops sought.number.bits
+sought_stand law (Some (Ok sought)) = law sought.image sought.target.at sought.target.number.hops sought.target.number.bits
 
 asked_stand : PlacesStand → ValuesStand → (asked : Option Asked) (files : Slot → Option (List ℕ)) → Stand (places_asked asked files)
 asked_stand words numbers None files = tt

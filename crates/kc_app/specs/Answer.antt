@@ -1,5 +1,5 @@
 -- What the code's own types stand for.
-use Rattle.std.specs.Prelude.{◌≡◌, ℕ, List, [], Option, IfSome, Some, None, Result, Ok, Err, ⊤}
+use Rattle.std.specs.Prelude.{◌≡◌, IfSome, Result, Ok, Err, ⊤}
 use Rattle.kc_app.specs.declared.command.Command.{Command}
 use Rattle.kc_app.specs.declared.command.Command.TheVariants.{Word, Layout, Show}
 use Rattle.kc_app.specs.declared.answer.Answer.{Answer}
@@ -10,11 +10,13 @@ use Rattle.kc_found.specs.declared.words.VWord.{VWord}
 use Rattle.kc_found.specs.declared.space.Stop.{Stop}
 use Rattle.kc_found.specs.declared.space.Stop.TheVariants.{Miss, Fault}
 use Rattle.kc_app.specs.declared.command.Question.{Question as CodeQuestion}
+use Rattle.kc_app.specs.declared.target.Target.{Target as CodeTarget}
+use Rattle.kc_layout.specs.Views.{number_view}
 use Rattle.kc_found.specs.Bits.{Number}
 use Rattle.kc_app.specs.Command.{Asked, AsksWord, AsksLayout, AsksShow, Question}
 use Rattle.kc_app.specs.Made.{Is, gives}
 use Rattle.kc_app.specs.Paging.{IsTable}
-use Rattle.kc_app.specs.Output.{Shown, broken, number_shown, word_shown}
+use Rattle.kc_app.specs.Output.{Shown, Target, broken, number_shown, word_shown}
 
 -- the words of a question
 abbrev pub worded : CodeQuestion → Question
@@ -24,6 +26,9 @@ abbrev pub asked : Command → Asked
 asked (Word dump table address) = AsksWord dump.now table address
 asked (Layout btf name) = AsksLayout btf.now name.now
 asked (Show question) = AsksShow (worded question)
+
+abbrev pub target_view : CodeTarget → Target
+target_view t = record { at = t.at; number = number_view t.field }
 
 -- a top table that is named can be one
 abbrev pub HasTable : Command → Type 0

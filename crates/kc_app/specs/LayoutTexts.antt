@@ -1,5 +1,5 @@
 -- The texts of a layout, and of what refuses one.
-use Rattle.std.specs.Prelude.{ℕ, ◌+◌, ◌&&◌, nat_le, if◌then◌else◌, List, [], ◌∷◌, ◌++◌, codes, decimal, map, Option, Some, None}
+use Rattle.std.specs.Prelude.{ℕ, ◌&&◌, nat_le, if◌then◌else◌, List, [], ◌∷◌, ◌++◌, codes, decimal, map, Option, Some, None}
 use Rattle.kc_btf.specs.declared.kind.Kind.{Kind}
 use Rattle.kc_btf.specs.declared.kind.Kind.TheVariants.{Struct}
 use Rattle.kc_btf.specs.declared.stop.BRule.{BRule}

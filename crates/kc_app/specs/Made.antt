@@ -1,5 +1,5 @@
 -- What is made of a command's files, step by step.
-use Rattle.std.specs.Prelude.{◌≡◌, ⊤, ℕ, ◌^◌, nat_le, if◌then◌else◌, List, [], length, Option, Some, None, IfSome, Result, Ok, Err}
+use Rattle.std.specs.Prelude.{◌≡◌, ⊤, ℕ, ◌^◌, nat_le, if◌then◌else◌, List, length, Option, Some, None, Result, Ok, Err}
 use Rattle.kc_outside.specs.Files.{Files}
 use Rattle.kc_app.specs.declared.answer.Halt.{Halt}
 use Rattle.kc_app.specs.declared.answer.Halt.TheVariants.{Refused, Store, Memory}

@@ -149,25 +149,34 @@ number_in types name path = do
   id ← named (find types name)
   number_of (field types id path)
 
--- `show`: the memory, the address of the symbol, and where the number lies from there
-pub record Sought : Type 0 where
-  pub image : Image
+-- where `show` looks: at the address of the symbol, and from there where the number lies
+pub record Target : Type 0 where
   pub at : ℕ
   pub number : NumberAt
+
+abbrev pub target_in : Question → Types → ℕ → Option (List ℕ) → Option (Result Target (List ℕ))
+target_in question types kaslr map = do
+  bytes ← map_in map
+  at ← symbol_in question.symbol kaslr bytes
+  number ← number_in types question.name question.path
+  gives (record { at = at; number = number })
+
+-- and in which memory
+pub record Sought : Type 0 where
+  pub image : Image
+  pub target : Target
 
 abbrev pub show_sought : Question → Option (List ℕ) → Option (List ℕ) → Option (List ℕ) → Option (Result Sought (List ℕ))
 show_sought question dump btf map = do
   parts ← dump_parts dump
   kernel ← noted (info parts.notes)
   types ← types_in btf
-  bytes ← map_in map
-  at ← symbol_in question.symbol kernel.kaslr bytes
-  number ← number_in types question.name question.path
-  gives (record { image = image_of (bytes_of dump) parts.segments (by_info kernel); at = at; number = number })
+  target ← target_in question types kernel.kaslr map
+  gives (record { image = image_of (bytes_of dump) parts.segments (by_info kernel); target = target })
 
 -- the number in memory
-abbrev pub number_read : Sought → Result Number Stopped
-number_read sought = value_at sought.image sought.at sought.number.hops sought.number.bits
+abbrev pub number_read : Image → Target → Result Number Stopped
+number_read image target = value_at image target.at target.number.hops target.number.bits
 
 abbrev pub number_shown : Result Number Stopped → Shown
 number_shown (Ok n) = record { text = number_text n; status = 0 }
@@ -176,7 +185,7 @@ number_shown (Err s) = broken s
 abbrev pub show_made : Question → Option (List ℕ) → Option (List ℕ) → Option (List ℕ) → Option (Result Shown (List ℕ))
 show_made question dump btf map = do
   sought ← show_sought question dump btf map
-  gives (number_shown (number_read sought))
+  gives (number_shown (number_read sought.image sought.target))
 
 -- what a command makes of its files
 abbrev pub asked_made : Asked → (Slot → Option (List ℕ)) → Option (Result Shown (List ℕ))
@@ -222,7 +231,7 @@ places_in address (Some (Ok image)) = Some (record { image = image; places = pla
 abbrev pub places_sought : Option (Result Sought (List ℕ)) → Option Places
 places_sought None = None
 places_sought (Some (Err line)) = None
-places_sought (Some (Ok sought)) = Some (record { image = sought.image; places = number_places (number_read sought) })
+places_sought (Some (Ok sought)) = Some (record { image = sought.image; places = number_places (number_read sought.image sought.target) })
 
 abbrev pub places_asked : Option Asked → (Slot → Option (List ℕ)) → Option Places
 places_asked None files = None

@@ -14,10 +14,13 @@ map_line line = codes "refused map S1 line " ++ decimal line ++ codes "\n"
 abbrev pub map_long : List ℕ
 map_long = codes "refused map F1\n"
 
+abbrev pub symbol_code : SymFault → List ℕ
+symbol_code S2 = codes "S2"
+symbol_code (S3 first other) = codes "S3 " ++ hex first ++ codes " " ++ hex other
+
 -- the line of a refused symbol
 abbrev pub symbol_line : SymFault → List ℕ
-symbol_line S2 = codes "refused symbol S2\n"
-symbol_line (S3 first other) = codes "refused symbol S3 " ++ hex first ++ codes " " ++ hex other ++ codes "\n"
+symbol_line fault = codes "refused symbol " ++ symbol_code fault ++ codes "\n"
 
 -- a number in decimal, and the words that hold it
 abbrev pub number_text : Number → List ℕ

@@ -79,7 +79,7 @@ impl<'w> Command<'w> {
 
     // The command that seven words are.
     fn of_seven(name: &str, question: Question<'w>) -> Option<Command<'w>>
-        ensures command { option_map asked result ≡ of_seven name.now (worded question) }
+        ensures command { option_map asked result ≡ of_seven name.now (worded question.entry) }
         ensures table { IfSome result HasTable }
     {
         if name == "show" {

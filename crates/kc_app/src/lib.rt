@@ -12,6 +12,7 @@ mod print;
 mod push;
 mod show;
 mod show_text;
+mod target;
 mod text;
 mod top;
 mod types;

@@ -1,41 +1,38 @@
 // The command `show`: a number of a symbol's struct, with its places.
-ghost use Rattle.std.specs.Prelude.{◌≡◌, ◌<◌, ◌≤◌, length, IfOk};
+ghost use Rattle.std.specs.Prelude.{◌≡◌, ◌<◌, ◌≤◌, length};
 ghost use Rattle.kc_outside.specs.declared.store.Slot.{Slot};
 ghost use Rattle.kc_outside.specs.declared.store.Slot.TheVariants.{Dump, Map};
 ghost use Rattle.kc_outside.specs.Counts.{Rose};
 ghost use Rattle.kc_outside.specs.Files.{content};
 ghost use Rattle.kc_found.specs.Space.{AnswersAs, OnFault};
 ghost use Rattle.kc_layout.specs.HopList.{hop_list};
-ghost use Rattle.kc_layout.specs.Views.{bits_view, number_view};
+ghost use Rattle.kc_layout.specs.Views.{bits_view};
 ghost use Rattle.kc_phys.specs.Stored.{AreInside};
 ghost use Rattle.kc_view.specs.Pointers.{value_at};
 ghost use Rattle.kc_app.specs.Paging.{IsTable, by_info};
-ghost use Rattle.kc_app.specs.Answer.{IsNumber, NotStore, OnStore, shown_by, worded};
-ghost use Rattle.kc_app.specs.Made.{Is, IsOf};
-ghost use Rattle.kc_app.specs.Output.{image_of, number_in, show_made, symbol_in};
+ghost use Rattle.kc_app.specs.Answer.{IsNumber, OnStore, shown_by, target_view, worded};
+ghost use Rattle.kc_app.specs.Made.{IsOf, IsOfBytes, gives};
+ghost use Rattle.kc_app.specs.Output.{image_of, number_read, number_shown, show_made};
 
 use crate::answer::{Answer, Halt};
 use crate::command::Question;
 use crate::dump::{read_dump, read_info, stopped};
-use crate::file::read_file;
-use crate::layout_text::{no_type_line, path_line};
-use crate::show_text::{map_line, number_text, symbol_line};
+use crate::show_text::number_text;
+use crate::target::{Target, find_target};
 use crate::types::read_types;
 use kc_btf::Btf;
+use kc_elf::Core;
 use kc_found::{Scalar, Stop};
-use kc_layout::{Field, find_type, resolve};
+use kc_layout::Field;
 use kc_mem::Memory;
 use kc_notes::Info;
-use kc_outside::{Slot, Store};
+use kc_outside::Store;
 use kc_phys::Phys;
-use kc_syms::{SymStop, Symbols};
 use kc_view::View;
 use kc_word::{PageCfg, Segment, Steps};
 use std::alloc::Global;
 use std::marker::Brand;
 use std::sync::ledger::{Blank, Ledger};
-
-const MAP_TOO_LONG: &[u8] = b"refused map F1\n";
 
 /// The answer of `show`: the first fault of the dump, the types, the map, the symbol, the type or the path,
 /// else the number that the path leads to, or why it can't be read.
@@ -52,17 +49,31 @@ pub fn show<S: Store>(alloc: Global, store: &mut S, question: &Question<'_>) -> 
     let core = read_dump(alloc, store, question.dump)?;
     let info = read_info(alloc, &core)?;
     let types = read_types(alloc, store, question.btf)?;
-    let map = read_file(alloc, store, Slot::Map, question.map, MAP_TOO_LONG)?;
-    let at = find_symbol(alloc, &map, question.symbol.as_bytes(), info.kaslr)?;
-    let field = find_field(
-        alloc,
-        &types,
-        question.name.as_bytes(),
-        question.path.as_bytes(),
-    )?;
+    let target = find_target(alloc, store, question, &types, info.kaslr)?;
+    look_up(alloc, store, &core, info, &types, &target)
+}
+
+// The answer where all is found that the question names, on a core that was read.
+fn look_up<S: Store>(
+    alloc: Global,
+    store: &mut S,
+    core: &Core,
+    info: Info,
+    types: &Btf,
+    target: &Target,
+) -> Result<Answer, Halt>
+    requires table { IsTable info.table }
+    requires there { target.now.field.ty ≤ length types.now.records }
+    requires inside { AreInside (S.sizes store.old Dump) core.now.segments }
+
+    ensures output { IsOfBytes shown_by (λ bytes. gives (number_shown (number_read (image_of bytes core.now.segments (by_info info)) (target_view target.now)))) (content (S.files store.old) Dump (S.opened store.old Dump)) result }
+    ensures files { S.files store.new ≡ S.files store.old }
+    ensures later { S.faults store.old ≤ S.faults store.new }
+    ensures cause { OnStore result (Rose (S.faults store.old) (S.faults store.new)) }
+{
     let segments = core.segments().to_vec(alloc)?;
-    let view = View::new(&types, field.ty, at);
-    let number = read_number(store, segments, paging_by(info), &view, &field);
+    let view = View::new(types, target.field.ty, target.at);
+    let number = read_number(store, segments, paging_by(info), &view, &target.field);
     answer(alloc, number)
 }
 
@@ -74,37 +85,6 @@ fn paging_by(info: Info) -> PageCfg
         table: info.table,
         five: info.five,
         sme: info.sme,
-    }
-}
-
-// The address of a symbol, by a map with these bytes.
-fn find_symbol(alloc: Global, map: &[u8], name: &[u8], kaslr: u64) -> Result<u64, Halt>
-    ensures made { Is (λ at. at) (symbol_in name.now kaslr map.now) result }
-    ensures no_call { NotStore result }
-{
-    let symbols = match Symbols::read(alloc, map) {
-        Ok(symbols) => symbols,
-        Err(SymStop::S1(line)) => return Err(Halt::Refused(map_line(alloc, line)?)),
-        Err(SymStop::NoMemory) => return Err(Halt::Memory),
-    };
-    match symbols.address(name, kaslr) {
-        Ok(at) => Ok(at),
-        Err(fault) => Err(Halt::Refused(symbol_line(alloc, fault)?)),
-    }
-}
-
-// The number that a path leads to, in the type of a name.
-fn find_field(alloc: Global, types: &Btf, name: &[u8], path: &[u8]) -> Result<Field, Halt>
-    ensures made { Is number_view (number_in types.now name.now path.now) result }
-    ensures there { IfOk result (λ field. field.ty ≤ length types.now.records) }
-    ensures no_call { NotStore result }
-{
-    let Some(id) = find_type(types, name) else {
-        return Err(Halt::Refused(no_type_line(alloc)?));
-    };
-    match resolve(types, id, path) {
-        Ok(field) => Ok(field),
-        Err(fault) => Err(Halt::Refused(path_line(alloc, fault)?)),
     }
 }
 

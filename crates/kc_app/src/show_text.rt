@@ -2,7 +2,7 @@
 ghost use Rattle.std.specs.Prelude.{◌≡◌, ◌++◌, codes, option_to_list, IfOk, OnOk};
 ghost use Rattle.std.specs.Fmt.{signed_decimal};
 ghost use Rattle.kc_app.specs.Texts.{address_text, hex, place_line, place_lines};
-ghost use Rattle.kc_app.specs.ShowTexts.{map_line, symbol_line, number_text};
+ghost use Rattle.kc_app.specs.ShowTexts.{map_line, symbol_code, symbol_line, number_text};
 
 use crate::push::{push, push_hex, push_numbered};
 use itoa::Buffer;
@@ -26,21 +26,28 @@ pub fn symbol_line(alloc: Global, fault: SymFault) -> Result<Vec<u8>, NoMemory>
     ensures { IfOk result (λ text. text.items ≡ symbol_line fault) }
 {
     let mut text = Vec::new(alloc);
-    match fault {
-        SymFault::S2 => push(&mut text, b"refused symbol S2\n")?,
-        SymFault::S3(first, other) => push_addresses(&mut text, first, other)?,
-    }
+    push(&mut text, b"refused symbol ")?;
+    push_fault(&mut text, fault)?;
+    push(&mut text, b"\n")?;
     Ok(text)
 }
 
-fn push_addresses(text: &mut Vec<u8>, first: u64, other: u64) -> Result<(), NoMemory>
-    ensures { OnOk result (text.new.items ≡ text.old.items ++ (codes "refused symbol S3 " ++ hex first ++ codes " " ++ hex other ++ codes "\n")) }
+fn push_fault(text: &mut Vec<u8>, fault: SymFault) -> Result<(), NoMemory>
+    ensures { OnOk result (text.new.items ≡ text.old.items ++ symbol_code fault) }
 {
-    push(text, b"refused symbol S3 ")?;
+    match fault {
+        SymFault::S2 => push(text, b"S2"),
+        SymFault::S3(first, other) => push_addresses(text, first, other),
+    }
+}
+
+fn push_addresses(text: &mut Vec<u8>, first: u64, other: u64) -> Result<(), NoMemory>
+    ensures { OnOk result (text.new.items ≡ text.old.items ++ (codes "S3 " ++ hex first ++ codes " " ++ hex other)) }
+{
+    push(text, b"S3 ")?;
     push_hex(text, first)?;
     push(text, b" ")?;
-    push_hex(text, other)?;
-    push(text, b"\n")
+    push_hex(text, other)
 }
 
 // Adds a number in decimal, with a sign where it is negative.

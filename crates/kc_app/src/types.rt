@@ -2,8 +2,8 @@
 ghost use Rattle.std.specs.Prelude.{◌≡◌, ℕ, ◌≤◌, List};
 ghost use Rattle.kc_btf.specs.Btf.{btf};
 ghost use Rattle.kc_outside.specs.declared.store.Slot.{Slot};
+ghost use Rattle.kc_outside.specs.declared.store.Slot.TheVariants.{Dump};
 ghost use Rattle.kc_outside.specs.Counts.{Rose};
-ghost use Rattle.kc_outside.specs.Files.{OthersStay};
 ghost use Rattle.kc_app.specs.Answer.{NotStore, OnStore};
 ghost use Rattle.kc_app.specs.Made.{Is, IsOf};
 ghost use Rattle.kc_app.specs.Output.{types_in, types_of};
@@ -35,8 +35,8 @@ pub fn read_types<S: Store>(alloc: Global, store: &mut S, name: &str) -> Result<
 
     ensures told { IsOf (λ types. types) (λ files. types_in (files Slot.Btf name.now)) (S.files store.old) result }
 
-    ensures others_opened { OthersStay Slot.Btf (S.opened store.old) (S.opened store.new) }
-    ensures others_sizes { OthersStay Slot.Btf (S.sizes store.old) (S.sizes store.new) }
+    ensures dump_opened { S.opened store.new Dump ≡ S.opened store.old Dump }
+    ensures dump_size { S.sizes store.new Dump ≡ S.sizes store.old Dump }
     ensures may { (s : Slot) (n : List ℕ) → S.may store.old s n → S.may store.new s n }
     ensures files { S.files store.new ≡ S.files store.old }
     ensures later { S.faults store.old ≤ S.faults store.new }

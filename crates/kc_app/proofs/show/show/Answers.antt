@@ -1,0 +1,5 @@
+use Rattle.kc_app.proofs.show.show.Goals as goal
+
+-- the calls between read other files, so the dump's size stays
+pub look_up-requires-clause-inside : goal.look_up-requires-clause-inside
+look_up-requires-clause-inside g c = rw (c.find_target.ensures.dump_size, c.read_types.ensures.dump_size) c.in_ok-core.ensures.inside
