@@ -2,7 +2,7 @@
 ghost use Rattle.std.specs.Prelude.{◌≡◌, ◌+◌, ◌*◌, ◌^◌, ◌<◌, ◌≤◌, length, Some, All, option_map, IfOk, IfSome, IsTrue};
 ghost use Rattle.kc_btf.specs.Kind.{is_compound};
 ghost use Rattle.kc_btf.specs.Readers.{type_numbered};
-ghost use Rattle.kc_layout.specs.Listing.{compound_under, int_under, line_at, anonymous, behind, so_far, listed, lists, listing, AreNamed, IsLine};
+ghost use Rattle.kc_layout.specs.Listing.{compound_under, int_under, line_at, anonymous, behind, so_far, listed, lists, listing, AreAll, AreNamed, IsLine};
 ghost use Rattle.kc_layout.specs.Size.{size};
 
 use crate::modifiers::{MODIFIERS, under};
@@ -104,6 +104,8 @@ pub fn list_members(alloc: Global, btf: &Btf, t: TypeRef) -> Result<Option<Vec<L
     ensures named { IfOk result (λ lines. IfSome lines (λ v. AreNamed btf.now v.items)) }
     // Each line is that of a member, and the bits on the way to it add up.
     ensures members { IfOk result (λ lines. IfSome lines (λ v. All (IsLine btf.now t.id 0) v.items)) }
+    // No line is missing.
+    ensures complete { IfOk result (λ lines. IfSome lines (λ v. AreAll btf.now t.id 0 v.items)) }
 {
     let mut lines = Vec::new(alloc);
     match list_type(btf, t, 0, MEMBERS, LEVELS, &mut lines)? {
