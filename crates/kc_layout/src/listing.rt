@@ -24,7 +24,8 @@ pub struct Line {
     pub name: u32,
 }
 
-/// The struct or union under the modifiers of a type, of which at most 32 are followed.
+/// The struct or union under the modifiers of a type, of which at most 32 are followed. `None` for other
+/// types, and under more.
 pub fn compound_under(btf: &Btf, id: u32) -> Option<TypeRef>
     requires { id ≤ length btf.now.records }
     ensures exact { result ≡ compound_under btf.now id }
@@ -96,7 +97,8 @@ fn anonymous(btf: &Btf, member: Member) -> Option<TypeRef>
 
 /// The members of a struct or union as lines, in their order and depth first, with their bits. A struct or
 /// union without a name, under at most 32 modifiers, is no line: its members are. `None` where more than
-/// 65,536 members, those without a name included, or more than 32 levels without a name would be looked at.
+/// 65,536 members, those without a name included, or more than 32 levels without a name would be looked at;
+/// `NoMemory` where there is none for the lines.
 pub fn list_members(alloc: Global, btf: &Btf, t: TypeRef) -> Result<Option<Vec<Line>>, NoMemory>
     requires ours { type_numbered btf.now t.id ≡ Some t }
     requires compound { IsTrue (is_compound t.kind) }
