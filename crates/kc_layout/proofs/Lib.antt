@@ -1,3 +1,4 @@
+pub mod AllLinesLemmas
 pub mod FindLemmas
 pub mod FoundLemmas
 pub mod LayerLemmas

@@ -1,5 +1,5 @@
 -- The members of a struct or union, line by line.
-use Rattle.std.specs.Prelude.{◌≡◌, ◌<◌, ℕ, zero, suc, ◌+◌, ◌*◌, List, [], ◌∷◌, ◌++◌, length, All, Option, Some, None, option_map, option_and_then, ◌==◌, if◌then◌else◌}
+use Rattle.std.specs.Prelude.{◌≡◌, ◌<◌, ℕ, zero, suc, ◌+◌, ◌*◌, List, [], ◌∷◌, ◌++◌, length, All, Contains, Option, Some, None, option_map, option_and_then, ◌==◌, if◌then◌else◌}
 use Rattle.std.specs.Option.{option_map_or}
 use Rattle.kc_btf.specs.declared.types.IntOf.{IntOf}
 use Rattle.kc_btf.specs.declared.types.Member.{Member}
@@ -87,3 +87,14 @@ pub record IsLine (types : Types) (id base : ℕ) (line : Line) : Type 0 where
   pub member : Member
   pub lies : Lies types (name_at types.strings member.name) id bit member
   pub same : line ≡ line_at types (base + bit) member
+
+-- a member has a line at a bit of a type: one of the type's own, where it is no struct or union without a
+-- name, or one that has its line in such a struct or union, and then the bits on the way add up
+pub data HasLine : Types → ℕ → ℕ → Member → Type 0 where
+  itself : (types : Types) (id : ℕ) (m : Member) → Contains (members_numbered types id) m → anonymous types m ≡ None → HasLine types id m.bit m
+  inside : (types : Types) (id bit : ℕ) (m last : Member) (t : TypeRef) → Contains (members_numbered types id) m → anonymous types m ≡ Some t →
+      HasLine types t.id bit last → HasLine types id (m.bit + bit) last
+
+-- the lines of all members that have one, in a type that begins at a bit
+abbrev pub AreAll : Types → ℕ → ℕ → List Line → Type 0
+AreAll types id base lines = (bit : ℕ) (m : Member) → HasLine types id bit m → Contains lines (line_at types (base + bit) m)

@@ -2,7 +2,7 @@
 ghost use Rattle.std.specs.Prelude.{◌≡◌, ◌+◌, ◌*◌, ◌^◌, ◌<◌, ◌≤◌, length, Some, All, option_map, IfOk, IfSome, IsTrue};
 ghost use Rattle.kc_btf.specs.Kind.{is_compound};
 ghost use Rattle.kc_btf.specs.Readers.{type_numbered};
-ghost use Rattle.kc_layout.specs.Listing.{compound_under, int_under, line_at, anonymous, behind, so_far, listed, lists, listing, AreNamed, IsLine};
+ghost use Rattle.kc_layout.specs.Listing.{compound_under, int_under, line_at, anonymous, behind, so_far, listed, lists, listing, AreAll, AreNamed, IsLine};
 ghost use Rattle.kc_layout.specs.Size.{size};
 
 use crate::modifiers::{MODIFIERS, under};
@@ -24,7 +24,8 @@ pub struct Line {
     pub name: u32,
 }
 
-/// The struct or union under the modifiers of a type, of which at most 32 are followed.
+/// The struct or union under the modifiers of a type, of which at most 32 are followed. `None` for other
+/// types, and under more.
 pub fn compound_under(btf: &Btf, id: u32) -> Option<TypeRef>
     requires { id ≤ length btf.now.records }
     ensures exact { result ≡ compound_under btf.now id }
@@ -96,7 +97,8 @@ fn anonymous(btf: &Btf, member: Member) -> Option<TypeRef>
 
 /// The members of a struct or union as lines, in their order and depth first, with their bits. A struct or
 /// union without a name, under at most 32 modifiers, is no line: its members are. `None` where more than
-/// 65,536 members, those without a name included, or more than 32 levels without a name would be looked at.
+/// 65,536 members, those without a name included, or more than 32 levels without a name would be looked at;
+/// `NoMemory` where there is none for the lines.
 pub fn list_members(alloc: Global, btf: &Btf, t: TypeRef) -> Result<Option<Vec<Line>>, NoMemory>
     requires ours { type_numbered btf.now t.id ≡ Some t }
     requires compound { IsTrue (is_compound t.kind) }
@@ -104,6 +106,8 @@ pub fn list_members(alloc: Global, btf: &Btf, t: TypeRef) -> Result<Option<Vec<L
     ensures named { IfOk result (λ lines. IfSome lines (λ v. AreNamed btf.now v.items)) }
     // Each line is that of a member, and the bits on the way to it add up.
     ensures members { IfOk result (λ lines. IfSome lines (λ v. All (IsLine btf.now t.id 0) v.items)) }
+    // No line is missing.
+    ensures complete { IfOk result (λ lines. IfSome lines (λ v. AreAll btf.now t.id 0 v.items)) }
 {
     let mut lines = Vec::new(alloc);
     match list_type(btf, t, 0, MEMBERS, LEVELS, &mut lines)? {
