@@ -1,0 +1,2 @@
+mod PointerLemmas
+mod ValueLaws

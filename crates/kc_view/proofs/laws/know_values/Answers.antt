@@ -1,0 +1,11 @@
+use Rattle.kc_view.proofs.ValueLaws.{values_stand, paths_stand, reads_where_led}
+use Rattle.kc_view.proofs.laws.know_values.Goals as goal
+
+pub returns-clause-values : goal.returns-clause-values
+returns-clause-values c = values_stand c.know_numbers.ensures.stand
+
+pub returns-clause-paths : goal.returns-clause-paths
+returns-clause-paths c = paths_stand c.know_numbers.ensures.stand
+
+pub returns-clause-led : goal.returns-clause-led
+returns-clause-led c = reads_where_led

@@ -1,0 +1,16 @@
+use Rattle.std.proofs.lemmas.List.{take_rest}
+use Rattle.kc_view.proofs.PointerLemmas.{behind-none, behind-next, behind-stop}
+use Rattle.kc_view.proofs.pointers.+behind.Goals as goal
+
+pub returns-in-empty-clause-exact : goal.returns-in-empty-clause-exact
+returns-in-empty-clause-exact g t c =
+    behind-none (g.S.Space.image c.args.space.now) c.args.at c.args.offsets.now c.in-empty.len_below
+
+pub returns-in-Ok-clause-exact : goal.returns-in-Ok-clause-exact
+returns-in-Ok-clause-exact g t c =
+    let rest = rw (c.in-Ok.ensures.image, take_rest c.args.offsets.now 1) at c.behind.ensures.exact in
+    behind-next (g.S.Space.image c.args.space.now) c.args.at c.args.offsets.now c.in-Ok.pointer c.target.result c.behind.result c.in-len1-up.len_at_least c.in-Ok.ensures.exact c.target.ensures rest
+
+pub returns-in-Err-clause-exact : goal.returns-in-Err-clause-exact
+returns-in-Err-clause-exact g t c =
+    behind-stop (g.S.Space.image c.args.space.now) c.args.at c.args.offsets.now c.in-Err.stop c.in-len1-up.len_at_least c.in-Err.ensures.exact

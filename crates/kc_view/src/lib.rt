@@ -1,0 +1,12 @@
+//! Typed views of a dump's memory: a type of the kernel's type information at a virtual address.
+#![tactic(auto)]
+
+mod elements;
+mod laws;
+mod pointers;
+#[cfg(test)]
+mod tests;
+mod view;
+
+pub use laws::know_values;
+pub use view::{Led, View};

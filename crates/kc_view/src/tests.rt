@@ -1,0 +1,305 @@
+// Views over a few words and a few types.
+ghost use Rattle.std.specs.Prelude.{◌≡◌, ◌<◌, ◌≤◌, None, [], length};
+ghost use Rattle.std.proofs.Common.{lit≤};
+
+use crate::{Led, View};
+use kc_btf::Btf;
+use kc_found::{Miss, Rule, Space, Stop, VWord};
+use kc_layout::{Field, Hops, Located};
+use kc_word::{Bits, Steps};
+use std::alloc::Global;
+use std::marker::Brand;
+use std::sync::ledger::{Blank, Ledger};
+use std::test::Fail;
+
+const INIT_TASK: u64 = 0xffff_ffff_8000_b000;
+
+const ITEM: u64 = 0xffff_8880_0001_1000;
+
+// Pointers that lead nowhere.
+const ODD: u64 = 0xffff_8880_0001_2000;
+
+const POISON: u64 = 0xdead_0000_0000_0100;
+
+// The addresses and values of the memory's words.
+const WORDS: [(u64, u64); 10] = [
+    // A task's signal, and the first thread of that.
+    (INIT_TASK + 80, 0xffff_ffff_8000_b080),
+    (0xffff_ffff_8000_b080, 0xffff_ffff_8000_b058),
+    // A ring.
+    (ITEM, 0xffff_8880_0001_1040),
+    (ITEM + 8, 0xffff_ffff_8000_b120),
+    (ITEM + 0x40, 0xffff_8880_0001_1080),
+    (ITEM + 0x48, ITEM),
+    // A null pointer, a poison, and from byte 20 on a pointer in two words.
+    (ODD, 0),
+    (ODD + 8, POISON),
+    (ODD + 16, 0x0001_1000_0000_0000),
+    (ODD + 24, 0x0000_0000_ffff_8880),
+];
+
+// A memory of these words alone.
+#[derive(Drop)]
+struct Words;
+
+impl Space for Words {
+    ghost image = { λ w. None };
+
+    ghost files = { λ w. None };
+
+    ghost faults = { λ w. 0 };
+
+    ghost through = { λ w. [] };
+
+    ghost most = { λ w. 1 };
+
+    ghost most_some = { λ w. lit≤ tt };
+
+    ghost most_small = { λ w. lit≤ tt };
+
+    fn word<L: Ledger>(&mut self, va: u64, _: &mut Steps<L>) -> Result<VWord, Stop> {
+        for (known, value) in WORDS {
+            if known == va {
+                return Ok(VWord {
+                    va,
+                    pa: 0x1000,
+                    off: 0x2000,
+                    value,
+                });
+            }
+        }
+        Err(Stop::Miss(Miss {
+            va,
+            rule: Rule::M6,
+            level: 0,
+            pa: 0,
+            entry: None,
+        }))
+    }
+}
+
+// Type 1 is a number of 8 bytes, 2 an array of 4 of it, 3 a typedef of that, 4 an array of 2 that have no
+// size, and 5 an array of 3 of the typedef.
+const TYPES: [u32; 25] = [
+    0,
+    0x0100_0000,
+    8,
+    64, //
+    0,
+    0x0300_0000,
+    0,
+    1,
+    1,
+    4, //
+    0,
+    0x0800_0000,
+    2, //
+    0,
+    0x0300_0000,
+    0,
+    0,
+    1,
+    2, //
+    0,
+    0x0300_0000,
+    0,
+    3,
+    1,
+    3, //
+];
+
+fn types(alloc: Global) -> Result<Btf, Fail> {
+    let mut bytes = Vec::new(alloc);
+    for word in [0x1_eb9f, 24, 0, 100, 100, 1] {
+        bytes.extend_from_slice(&u32::to_le_bytes(word))?;
+    }
+    for word in TYPES {
+        bytes.extend_from_slice(&word.to_le_bytes())?;
+    }
+    bytes.push(0)?;
+    Ok(Btf::read(alloc, bytes)?)
+}
+
+// Pointers at these offsets, of which there are at most four.
+fn hops(offsets: &[u64]) -> Hops {
+    let offset = |i: usize| offsets.get(i).copied().unwrap_or(0);
+    Hops {
+        count: offsets.len().min(4) as u8,
+        a: offset(0),
+        b: offset(1),
+        c: offset(2),
+        d: offset(3),
+    }
+}
+
+// The address of a stop.
+fn missing(stop: Stop) -> Option<u64> {
+    match stop {
+        Stop::Miss(miss) => Some(miss.va),
+        Stop::Fault => None,
+    }
+}
+
+// A number and the address of its first word, or the address where reading it stopped.
+type Number = Result<(i128, Option<u64>), Option<u64>>;
+
+fn read<L: Ledger>(view: &View<'_>, field: &Field, blank: Blank) -> Number
+    requires name { blank.name ≡ L.name }
+    requires parts { blank.parts ≡ L.parts }
+    requires some { 0 < L.parts }
+{
+    let mut steps = Steps::<L>::new(blank);
+    match view.read(&mut Words, field, &mut steps) {
+        Ok(scalar) => Ok((scalar.value, scalar.first.va)),
+        Err(stop) => Err(missing(stop)),
+    }
+}
+
+#[test]
+fn numbers_are_read_behind_pointers(rt: HostRuntime) -> Result<(), Fail> {
+    let btf = types(rt.alloc())?;
+    let rows: [(u64, &[u64], u64, Number); 9] = [
+        (
+            INIT_TASK,
+            &[80],
+            0,
+            Ok((0xffff_ffff_8000_b058, Some(0xffff_ffff_8000_b080))),
+        ),
+        (ITEM, &[], 64, Ok((0xffff_ffff_8000_b120, Some(ITEM + 8)))),
+        (ITEM, &[0, 8], 0, Ok((0xffff_8880_0001_1040, Some(ITEM)))),
+        (
+            ITEM,
+            &[0, 8, 0, 8],
+            64,
+            Ok((0xffff_ffff_8000_b120, Some(ITEM + 8))),
+        ),
+        // The address wraps.
+        (
+            ITEM + 8,
+            &[u64::MAX - 7],
+            64,
+            Ok((ITEM as i128, Some(ITEM + 0x48))),
+        ),
+        // The pointer in two words.
+        (ODD, &[20], 0, Ok((0xffff_8880_0001_1040, Some(ITEM)))),
+        // A null pointer and a poison are followed like any other.
+        (ODD, &[0, 8], 0, Err(Some(8))),
+        (ODD, &[8, 8], 0, Err(Some(POISON + 8))),
+        (ODD, &[0x40, 8], 0, Err(Some(ODD + 0x40))),
+    ];
+    for (at, offsets, bit, wanted) in rows {
+        let field = Field {
+            hops: hops(offsets),
+            bits: Bits {
+                bit: bit % (1 << 36),
+                width: 64,
+                signed: false,
+            },
+            ty: 1,
+        };
+        let found = read::<Brand>(&View::new(&btf, 0, at), &field, Blank::new(1));
+        assert_eq!(rt; found, wanted, "{at:x} {bit}");
+    }
+    Ok(())
+}
+
+// Where a path leads: a type and its address, or a null pointer's word and address.
+#[derive(Clone, Copy, Debug, PartialEq, Eq)]
+enum End {
+    At(u32, u64),
+    Null(Option<u64>, u64),
+    Missing(Option<u64>),
+}
+
+fn follow<L: Ledger>(view: &View<'_>, to: &Located, blank: Blank) -> End
+    requires name { blank.name ≡ L.name }
+    requires parts { blank.parts ≡ L.parts }
+    requires some { 0 < L.parts }
+    requires there { to.now.ty ≤ length view.now.types.records }
+{
+    let mut steps = Steps::<L>::new(blank);
+    match view.follow(&mut Words, to, &mut steps) {
+        Ok(Led::At(end)) => End::At(end.ty(), end.at()),
+        Ok(Led::Null(place, at)) => End::Null(place.va, at),
+        Err(stop) => End::Missing(missing(stop)),
+    }
+}
+
+#[test]
+fn paths_are_followed_to_the_first_null_pointer(rt: HostRuntime) -> Result<(), Fail> {
+    let btf = types(rt.alloc())?;
+    let rows: [(u64, &[u64], u64, End); 9] = [
+        (INIT_TASK, &[], 80, End::At(0, INIT_TASK + 80)),
+        (INIT_TASK, &[80], 8, End::At(0, 0xffff_ffff_8000_b088)),
+        (ITEM, &[0, 8, 0, 8], 8, End::At(0, ITEM + 8)),
+        (INIT_TASK, &[80], 0x8000_0000, End::At(0, 0xb080)),
+        (ODD, &[8], 8, End::At(0, POISON + 8)),
+        (ODD, &[0], 8, End::Null(Some(ODD), ODD)),
+        (ODD - 8, &[8, 0, 0], 8, End::Null(Some(ODD), ODD)),
+        (ODD, &[8, 0, 0], 0, End::Missing(Some(POISON))),
+        (ODD, &[20, 8], 8, End::At(0, 0xffff_ffff_8000_b128)),
+    ];
+    for (at, offsets, byte, wanted) in rows {
+        let to = Located {
+            hops: hops(offsets),
+            byte,
+            ty: 0,
+        };
+        let found = follow::<Brand>(&View::new(&btf, 0, at), &to, Blank::new(1));
+        assert_eq!(rt; found, wanted, "{at:x} {byte}");
+    }
+    Ok(())
+}
+
+#[test]
+fn parts_have_no_pointers(rt: HostRuntime) -> Result<(), Fail> {
+    let btf = types(rt.alloc())?;
+    let view = View::new(&btf, 0, INIT_TASK);
+    let rows: [(&[u64], u64, Option<u64>); 4] = [
+        (&[], 80, Some(INIT_TASK + 80)),
+        (&[], 0x8000_0000, Some(0xb000)),
+        (&[80], 0, None),
+        (&[0, 0, 0, 0], 0, None),
+    ];
+    for (offsets, byte, wanted) in rows {
+        let to = Located {
+            hops: hops(offsets),
+            byte,
+            ty: 0,
+        };
+        assert_eq!(rt; view.part(&to).map(|part| part.at()), wanted);
+    }
+    Ok(())
+}
+
+#[test]
+fn elements_lie_one_behind_the_other(rt: HostRuntime) -> Result<(), Fail> {
+    let btf = types(rt.alloc())?;
+    let rows: [(u32, u64, u64, Option<(u32, u64)>); 12] = [
+        (2, ITEM, 0, Some((1, ITEM))),
+        (2, ITEM, 3, Some((1, ITEM + 24))),
+        (2, ITEM, 4, None),
+        (2, ITEM, u64::MAX, None),
+        (2, u64::MAX - 7, 1, Some((1, 0))),
+        (3, ITEM, 3, Some((1, ITEM + 24))),
+        (3, ITEM, 4, None),
+        (5, ITEM, 2, Some((3, ITEM + 64))),
+        // No array, and elements that have no size.
+        (0, ITEM, 0, None),
+        (1, ITEM, 0, None),
+        (4, ITEM, 0, None),
+        (4, ITEM, 1, None),
+    ];
+    assert_eq!(rt; btf.count(), 5);
+    for (ty, at, index, wanted) in rows {
+        if ty <= btf.count() {
+            let found = View::new(&btf, ty, at).element(index);
+            assert_eq!(rt;
+                found.map(|part| (part.ty(), part.at())),
+                wanted,
+                "{ty} {index}"
+            );
+        }
+    }
+    Ok(())
+}

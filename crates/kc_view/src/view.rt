@@ -1,0 +1,179 @@
+// A type of the kernel's type information at a virtual address.
+use crate::elements::array_under;
+use crate::pointers::{Reached, all_offsets, behind, reach};
+use kc_btf::Btf;
+use kc_found::{Place, Scalar, Space, Stop, read_bits};
+use kc_layout::{Field, Located, size_of};
+use kc_word::Steps;
+use std::marker::Model;
+use std::sync::ledger::Ledger;
+
+/// A type at a virtual address: seen as the type information, the type's number in it, and the address in
+/// bytes.
+#[derive(Drop)]
+pub struct View<'b> {
+    btf: &'b Btf,
+    ty: u32,
+    at: u64,
+}
+
+impl<'b> Model for View<'b> {
+    ghost use Rattle.std.specs.Prelude.{◌≤◌, length};
+    ghost use Rattle.kc_view.specs.Typed.{Typed};
+
+    ghost Value = { Typed };
+
+    ghost view = { λ v. record { types = v.btf.now; ty = v.ty; at = v.at } };
+
+    ghost invariant = { λ v. v.ty ≤ length v.btf.now.records };
+}
+
+/// Where a path leads from a view.
+#[derive(Drop)]
+pub enum Led<'b> {
+    /// To what lies there.
+    At(View<'b>),
+    /// To a null pointer, the first that has to be followed: the place of its first word, and the virtual
+    /// address of its first byte.
+    Null(Place, u64),
+}
+
+impl<'b> View<'b> {
+    ghost use Rattle.std.specs.Prelude.{◌≡◌, ◌+◌, ◌*◌, ◌≤◌, length, IfOk, IfSome};
+    ghost use Rattle.kc_outside.specs.Counts.{Rose};
+    ghost use Rattle.kc_found.specs.Bits.{InBits};
+    ghost use Rattle.kc_found.specs.Space.{AnswersAs, OnFault, UnlessFault};
+    ghost use Rattle.kc_layout.specs.HopList.{hop_list};
+    ghost use Rattle.kc_view.specs.Elements.{element_of};
+    ghost use Rattle.kc_view.specs.Paths.{LeadsTo, followed};
+    ghost use Rattle.kc_view.specs.Pointers.{value_at};
+    ghost use Rattle.kc_view.specs.Typed.{laid, part_of};
+
+    /// The type of a number at a virtual address.
+    pub fn new(btf: &'b Btf, ty: u32, at: u64) -> View<'b>
+        requires { ty ≤ length btf.now.records }
+        ensures { result ≡ record { types = btf.now; ty = ty; at = at } }
+    {
+        View { btf, ty, at }
+    }
+
+    /// The type's number.
+    pub fn ty(&self) -> u32
+        ensures exact { result ≡ self.now.ty }
+        ensures inside { result ≤ length self.now.types.records }
+    {
+        self.ty
+    }
+
+    /// The virtual address in bytes.
+    pub fn at(&self) -> u64
+        ensures { result ≡ self.now.at }
+    {
+        self.at
+    }
+
+    /// The member that a path leads to, where it follows no pointer, and else `None`.
+    pub fn part(&self, to: &Located) -> Option<View<'b>>
+        requires { to.now.ty ≤ length self.now.types.records }
+        ensures exact { result ≡ part_of self.now to.now }
+        ensures types { IfSome result (λ part. part.types ≡ self.now.types) }
+    {
+        if to.hops.count == 0 {
+            Some(self.laid(self.at, to.byte, to.ty))
+        } else {
+            None
+        }
+    }
+
+    /// The element with an index, from 0 on. `None` where the type isn't an array, under at most 32
+    /// modifiers, where the array has no element with that index, and where an element has no size.
+    pub fn element(&self, index: u64) -> Option<View<'b>>
+        ensures exact { result ≡ element_of self.now index }
+        ensures types { IfSome result (λ element. element.types ≡ self.now.types) }
+    {
+        let array = array_under(self.btf, self.ty)?;
+        if index >= u64::from(array.nelems) {
+            return None;
+        }
+        let size = size_of(self.btf, array.ty)?;
+        Some(self.laid(self.at, index * size, array.ty))
+    }
+
+    /// The number of a field: its pointers are followed, a null one like any other, and then its bits are
+    /// read. Only its pointers and bits are used. It takes no memory.
+    ///
+    /// # Errors
+    ///
+    /// The first stop, and `Fault` where reading the dump failed.
+    pub fn read<S: Space, L: Ledger>(
+        &self,
+        space: &mut S,
+        field: &Field,
+        steps: &mut Steps<L>,
+    ) -> Result<Scalar, Stop>
+        ensures exact { AnswersAs (λ image. value_at image self.now.at (hop_list field.now.hops) field.now.bits) (S.image space.old) result }
+        ensures range { IfOk result (λ number. InBits field.now.bits.signed 64 number.value) }
+        ensures steps { steps.new ≤ steps.old + 10 * S.most space.old }
+
+        ensures image { S.image space.new ≡ S.image space.old }
+        ensures files { S.files space.new ≡ S.files space.old }
+        ensures through { S.through space.new ≡ S.through space.old }
+        ensures most { S.most space.new ≡ S.most space.old }
+        ensures later { S.faults space.old ≤ S.faults space.new }
+        ensures quiet { UnlessFault result (S.faults space.new ≡ S.faults space.old) }
+        ensures cause { OnFault result (Rose (S.faults space.old) (S.faults space.new)) }
+    {
+        let offsets = all_offsets(&field.hops);
+        let hops = &offsets[..usize::from(field.hops.count)];
+        match behind(space, self.at, hops, steps) {
+            Ok(at) => read_bits(space, at, field.bits, steps),
+            Err(stop) => Err(stop),
+        }
+    }
+
+    /// Where a path leads. Its pointers are followed up to the first null one. It takes no memory.
+    ///
+    /// # Errors
+    ///
+    /// The first stop, and `Fault` where reading the dump failed.
+    pub fn follow<S: Space, L: Ledger>(
+        &self,
+        space: &mut S,
+        to: &Located,
+        steps: &mut Steps<L>,
+    ) -> Result<Led<'b>, Stop>
+        requires { to.now.ty ≤ length self.now.types.records }
+
+        ensures exact { AnswersAs (λ image. followed image self.now to.now) (S.image space.old) result }
+        ensures leads { IfOk result (LeadsTo self.now.types to.now.ty) }
+        ensures steps { steps.new ≤ steps.old + 8 * S.most space.old }
+
+        ensures image { S.image space.new ≡ S.image space.old }
+        ensures files { S.files space.new ≡ S.files space.old }
+        ensures through { S.through space.new ≡ S.through space.old }
+        ensures most { S.most space.new ≡ S.most space.old }
+        ensures later { S.faults space.old ≤ S.faults space.new }
+        ensures quiet { UnlessFault result (S.faults space.new ≡ S.faults space.old) }
+        ensures cause { OnFault result (Rose (S.faults space.old) (S.faults space.new)) }
+    {
+        let offsets = all_offsets(&to.hops);
+        let hops = &offsets[..usize::from(to.hops.count)];
+        match reach(space, self.at, hops, steps) {
+            Ok(Reached::Address(at)) => Ok(Led::At(self.laid(at, to.byte, to.ty))),
+            Ok(Reached::NullPointer(place, at)) => Ok(Led::Null(place, at)),
+            Err(stop) => Err(stop),
+        }
+    }
+
+    // A type that lies so many bytes on from an address.
+    fn laid(&self, at: u64, bytes: u64, ty: u32) -> View<'b>
+        requires { ty ≤ length self.now.types.records }
+        ensures { result ≡ laid self.now.types at bytes ty }
+    {
+        View {
+            btf: self.btf,
+            ty,
+            at: at.wrapping_add(bytes),
+        }
+    }
+}
