@@ -1,17 +1,15 @@
 -- One pointer on the way.
-use Rattle.std.proofs.Common.{◌≡◌, ◌≢◌, ℕ, ◌+◌, ◌%◌, ◌^◌, ◌≤◌, ◌<◌, List, [], ◌∷◌, length, drop, slice_index_or, nat_eq, true, false, Option, Some, None, Result, Ok, Err, refl, sym, ap, subst, arith}
+use Rattle.std.proofs.Common.{◌≡◌, ◌≢◌, ℕ, ◌+◌, ◌%◌, ◌^◌, ◌≤◌, ◌<◌, List, [], ◌∷◌, length, drop, slice_index_or, nat_eq, false, Option, Some, None, Result, Ok, Err, refl, arith}
 use Rattle.std.proofs.lemmas.Bool.{ne_eqb}
 use Rattle.kc_found.specs.declared.space.Stop.{Stop}
 use Rattle.kc_found.specs.declared.space.Stop.TheVariants.{Miss, Fault}
 use Rattle.kc_found.specs.declared.words.Place.{Place}
 use Rattle.kc_found.specs.Bits.{Number}
 use Rattle.kc_found.specs.Image.{Image}
-use Rattle.kc_found.specs.Space.{AnswersAs, Is}
-use Rattle.kc_found.specs.Stopped.{Stopped}
-use Rattle.kc_found.specs.Translation.{and_then}
+use Rattle.kc_found.specs.Space.{AnswersAs}
 use Rattle.kc_view.specs.declared.pointers.Reached.{Reached}
 use Rattle.kc_view.specs.declared.pointers.Reached.TheVariants.{Address, NullPointer}
-use Rattle.kc_view.specs.Pointers.{behind, pointer, reached, reached_by, target}
+use Rattle.kc_view.specs.Pointers.{behind, pointer, reached, target}
 
 pub behind-none : (image : Option Image) (at : ℕ) (offsets : List ℕ) → length offsets < 1 → AnswersAs {A = ℕ} (λ i. behind i at offsets) image (Ok at)
 unfolding behind

@@ -1,7 +1,6 @@
 -- What fields and paths show is true of the dump, and where they lead.
-use Rattle.std.proofs.Common.{◌≡◌, ℕ, ◌+◌, ◌*◌, ◌%◌, ◌^◌, Bool, true, false, nat_eq, if◌then◌else◌, List, [], ◌∷◌, Option, Some, None, Result, Ok, Err, refl, sym, ap, ◌∙◌, subst, arith}
-use Rattle.kc_layout.specs.Ends.{BitsAt}
-use Rattle.kc_found.specs.Bits.{Number, bits, bits_at, first_bit, number_places}
+use Rattle.std.proofs.Common.{◌≡◌, ℕ, ◌+◌, ◌*◌, Bool, true, false, nat_eq, if◌then◌else◌, List, [], ◌∷◌, Result, Ok, Err, refl, ap, ◌∙◌, arith}
+use Rattle.kc_found.specs.Bits.{Number, bits, first_bit, number_places}
 use Rattle.kc_found.specs.Image.{Image}
 use Rattle.kc_found.specs.Laws.{NumbersStand}
 use Rattle.kc_found.specs.Places.{AllStandIn}
@@ -12,9 +11,10 @@ use Rattle.kc_layout.specs.HopList.{hop_list}
 use Rattle.kc_view.specs.declared.pointers.Reached.{Reached}
 use Rattle.kc_view.specs.declared.pointers.Reached.TheVariants.{Address, NullPointer}
 use Rattle.kc_view.specs.declared.view.Led.{Led}
-use Rattle.kc_view.specs.declared.view.Led.TheVariants.{At, Null}
+use Rattle.kc_view.specs.declared.view.Led.TheVariants.{At}
 use Rattle.kc_view.specs.Laws.{PathsStand, ReadsWhereLed, ValuesStand, led_places}
-use Rattle.kc_view.specs.Pointers.{behind, followed, led, pointer, reached, reached_by, target, value_at}
+use Rattle.kc_view.specs.Paths.{led}
+use Rattle.kc_view.specs.Pointers.{behind, pointer, reached, target, unless_null, value_at}
 use Rattle.kc_view.specs.Typed.{Typed, bytes_on, laid}
 
 -- a number that is read, and then another one
@@ -38,7 +38,7 @@ led_by view to r = and_then r (λ end. Ok (led view to end))
 -- a pointer that is read, and a way from there
 way_stands : (image : Image) (view : Typed) (to : Located) (at : ℕ) (r : Result Number Stopped) (go : ℕ → Result Reached Stopped)
     → AllStandIn image (number_places r) → ((next : ℕ) → AllStandIn image (led_places (led_by view to (go next))))
-    → AllStandIn image (led_places (led_by view to (and_then r (λ p. reached_by at p go))))
+    → AllStandIn image (led_places (led_by view to (and_then r (λ p. unless_null at p go))))
 unfolding led_by
 way_stands image view to at (Err s) go here next = here
 way_stands image view to at (Ok p) go here next = by_null (nat_eq (target p.value) 0)
@@ -61,7 +61,7 @@ paths_stand numbers image view to = reached_stands numbers image view to view.at
 -- a pointer that isn't null is followed
 goes_on : (at end : ℕ) (r : Result Number Stopped) (go : ℕ → Result Reached Stopped) (read : ℕ → Result ℕ Stopped)
     → ((next : ℕ) → go next ≡ Ok (Address end) → read next ≡ Ok end)
-    → and_then r (λ p. reached_by at p go) ≡ Ok (Address end) → and_then r (λ p. read (target p.value)) ≡ Ok end
+    → and_then r (λ p. unless_null at p go) ≡ Ok (Address end) → and_then r (λ p. read (target p.value)) ≡ Ok end
 goes_on at end (Err s) go read next is = let none : ⊥ = cc in absurd none
 goes_on at end (Ok p) go read next is = by_null (nat_eq (target p.value) 0) is
   where

@@ -1,5 +1,5 @@
 -- The elements of an array at a virtual address.
-use Rattle.std.specs.Prelude.{ℕ, ◌*◌, nat_lt, if◌then◌else◌, Option, Some, None, option_map, option_and_then}
+use Rattle.std.specs.Prelude.{ℕ, ◌*◌, nat_lt, if◌then◌else◌, Option, None, option_map, option_and_then}
 use Rattle.kc_btf.specs.declared.types.ArrayOf.{ArrayOf}
 use Rattle.kc_btf.specs.Btf.{Types}
 use Rattle.kc_layout.specs.Modifiers.{under}

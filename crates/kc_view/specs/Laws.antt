@@ -10,7 +10,8 @@ use Rattle.kc_layout.specs.Ends.{BitsAt}
 use Rattle.kc_layout.specs.HopList.{hop_list}
 use Rattle.kc_view.specs.declared.view.Led.{Led}
 use Rattle.kc_view.specs.declared.view.Led.TheVariants.{At, Null}
-use Rattle.kc_view.specs.Pointers.{followed, value_at}
+use Rattle.kc_view.specs.Paths.{followed}
+use Rattle.kc_view.specs.Pointers.{value_at}
 use Rattle.kc_view.specs.Typed.{Typed}
 
 -- what the number of a field shows is true of the dump, and what a stop shows in its place

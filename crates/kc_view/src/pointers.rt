@@ -11,6 +11,9 @@ use kc_layout::Hops;
 use kc_word::{Bits, Steps};
 use std::sync::ledger::Ledger;
 
+/// A pointer that points nowhere.
+const NULL: u64 = 0;
+
 // Where pointers lead.
 #[derive(Clone, Copy, Debug, PartialEq, Eq)]
 pub(crate) enum Reached {
@@ -20,7 +23,7 @@ pub(crate) enum Reached {
     NullPointer(Place, u64),
 }
 
-// The offsets of pointers, those beyond the count too.
+// The offsets of pointers, those beyond their count too.
 pub(crate) fn all_offsets(hops: &Hops) -> [u64; 4]
     ensures { hop_list hops.now ≡ take hops.now.count result }
 {
@@ -112,7 +115,7 @@ pub(crate) fn reach<S: Space, L: Ledger>(
         [offset, rest @ ..] => match read_pointer(space, at, *offset, steps) {
             Ok(pointer) => {
                 let next = target(pointer);
-                if next == 0 {
+                if next == NULL {
                     Ok(Reached::NullPointer(pointer.first, at.wrapping_add(*offset)))
                 } else {
                     reach(space, next, rest, steps)

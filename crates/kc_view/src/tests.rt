@@ -1,5 +1,5 @@
 // Views over a few words and a few types.
-ghost use Rattle.std.specs.Prelude.{◌≡◌, ◌<◌, ◌≤◌, None, [], IfOk, length};
+ghost use Rattle.std.specs.Prelude.{◌≡◌, ◌<◌, ◌≤◌, None, [], length};
 ghost use Rattle.std.proofs.Common.{lit≤};
 
 use crate::{Led, View};

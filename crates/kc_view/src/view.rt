@@ -39,14 +39,15 @@ pub enum Led<'b> {
 }
 
 impl<'b> View<'b> {
-    ghost use Rattle.std.specs.Prelude.{◌≡◌, ◌+◌, ◌*◌, ◌≤◌, length, IfOk};
+    ghost use Rattle.std.specs.Prelude.{◌≡◌, ◌+◌, ◌*◌, ◌≤◌, length, IfOk, IfSome};
     ghost use Rattle.kc_outside.specs.Counts.{Rose};
     ghost use Rattle.kc_found.specs.Bits.{InBits};
     ghost use Rattle.kc_found.specs.Space.{AnswersAs, OnFault, UnlessFault};
     ghost use Rattle.kc_layout.specs.HopList.{hop_list};
     ghost use Rattle.kc_layout.specs.Views.{bits_view};
     ghost use Rattle.kc_view.specs.Elements.{element_of};
-    ghost use Rattle.kc_view.specs.Pointers.{followed, value_at};
+    ghost use Rattle.kc_view.specs.Paths.{LeadsTo, followed};
+    ghost use Rattle.kc_view.specs.Pointers.{value_at};
     ghost use Rattle.kc_view.specs.Typed.{laid, part_of};
 
     /// The type of a number at a virtual address.
@@ -59,7 +60,8 @@ impl<'b> View<'b> {
 
     /// The type's number.
     pub fn ty(&self) -> u32
-        ensures { result ≡ self.now.ty }
+        ensures exact { result ≡ self.now.ty }
+        ensures inside { result ≤ length self.now.types.records }
     {
         self.ty
     }
@@ -74,7 +76,8 @@ impl<'b> View<'b> {
     /// The member that a path leads to, where it follows no pointer, and else `None`.
     pub fn part(&self, to: &Located) -> Option<View<'b>>
         requires { to.now.ty ≤ length self.now.types.records }
-        ensures { result ≡ part_of self.now to.now }
+        ensures exact { result ≡ part_of self.now to.now }
+        ensures types { IfSome result (λ part. part.types ≡ self.now.types) }
     {
         if to.hops.count == 0 {
             Some(self.laid(self.at, to.byte, to.ty))
@@ -86,7 +89,8 @@ impl<'b> View<'b> {
     /// The element with an index, from 0 on. `None` where the type isn't an array, under at most 32
     /// modifiers, where the array has no element with that index, and where an element has no size.
     pub fn element(&self, index: u64) -> Option<View<'b>>
-        ensures { result ≡ element_of self.now index }
+        ensures exact { result ≡ element_of self.now index }
+        ensures types { IfSome result (λ element. element.types ≡ self.now.types) }
     {
         let array = array_under(self.btf, self.ty)?;
         if index >= u64::from(array.nelems) {
@@ -142,6 +146,7 @@ impl<'b> View<'b> {
         requires { to.now.ty ≤ length self.now.types.records }
 
         ensures exact { AnswersAs (λ image. followed image self.now to.now) (S.image space.old) result }
+        ensures leads { IfOk result (LeadsTo self.now.types to.now.ty) }
         ensures steps { steps.new ≤ steps.old + 8 * S.most space.old }
 
         ensures image { S.image space.new ≡ S.image space.old }

@@ -7,14 +7,14 @@ pub returns-in-empty-clause-exact : goal.returns-in-empty-clause-exact
 returns-in-empty-clause-exact g t c =
     reached-none (g.S.Space.image c.args.space.now) c.args.at c.args.offsets.now c.in-empty.len_below
 
-pub returns-then-next-eq0-clause-exact : goal.returns-then-next-eq0-clause-exact
-returns-then-next-eq0-clause-exact g t c =
-    reached-null (g.S.Space.image c.args.space.now) c.args.at c.args.offsets.now c.in-Ok.pointer c.pointer.inside.first c.target-next.result c.in-len1-up.len_at_least c.in-Ok.ensures.exact (ap (λ n. n.first) c.pointer.view_is) c.target-next.ensures c.if-next-eq0.true
+pub returns-then-next-eq-NULL-clause-exact : goal.returns-then-next-eq-NULL-clause-exact
+returns-then-next-eq-NULL-clause-exact g t c =
+    reached-null (g.S.Space.image c.args.space.now) c.args.at c.args.offsets.now c.in-Ok.pointer c.pointer.inside.first c.target-next.result c.in-len1-up.len_at_least c.in-Ok.ensures.exact (ap (λ n. n.first) c.pointer.view_is) c.target-next.ensures c.if-next-eq-NULL.true
 
-pub returns-else-next-eq0-clause-exact : goal.returns-else-next-eq0-clause-exact
-returns-else-next-eq0-clause-exact g t c =
+pub returns-else-next-eq-NULL-clause-exact : goal.returns-else-next-eq-NULL-clause-exact
+returns-else-next-eq-NULL-clause-exact g t c =
     let rest = rw (c.in-Ok.ensures.image, take_rest c.args.offsets.now 1) at c.reach.ensures.exact in
-    reached-next (g.S.Space.image c.args.space.now) c.args.at c.args.offsets.now c.in-Ok.pointer c.target-next.result c.reach.result c.in-len1-up.len_at_least c.in-Ok.ensures.exact c.target-next.ensures c.if-next-eq0.false rest
+    reached-next (g.S.Space.image c.args.space.now) c.args.at c.args.offsets.now c.in-Ok.pointer c.target-next.result c.reach.result c.in-len1-up.len_at_least c.in-Ok.ensures.exact c.target-next.ensures c.if-next-eq-NULL.false rest
 
 pub returns-in-Err-clause-exact : goal.returns-in-Err-clause-exact
 returns-in-Err-clause-exact g t c =
