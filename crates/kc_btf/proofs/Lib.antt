@@ -4,3 +4,4 @@ mod MemberLemmas
 mod KeptLemmas
 mod ReadLemmas
 mod SpellingLemmas
+mod NameLemmas

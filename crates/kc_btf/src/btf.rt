@@ -31,7 +31,7 @@ impl Model for Btf {
 }
 
 impl Btf {
-    ghost use Rattle.std.specs.Prelude.{◌≡◌, ◌+◌, ◌<◌, ◌≤◌, length, Some, option_map, option_and_then, All, IsTrue, IfOk};
+    ghost use Rattle.std.specs.Prelude.{◌≡◌, ◌+◌, ◌<◌, ◌≤◌, length, bytes_eq, Some, option_map, option_and_then, All, IsTrue, IfOk};
     ghost use Rattle.std.specs.List.{flat_map};
     ghost use Rattle.kc_btf.specs.Answers.{Gives};
     ghost use Rattle.kc_btf.specs.Btf.{btf, RefersInside};
@@ -91,6 +91,15 @@ impl Btf {
         before_nul(&strings[off as usize..])
     }
 
+    /// Whether a name is this one. It looks at no more bytes than the one that is asked has, and the next.
+    pub fn is_named(&self, off: u32, name: &[u8]) -> bool
+        requires { off < length self.now.strings }
+        ensures { result ≡ bytes_eq (name_at self.now.strings off) name.now }
+    {
+        let strings = &self.bytes[self.header.strings..self.header.strings_end];
+        is_before_nul(&strings[off as usize..], name)
+    }
+
     /// The members of a struct or union, in their order.
     pub fn members(&self, t: TypeRef) -> Members<'_>
         requires ours { type_numbered self.now t.id ≡ Some t }
@@ -122,7 +131,7 @@ impl Btf {
     }
 }
 
-ghost use Rattle.std.specs.Prelude.{◌≡◌, ◌+◌, ◌-◌, ◌^◌, ◌<◌, ◌≤◌, length, slice_index, ◌==◌};
+ghost use Rattle.std.specs.Prelude.{◌≡◌, ◌+◌, ◌-◌, ◌^◌, ◌<◌, ◌≤◌, length, slice_index, bytes_eq, ◌==◌};
 ghost use Rattle.std.specs.List.{before_first};
 
 // Where the record of a type lies in the file.
@@ -146,4 +155,23 @@ fn before_nul(text: &[u8]) -> &[u8]
         Some(length) => &text[..length],
         None => unreachable!(),
     }
+}
+
+// The bytes before the first NUL, or all where there is none.
+fn before_nul_or_end(text: &[u8]) -> &[u8]
+    ensures { result.now ≡ before_first (λ c. c == 0) text.now }
+{
+    match text.iter().position(|c| *c == 0) {
+        Some(length) => &text[..length],
+        None => text,
+    }
+}
+
+// Whether the bytes before the first NUL are these. A name that is longer isn't gone through: the names of a
+// file may be long, and many records may have the same.
+fn is_before_nul(text: &[u8], name: &[u8]) -> bool
+    ensures { result ≡ bytes_eq (before_first (λ c. c == 0) text.now) name.now }
+{
+    let window = &text[..(name.len() + 1).min(text.len())];
+    before_nul_or_end(window) == name
 }

@@ -66,7 +66,7 @@ fn is_named(btf: &Btf, t: TypeRef, name: &[u8], wanted: Wanted) -> bool
     requires target { LiesInside (length btf.now.strings) (length btf.now.records) (rest_role t.kind) t.rest }
     ensures { result ≡ (bytes_eq (name_at btf.now.strings t.name) name.now && is_wanted btf.now wanted t.kind t.rest) }
 {
-    btf.name(t.name) == name && is_wanted(btf, t, wanted)
+    btf.is_named(t.name, name) && is_wanted(btf, t, wanted)
 }
 
 // Whether a type is wanted, whatever its name.

@@ -88,7 +88,7 @@ fn anonymous(btf: &Btf, member: Member) -> Option<TypeRef>
     ensures ours { IfSome result (λ t. type_numbered btf.now t.id ≡ Some t) }
     ensures compound { IfSome result (λ t. IsTrue (is_compound t.kind)) }
 {
-    if btf.name(member.name).is_empty() {
+    if btf.is_named(member.name, b"") {
         compound_under(btf, member.ty)
     } else {
         None

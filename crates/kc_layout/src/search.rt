@@ -57,7 +57,7 @@ fn search_type(btf: &Btf, t: TypeRef, name: &[u8], base: u64, left: u32, levels:
         if remaining == 0 {
             return Search::Beyond;
         }
-        if btf.name(member.name) == name {
+        if btf.is_named(member.name, name) {
             return Search::Found(spot_of(base, member));
         }
         match search_lent(btf, member, name, base, remaining - 1, levels - 1) {
@@ -90,7 +90,7 @@ fn search_lent(btf: &Btf, member: Member, name: &[u8], base: u64, left: u32, lev
     ensures exact { result ≡ lent (search levels btf.now name.now) btf.now base left member }
     ensures behind { LiesBehind base (length btf.now.records) result }
 {
-    if !btf.name(member.name).is_empty() {
+    if !btf.is_named(member.name, b"") {
         return Search::Absent(left);
     }
     let Some(bare) = under(btf, member.ty, MODIFIERS) else {

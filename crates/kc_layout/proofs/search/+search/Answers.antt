@@ -20,11 +20,11 @@ search_type-returns-then-remaining-eq0-clause-exact t c =
     ∙ l.invariant.whole
     ∙ sym (search-next a.levels a.btf.now a.name.now a.t.id a.base a.left (omega arith))
 
-pub search_type-returns-then-eq-clause-exact : goal.search_type-returns-then-eq-clause-exact
-search_type-returns-then-eq-clause-exact t c =
+pub search_type-returns-then-is_named-clause-exact : goal.search_type-returns-then-is_named-clause-exact
+search_type-returns-then-is_named-clause-exact t c =
     let a = c.args in
     let l = c.loop-member in
-    let named : bytes_eq (name_at a.btf.now.strings c.in-Some.member.name) a.name.now ≡ true = ap (λ n. bytes_eq n a.name.now) (sym c.name.ensures.exact) ∙ sym c.eq.ensures ∙ c.if-eq.true in
+    let named : bytes_eq (name_at a.btf.now.strings c.in-Some.member.name) a.name.now ≡ true = sym c.is_named.ensures ∙ c.if-is_named.true in
     ap (λ spot. Found spot) c.spot_of.ensures
     ∙ sym (among-found (search (a.levels - 1) a.btf.now a.name.now) a.btf.now a.name.now a.base l.remaining c.in-Some.member l.member-iterator c.next.new.self c.in-Some.ensures.steps (omega arith) named)
     ∙ l.invariant.whole
@@ -34,7 +34,7 @@ pub search_type-loop-member-preserved : goal.search_type-loop-member-preserved
 search_type-loop-member-preserved t c =
     let a = c.args in
     let l = c.loop-member in
-    let other : bytes_eq (name_at a.btf.now.strings c.in-Some.member.name) a.name.now ≡ false = ap (λ n. bytes_eq n a.name.now) (sym c.name.ensures.exact) ∙ sym c.eq.ensures ∙ c.if-eq.false in
+    let other : bytes_eq (name_at a.btf.now.strings c.in-Some.member.name) a.name.now ≡ false = sym c.is_named.ensures ∙ c.if-is_named.false in
     record {
       whole = search-lent a.levels a.btf.now a.name.now a.t.id a.base a.left l.remaining c.in-Some.member l.member-iterator c.next.new.self (Absent c.in-Absent.rest) l.invariant.whole c.in-Some.ensures.steps (omega arith) other c.in-Absent.ensures.exact;
       inside = All-tail (λ (m : Member). (m.name < length a.btf.now.strings) × (m.ty ≤ length a.btf.now.records)) c.in-Some.member c.next.new.self (rw c.in-Some.ensures.steps at c.loop-member.invariant.inside);
@@ -44,7 +44,7 @@ pub search_type-returns-in-Found-clause-exact : goal.search_type-returns-in-Foun
 search_type-returns-in-Found-clause-exact t c =
     let a = c.args in
     let l = c.loop-member in
-    let other : bytes_eq (name_at a.btf.now.strings c.in-Some.member.name) a.name.now ≡ false = ap (λ n. bytes_eq n a.name.now) (sym c.name.ensures.exact) ∙ sym c.eq.ensures ∙ c.if-eq.false in
+    let other : bytes_eq (name_at a.btf.now.strings c.in-Some.member.name) a.name.now ≡ false = sym c.is_named.ensures ∙ c.if-is_named.false in
     search-lent a.levels a.btf.now a.name.now a.t.id a.base a.left l.remaining c.in-Some.member l.member-iterator c.next.new.self (Found c.in-Found.spot) l.invariant.whole c.in-Some.ensures.steps (omega arith) other c.in-Found.ensures.exact
     ∙ sym (search-next a.levels a.btf.now a.name.now a.t.id a.base a.left (omega arith))
 
@@ -52,7 +52,7 @@ pub search_type-returns-in-Beyond-clause-exact : goal.search_type-returns-in-Bey
 search_type-returns-in-Beyond-clause-exact t c =
     let a = c.args in
     let l = c.loop-member in
-    let other : bytes_eq (name_at a.btf.now.strings c.in-Some.member.name) a.name.now ≡ false = ap (λ n. bytes_eq n a.name.now) (sym c.name.ensures.exact) ∙ sym c.eq.ensures ∙ c.if-eq.false in
+    let other : bytes_eq (name_at a.btf.now.strings c.in-Some.member.name) a.name.now ≡ false = sym c.is_named.ensures ∙ c.if-is_named.false in
     search-lent a.levels a.btf.now a.name.now a.t.id a.base a.left l.remaining c.in-Some.member l.member-iterator c.next.new.self Beyond l.invariant.whole c.in-Some.ensures.steps (omega arith) other c.in-Beyond.ensures.exact
     ∙ sym (search-next a.levels a.btf.now a.name.now a.t.id a.base a.left (omega arith))
 
