@@ -1,5 +1,5 @@
 -- A whole number in virtual memory, bit by bit. Bit n of memory is bit n % 8 of the byte at address n / 8.
-use Rattle.std.specs.Prelude.{◌≡◌, ℕ, ◌+◌, ◌-◌, ◌*◌, ◌/◌, ◌%◌, ◌^◌, ℤ, pos, ◌-ℤ◌, ◌≤ℤ◌, ◌<ℤ◌, Bool, true, false, ◌&&◌, nat_le, if◌then◌else◌, List, ◌∷◌, Option, Some, None, option_to_list, Result, Ok, Err, ◌⊎◌, ⊤}
+use Rattle.std.specs.Prelude.{◌≡◌, ◌≤◌, ℕ, ◌+◌, ◌-◌, ◌*◌, ◌/◌, ◌%◌, ◌^◌, ℤ, pos, ◌-ℤ◌, ◌≤ℤ◌, ◌<ℤ◌, Bool, true, false, ◌&&◌, nat_le, if◌then◌else◌, List, ◌∷◌, Option, Some, None, option_to_list, Result, Ok, Err, ◌⊎◌, ⊤}
 use Rattle.kc_found.specs.declared.space.Stop.{Stop}
 use Rattle.kc_found.specs.declared.space.Stop.TheVariants.{Miss, Fault}
 use Rattle.kc_found.specs.declared.words.VWord.{VWord}
@@ -76,6 +76,13 @@ abbrev pub StopsIn : {A : Type 0} → Result A Stop → ℕ → Type 0
 StopsIn (Ok a) word = ⊤
 StopsIn (Err (Miss s)) word = (s.va ≡ word) ⊎ (s.va ≡ next_word word)
 StopsIn (Err Fault) word = ⊤
+
+-- The steps of an answer, where a word takes so many at most. A number in one word and a miss of the first word
+-- take one word's: no other is asked then.
+abbrev pub StepsWithin : Result Number Stop → ℕ → ℕ → ℕ → ℕ → Type 0
+StepsWithin (Ok number) word most before after = number.second ≡ None → after ≤ before + most
+StepsWithin (Err (Miss s)) word most before after = s.va ≡ word → after ≤ before + most
+StepsWithin (Err Fault) word most before after = ⊤
 
 -- the places that a number shows, or a stop
 abbrev pub number_places : Result Number Stopped → List Place

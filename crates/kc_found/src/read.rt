@@ -1,7 +1,7 @@
 // Reading a whole number, bit by bit.
 ghost use Rattle.std.specs.Prelude.{◌≡◌, ◌+◌, ◌*◌, ◌<◌, ◌≤◌, ◌^◌, pos, ◌-ℤ◌, ◌≤ℤ◌, ◌<ℤ◌, Some, IfOk, IfSome};
 ghost use Rattle.kc_outside.specs.Counts.{Rose};
-ghost use Rattle.kc_found.specs.Bits.{bits as bits_of, bits_from, first_bit, in_one, in_two, next_word, number_of, word_of, InBits, StopsIn};
+ghost use Rattle.kc_found.specs.Bits.{bits as bits_of, bits_from, first_bit, in_one, in_two, next_word, number_of, word_of, InBits, StopsIn, StepsWithin};
 ghost use Rattle.kc_found.specs.Space.{AnswersAs, OnFault, UnlessFault};
 
 use crate::place::place_of;
@@ -26,6 +26,7 @@ pub fn read_bits<S: Space, L: Ledger>(
     ensures range { IfOk result (λ s. InBits bits.signed 64 s.value) }
     ensures stopped { StopsIn result (word_of (first_bit at bits.bit)) }
     ensures steps { steps.new ≤ steps.old + 2 * S.most space.old }
+    ensures one_word { StepsWithin result (word_of (first_bit at bits.bit)) (S.most space.old) steps.old steps.new }
 
     ensures image { S.image space.new ≡ S.image space.old }
     ensures files { S.files space.new ≡ S.files space.old }
