@@ -3,6 +3,7 @@
 
 mod fault;
 mod file_header;
+mod laws;
 mod parts;
 mod program_header;
 mod read;
@@ -10,5 +11,6 @@ mod read;
 mod tests;
 
 pub use fault::{CoreFault, CoreStop};
+pub use laws::know_core;
 pub use parts::Core;
 pub use read::read_core;

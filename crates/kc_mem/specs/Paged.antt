@@ -1,13 +1,22 @@
 -- Physical memory with page tables.
-use Rattle.std.specs.Prelude.{◌+◌, ◌≤◌, Bool, true, false, if◌then◌else◌, Option, option_map}
+use Rattle.std.specs.Prelude.{ℕ, ◌+◌, ◌%◌, ◌≤◌, Bool, true, false, not, nat_eq, if◌then◌else◌, Option, Some, None, option_map}
 use Rattle.std.proofs.Common.{arith}
 use Rattle.kc_word.specs.declared.plain.PageCfg.{PageCfg}
+use Rattle.kc_found.specs.declared.rule.Rule.{Rule}
+use Rattle.kc_found.specs.declared.rule.Rule.TheVariants.{M1, M2}
 use Rattle.kc_found.specs.Image.{Physical, Image}
-use Rattle.kc_found.specs.Translation.{levels}
+use Rattle.kc_found.specs.Translation.{is_canonical, levels}
 
 -- the memory of a dump, where its physical memory is told
 abbrev pub with_paging : PageCfg → Option Physical → Option Image
 with_paging paging physical = option_map (λ p. record { physical = p; paging = paging }) physical
+
+-- The rule that refuses an address by itself, whatever the dump holds: it isn't a multiple of 8, or else it
+-- isn't canonical.
+abbrev pub refused : PageCfg → ℕ → Option Rule
+refused paging va =
+    if not (nat_eq (va % 8) 0) then Some M1
+    else (if not (is_canonical paging va) then Some M2 else None)
 
 some_levels : (five : Bool) → 1 ≤ (if five then 5 else 4) + 1
 some_levels true = Prim.omega arith

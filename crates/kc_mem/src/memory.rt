@@ -1,11 +1,11 @@
 // The words at virtual addresses.
-ghost use Rattle.std.specs.Prelude.{◌≡◌, ◌+◌, ◌%◌, ◌^◌, ◌<◌, ◌≤◌, None, IsTrue, IfOk};
+ghost use Rattle.std.specs.Prelude.{◌≡◌, ◌+◌, ◌%◌, ◌^◌, ◌<◌, ◌≤◌, None, Err, IsTrue, IfSome, IfOk};
 ghost use Rattle.kc_outside.specs.Counts.{Rose};
 ghost use Rattle.kc_found.specs.Image.{pword};
 ghost use Rattle.kc_found.specs.Stopped.{is_stop};
 ghost use Rattle.kc_found.specs.Space.{AnswersAs, OnFault, StopsAt, UnlessFault};
 ghost use Rattle.kc_found.specs.Translation.{levels, vword, word_or_stop};
-ghost use Rattle.kc_mem.specs.Paged.{with_paging, most_one, most_six};
+ghost use Rattle.kc_mem.specs.Paged.{with_paging, refused, most_one, most_six};
 
 use kc_found::{FrameStop, Frames, Miss, Rule, Space, Stop, VWord};
 use kc_page::walk;
@@ -71,7 +71,24 @@ impl<F: Frames> Space for Memory<F> {
 
     ghost most_small = { λ m. most_six m.paging };
 
-    fn word<L: Ledger>(&mut self, va: u64, steps: &mut Steps<L>) -> Result<VWord, Stop> {
+    fn word<L: Ledger>(&mut self, va: u64, steps: &mut Steps<L>) -> Result<VWord, Stop>
+        ensures word { AnswersAs (λ image. vword image va) (with_paging self.old.paging (F.image self.old.frames)) result }
+        ensures asked { IfOk result (λ w. w.va ≡ va) }
+        ensures stopped { StopsAt result va }
+        ensures steps { steps.new ≤ steps.old + (levels self.old.paging + 1) }
+
+        ensures image { with_paging self.new.paging (F.image self.new.frames) ≡ with_paging self.old.paging (F.image self.old.frames) }
+        ensures files { F.files self.new.frames ≡ F.files self.old.frames }
+        ensures through { F.through self.new.frames ≡ F.through self.old.frames }
+        ensures most { levels self.new.paging + 1 ≡ levels self.old.paging + 1 }
+        ensures later { F.faults self.old.frames ≤ F.faults self.new.frames }
+        ensures quiet { UnlessFault result (F.faults self.new.frames ≡ F.faults self.old.frames) }
+        ensures cause { OnFault result (Rose (F.faults self.old.frames) (F.faults self.new.frames)) }
+
+        // What this memory adds: an address that is refused by itself is told at once, with no word read.
+        ensures at_once { IfSome (refused self.old.paging va) (λ rule. result ≡ Err (Stop.Miss (record { va = va; rule = rule; level = 0; pa = 0; entry = None }))) }
+        ensures unread { IfSome (refused self.old.paging va) (λ _. steps.new ≡ steps.old) }
+    {
         read(&mut self.frames, &self.paging, va, steps)
     }
 }
@@ -101,6 +118,8 @@ fn read<F: Frames, L: Ledger>(
     requires small { paging.now.table < 2 ^ 52 }
 
     ensures word { AnswersAs (λ physical. vword (record { physical = physical; paging = paging.now }) va) (F.image frames.old) result }
+    ensures at_once { IfSome (refused paging.now va) (λ rule. result ≡ Err (Stop.Miss (record { va = va; rule = rule; level = 0; pa = 0; entry = None }))) }
+    ensures unread { IfSome (refused paging.now va) (λ _. steps.new ≡ steps.old) }
     ensures asked { IfOk result (λ w. w.va ≡ va) }
     ensures stopped { StopsAt result va }
     ensures steps { steps.new ≤ steps.old + (levels paging.now + 1) }

@@ -11,6 +11,7 @@ use Rattle.kc_notes.specs.declared.note.Step.{Step}
 use Rattle.kc_notes.specs.declared.note.Step.TheVariants.{End, Broken, Whole}
 use Rattle.kc_notes.specs.Notes.{padded, note_at, note_by, note_end, vmcoreinfo_name, is_vmcoreinfo, note_text, on_step, search_from, part_text, on_part, text_from}
 use Rattle.kc_notes.specs.Spelling.{IsNote, LeadsTo, EndsAt, BreaksAt, StopsAt}
+use Rattle.kc_notes.specs.Laws.{FirstPartTells}
 use Rattle.kc_notes.proofs.SearchLemmas.{further, search_ends}
 
 lt_or_le : (m n : ℕ) → (m < n) ⊎ (n ≤ m)
@@ -196,3 +197,8 @@ part_finds index part parts text (Err place) here behind is = absurd (let none :
 pub text_found : (index : ℕ) (parts : List (List ℕ)) (text : List ℕ) → text_from index parts ≡ Ok text → IsFound parts text
 text_found index [] text is = absurd (let none : ⊥ = cc in none)
 text_found index (part ∷ parts) text is = part_finds index part parts text (part_text part) refl (text_found (index + 1) parts text) is
+
+-- the same of a file's parts, in full
+pub first_part_tells : FirstPartTells
+unfolding IsFound
+first_part_tells parts text is = text_found 0 parts text is

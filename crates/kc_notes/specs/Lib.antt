@@ -1,5 +1,6 @@
 pub mod Gives
 pub mod Info
+pub mod Laws
 pub mod Notes
 pub mod Spelling
 pub mod Steps

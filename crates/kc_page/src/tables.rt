@@ -1,6 +1,8 @@
 // The walk (Intel SDM volume 3A, chapter "Paging": four-level and five-level paging).
-ghost use Rattle.std.specs.Prelude.{◌≡◌, ◌+◌, ◌%◌, ◌^◌, ◌<◌, ◌≤◌, IfOk};
+ghost use Rattle.std.specs.Prelude.{◌≡◌, ◌+◌, ◌%◌, ◌^◌, ◌<◌, ◌≤◌, None, Err, IfOk};
+ghost use Rattle.std.specs.Bool.{OnFalse};
 ghost use Rattle.kc_outside.specs.Counts.{Rose};
+ghost use Rattle.kc_found.specs.declared.rule.Rule.TheVariants.{M2};
 ghost use Rattle.kc_found.specs.Space.{AnswersAs, OnFault, StopsAt, UnlessFault};
 ghost use Rattle.kc_found.specs.Translation.{entered, is_canonical, levels, translated, xlate};
 ghost use Rattle.kc_page.specs.Step.{IsWalked, Keeps, StepsAs};
@@ -104,6 +106,10 @@ pub fn walk<F: Frames, L: Ledger>(
     requires small { paging.now.table < 2 ^ 52 }
 
     ensures translated { IsWalked (λ physical. translated (record { physical = physical; paging = paging.now }) va) (F.image frames.old) result }
+    // An address that isn't canonical is told at once, with no word read.
+    ensures outside { OnFalse (is_canonical paging.now va) (result ≡ Err (Stop.Miss (record { va = va; rule = M2; level = 0; pa = 0; entry = None }))) }
+    ensures at_once { OnFalse (is_canonical paging.now va) (steps.new ≡ steps.old) }
+
     ensures stopped { StopsAt result va }
     ensures offset { IfOk result (λ pa. pa.0 % 4096 ≡ va % 4096) }
     ensures small { IfOk result (λ pa. pa.0 < 2 ^ 52) }

@@ -1,9 +1,10 @@
 -- A dump in a store.
-use Rattle.std.specs.Prelude.{ℕ, ◌+◌, ◌≤◌, List, All, Option, Some, None, option_map, is_some, IsTrue, Result, ⊤}
+use Rattle.std.specs.Prelude.{◌≡◌, ℕ, ◌+◌, ◌≤◌, List, All, Option, Some, None, option_map, is_some, IsTrue, Result, Ok, Err, ⊤}
 use Rattle.std.specs.Option.{ForSome}
 use Rattle.kc_word.specs.declared.plain.Segment.{Segment}
 use Rattle.kc_found.specs.declared.words.PWord.{PWord}
 use Rattle.kc_found.specs.declared.frames.FrameStop.{FrameStop}
+use Rattle.kc_found.specs.declared.frames.FrameStop.TheVariants.{Absent, Fault}
 use Rattle.kc_found.specs.Image.{Physical, word_at}
 use Rattle.kc_found.specs.Frames.{IsWord}
 
@@ -23,3 +24,9 @@ stored segments bytes = option_map (λ b. record { bytes = b; segments = segment
 abbrev pub IsPart : Option (List ℕ) → ℕ → Result PWord FrameStop → Type 0
 IsPart None off r = ⊤
 IsPart (Some bytes) off r = IsWord (Some (word_at bytes off)) r
+
+-- the answer is a word at this file offset, short of a fault
+abbrev pub StandsAt : ℕ → Result PWord FrameStop → Type 0
+StandsAt off (Ok w) = w.off ≡ off
+StandsAt off (Err Absent) = ⊥
+StandsAt off (Err Fault) = ⊤

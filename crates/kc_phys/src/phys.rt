@@ -1,11 +1,13 @@
 // The frames of a store.
-ghost use Rattle.std.specs.Prelude.{◌≡◌, ◌+◌, ◌≤◌, ◌∷◌, [], IsSome, IfOk};
+ghost use Rattle.std.specs.Prelude.{◌≡◌, ◌+◌, ◌≤◌, ◌∷◌, [], Err, IsSome, IfSome, IfOk, is_some};
+ghost use Rattle.std.specs.Bool.{OnFalse};
 ghost use Rattle.std.specs.Option.{ForSome};
 ghost use Rattle.kc_outside.specs.declared.store.Slot.TheVariants.{Dump};
 ghost use Rattle.kc_outside.specs.Counts.{Rose};
 ghost use Rattle.kc_outside.specs.Files.{content};
-ghost use Rattle.kc_found.specs.Frames.{OnFault, UnlessFault};
-ghost use Rattle.kc_phys.specs.Stored.{AreInside, IsPart, stored};
+ghost use Rattle.kc_found.specs.Frames.{OnFault, ReadsWord, UnlessFault};
+ghost use Rattle.kc_found.specs.Image.{holder, offset_in};
+ghost use Rattle.kc_phys.specs.Stored.{AreInside, IsPart, StandsAt, stored};
 
 use crate::segments::offset_of;
 use byteorder::{ByteOrder, LittleEndian};
@@ -66,7 +68,23 @@ impl<'s, S: Store> Frames for Phys<'s, S> {
 
     ghost through = { λ p. p.store.ghost_name ∷ [] };
 
-    fn word<L: Ledger>(&mut self, pa: u64, steps: &mut Steps<L>) -> Result<PWord, FrameStop> {
+    fn word<L: Ledger>(&mut self, pa: u64, steps: &mut Steps<L>) -> Result<PWord, FrameStop>
+        ensures word { ReadsWord (stored self.old.segments.items (content (S.files self.old.store.now) Dump (S.opened self.old.store.now Dump))) pa result }
+        ensures steps { steps.new ≡ steps.old + 1 }
+
+        ensures image { stored self.new.segments.items (content (S.files self.new.store.now) Dump (S.opened self.new.store.now Dump)) ≡ stored self.old.segments.items (content (S.files self.old.store.now) Dump (S.opened self.old.store.now Dump)) }
+        ensures files { S.files self.new.store.now ≡ S.files self.old.store.now }
+        ensures through { self.new.store.ghost_name ∷ [] ≡ self.old.store.ghost_name ∷ [] }
+        ensures later { S.faults self.old.store.now ≤ S.faults self.new.store.now }
+        ensures quiet { UnlessFault result (S.faults self.new.store.now ≡ S.faults self.old.store.now) }
+        ensures cause { OnFault result (Rose (S.faults self.old.store.now) (S.faults self.new.store.now)) }
+
+        // What these frames add, of every store: a word that no segment holds is absent, and the store isn't
+        // asked. Another is never absent, and stands where its segment says.
+        ensures absent { OnFalse (is_some (holder pa self.old.segments.items)) (result ≡ Err FrameStop.Absent) }
+        ensures unasked { OnFalse (is_some (holder pa self.old.segments.items)) (self.new.store.now ≡ self.old.store.now) }
+        ensures held { IfSome (holder pa self.old.segments.items) (λ s. StandsAt (offset_in pa s) result) }
+    {
         steps.tick();
         match offset_of(self.store, &self.segments, pa) {
             Some(off) => read_word(self.store, off),
@@ -81,6 +99,7 @@ fn read_word<S: Store>(store: &mut S, off: u64) -> Result<PWord, FrameStop>
     requires within { ForSome (S.sizes store.old Dump) (λ size. off + 8 ≤ size) }
 
     ensures word { IsPart (content (S.files store.old) Dump (S.opened store.old Dump)) off result }
+    ensures held { StandsAt off result }
     ensures opened { S.opened store.new ≡ S.opened store.old }
     ensures sizes { S.sizes store.new ≡ S.sizes store.old }
     ensures files { S.files store.new ≡ S.files store.old }
