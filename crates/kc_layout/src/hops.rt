@@ -1,5 +1,5 @@
 // The pointers to follow.
-ghost use Rattle.std.specs.Prelude.{◌≤◌};
+ghost use Rattle.std.specs.Prelude.{◌≡◌, ◌∷◌, [], ◌≤◌, drop, All};
 
 /// The pointers that lead to a place, by their byte offsets in their structs: the first from where the path
 /// begins, and each further one from where the one before points.
@@ -16,4 +16,5 @@ pub struct Hops {
     /// The fourth.
     pub d: u64,
     pub ghost few: { count ≤ 4 },
+    pub ghost beyond: { All (λ offset. offset ≡ 0) (drop count (a ∷ b ∷ c ∷ d ∷ [])) },
 }

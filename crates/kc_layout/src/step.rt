@@ -1,5 +1,5 @@
 // The steps of a path.
-ghost use Rattle.std.specs.Prelude.{◌≡◌, ℕ, ◌+◌, ◌*◌, ◌^◌, ◌<◌, ◌≤◌, ◌∷◌, [], length, take, option_map, IfOk, IfSome};
+ghost use Rattle.std.specs.Prelude.{◌≡◌, ℕ, ◌+◌, ◌*◌, ◌^◌, ◌<◌, ◌≤◌, ◌∷◌, [], length, take, drop, option_map, All, IfOk, IfSome};
 ghost use Rattle.kc_layout.specs.HopList.{hop_list};
 ghost use Rattle.kc_layout.specs.Places.{start_of, if_near, bare, behind, member_step, element_step, target_numbered, whole_byte, with_hop, follow, member_of, take_step, IsReached};
 ghost use Rattle.kc_layout.specs.PathViews.{step_view};
@@ -141,7 +141,8 @@ fn with_hop(hops: &Hops, byte: u64) -> Option<Hops>
 
 // So many pointers to follow.
 pub(crate) fn make_hops(count: u8, a: u64, b: u64, c: u64, d: u64) -> Hops
-    requires { count ≤ 4 }
+    requires few { count ≤ 4 }
+    requires beyond { All (λ offset. offset ≡ 0) (drop count (a ∷ b ∷ c ∷ d ∷ [])) }
     ensures { hop_list result ≡ take count (a ∷ b ∷ c ∷ d ∷ []) }
 {
     Hops { count, a, b, c, d }

@@ -1,5 +1,5 @@
 // Views over a few words and a few types.
-ghost use Rattle.std.specs.Prelude.{◌≡◌, ◌<◌, ◌≤◌, None, [], length};
+ghost use Rattle.std.specs.Prelude.{◌≡◌, ◌<◌, ◌≤◌, ◌∷◌, None, [], length, drop, All};
 ghost use Rattle.std.proofs.Common.{lit≤};
 
 use crate::{Led, View};
@@ -122,14 +122,21 @@ fn types(alloc: Global) -> Result<Btf, Fail> {
 
 // Pointers at these offsets, of which there are at most four.
 fn hops(offsets: &[u64]) -> Hops {
-    let offset = |i: usize| offsets.get(i).copied().unwrap_or(0);
-    Hops {
-        count: offsets.len().min(4) as u8,
-        a: offset(0),
-        b: offset(1),
-        c: offset(2),
-        d: offset(3),
+    match offsets {
+        [] => make_hops(0, 0, 0, 0, 0),
+        [a] => make_hops(1, *a, 0, 0, 0),
+        [a, b] => make_hops(2, *a, *b, 0, 0),
+        [a, b, c] => make_hops(3, *a, *b, *c, 0),
+        [a, b, c, d, ..] => make_hops(4, *a, *b, *c, *d),
     }
+}
+
+// So many pointers.
+fn make_hops(count: u8, a: u64, b: u64, c: u64, d: u64) -> Hops
+    requires few { count ≤ 4 }
+    requires beyond { All (λ offset. offset ≡ 0) (drop count (a ∷ b ∷ c ∷ d ∷ [])) }
+{
+    Hops { count, a, b, c, d }
 }
 
 // The address of a stop.
