@@ -1,3 +1,4 @@
+pub mod Elements
 pub mod Ends
 pub mod Find
 pub mod HopList

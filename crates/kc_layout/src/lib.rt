@@ -2,6 +2,7 @@
 //! and the place of a member that a path names.
 #![tactic(auto)]
 
+mod elements;
 mod ends;
 mod fault;
 mod find;
@@ -22,6 +23,7 @@ mod step;
 mod tests;
 mod walk;
 
+pub use elements::array_under;
 pub use ends::{Field, Located};
 pub use fault::{PathFault, QRule};
 pub use find::find_type;

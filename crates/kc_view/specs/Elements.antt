@@ -1,15 +1,9 @@
 -- The elements of an array at a virtual address.
 use Rattle.std.specs.Prelude.{ℕ, ◌*◌, nat_lt, if◌then◌else◌, Option, None, option_map, option_and_then}
 use Rattle.kc_btf.specs.declared.types.ArrayOf.{ArrayOf}
-use Rattle.kc_btf.specs.Btf.{Types}
-use Rattle.kc_layout.specs.Modifiers.{under}
-use Rattle.kc_layout.specs.Numbered.{array_numbered}
+use Rattle.kc_layout.specs.Elements.{array_under}
 use Rattle.kc_layout.specs.Size.{size}
 use Rattle.kc_view.specs.Typed.{Typed, laid}
-
--- what a type is an array of under its modifiers, of which at most 32 are followed
-abbrev pub array_under : Types → ℕ → Option ArrayOf
-array_under types ty = option_and_then (array_numbered types) (under 32 types ty)
 
 -- the element with an index, which an array has whose elements have a size
 abbrev pub element_in : Typed → ℕ → ArrayOf → Option Typed

@@ -1,7 +1,6 @@
 //! Typed views of a dump's memory: a type of the kernel's type information at a virtual address.
 #![tactic(auto)]
 
-mod elements;
 mod laws;
 mod pointers;
 #[cfg(test)]

@@ -1,9 +1,8 @@
 // A type of the kernel's type information at a virtual address.
-use crate::elements::array_under;
 use crate::pointers::{Reached, all_offsets, behind, reach};
 use kc_btf::Btf;
 use kc_found::{Place, Scalar, Space, Stop, read_bits};
-use kc_layout::{Field, Located, size_of};
+use kc_layout::{Field, Located, array_under, size_of};
 use kc_word::Steps;
 use std::marker::Model;
 use std::sync::ledger::Ledger;
