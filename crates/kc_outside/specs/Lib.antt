@@ -8,3 +8,4 @@ pub mod Seen
 pub mod SeenLaws
 pub mod Slots
 pub mod Texts
+pub mod WriterSink

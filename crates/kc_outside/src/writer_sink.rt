@@ -1,6 +1,7 @@
 // Standard output and standard error.
-ghost use Rattle.std.specs.Prelude.{◌≡◌, None};
+ghost use Rattle.std.specs.Prelude.{◌≡◌, take, None, IfOk};
 ghost use Rattle.std.specs.Io.{WritesAtMost};
+ghost use Rattle.std.specs.Io.KnownBytes.{Appends};
 
 use crate::counts::Counts;
 use crate::sink::Sink;
@@ -36,14 +37,34 @@ impl<W: Write> WriterSink<W> {
 }
 
 impl<W: Write> Sink for WriterSink<W> {
+    ghost use Rattle.std.specs.Prelude.{◌<◌, ◌≤◌, length, OnOk, OnErr};
+    ghost use Rattle.kc_outside.specs.Counts.{Rose, next_count};
+    ghost use Rattle.kc_outside.specs.WriterSink.{writer_of, faults_of, calls_of};
+
     ghost taken = { λ _. None };
 
-    ghost faults = { λ sink. sink.counts.faults };
+    ghost faults = { faults_of };
 
-    ghost asked = { λ sink. sink.counts.asked };
+    ghost asked = { calls_of };
 
-    /// Writes some of the piece's first bytes, and flushes them.
-    fn put(&mut self, piece: &[u8]) -> Result<usize, Failed> {
+    /// Writes some of the piece's first bytes, and flushes them. Where the writer tells its bytes, they grow by
+    /// as many of the piece's as it says.
+    fn put(&mut self, piece: &[u8]) -> Result<usize, Failed>
+        requires { 0 < length piece.now }
+
+        ensures some { IfOk result (λ n. 0 < n) }
+        ensures within { IfOk result (λ n. n ≤ length piece.now) }
+
+        ensures later { faults_of self.old ≤ faults_of self.new }
+        ensures quiet { OnOk result (faults_of self.new ≡ faults_of self.old) }
+        ensures cause { OnErr result (Rose (faults_of self.old) (faults_of self.new)) }
+        ensures asked { Rose (calls_of self.old) (calls_of self.new) }
+        ensures asked_later { calls_of self.old ≤ calls_of self.new }
+
+        // What this sink adds.
+        ensures written { IfOk result (λ n. Appends (W.contents (writer_of self.old)) (W.contents (writer_of self.new)) (take n piece.now)) }
+        ensures calls { calls_of self.new ≡ next_count (calls_of self.old) }
+    {
         self.counts.ask();
         match write_through(&mut self.writer, piece) {
             Ok(count) if count > 0 => Ok(count),
@@ -54,7 +75,8 @@ impl<W: Write> Sink for WriterSink<W> {
 
 // Writes some of the piece's first bytes, and flushes them.
 fn write_through<W: Write>(writer: &mut W, piece: &[u8]) -> io::Result<usize>
-    ensures { WritesAtMost result piece.now }
+    ensures within { WritesAtMost result piece.now }
+    ensures written { IfOk result (λ n. Appends (W.contents writer.old) (W.contents writer.new) (take n piece.now)) }
 {
     let count = writer.write(piece)?;
     writer.flush()?;
