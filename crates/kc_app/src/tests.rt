@@ -225,57 +225,42 @@ fn numbers_are_shown_with_their_words(rt: HostRuntime) -> Result<(), Fail> {
     Ok(())
 }
 
-// The status of a command over a file of types and a map, and what it says on standard error.
-fn refusal(
-    alloc: Global,
-    words: &[&str],
+// A command over a file of types and a map is refused by a line.
+fn is_refused(
+    rt: &(impl Abort + AllocGlobal),
+    words: &str,
     types: &[u8],
     map: &[u8],
-) -> Result<(u8, Vec<u8>), NoMemory> {
+    wanted: &[u8],
+) -> Result<(), Fail> {
+    let alloc = rt.alloc();
     let mut store = MemStore::new(alloc);
     store.add("z.core", &core_file(alloc)?)?;
     store.add("z.btf", types)?;
     store.add("z.map", map)?;
     let mut line = Vec::new(alloc);
-    for word in words {
+    for word in words.split(' ') {
         line.push(String::from_str(alloc, word)?)?;
     }
     let mut out = MemSink::new(alloc, ENOUGH)?;
     let mut err = MemSink::new(alloc, ENOUGH)?;
     let status = kaudit(alloc, &line, &mut store, &mut out, &mut err);
-    Ok((status, Vec::from_slice(alloc, err.bytes())?))
+    assert_eq!(rt; u64::from(status), 2, "{words}");
+    assert_eq!(rt; err.bytes(), wanted, "{words}");
+    Ok(())
 }
 
 #[test]
 fn files_above_64_mib_are_refused(rt: HostRuntime) -> Result<(), Fail> {
-    let alloc = rt.alloc();
-    let mut bytes = vec![in alloc; 0; 1 << 26]?;
-    let layout = ["layout", "z.btf", "slab"];
-    let show = [
-        "show", "z.core", "z.btf", "z.map", "a_slab", "slab", "inuse",
-    ];
-    let types = btf_file(alloc)?;
-    let (status, line) = refusal(alloc, &layout, &bytes, b"")?;
-    assert_eq!(rt;
-        (status, line.as_slice()),
-        (2, b"refused btf B2 at 0\n".as_slice())
-    );
-    let (status, line) = refusal(alloc, &show, &types, &bytes)?;
-    assert_eq!(rt;
-        (status, line.as_slice()),
-        (2, b"refused map S1 line 1\n".as_slice())
-    );
+    let layout = "layout z.btf slab";
+    let show = "show z.core z.btf z.map a_slab slab inuse";
+    let types = btf_file(rt.alloc())?;
+    let mut bytes = vec![in rt.alloc(); 0; 1 << 26]?;
+    is_refused(&rt, layout, &bytes, b"", b"refused btf B2 at 0\n")?;
+    is_refused(&rt, show, &types, &bytes, b"refused map S1 line 1\n")?;
     bytes.push(0)?;
-    let (status, line) = refusal(alloc, &layout, &bytes, b"")?;
-    assert_eq!(rt;
-        (status, line.as_slice()),
-        (2, b"refused btf F1\n".as_slice())
-    );
-    let (status, line) = refusal(alloc, &show, &types, &bytes)?;
-    assert_eq!(rt;
-        (status, line.as_slice()),
-        (2, b"refused map F1\n".as_slice())
-    );
+    is_refused(&rt, layout, &bytes, b"", b"refused btf F1\n")?;
+    is_refused(&rt, show, &types, &bytes, b"refused map F1\n")?;
     Ok(())
 }
 

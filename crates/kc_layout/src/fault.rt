@@ -28,6 +28,6 @@ pub enum QRule {
 pub struct PathFault {
     /// The broken rule.
     pub rule: QRule,
-    /// The step, counted from 1; 0 for Q8, and for Q6 where the path is empty.
+    /// The step, counted from 1; 0 for Q8, and where the path is empty.
     pub step: u32,
 }
