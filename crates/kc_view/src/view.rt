@@ -113,7 +113,7 @@ impl<'b> View<'b> {
     ) -> Result<Scalar, Stop>
         ensures exact { AnswersAs (λ image. value_at image self.now.at (hop_list field.now.hops) (bits_view field.now.bits)) (S.image space.old) result }
         ensures range { IfOk result (λ number. InBits field.now.bits.signed 64 number.value) }
-        ensures steps { steps.new ≤ steps.old + 10 * S.most space.old }
+        ensures steps { steps.new ≤ steps.old + 2 * (length (hop_list field.now.hops) * S.most space.old) + 2 * S.most space.old }
 
         ensures image { S.image space.new ≡ S.image space.old }
         ensures files { S.files space.new ≡ S.files space.old }
@@ -146,7 +146,7 @@ impl<'b> View<'b> {
 
         ensures exact { AnswersAs (λ image. followed image self.now to.now) (S.image space.old) result }
         ensures leads { IfOk result (LeadsTo self.now.types to.now.ty) }
-        ensures steps { steps.new ≤ steps.old + 8 * S.most space.old }
+        ensures steps { steps.new ≤ steps.old + 2 * (length (hop_list to.now.hops) * S.most space.old) }
 
         ensures image { S.image space.new ≡ S.image space.old }
         ensures files { S.files space.new ≡ S.files space.old }
