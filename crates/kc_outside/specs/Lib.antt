@@ -1,4 +1,5 @@
 pub mod Counts
+pub mod FileStore
 pub mod Files
 pub mod MemFiles
 pub mod MemLaws
@@ -7,5 +8,6 @@ pub mod MemStore
 pub mod Seen
 pub mod SeenLaws
 pub mod Slots
+pub mod System
 pub mod Texts
 pub mod WriterSink

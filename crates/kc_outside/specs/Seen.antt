@@ -4,12 +4,18 @@ use Rattle.kc_outside.specs.declared.seen.Seen.{Seen}
 use Rattle.kc_outside.specs.declared.seen.Seen.TheVariants.{Nothing, Opened, Sized}
 
 -- The name that a slot holds. No name tells its bytes, so one stands for all.
-abbrev pub seen_name : Seen → Option (List ℕ)
+abbrev pub seen_name : {F : Type 0} → Seen F → Option (List ℕ)
 seen_name Nothing = None
-seen_name Opened = Some []
-seen_name (Sized size) = Some []
+seen_name (Opened file) = Some []
+seen_name (Sized file size) = Some []
 
 -- the size that was learnt
-abbrev pub seen_size : Seen → Option ℕ
-seen_size (Sized size) = Some size.bytes
+abbrev pub seen_size : {F : Type 0} → Seen F → Option ℕ
+seen_size (Sized file size) = Some size.bytes
 seen_size seen = None
+
+-- the file that a slot holds
+abbrev pub seen_file : {F : Type 0} → Seen F → Option F
+seen_file Nothing = None
+seen_file (Opened file) = Some file
+seen_file (Sized file size) = Some file

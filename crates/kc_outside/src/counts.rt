@@ -1,8 +1,10 @@
 // The counts of calls and of faults, as each implementation keeps them.
-ghost use Rattle.std.specs.Prelude.{◌≡◌, ◌≤◌};
+ghost use Rattle.std.specs.Prelude.{◌≡◌, ◌≤◌, MatchResult, IsErr, Ok};
 ghost use Rattle.kc_outside.specs.Counts.{next_count};
+ghost use Rattle.kc_outside.specs.System.{after_answer};
 
 use crate::store::Failed;
+use std::io;
 
 // How many calls there were, and how many of them failed. At 2^64 - 1 a count stands still.
 #[derive(Drop)]
@@ -37,5 +39,16 @@ impl Counts {
     {
         self.faults = self.faults.saturating_add(1);
         Failed
+    }
+    // What the system answered. An error is counted as a failure.
+    pub(crate) fn told<T>(&mut self, answer: io::Result<T>) -> Result<T, Failed>
+        ensures answer { MatchResult answer (λ value. result ≡ Ok value) (λ _. IsErr result) }
+        ensures counts { self.new ≡ after_answer self.old result }
+        ensures later { self.old.faults ≤ self.new.faults }
+    {
+        match answer {
+            Ok(value) => Ok(value),
+            Err(_) => Err(self.fail()),
+        }
     }
 }

@@ -1,26 +1,19 @@
 // The files of the system.
 ghost use Rattle.std.specs.Prelude.{◌≡◌, None};
 ghost use Rattle.kc_outside.specs.declared.store.Slot.{Slot};
-ghost use Rattle.kc_outside.specs.Slots.{in_slot};
-ghost use Rattle.kc_outside.specs.Seen.{seen_name, seen_size};
-ghost use Rattle.kc_outside.specs.SeenLaws.{seen_size-name, seen_size-small};
 
-use crate::counts::Counts;
-use crate::seen::{Seen, Size};
+use crate::seen::Seen;
 use crate::slots::Slots;
 use crate::store::{Failed, Slot, Store};
-use std::fs::OpenFile;
-use std::io::{Read, Seek, SeekFrom};
+use crate::system::System;
+use std::io::{Read, Seek};
 use std::rt::Files;
-use std::{fs, io};
 
 /// The files of the system, of which it holds up to six open. A name that isn't there, one that isn't a
 /// regular file, and each other error of the system is a failure. What a file holds is told by nobody.
 pub struct FileStore<'r, R: Files> {
-    runtime: &'r R,
-    files: Slots<Option<R::File>>,
-    seen: Slots<Seen>,
-    counts: Counts,
+    system: System<'r, R>,
+    held: Slots<Seen<R::File>>,
 }
 
 impl<'r, R: Files> FileStore<'r, R> {
@@ -31,16 +24,8 @@ impl<'r, R: Files> FileStore<'r, R> {
         ensures asked { ⟦<FileStore<'r, R> as Store>⟧.asked result ≡ 0 }
     {
         FileStore {
-            runtime,
-            files: Slots {
-                dump: None,
-                btf: None,
-                map: None,
-                plan: None,
-                report: None,
-                extra: None,
-            },
-            seen: Slots {
+            system: System::new(runtime),
+            held: Slots {
                 dump: Seen::Nothing,
                 btf: Seen::Nothing,
                 map: Seen::Nothing,
@@ -48,96 +33,91 @@ impl<'r, R: Files> FileStore<'r, R> {
                 report: Seen::Nothing,
                 extra: Seen::Nothing,
             },
-            counts: Counts::new(),
         }
     }
 }
 
 impl<R: Files> Drop for FileStore<'_, R> {
     fn drop(self) {
-        let FileStore {
-            runtime: _,
-            files: _,
-            seen: _,
-            counts: _,
-        } = self;
+        let FileStore { system: _, held: _ } = self;
     }
 }
 
 impl<R: Files> Store for FileStore<'_, R> {
+    ghost use Rattle.std.specs.Prelude.{◌+◌, ◌≤◌, length, IsSome, OnOk, OnErr};
+    ghost use Rattle.std.specs.Option.{ForSome};
+    ghost use Rattle.kc_outside.specs.Counts.{Rose};
+    ghost use Rattle.kc_outside.specs.Files.{content, HasPart};
+    ghost use Rattle.kc_outside.specs.FileStore.{opened_in, size_in, file_in, faults_of, calls_of, IsReadOf};
+    ghost use Rattle.kc_outside.specs.SeenLaws.{seen_size-name, seen_size-small};
+    ghost use Rattle.kc_outside.specs.Slots.{in_slot};
+
     ghost may = { λ _ _ _. Unit {0} };
 
     ghost files = { λ _. None };
 
-    ghost opened = { λ store slot. seen_name (in_slot store.seen slot) };
+    ghost opened = { opened_in };
 
-    ghost sizes = { λ store slot. seen_size (in_slot store.seen slot) };
+    ghost sizes = { size_in };
 
-    ghost faults = { λ store. store.counts.faults };
+    ghost faults = { faults_of };
 
-    ghost asked = { λ store. store.counts.asked };
+    ghost asked = { calls_of };
 
-    ghost size_opened = { λ store slot known. seen_size-name (in_slot store.seen slot) known };
+    ghost size_opened = { λ store slot known. seen_size-name (in_slot store.held slot) known };
 
-    ghost size_fits = { λ store slot n known. seen_size-small (in_slot store.seen slot) n known };
+    ghost size_fits = { λ store slot n known. seen_size-small (in_slot store.held slot) n known };
 
     ghost size_length = { λ store slot n known. tt };
 
     /// Opens the file of a name. A name that isn't there or isn't a regular file is a failure.
     fn open_file(&mut self, slot: Slot, name: &str) -> Result<(), Failed> {
-        self.counts.ask();
-        match open_regular(self.runtime, name) {
+        match self.system.open(name) {
             Ok(file) => {
-                self.files.replace(slot, Some(file));
-                self.seen.replace(slot, Seen::Opened);
+                self.held.replace(slot, Seen::Opened(file));
                 Ok(())
             }
-            Err(_) => {
-                self.files.replace(slot, None);
-                self.seen.replace(slot, Seen::Nothing);
-                Err(self.counts.fail())
+            Err(failed) => {
+                self.held.replace(slot, Seen::Nothing);
+                Err(failed)
             }
         }
     }
 
     /// The length that the system gives the file in a slot, in bytes.
     fn size(&mut self, slot: Slot) -> Result<u64, Failed> {
-        self.counts.ask();
-        match self.files.get(slot).as_ref().map(|file| file.metadata()) {
-            Some(Ok(metadata)) => {
-                let bytes = metadata.len();
-                self.seen.replace(slot, Seen::Sized(Size { bytes }));
-                Ok(bytes)
-            }
-            _ => Err(self.counts.fail()),
-        }
+        let bytes = match self.held.get(slot) {
+            Seen::Opened(file) | Seen::Sized(file, _) => self.system.length(file)?,
+            Seen::Nothing => unreachable!(),
+        };
+        let seen = self.held.replace(slot, Seen::Nothing);
+        self.held.replace(slot, seen.with_size(bytes));
+        Ok(bytes)
     }
 
     /// Reads from the file offset `off` on. A file that ends before the buffer is full is a failure.
-    fn read_at(&mut self, slot: Slot, off: u64, buf: &mut [u8]) -> Result<(), Failed> {
-        self.counts.ask();
-        match self.files.get_mut(slot) {
-            Some(file) => match read_part(file, off, buf) {
-                Ok(()) => Ok(()),
-                Err(_) => Err(self.counts.fail()),
-            },
-            None => Err(self.counts.fail()),
-        }
-    }
-}
+    fn read_at(&mut self, slot: Slot, off: u64, buf: &mut [u8]) -> Result<(), Failed>
+        requires learnt { IsSome (size_in self.old slot) }
+        requires within { ForSome (size_in self.old slot) (λ n. off + length buf.old ≤ n) }
 
-// Opens a regular file for reading. What isn't one is refused before it is opened, since to open a pipe
-// may wait for a writer.
-fn open_regular<R: Files>(runtime: &R, name: &str) -> io::Result<R::File> {
-    if fs::metadata(runtime, name)?.is_file() {
-        fs::open(runtime, name)
-    } else {
-        Err(io::Error::from(io::ErrorKind::InvalidInput))
-    }
-}
+        ensures part { OnOk result (HasPart (content None slot (opened_in self.old slot)) off (length buf.old) buf.new) }
+        ensures opened { opened_in self.new ≡ opened_in self.old }
+        ensures sizes { size_in self.new ≡ size_in self.old }
 
-// Fills the buffer from the file offset `off` on.
-fn read_part<F: Read + Seek>(file: &mut F, off: u64, buf: &mut [u8]) -> io::Result<()> {
-    file.seek(SeekFrom::Start(off))?;
-    file.read_exact(buf)
+        ensures later { faults_of self.old ≤ faults_of self.new }
+        ensures quiet { OnOk result (faults_of self.new ≡ faults_of self.old) }
+        ensures cause { OnErr result (Rose (faults_of self.old) (faults_of self.new)) }
+        ensures asked { Rose (calls_of self.old) (calls_of self.new) }
+        ensures asked_later { calls_of self.old ≤ calls_of self.new }
+
+        // What this store adds.
+        ensures read { OnOk result (IsReadOf ⟦<R::File as Seek>⟧.stream_position ⟦<R::File as Read>⟧.remaining (file_in self.old slot) (file_in self.new slot) off buf.new) }
+    {
+        let Seen::Sized(mut file, size) = self.held.replace(slot, Seen::Nothing) else {
+            unreachable!()
+        };
+        let read = self.system.read(&mut file, off, buf);
+        self.held.replace(slot, Seen::Sized(file, size));
+        read
+    }
 }

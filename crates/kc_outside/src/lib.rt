@@ -15,6 +15,7 @@ mod seen;
 mod sink;
 mod slots;
 mod store;
+mod system;
 #[cfg(test)]
 mod tests;
 mod writer_sink;

@@ -17,7 +17,7 @@ pub trait Sink {
     ghost asked: { Self → ℕ };
 
     /// Takes some of the piece's first bytes, at least one, and says how many. After a failure nothing
-    /// of it was taken.
+    /// of it was taken, where it is told what is taken; else a first part of it may have gone on.
     fn put(&mut self, piece: &[u8]) -> Result<usize, Failed>
         requires { 0 < length piece.now }
 

@@ -1,6 +1,6 @@
 // Standard output and standard error.
-ghost use Rattle.std.specs.Prelude.{◌≡◌, take, None, IfOk};
-ghost use Rattle.std.specs.Io.{WritesAtMost};
+ghost use Rattle.std.specs.Prelude.{◌≡◌, ◌<◌, take, None, IfOk};
+ghost use Rattle.std.specs.Result.{OkIff};
 ghost use Rattle.std.specs.Io.KnownBytes.{Appends};
 
 use crate::counts::Counts;
@@ -13,8 +13,7 @@ use std::io::Write;
 /// and an error of the flush are failures. What reaches the system is told by nobody.
 #[derive(Drop)]
 pub struct WriterSink<W: Write> {
-    writer: W,
-    counts: Counts,
+    output: Output<W>,
 }
 
 /// The sink over standard output.
@@ -30,8 +29,10 @@ impl<W: Write> WriterSink<W> {
         ensures asked { ⟦<WriterSink<W> as Sink>⟧.asked result ≡ 0 }
     {
         WriterSink {
-            writer,
-            counts: Counts::new(),
+            output: Output {
+                writer,
+                counts: Counts::new(),
+            },
         }
     }
 }
@@ -39,6 +40,7 @@ impl<W: Write> WriterSink<W> {
 impl<W: Write> Sink for WriterSink<W> {
     ghost use Rattle.std.specs.Prelude.{◌<◌, ◌≤◌, length, OnOk, OnErr};
     ghost use Rattle.kc_outside.specs.Counts.{Rose, next_count};
+    ghost use Rattle.kc_outside.specs.System.{GrowsByPart};
     ghost use Rattle.kc_outside.specs.WriterSink.{writer_of, faults_of, calls_of};
 
     ghost taken = { λ _. None };
@@ -63,24 +65,61 @@ impl<W: Write> Sink for WriterSink<W> {
 
         // What this sink adds.
         ensures written { IfOk result (λ n. Appends (W.contents (writer_of self.old)) (W.contents (writer_of self.new)) (take n piece.now)) }
+        ensures part { OnErr result (GrowsByPart (W.contents (writer_of self.old)) (W.contents (writer_of self.new)) piece.now) }
         ensures calls { calls_of self.new ≡ next_count (calls_of self.old) }
     {
-        self.counts.ask();
-        match write_through(&mut self.writer, piece) {
-            Ok(count) if count > 0 => Ok(count),
-            _ => Err(self.counts.fail()),
-        }
+        let count = self.output.write(piece)?;
+        self.output.flush()?;
+        Ok(count)
     }
 }
 
-// Writes some of the piece's first bytes, and flushes them.
-fn write_through<W: Write>(writer: &mut W, piece: &[u8]) -> io::Result<usize>
-    ensures within { WritesAtMost result piece.now }
-    ensures written { IfOk result (λ n. Appends (W.contents writer.old) (W.contents writer.new) (take n piece.now)) }
+// A writer, and how often it was asked to write and failed. No contract tells when a writer fails, so each
+// call of it stands alone here, and its error is counted.
+#[derive(Drop)]
+struct Output<W: Write> {
+    writer: W,
+    counts: Counts,
+}
+
+impl<W: Write> Output<W> {
+    ghost use Rattle.std.specs.Prelude.{◌≡◌, ◌<◌, ◌≤◌, length, IfOk};
+    ghost use Rattle.std.specs.Io.KnownBytes.{Keeps, WriteAppends};
+    ghost use Rattle.kc_outside.specs.System.{after_answer, after_call};
+
+    // Writes some of the piece's first bytes. No byte is a failure.
+    fn write(&mut self, piece: &[u8]) -> Result<usize, Failed>
+        ensures some { IfOk result (λ n. 0 < n) }
+        ensures within { IfOk result (λ n. n ≤ length piece.now) }
+        ensures bytes { WriteAppends (W.contents self.old.writer) (W.contents self.new.writer) result piece.now }
+        ensures counts { self.new.counts ≡ after_call self.old.counts result }
+        ensures later { self.old.counts.faults ≤ self.new.counts.faults }
+        ensures asked_later { self.old.counts.asked ≤ self.new.counts.asked }
+    {
+        self.counts.ask();
+        let written = self.writer.write(piece);
+        self.counts.told(written.and_then(check_some))
+    }
+
+    // Has the writer pass on what it holds.
+    fn flush(&mut self) -> Result<(), Failed>
+        ensures bytes { Keeps (W.contents self.old.writer) (W.contents self.new.writer) }
+        ensures counts { self.new.counts ≡ after_answer self.old.counts result }
+        ensures later { self.old.counts.faults ≤ self.new.counts.faults }
+    {
+        self.counts.told(self.writer.flush())
+    }
+}
+
+// Refuses a write of no byte.
+fn check_some(count: usize) -> io::Result<usize>
+    ensures { OkIff result (0 < count) count }
 {
-    let count = writer.write(piece)?;
-    writer.flush()?;
-    Ok(count)
+    if count > 0 {
+        Ok(count)
+    } else {
+        Err(io::Error::from(io::ErrorKind::WriteZero))
+    }
 }
 
 #[cfg(test)]
