@@ -47,6 +47,12 @@ OnStore (Err (Refused line)) P = ⊤
 OnStore (Err Store) P = P
 OnStore (Err Memory) P = ⊤
 
+abbrev pub UnlessStore : {A : Type 0} → Result A Halt → Type 0 → Type 0
+UnlessStore (Ok answer) P = P
+UnlessStore (Err (Refused line)) P = P
+UnlessStore (Err Store) P = ⊤
+UnlessStore (Err Memory) P = P
+
 abbrev pub NotStore : {A : Type 0} → Result A Halt → Type 0
 NotStore r = OnStore r ⊥
 

@@ -9,7 +9,7 @@ ghost use Rattle.kc_notes.specs.Info.{info};
 ghost use Rattle.kc_app.specs.Paging.{IsTable};
 ghost use Rattle.kc_app.specs.Output.{dump_parts, noted};
 ghost use Rattle.kc_app.specs.Made.{Is, IsOf};
-ghost use Rattle.kc_app.specs.Answer.{IsStopped, NotStore, OnStore};
+ghost use Rattle.kc_app.specs.Answer.{IsStopped, NotStore, OnStore, UnlessStore};
 
 use crate::answer::{Answer, Halt};
 use crate::file::open;
@@ -33,6 +33,7 @@ pub fn read_dump<S: Store>(alloc: Global, store: &mut S, name: &str) -> Result<C
     ensures may { (s : Slot) (n : List ℕ) → S.may store.old s n → S.may store.new s n }
     ensures files { S.files store.new ≡ S.files store.old }
     ensures later { S.faults store.old ≤ S.faults store.new }
+    ensures quiet { UnlessStore result (S.faults store.new ≡ S.faults store.old) }
     ensures cause { OnStore result (Rose (S.faults store.old) (S.faults store.new)) }
 {
     let _ = open(store, Slot::Dump, name)?;

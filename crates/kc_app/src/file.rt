@@ -2,7 +2,7 @@
 ghost use Rattle.std.specs.Prelude.{◌≡◌, ℕ, ◌≤◌, ◌^◌, List, Some, IfOk, IfSome, OnOk, OnErr, IsSome};
 ghost use Rattle.kc_outside.specs.Counts.{Rose};
 ghost use Rattle.kc_outside.specs.Files.{content, named, HasLength, HasPart, OthersStay};
-ghost use Rattle.kc_app.specs.Answer.{OnStore, NotRefused};
+ghost use Rattle.kc_app.specs.Answer.{OnStore, NotRefused, UnlessStore};
 ghost use Rattle.kc_app.specs.Made.{IsOf, short_file};
 
 use crate::answer::Halt;
@@ -26,6 +26,7 @@ pub fn open<S: Store>(store: &mut S, slot: Slot, name: &str) -> Result<u64, Fail
     ensures may { (s : Slot) (n : List ℕ) → S.may store.old s n → S.may store.new s n }
     ensures files { S.files store.new ≡ S.files store.old }
     ensures later { S.faults store.old ≤ S.faults store.new }
+    ensures quiet { OnOk result (S.faults store.new ≡ S.faults store.old) }
     ensures cause { OnErr result (Rose (S.faults store.old) (S.faults store.new)) }
 {
     store.open_file(slot, name)?;
@@ -50,6 +51,7 @@ fn read_opened<S: Store>(
     ensures may { (s : Slot) (n : List ℕ) → S.may store.old s n → S.may store.new s n }
     ensures files { S.files store.new ≡ S.files store.old }
     ensures later { S.faults store.old ≤ S.faults store.new }
+    ensures quiet { UnlessStore result (S.faults store.new ≡ S.faults store.old) }
     ensures cause { OnStore result (Rose (S.faults store.old) (S.faults store.new)) }
 {
     let mut bytes = vec![in alloc; 0; size as usize]?;
@@ -75,6 +77,7 @@ pub fn read_file<S: Store>(
     ensures may { (s : Slot) (n : List ℕ) → S.may store.old s n → S.may store.new s n }
     ensures files { S.files store.new ≡ S.files store.old }
     ensures later { S.faults store.old ≤ S.faults store.new }
+    ensures quiet { UnlessStore result (S.faults store.new ≡ S.faults store.old) }
     ensures cause { OnStore result (Rose (S.faults store.old) (S.faults store.new)) }
 {
     let size = open(store, slot, name)?;

@@ -6,7 +6,7 @@ ghost use Rattle.kc_layout.specs.Find.{find};
 ghost use Rattle.kc_layout.specs.Listing.{compound_under};
 ghost use Rattle.kc_outside.specs.declared.store.Slot.{Slot};
 ghost use Rattle.kc_outside.specs.Counts.{Rose};
-ghost use Rattle.kc_app.specs.Answer.{NotStore, OnStore, shown_by};
+ghost use Rattle.kc_app.specs.Answer.{NotStore, OnStore, shown_by, UnlessStore};
 ghost use Rattle.kc_app.specs.Made.{Is, IsOf};
 ghost use Rattle.kc_app.specs.Output.{layout_made, layout_of};
 
@@ -26,6 +26,7 @@ pub fn layout<S: Store>(alloc: Global, store: &mut S, btf: &str, name: &str) -> 
     ensures output { IsOf shown_by (λ files. layout_made name.now (files Slot.Btf btf.now)) (S.files store.old) result }
     ensures files { S.files store.new ≡ S.files store.old }
     ensures later { S.faults store.old ≤ S.faults store.new }
+    ensures quiet { UnlessStore result (S.faults store.new ≡ S.faults store.old) }
     ensures cause { OnStore result (Rose (S.faults store.old) (S.faults store.new)) }
 {
     let types = read_types(alloc, store, btf)?;

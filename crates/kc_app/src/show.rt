@@ -4,13 +4,13 @@ ghost use Rattle.kc_outside.specs.declared.store.Slot.{Slot};
 ghost use Rattle.kc_outside.specs.declared.store.Slot.TheVariants.{Dump, Map};
 ghost use Rattle.kc_outside.specs.Counts.{Rose};
 ghost use Rattle.kc_outside.specs.Files.{content};
-ghost use Rattle.kc_found.specs.Space.{AnswersAs, OnFault};
+ghost use Rattle.kc_found.specs.Space.{AnswersAs, OnFault, UnlessFault};
 ghost use Rattle.kc_layout.specs.HopList.{hop_list};
 ghost use Rattle.kc_layout.specs.Views.{bits_view};
 ghost use Rattle.kc_phys.specs.Stored.{AreInside};
 ghost use Rattle.kc_view.specs.Pointers.{value_at};
 ghost use Rattle.kc_app.specs.Paging.{IsTable, by_info};
-ghost use Rattle.kc_app.specs.Answer.{IsNumber, OnStore, shown_by, target_view, worded};
+ghost use Rattle.kc_app.specs.Answer.{IsNumber, OnStore, shown_by, target_view, worded, UnlessStore};
 ghost use Rattle.kc_app.specs.Made.{IsOf, IsOfBytes, gives};
 ghost use Rattle.kc_app.specs.Output.{image_of, number_read, number_shown, show_made};
 
@@ -44,6 +44,7 @@ pub fn show<S: Store>(alloc: Global, store: &mut S, question: &Question<'_>) -> 
     ensures output { IsOf shown_by (λ files. show_made (worded question.now) (files Dump question.now.dump.now) (files Slot.Btf question.now.btf.now) (files Map question.now.map.now)) (S.files store.old) result }
     ensures files { S.files store.new ≡ S.files store.old }
     ensures later { S.faults store.old ≤ S.faults store.new }
+    ensures quiet { UnlessStore result (S.faults store.new ≡ S.faults store.old) }
     ensures cause { OnStore result (Rose (S.faults store.old) (S.faults store.new)) }
 {
     let core = read_dump(alloc, store, question.dump)?;
@@ -69,6 +70,7 @@ fn look_up<S: Store>(
     ensures output { IsOfBytes shown_by (λ bytes. gives (number_shown (number_read (image_of bytes core.now.segments (by_info info)) (target_view target.now)))) (content (S.files store.old) Dump (S.opened store.old Dump)) result }
     ensures files { S.files store.new ≡ S.files store.old }
     ensures later { S.faults store.old ≤ S.faults store.new }
+    ensures quiet { UnlessStore result (S.faults store.new ≡ S.faults store.old) }
     ensures cause { OnStore result (Rose (S.faults store.old) (S.faults store.new)) }
 {
     let segments = core.segments().to_vec(alloc)?;
@@ -112,6 +114,7 @@ fn read_number<S: Store>(
     ensures number { AnswersAs (λ bytes. value_at (image_of bytes segments.items paging) view.now.at (hop_list field.now.hops) (bits_view field.now.bits)) (content (S.files store.old) Dump (S.opened store.old Dump)) result }
     ensures files { S.files store.new ≡ S.files store.old }
     ensures later { S.faults store.old ≤ S.faults store.new }
+    ensures quiet { UnlessFault result (S.faults store.new ≡ S.faults store.old) }
     ensures cause { OnFault result (Rose (S.faults store.old) (S.faults store.new)) }
 {
     read_counted::<S, Brand>(store, segments, paging, view, field, Blank::new(1))
@@ -135,6 +138,7 @@ fn read_counted<S: Store, L: Ledger>(
     ensures number { AnswersAs (λ bytes. value_at (image_of bytes segments.items paging) view.now.at (hop_list field.now.hops) (bits_view field.now.bits)) (content (S.files store.old) Dump (S.opened store.old Dump)) result }
     ensures files { S.files store.new ≡ S.files store.old }
     ensures later { S.faults store.old ≤ S.faults store.new }
+    ensures quiet { UnlessFault result (S.faults store.new ≡ S.faults store.old) }
     ensures cause { OnFault result (Rose (S.faults store.old) (S.faults store.new)) }
 {
     let mut steps = Steps::<L>::new(blank);

@@ -4,7 +4,7 @@ ghost use Rattle.kc_outside.specs.declared.store.Slot.{Slot};
 ghost use Rattle.kc_outside.specs.declared.store.Slot.TheVariants.{Dump, Map};
 ghost use Rattle.kc_outside.specs.Counts.{Rose};
 ghost use Rattle.kc_layout.specs.Views.{number_view};
-ghost use Rattle.kc_app.specs.Answer.{NotStore, OnStore, target_view, worded};
+ghost use Rattle.kc_app.specs.Answer.{NotStore, OnStore, target_view, worded, UnlessStore};
 ghost use Rattle.kc_app.specs.Made.{Is, IsOf};
 ghost use Rattle.kc_app.specs.Output.{map_in, number_in, symbol_in, target_in};
 
@@ -48,6 +48,7 @@ pub fn find_target<S: Store>(
     ensures dump_size { S.sizes store.new Dump ≡ S.sizes store.old Dump }
     ensures files { S.files store.new ≡ S.files store.old }
     ensures later { S.faults store.old ≤ S.faults store.new }
+    ensures quiet { UnlessStore result (S.faults store.new ≡ S.faults store.old) }
     ensures cause { OnStore result (Rose (S.faults store.old) (S.faults store.new)) }
 {
     let map = read_map(alloc, store, question.map)?;
@@ -71,6 +72,7 @@ fn read_map<S: Store>(alloc: Global, store: &mut S, name: &str) -> Result<Vec<u8
     ensures dump_size { S.sizes store.new Dump ≡ S.sizes store.old Dump }
     ensures files { S.files store.new ≡ S.files store.old }
     ensures later { S.faults store.old ≤ S.faults store.new }
+    ensures quiet { UnlessStore result (S.faults store.new ≡ S.faults store.old) }
     ensures cause { OnStore result (Rose (S.faults store.old) (S.faults store.new)) }
 {
     read_file(alloc, store, Slot::Map, name, MAP_TOO_LONG)

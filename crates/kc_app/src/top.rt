@@ -9,7 +9,7 @@ ghost use Rattle.kc_outside.specs.Texts.{with_piece};
 ghost use Rattle.kc_app.specs.Command.{command, name_in, slot_word};
 ghost use Rattle.kc_app.specs.Texts.{store_failed, memory_refused, sink_failed};
 ghost use Rattle.kc_app.specs.Output.{out as output, output_of, asked_made, asked_files, word_files};
-ghost use Rattle.kc_app.specs.Answer.{OnStore, asked, shown_by, HasTable};
+ghost use Rattle.kc_app.specs.Answer.{OnStore, asked, shown_by, HasTable, UnlessStore};
 ghost use Rattle.kc_app.specs.Made.{IsOf};
 ghost use Rattle.kc_app.specs.Ends.{AtStatus, ErrFailed, IsTold, TookOut, TookPrefix, is_answer, is_silent};
 
@@ -30,6 +30,7 @@ fn run<S: Store>(alloc: Global, request: Command<'_>, store: &mut S) -> Result<A
     ensures output { IsOf shown_by (λ files. asked_made (asked request.entry) (asked_files (asked request.entry) files)) (S.files store.old) result }
     ensures files { S.files store.new ≡ S.files store.old }
     ensures later { S.faults store.old ≤ S.faults store.new }
+    ensures quiet { UnlessStore result (S.faults store.new ≡ S.faults store.old) }
     ensures cause { OnStore result (Rose (S.faults store.old) (S.faults store.new)) }
 {
     match request {
@@ -115,9 +116,11 @@ pub fn kaudit<S: Store, O: Sink, E: Sink>(
     ensures usage_unasked { command (map string_bytes words.now) ≡ None → S.asked store.new ≡ S.asked store.old }
     ensures sink_failed { AtStatus result 4 (Rose (O.faults out.old) (O.faults out.new) ⊎ Rose (E.faults err.old) (E.faults err.new)) }
 
-    // Standard output stays empty on a refusal, and no sink failed but at status 4.
+    // Standard output stays empty on a refusal. The store failed only at status 3, or where that couldn't be
+    // told, and a sink only at status 4.
     ensures silent { OnTrue (is_silent result) (O.asked out.new ≡ O.asked out.old) }
     ensures silent_text { OnTrue (is_silent result) (O.taken out.new ≡ O.taken out.old) }
+    ensures quiet_store { OnTrue (not (nat_eq result 3 || nat_eq result 4)) (S.faults store.new ≡ S.faults store.old) }
     ensures quiet_out { OnTrue (not (nat_eq result 4)) (O.faults out.new ≡ O.faults out.old) }
     ensures quiet_err { OnTrue (not (nat_eq result 4)) (E.faults err.new ≡ E.faults err.old) }
 

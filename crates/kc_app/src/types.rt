@@ -4,7 +4,7 @@ ghost use Rattle.kc_btf.specs.Btf.{btf};
 ghost use Rattle.kc_outside.specs.declared.store.Slot.{Slot};
 ghost use Rattle.kc_outside.specs.declared.store.Slot.TheVariants.{Dump};
 ghost use Rattle.kc_outside.specs.Counts.{Rose};
-ghost use Rattle.kc_app.specs.Answer.{NotStore, OnStore};
+ghost use Rattle.kc_app.specs.Answer.{NotStore, OnStore, UnlessStore};
 ghost use Rattle.kc_app.specs.Made.{Is, IsOf};
 ghost use Rattle.kc_app.specs.Output.{types_in, types_of};
 
@@ -40,6 +40,7 @@ pub fn read_types<S: Store>(alloc: Global, store: &mut S, name: &str) -> Result<
     ensures may { (s : Slot) (n : List ℕ) → S.may store.old s n → S.may store.new s n }
     ensures files { S.files store.new ≡ S.files store.old }
     ensures later { S.faults store.old ≤ S.faults store.new }
+    ensures quiet { UnlessStore result (S.faults store.new ≡ S.faults store.old) }
     ensures cause { OnStore result (Rose (S.faults store.old) (S.faults store.new)) }
 {
     let bytes = read_file(alloc, store, Slot::Btf, name, TOO_LONG)?;

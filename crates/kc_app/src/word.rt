@@ -3,13 +3,13 @@ ghost use Rattle.std.specs.Prelude.{◌≡◌, ◌<◌, ◌≤◌, IfOk, IfSome,
 ghost use Rattle.kc_outside.specs.declared.store.Slot.TheVariants.{Dump};
 ghost use Rattle.kc_outside.specs.Counts.{Rose};
 ghost use Rattle.kc_outside.specs.Files.{content};
-ghost use Rattle.kc_found.specs.Space.{AnswersAs, OnFault};
+ghost use Rattle.kc_found.specs.Space.{AnswersAs, OnFault, UnlessFault};
 ghost use Rattle.kc_found.specs.Translation.{vword};
 ghost use Rattle.kc_phys.specs.Stored.{AreInside};
 ghost use Rattle.kc_app.specs.Paging.{IsTable, paging_of};
 ghost use Rattle.kc_app.specs.Output.{image_of, noted, word_made};
 ghost use Rattle.kc_app.specs.Made.{Is, IsOf};
-ghost use Rattle.kc_app.specs.Answer.{IsAnswer, NotStore, OnStore, shown_by};
+ghost use Rattle.kc_app.specs.Answer.{IsAnswer, NotStore, OnStore, shown_by, UnlessStore};
 
 use crate::answer::{Answer, Halt};
 use crate::dump::{read_dump, read_info, stopped};
@@ -39,6 +39,7 @@ pub fn word<S: Store>(
     ensures output { IsOf shown_by (λ files. word_made table address (files Dump dump.now)) (S.files store.old) result }
     ensures files { S.files store.new ≡ S.files store.old }
     ensures later { S.faults store.old ≤ S.faults store.new }
+    ensures quiet { UnlessStore result (S.faults store.new ≡ S.faults store.old) }
     ensures cause { OnStore result (Rose (S.faults store.old) (S.faults store.new)) }
 {
     let core = read_dump(alloc, store, dump)?;
@@ -93,6 +94,7 @@ fn read_word<S: Store>(
     ensures word { AnswersAs (λ bytes. vword (image_of bytes segments.items paging) address) (content (S.files store.old) Dump (S.opened store.old Dump)) result }
     ensures files { S.files store.new ≡ S.files store.old }
     ensures later { S.faults store.old ≤ S.faults store.new }
+    ensures quiet { UnlessFault result (S.faults store.new ≡ S.faults store.old) }
     ensures cause { OnFault result (Rose (S.faults store.old) (S.faults store.new)) }
 {
     read_counted::<S, Brand>(store, segments, paging, address, Blank::new(1))
@@ -115,6 +117,7 @@ fn read_counted<S: Store, L: Ledger>(
     ensures word { AnswersAs (λ bytes. vword (image_of bytes segments.items paging) address) (content (S.files store.old) Dump (S.opened store.old Dump)) result }
     ensures files { S.files store.new ≡ S.files store.old }
     ensures later { S.faults store.old ≤ S.faults store.new }
+    ensures quiet { UnlessFault result (S.faults store.new ≡ S.faults store.old) }
     ensures cause { OnFault result (Rose (S.faults store.old) (S.faults store.new)) }
 {
     let mut steps = Steps::<L>::new(blank);
