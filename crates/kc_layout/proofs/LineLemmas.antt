@@ -1,6 +1,6 @@
 -- The lines of a layout are those of members that lie there.
 use Rattle.std.proofs.Common.{◌≡◌, ℕ, zero, suc, ◌+◌, ◌==◌, Bool, true, false, cond, List, [], ◌∷◌, ◌++◌, length, Option, Some, None, option_map, option_and_then, ap, ◌∙◌, sym, refl, arith, append_assoc}
-use Rattle.std.specs.Prelude.{All, Contains}
+use Rattle.std.specs.Prelude.{All, Contains, IsSome, is_some}
 use Rattle.std.specs.Option.{option_map_or}
 use Rattle.std.proofs.lemmas.Bool.Decides.{nat_tests}
 use Rattle.std.proofs.lemmas.List.Elements.{All-append, All-cons, All-nil, Contains-append_right}
@@ -37,13 +37,18 @@ compound-record id (Some r) t is = ap (λ (u : TypeRef). u.id) (compound-if (is_
 pub record IsAnonymous (types : Types) (m : Member) (id : ℕ) : Type 0 where
   pub nameless : length (name_at types.strings m.name) ≡ 0
   pub bare : under 32 types m.ty ≡ Some id
+  pub compound : IsSome (compound_numbered types id)
 
 anonymous-bare : (types : Types) (m : Member) (bare : Option ℕ) (t : TypeRef) → under 32 types m.ty ≡ bare → length (name_at types.strings m.name) ≡ 0 →
     option_and_then (compound_numbered types) bare ≡ Some t → IsAnonymous types m t.id
 anonymous-bare types m None t is nameless compound = absurd (cc)
 anonymous-bare types m (Some id) t is nameless compound =
     let same : t.id ≡ id = compound-record id (record_numbered types id) t compound in
-    record { nameless = nameless; bare = is ∙ ap (λ n. Some n) (sym same) }
+    record {
+      nameless = nameless;
+      bare = is ∙ ap (λ n. Some n) (sym same);
+      compound = rw same (ap (λ o. is_some o) compound);
+    }
 
 anonymous-name : (types : Types) (m : Member) (b : Bool) (t : TypeRef) → (length (name_at types.strings m.name) == 0) ≡ b → cond b (compound_under types m.ty) None ≡ Some t → IsAnonymous types m t.id
 anonymous-name types m true t is compound =
@@ -59,7 +64,7 @@ deeper : (types : Types) (id within base : ℕ) (m : Member) (line : Line) → C
 deeper types id within base m line among_them is found = record {
   bit = m.bit + found.bit;
   member = found.member;
-  lies = inner types (name_at types.strings found.member.name) id within found.bit m found.member among_them is.nameless is.bare found.lies;
+  lies = inner types (name_at types.strings found.member.name) id within found.bit m found.member among_them is.nameless is.bare is.compound found.lies;
   same = found.same ∙ ap (λ n. line_at types n found.member) (omega arith);
 }
 

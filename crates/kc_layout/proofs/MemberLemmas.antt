@@ -1,6 +1,6 @@
 -- What a search finds is a member with the name.
 use Rattle.std.proofs.Common.{◌≡◌, ℕ, zero, suc, ◌+◌, ◌==◌, Bool, true, false, cond, List, [], ◌∷◌, ◌++◌, length, Option, Some, None, ap, ◌∙◌, refl, arith, append_assoc}
-use Rattle.std.specs.Prelude.{Contains, bytes_eq}
+use Rattle.std.specs.Prelude.{Contains, IsSome, bytes_eq, is_some}
 use Rattle.std.specs.Option.{option_map_or}
 use Rattle.std.proofs.lemmas.Bool.Decides.{nat_tests}
 use Rattle.std.proofs.lemmas.List.Elements.{Contains-append_right}
@@ -20,27 +20,27 @@ FindsMembers : Types → List ℕ → (ℕ → ℕ → ℕ → Search) → Type 
 FindsMembers types name go = (id base left : ℕ) → FindsMember types name id base (go id base left)
 
 -- a member further in, by the member without a name that it lies in
-deeper : (types : Types) (name : List ℕ) (id within base : ℕ) (m : Member) (s : Search) → Contains (members_numbered types id) m → length (name_at types.strings m.name) ≡ 0 → under 32 types m.ty ≡ Some within →
+deeper : (types : Types) (name : List ℕ) (id within base : ℕ) (m : Member) (s : Search) → Contains (members_numbered types id) m → length (name_at types.strings m.name) ≡ 0 → under 32 types m.ty ≡ Some within → IsSome (compound_numbered types within) →
     FindsMember types name within (base + m.bit) s → FindsMember types name id base s
-deeper types name id within base m (Found spot) among_them nameless bare found = record {
+deeper types name id within base m (Found spot) among_them nameless bare compound found = record {
   bit = m.bit + found.bit;
   member = found.member;
-  lies = inner types name id within found.bit m found.member among_them nameless bare found.lies;
+  lies = inner types name id within found.bit m found.member among_them nameless bare compound found.lies;
   same = found.same ∙ ap (λ n. record { bit = n; width = found.member.width; ty = found.member.ty }) (omega arith);
 }
-deeper types name id within base m (Absent left) among_them nameless bare found = tt
-deeper types name id within base m Beyond among_them nameless bare found = tt
+deeper types name id within base m (Absent left) among_them nameless bare compound found = tt
+deeper types name id within base m Beyond among_them nameless bare compound found = tt
 
-by_compound : (go : ℕ → ℕ → ℕ → Search) (types : Types) (name : List ℕ) (id within base left : ℕ) (m : Member) (t : Option TypeRef) → FindsMembers types name go → Contains (members_numbered types id) m → length (name_at types.strings m.name) ≡ 0 → under 32 types m.ty ≡ Some within →
+by_compound : (go : ℕ → ℕ → ℕ → Search) (types : Types) (name : List ℕ) (id within base left : ℕ) (m : Member) (t : Option TypeRef) → FindsMembers types name go → Contains (members_numbered types id) m → length (name_at types.strings m.name) ≡ 0 → under 32 types m.ty ≡ Some within → compound_numbered types within ≡ t →
     FindsMember types name id base (option_map_or (λ (x : TypeRef). go within (base + m.bit) left) t (Absent left))
 unfolding FindsMembers
-by_compound go types name id within base left m None finds among_them nameless bare = tt
-by_compound go types name id within base left m (Some t) finds among_them nameless bare = deeper types name id within base m (go within (base + m.bit) left) among_them nameless bare (finds within (base + m.bit) left)
+by_compound go types name id within base left m None finds among_them nameless bare is = tt
+by_compound go types name id within base left m (Some t) finds among_them nameless bare is = deeper types name id within base m (go within (base + m.bit) left) among_them nameless bare (ap (λ o. is_some o) is) (finds within (base + m.bit) left)
 
 by_bare : (go : ℕ → ℕ → ℕ → Search) (types : Types) (name : List ℕ) (id base left : ℕ) (m : Member) (bare : Option ℕ) → FindsMembers types name go → Contains (members_numbered types id) m → length (name_at types.strings m.name) ≡ 0 → under 32 types m.ty ≡ bare →
     FindsMember types name id base (lent_by go types (base + m.bit) left bare)
 by_bare go types name id base left m None finds among_them nameless is = tt
-by_bare go types name id base left m (Some within) finds among_them nameless is = by_compound go types name id within base left m (compound_numbered types within) finds among_them nameless is
+by_bare go types name id base left m (Some within) finds among_them nameless is = by_compound go types name id within base left m (compound_numbered types within) finds among_them nameless is refl
 
 by_name : (go : ℕ → ℕ → ℕ → Search) (types : Types) (name : List ℕ) (id base left : ℕ) (m : Member) (b : Bool) → FindsMembers types name go → Contains (members_numbered types id) m → (length (name_at types.strings m.name) == 0) ≡ b →
     FindsMember types name id base (cond b (lent_by go types (base + m.bit) left (under 32 types m.ty)) (Absent left))

@@ -1,5 +1,5 @@
 -- A member by its name.
-use Rattle.std.specs.Prelude.{◌≡◌, ◌≤◌, ⊤, Contains, true, ℕ, zero, suc, ◌+◌, List, [], ◌∷◌, length, Option, Some, None, ◌==◌, bytes_eq, if◌then◌else◌}
+use Rattle.std.specs.Prelude.{◌≡◌, ◌≤◌, ⊤, Contains, IsSome, true, ℕ, zero, suc, ◌+◌, List, [], ◌∷◌, length, Option, Some, None, ◌==◌, bytes_eq, if◌then◌else◌}
 use Rattle.std.specs.Option.{option_map_or}
 use Rattle.kc_btf.specs.declared.types.Member.{Member}
 use Rattle.kc_btf.specs.Btf.{Types}
@@ -57,7 +57,8 @@ pub data Lies : Types → List ℕ → ℕ → ℕ → Member → Type 0 where
   own : (types : Types) (name : List ℕ) (id : ℕ) (m : Member) → Contains (members_numbered types id) m →
       bytes_eq (name_at types.strings m.name) name ≡ true → Lies types name id m.bit m
   inner : (types : Types) (name : List ℕ) (id within bit : ℕ) (m last : Member) → Contains (members_numbered types id) m →
-      length (name_at types.strings m.name) ≡ 0 → under 32 types m.ty ≡ Some within → Lies types name within bit last → Lies types name id (m.bit + bit) last
+      length (name_at types.strings m.name) ≡ 0 → under 32 types m.ty ≡ Some within → IsSome (compound_numbered types within) →
+      Lies types name within bit last → Lies types name id (m.bit + bit) last
 
 -- a spot that was found from a bit on is a member's with the name
 pub record IsMember (types : Types) (name : List ℕ) (id base : ℕ) (spot : Spot) : Type 0 where
