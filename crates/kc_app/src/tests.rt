@@ -1,6 +1,15 @@
-// The program over made dumps: each case gives its words, what is changed in the dump, and what is wanted.
-mod cases;
+// The program over made files. The files beside this one have the cases, and an empty line ends a case. Its lines
+// give the words; what is changed: `put` a word of the dump at a physical address, `bytes` some at a file offset,
+// `types` some of the types at a file offset, `map` the map's lines, `row` one line more; which call fails; and
+// what is wanted. Numbers are hex.
+mod commands;
+mod layouts;
 mod numbers;
+mod pages;
+mod questions;
+mod refusals;
+mod reserved;
+mod stops;
 
 ghost use Rattle.std.specs.Prelude.{◌≡◌, ◌<◌, codes};
 ghost use Rattle.kc_outside.specs.declared.store.Slot.TheVariants.{Dump};
@@ -187,41 +196,41 @@ fn run_cases(rt: &(impl Abort + AllocGlobal), text: &str) -> Result<usize, Fail>
 
 #[test]
 fn words_are_found_by_every_kind_of_page(rt: HostRuntime) -> Result<(), Fail> {
-    assert_eq!(rt; run_cases(&rt, cases::PAGES)?, 16);
-    assert_eq!(rt; run_cases(&rt, cases::SEGMENTS)?, 8);
+    assert_eq!(rt; run_cases(&rt, pages::PAGES)?, 16);
+    assert_eq!(rt; run_cases(&rt, pages::SEGMENTS)?, 8);
     Ok(())
 }
 
 #[test]
 fn each_rule_stops_at_each_level(rt: HostRuntime) -> Result<(), Fail> {
-    assert_eq!(rt; run_cases(&rt, cases::STOPS)?, 33);
-    assert_eq!(rt; run_cases(&rt, cases::RESERVED)?, 25);
+    assert_eq!(rt; run_cases(&rt, stops::STOPS)?, 33);
+    assert_eq!(rt; run_cases(&rt, reserved::RESERVED)?, 25);
     Ok(())
 }
 
 #[test]
 fn the_first_fault_is_told(rt: HostRuntime) -> Result<(), Fail> {
-    assert_eq!(rt; run_cases(&rt, cases::REFUSALS)?, 38);
-    assert_eq!(rt; run_cases(&rt, cases::COMMANDS)?, 18);
+    assert_eq!(rt; run_cases(&rt, refusals::REFUSALS)?, 38);
+    assert_eq!(rt; run_cases(&rt, commands::COMMANDS)?, 18);
     Ok(())
 }
 
 #[test]
 fn failing_calls_and_sinks_are_told(rt: HostRuntime) -> Result<(), Fail> {
-    assert_eq!(rt; run_cases(&rt, cases::FAILURES)?, 23);
+    assert_eq!(rt; run_cases(&rt, commands::FAILURES)?, 23);
     Ok(())
 }
 
 #[test]
 fn layouts_are_listed_or_refused(rt: HostRuntime) -> Result<(), Fail> {
-    assert_eq!(rt; run_cases(&rt, numbers::LAYOUTS)?, 29);
+    assert_eq!(rt; run_cases(&rt, layouts::LAYOUTS)?, 29);
     Ok(())
 }
 
 #[test]
 fn numbers_are_shown_with_their_words(rt: HostRuntime) -> Result<(), Fail> {
     assert_eq!(rt; run_cases(&rt, numbers::NUMBERS)?, 17);
-    assert_eq!(rt; run_cases(&rt, numbers::QUESTIONS)?, 28);
+    assert_eq!(rt; run_cases(&rt, questions::QUESTIONS)?, 28);
     Ok(())
 }
 
