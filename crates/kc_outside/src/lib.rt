@@ -11,6 +11,7 @@ mod known;
 mod mem_file;
 mod mem_sink;
 mod mem_store;
+mod output;
 mod seen;
 mod sink;
 mod slots;

@@ -1,12 +1,10 @@
 // Standard output and standard error.
-ghost use Rattle.std.specs.Prelude.{◌≡◌, ◌<◌, take, None, IfOk};
-ghost use Rattle.std.specs.Result.{OkIff};
+ghost use Rattle.std.specs.Prelude.{◌≡◌, take, None, IfOk};
 ghost use Rattle.std.specs.Io.KnownBytes.{Appends};
 
-use crate::counts::Counts;
+use crate::output::Output;
 use crate::sink::Sink;
 use crate::store::Failed;
-use std::io;
 use std::io::Write;
 
 /// A sink over a writer, which is flushed behind each piece. An error of the writer, a write of no byte
@@ -29,10 +27,7 @@ impl<W: Write> WriterSink<W> {
         ensures asked { ⟦<WriterSink<W> as Sink>⟧.asked result ≡ 0 }
     {
         WriterSink {
-            output: Output {
-                writer,
-                counts: Counts::new(),
-            },
+            output: Output::new(writer),
         }
     }
 }
@@ -74,57 +69,10 @@ impl<W: Write> Sink for WriterSink<W> {
     }
 }
 
-// A writer, and how often it was asked to write and failed. No contract tells when a writer fails, so each
-// call of it stands alone here, and its error is counted.
-#[derive(Drop)]
-struct Output<W: Write> {
-    writer: W,
-    counts: Counts,
-}
-
-impl<W: Write> Output<W> {
-    ghost use Rattle.std.specs.Prelude.{◌≡◌, ◌<◌, ◌≤◌, length, IfOk};
-    ghost use Rattle.std.specs.Io.KnownBytes.{Keeps, WriteAppends};
-    ghost use Rattle.kc_outside.specs.System.{after_answer, after_call};
-
-    // Writes some of the piece's first bytes. No byte is a failure.
-    fn write(&mut self, piece: &[u8]) -> Result<usize, Failed>
-        ensures some { IfOk result (λ n. 0 < n) }
-        ensures within { IfOk result (λ n. n ≤ length piece.now) }
-        ensures bytes { WriteAppends (W.contents self.old.writer) (W.contents self.new.writer) result piece.now }
-        ensures counts { self.new.counts ≡ after_call self.old.counts result }
-        ensures later { self.old.counts.faults ≤ self.new.counts.faults }
-        ensures asked_later { self.old.counts.asked ≤ self.new.counts.asked }
-    {
-        self.counts.ask();
-        let written = self.writer.write(piece);
-        self.counts.told(written.and_then(check_some))
-    }
-
-    // Has the writer pass on what it holds.
-    fn flush(&mut self) -> Result<(), Failed>
-        ensures bytes { Keeps (W.contents self.old.writer) (W.contents self.new.writer) }
-        ensures counts { self.new.counts ≡ after_answer self.old.counts result }
-        ensures later { self.old.counts.faults ≤ self.new.counts.faults }
-    {
-        self.counts.told(self.writer.flush())
-    }
-}
-
-// Refuses a write of no byte.
-fn check_some(count: usize) -> io::Result<usize>
-    ensures { OkIff result (0 < count) count }
-{
-    if count > 0 {
-        Ok(count)
-    } else {
-        Err(io::Error::from(io::ErrorKind::WriteZero))
-    }
-}
-
 #[cfg(test)]
 mod tests {
     use super::*;
+    use std::io;
     use std::test::Fail;
 
     // A writer that takes so many bytes, or fails, and whose flush may fail.
