@@ -31,11 +31,13 @@ table_word text =
     if bytes_eq text (codes "-") then Some None
     else option_map (λ (t : ℕ). Some t) (option_and_then as_table (hex_number text))
 
+-- what `word` asks, where both its numbers are there
 abbrev pub word_asked : List ℕ → Option (Option ℕ) → Option ℕ → Option Asked
 word_asked dump (Some table) (Some address) = Some (AsksWord dump table address)
 word_asked dump (Some table) None = None
 word_asked dump None address = None
 
+-- four, three and seven words
 abbrev pub of_four : List ℕ → List ℕ → List ℕ → List ℕ → Option Asked
 of_four name dump table address = if bytes_eq name (codes "word") then word_asked dump (table_word table) (hex_number address) else None
 

@@ -11,6 +11,7 @@ pub record TookPrefix (old new : Option (List ℕ)) (text : List ℕ) : Type 0 w
   pub within : count ≤ length text
   pub took : new ≡ with_piece old (take count text)
 
+-- what holds at a status
 abbrev pub AtStatus : ℕ → ℕ → Type 0 → Type 0
 AtStatus status n P = OnTrue (nat_eq status n) P
 
@@ -38,6 +39,7 @@ abbrev pub TookOut : Option Output → Option (List ℕ) → Option (List ℕ) �
 TookOut None old new = ⊥
 TookOut (Some output) old new = TookPrefix old new output.out
 
+-- the same of its text for standard error
 abbrev pub TookErr : Option Output → Option (List ℕ) → Option (List ℕ) → Type 0
 TookErr None old new = ⊥
 TookErr (Some output) old new = TookPrefix old new output.err

@@ -12,6 +12,7 @@ use Rattle.kc_layout.specs.declared.fault.QRule.TheVariants.{Q2, Q3, Q4, Q5, Q6,
 use Rattle.kc_layout.specs.declared.fault.PathFault.{PathFault}
 use Rattle.kc_layout.specs.declared.listing.Line.{Line}
 
+-- the code of a rule of the file of types
 abbrev pub btf_code : BRule → List ℕ
 btf_code B1 = codes "B1"
 btf_code B2 = codes "B2"
@@ -30,6 +31,7 @@ btf_line fault = codes "refused btf " ++ btf_code fault.rule ++ codes " at " ++ 
 abbrev pub btf_long : List ℕ
 btf_long = codes "refused btf F1\n"
 
+-- the code of a rule of paths
 abbrev pub path_code : QRule → List ℕ
 path_code Q2 = codes "Q2"
 path_code Q3 = codes "Q3"
@@ -69,6 +71,7 @@ abbrev pub member_lines : List ℕ → List Line → List ℕ
 member_lines strings [] = []
 member_lines strings (l ∷ ls) = member_line strings l ++ member_lines strings ls
 
+-- the kind
 abbrev pub compound_word : Kind → List ℕ
 compound_word Struct = codes "struct "
 compound_word _ = codes "union "

@@ -11,6 +11,7 @@ None >>= next = None
 (Some (Err line)) >>= next = Some (Err line)
 (Some (Ok a)) >>= next = next a
 
+-- a step that gives something, and one that refuses
 abbrev pub gives : {A : Type 0} → A → Option (Result A (List ℕ))
 gives a = Some (Ok a)
 
@@ -21,6 +22,7 @@ refuses line = Some (Err line)
 abbrev pub if_short : List ℕ → List ℕ → Option (Result (List ℕ) (List ℕ))
 if_short line bytes = if nat_le (length bytes) (2 ^ 26) then gives bytes else refuses line
 
+-- the same of a file that may not be there
 abbrev pub short_file : List ℕ → Option (List ℕ) → Option (Result (List ℕ) (List ℕ))
 short_file line None = None
 short_file line (Some bytes) = if_short line bytes

@@ -36,6 +36,7 @@ use Rattle.kc_app.specs.Texts.{word_line, broken_text, core_code, note_code, dum
 use Rattle.kc_app.specs.LayoutTexts.{btf_line, btf_long, path_line, no_type, compound_line, member_lines}
 use Rattle.kc_app.specs.ShowTexts.{map_line, map_long, symbol_line, number_text}
 
+-- what standard output and standard error take, and the status
 pub record Output : Type 0 where
   pub out : List ℕ
   pub err : List ℕ
@@ -50,6 +51,7 @@ pub record Shown : Type 0 where
 abbrev pub broken : Stopped → Shown
 broken s = record { text = broken_text s; status = 1 }
 
+-- the answer on a word
 abbrev pub word_shown : Result VWord Stopped → Shown
 word_shown (Ok w) = record { text = word_line w; status = 0 }
 word_shown (Err s) = broken s
@@ -59,6 +61,7 @@ abbrev pub parts_of : Result Parts CoreFault → Option (Result Parts (List ℕ)
 parts_of (Ok parts) = gives parts
 parts_of (Err fault) = refuses (dump_line (core_code fault))
 
+-- the same of a file that may not be there
 abbrev pub dump_parts : Option (List ℕ) → Option (Result Parts (List ℕ))
 dump_parts None = None
 dump_parts (Some bytes) = parts_of (core bytes)
@@ -84,6 +87,7 @@ word_image table dump = do
   paging ← noted (paging_of table parts.notes)
   gives (image_of (bytes_of dump) parts.segments paging)
 
+-- the word at an address in it
 abbrev pub word_made : Option ℕ → ℕ → Option (List ℕ) → Option (Result Shown (List ℕ))
 word_made table address dump = do
   image ← word_image table dump
@@ -94,6 +98,7 @@ abbrev pub types_of : Result Types BtfFault → Option (Result Types (List ℕ))
 types_of (Ok types) = gives types
 types_of (Err fault) = refuses (btf_line fault)
 
+-- the same of a file: the limit comes first
 abbrev pub types_in : Option (List ℕ) → Option (Result Types (List ℕ))
 types_in file = do
   bytes ← short_file btf_long file
@@ -134,6 +139,7 @@ abbrev pub address_of : Result ℕ SymFault → Option (Result ℕ (List ℕ))
 address_of (Ok at) = gives at
 address_of (Err fault) = refuses (symbol_line fault)
 
+-- and by the bytes of a map: its first bad line comes first
 abbrev pub symbol_in : List ℕ → ℕ → List ℕ → Option (Result ℕ (List ℕ))
 symbol_in name kaslr map = do
   listed ← rows_of (rows map)
@@ -144,6 +150,7 @@ abbrev pub number_of : Result NumberAt PathFault → Option (Result NumberAt (Li
 number_of (Ok number) = gives number
 number_of (Err fault) = refuses (path_line fault)
 
+-- and from a type by its name: that there is none comes first
 abbrev pub number_in : Types → List ℕ → List ℕ → Option (Result NumberAt (List ℕ))
 number_in types name path = do
   id ← named (find types name)
@@ -154,6 +161,7 @@ pub record Target : Type 0 where
   pub at : ℕ
   pub number : NumberAt
 
+-- by a map: the map comes first, then the symbol, the type and the path
 abbrev pub target_in : Question → Types → ℕ → Option (List ℕ) → Option (Result Target (List ℕ))
 target_in question types kaslr map = do
   bytes ← map_in map
@@ -166,6 +174,7 @@ pub record Sought : Type 0 where
   pub image : Image
   pub target : Target
 
+-- by the three files: the dump comes first, then its notes, the types and the map
 abbrev pub show_sought : Question → Option (List ℕ) → Option (List ℕ) → Option (List ℕ) → Option (Result Sought (List ℕ))
 show_sought question dump btf map = do
   parts ← dump_parts dump
@@ -178,10 +187,12 @@ show_sought question dump btf map = do
 abbrev pub number_read : Image → Target → Result Number Stopped
 number_read image target = value_at image target.at target.number.hops target.number.bits
 
+-- the answer on a number
 abbrev pub number_shown : Result Number Stopped → Shown
 number_shown (Ok n) = record { text = number_text n; status = 0 }
 number_shown (Err s) = broken s
 
+-- `show`
 abbrev pub show_made : Question → Option (List ℕ) → Option (List ℕ) → Option (List ℕ) → Option (Result Shown (List ℕ))
 show_made question dump btf map = do
   sought ← show_sought question dump btf map
@@ -202,6 +213,7 @@ ended (Err line) = record { out = []; err = line; status = 2 }
 abbrev pub asked_output : Asked → (Slot → Option (List ℕ)) → Option Output
 asked_output asked files = option_map ended (asked_made asked files)
 
+-- the same of words that may be no command
 abbrev pub output_of : Option Asked → (Slot → Option (List ℕ)) → Option Output
 output_of None files = Some (record { out = []; err = usage_text; status = 6 })
 output_of (Some asked) files = asked_output asked files
@@ -223,16 +235,19 @@ pub record Places : Type 0 where
   pub image : Image
   pub places : List Place
 
+-- of `word`
 abbrev pub places_in : ℕ → Option (Result Image (List ℕ)) → Option Places
 places_in address None = None
 places_in address (Some (Err line)) = None
 places_in address (Some (Ok image)) = Some (record { image = image; places = places_of (vword image address) })
 
+-- of `show`
 abbrev pub places_sought : Option (Result Sought (List ℕ)) → Option Places
 places_sought None = None
 places_sought (Some (Err line)) = None
 places_sought (Some (Ok sought)) = Some (record { image = sought.image; places = number_places (number_read sought.image sought.target) })
 
+-- of a command; `layout` shows none
 abbrev pub places_asked : Option Asked → (Slot → Option (List ℕ)) → Option Places
 places_asked None files = None
 places_asked (Some (AsksWord dump table address)) files = places_in address (word_image table (files Dump))

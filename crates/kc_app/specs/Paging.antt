@@ -17,6 +17,7 @@ by_table table = record { table = table; five = false; sme = 0 }
 abbrev pub by_info : Info → PageCfg
 by_info i = record { table = i.table; five = i.five; sme = i.sme }
 
+-- unless they are refused
 abbrev pub by_notes : Result Info NoteFault → Result PageCfg NoteFault
 by_notes (Ok i) = Ok (by_info i)
 by_notes (Err fault) = Err fault

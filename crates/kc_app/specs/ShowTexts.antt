@@ -14,6 +14,7 @@ map_line line = codes "refused map S1 line " ++ decimal line ++ codes "\n"
 abbrev pub map_long : List ℕ
 map_long = codes "refused map F1\n"
 
+-- the code of a symbol's fault, with two of its addresses
 abbrev pub symbol_code : SymFault → List ℕ
 symbol_code S2 = codes "S2"
 symbol_code (S3 first other) = codes "S3 " ++ hex first ++ codes " " ++ hex other

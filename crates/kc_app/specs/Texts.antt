@@ -22,6 +22,7 @@ hex n = hex_digits 16 n
 abbrev pub word_line : VWord → List ℕ
 word_line w = hex w.va ++ codes " " ++ hex w.pa ++ codes " " ++ hex w.off ++ codes " " ++ hex w.value ++ codes "\n"
 
+-- the code of a rule
 abbrev pub rule_code : Rule → List ℕ
 rule_code M1 = codes "M1"
 rule_code M2 = codes "M2"
@@ -60,9 +61,11 @@ abbrev pub place_lines : List Place → List ℕ
 place_lines [] = []
 place_lines (p ∷ ps) = place_line p ++ place_lines ps
 
+-- the text of a stop
 abbrev pub broken_text : Stopped → List ℕ
 broken_text s = rule_lines s.rule s.va ++ stop_line s.rule s.level s.pa ++ place_lines (entry_places s.pa s.entry)
 
+-- the code of a core file's fault, with the index of a program header
 abbrev pub core_code : CoreFault → List ℕ
 core_code E1 = codes "E1"
 core_code E2 = codes "E2"
@@ -75,11 +78,13 @@ core_code E8 = codes "E8"
 core_code (E9 index) = codes "E9 index " ++ decimal index
 core_code E10 = codes "E10"
 
+-- a key of VMCOREINFO
 abbrev pub key_text : NoteKey → List ℕ
 key_text L5 = codes "NUMBER(pgtable_l5_enabled)"
 key_text Offset = codes "KERNELOFFSET"
 key_text Sme = codes "NUMBER(sme_mask)"
 
+-- the code of a fault of the notes, with its part and place, or its key
 abbrev pub note_code : NoteFault → List ℕ
 note_code (V1 part at) = codes "V1 index " ++ decimal part ++ codes " at " ++ decimal at
 note_code V2 = codes "V2"
@@ -93,9 +98,11 @@ note_code V7 = codes "V7"
 abbrev pub dump_line : List ℕ → List ℕ
 dump_line code = codes "refused dump " ++ code ++ codes "\n"
 
+-- the forms of commands
 abbrev pub usage_text : List ℕ
 usage_text = codes "usage: kaudit word DUMP TABLE ADDRESS\nusage: kaudit layout BTF TYPE\nusage: kaudit show DUMP BTF MAP SYMBOL TYPE PATH\n"
 
+-- the lines of the other failures
 abbrev pub store_failed : List ℕ
 store_failed = codes "store failed\n"
 

@@ -22,6 +22,7 @@ abbrev pub outside_fault : List ℕ → ℕ → ℕ → List ℕ → Option BtfF
 outside_fault bytes strings types places = option_map (λ place. record { rule = B8; at = place })
     (find (λ place. not (refers_inside strings types (record_at bytes place))) places)
 
+-- the types whose records stand at these places, unless one refers to what isn't there
 abbrev pub types_of : List ℕ → Result (List ℕ) BtfFault → Result Types BtfFault
 types_of bytes (Err fault) = Err fault
 types_of bytes (Ok places) = unless (outside_fault bytes (length (string_section bytes)) (length places) places)

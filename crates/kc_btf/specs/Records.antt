@@ -61,6 +61,7 @@ kind_fault None bytes at end = Some (record { rule = B6; at = at })
 kind_fault (Some kind) bytes at end =
     if nat_lt end (at + record_size (record_of kind bytes at)) then Some (record { rule = B7; at = at }) else None
 
+-- B7 where its three numbers don't fit, and else the fault by its kind
 unfoldable pub record_fault : List ℕ → ℕ → ℕ → Option BtfFault
 record_fault bytes at end =
     if nat_lt end (at + 12) then Some (record { rule = B7; at = at })

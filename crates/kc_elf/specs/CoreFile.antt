@@ -44,6 +44,7 @@ split_by None hs =
     if nat_le (byte_sum (of_kind Note hs)) 16777216 then Ok (of_kind Load hs, of_kind Note hs)
     else Err E10
 
+-- the same in a file of this size
 unfoldable pub split_of : ℕ → List ProgramHeader → Result (List Segment × List Segment) CoreFault
 split_of size hs = split_by (position (is_bad size) hs) hs
 

@@ -18,6 +18,7 @@ part place count bytes = take count (drop place bytes)
 abbrev pub kind_of : ℕ → Kind
 kind_of n = if n == 1 then Load else (if n == 4 then Note else Other)
 
+-- two kinds are the same
 abbrev pub is_kind : Kind → Kind → Bool
 is_kind Load Load = true
 is_kind Note Note = true

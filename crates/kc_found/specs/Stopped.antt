@@ -5,10 +5,14 @@ use Rattle.kc_found.specs.declared.rule.Rule.TheVariants.{M1, M2, M3, M4, M5, M6
 use Rattle.kc_found.specs.declared.words.PWord.{PWord}
 
 pub record Stopped : Type 0 where
+  -- the virtual address that was asked
   pub va : ℕ
   pub rule : Rule
+  -- of M3 to M5 the level of the page table's entry: 1 for a PTE up to 5 for a PML5E; else 0
   pub level : ℕ
+  -- the physical address of that entry, of M6 that of the word; else 0
   pub pa : ℕ
+  -- of M4 and M5 the entry
   pub entry : Option PWord
 
 -- the level of a table's entry

@@ -15,6 +15,7 @@ abbrev pub and_then : {A B : Type 0} → Result A Stopped → (A → Result B St
 and_then (Ok a) go = go a
 and_then (Err s) go = Err s
 
+-- a stop at an address: the rule, the level and the physical address of the entry, and the entry
 abbrev pub stop : {A : Type 0} → ℕ → Rule → ℕ → ℕ → Option PWord → Result A Stopped
 stop va rule level pa entry = Err (record { va = va; rule = rule; level = level; pa = pa; entry = entry })
 
@@ -35,6 +36,7 @@ cleared mask entry = bit_and entry (2 ^ 64 - 1 - mask)
 abbrev pub address_from : ℕ → ℕ → ℕ
 address_from bit entry = entry % 2 ^ 52 / 2 ^ bit * 2 ^ bit
 
+-- a bit is 1
 abbrev pub is_set : ℕ → ℕ → Bool
 is_set bit entry = nat_eq (bit_at entry bit) 1
 
@@ -70,10 +72,13 @@ way level entry va =
     else (if is_set 7 entry && nat_eq level 2 then Large (in_page 21 entry va)
     else Table (address_from 12 entry))
 
+-- what an entry says, from which the bits of memory encryption are cleared: why it is refused, or where it leads.
+-- A stop tells the word as it stands in the dump.
 abbrev pub judged : ℕ → ℕ → ℕ → PWord → ℕ → Option Rule → Result Way Stopped
 judged va level pa word entry (Some rule) = stop va rule level pa (Some word)
 judged va level pa word entry None = Ok (way level entry va)
 
+-- the same of a word that may be absent
 abbrev pub entered_by : ℕ → ℕ → ℕ → ℕ → Option PWord → Result Way Stopped
 entered_by mask va level pa None = stop va M3 level pa None
 entered_by mask va level pa (Some word) = judged va level pa word (cleared mask word.value) (refusal level (cleared mask word.value))
@@ -92,6 +97,7 @@ unfoldable pub xlate : Physical → ℕ → ℕ → ℕ → ℕ → Result ℕ S
 xlate physical mask va zero table = Ok (table + va % 4096)
 xlate physical mask va (suc level) table = and_then (entered physical mask va (suc level) table) (λ w. follow w (xlate physical mask va level))
 
+-- how many levels of tables there are
 abbrev pub levels : PageCfg → ℕ
 levels paging = if paging.five then 5 else 4
 
@@ -99,6 +105,7 @@ levels paging = if paging.five then 5 else 4
 abbrev pub sign_bit : PageCfg → ℕ
 sign_bit paging = if paging.five then 56 else 47
 
+-- an address is canonical: its upper bits are equal
 abbrev pub is_canonical : PageCfg → ℕ → Bool
 is_canonical paging va = nat_lt va (2 ^ sign_bit paging) || nat_le (2 ^ 64 - 2 ^ sign_bit paging) va
 
@@ -108,6 +115,7 @@ translated image va =
     if is_canonical image.paging va then xlate image.physical image.paging.sme va (levels image.paging) image.paging.table
     else stop va M2 0 0 None
 
+-- the word at a physical address, unless it is absent
 abbrev pub word_or_stop : ℕ → ℕ → Option PWord → Result VWord Stopped
 word_or_stop va pa None = stop va M6 0 pa None
 word_or_stop va pa (Some word) = Ok (record { va = va; pa = pa; off = word.off; value = word.value })

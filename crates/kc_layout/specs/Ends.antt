@@ -37,6 +37,7 @@ abbrev pub byte_at : Place → Option ℕ → Result ByteAt QRule
 byte_at place None = Err Q6
 byte_at place (Some byte) = Ok (record { hops = place.hops; byte = byte; ty = place.spot.ty })
 
+-- the byte that a path leads to
 abbrev pub located : Types → ℕ → List ℕ → Result ByteAt PathFault
 located types id path = do
   end ← end_of types id path
@@ -66,6 +67,7 @@ bits_of spot number =
     if spot.width == 0 then bits_at (spot.bit + number.offset) number.width number.signed
     else bits_at spot.bit spot.width number.signed
 
+-- the number at a place
 unfoldable pub number_at : Types → Place → Result NumberAt QRule
 number_at types place = do
   id ← bare types place.spot.ty
@@ -73,6 +75,7 @@ number_at types place = do
   bits ← bits_of place.spot number
   Ok (record { hops = place.hops; bits = bits; ty = place.spot.ty })
 
+-- the number that a path leads to
 abbrev pub field : Types → ℕ → List ℕ → Result NumberAt PathFault
 field types id path = do
   end ← end_of types id path

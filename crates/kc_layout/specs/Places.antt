@@ -70,9 +70,11 @@ abbrev pub element_at : ArrayOf → Spot → ℕ → Option ℕ → Result Spot 
 element_at array spot index None = Err Q5
 element_at array spot index (Some size) = if_near (record { bit = spot.bit + 8 * (index * size); width = 0; ty = array.ty })
 
+-- the index is below the length, and the element has a size
 abbrev pub element_of : Types → ArrayOf → Spot → ℕ → Result Spot QRule
 element_of types array spot index = if nat_lt index array.nelems then element_at array spot index (size types array.ty) else Err Q4
 
+-- the element with an index
 unfoldable pub element_step : Types → Spot → ℕ → Result Spot QRule
 element_step types spot index = do
   id ← bare types spot.ty
@@ -109,6 +111,7 @@ abbrev pub behind : List ℕ → Result Spot QRule → Result Place QRule
 behind hops (Ok spot) = Ok (record { hops = hops; spot = spot })
 behind hops (Err rule) = Err rule
 
+-- the member with a name, at a place
 abbrev pub member_of : Types → List ℕ → Place → Result Place QRule
 member_of types name place = behind place.hops (member_step types place.spot name)
 
@@ -133,5 +136,6 @@ abbrev pub led : Types → ℕ → Place → Option (List Step) → Result End P
 led types taken place None = Err (record { rule = Q8; step = 0 })
 led types taken place (Some steps) = take_steps types taken place steps
 
+-- where a path leads from a type's first bit
 abbrev pub end_of : Types → ℕ → List ℕ → Result End PathFault
 end_of types id path = led types 0 (record { hops = []; spot = start_of id }) (path_steps path)

@@ -29,6 +29,7 @@ extent_of array Restrict rest = Target rest
 extent_of array TypeTag rest = Target rest
 extent_of array _ rest = Unknown
 
+-- and by its number
 abbrev pub extent : Types → ℕ → Extent
 extent types id = option_map_or (λ t. extent_of (array_numbered types id) t.kind t.rest) (type_numbered types id) Unknown
 
@@ -55,5 +56,6 @@ unfoldable pub size_within : ℕ → Types → ℕ → Option ℕ
 size_within zero types id = size_by (λ inner. None) (extent types id)
 size_within (suc most) types id = size_by (size_within most types) (extent types id)
 
+-- the size of a type in bytes, under at most 32 arrays and modifiers
 abbrev pub size : Types → ℕ → Option ℕ
 size types id = size_within 32 types id
