@@ -1,5 +1,5 @@
 -- Numbers one after the other.
-use Rattle.std.proofs.Common.{◌≡◌, ℕ, suc, ◌+◌, ◌-◌, ◌*◌, ◌<◌, true, false, List, ◌∷◌, ap, ◌∙◌, refl, arith}
+use Rattle.std.proofs.Common.{◌≡◌, ℕ, suc, ◌+◌, ◌-◌, ◌*◌, ◌<◌, true, false, List, ◌∷◌, ap, refl, arith}
 use Rattle.kc_btf.specs.declared.kind.Kind.{Kind}
 use Rattle.kc_btf.specs.Numbers.{word, words}
 use Rattle.kc_btf.specs.Role.{is_inside, role_of}
@@ -12,13 +12,6 @@ words-next count i at bytes more =
     let left : count - i ≡ suc (count - (i + 1)) = omega arith in
     let place : at + 4 * i + 4 ≡ at + 4 * (i + 1) = omega arith in
     rw left (ap (λ p. word bytes (at + 4 * i) ∷ words (count - (i + 1)) bytes p) place)
-
--- the numbers that are left when none was passed
-pub words-all : (count at : ℕ) (bytes : List ℕ) → words (count - 0) bytes (at + 4 * 0) ≡ words count bytes at
-words-all count at bytes =
-    let left : count - 0 ≡ count = omega arith in
-    let place : at + 4 * 0 ≡ at = omega arith in
-    ap (λ n. words n bytes (at + 4 * 0)) left ∙ ap (λ p. words count bytes p) place
 
 -- one number that lies inside, and the others
 pub inside-next : (strings types count i at : ℕ) (kind : Kind) (bytes : List ℕ) → i < count → is_inside strings types (role_of kind i) (word bytes (at + 4 * i)) ≡ true →

@@ -2,9 +2,9 @@
 use Rattle.std.proofs.Common.{◌≡◌, ℕ, zero, suc, ◌+◌, ◌-◌, ◌<◌, ◌≤◌, true, false, List, ◌∷◌, length, drop, Option, Some, None, Result, Ok, Err, refl, sym, ap, ◌∙◌, arith, if◌then◌else◌}
 use Rattle.std.specs.List.{slice_get}
 use Rattle.std.proofs.lemmas.Bool.Decides.{nat_tests}
-use Rattle.std.proofs.lemmas.List.{drop_more, drop_all}
+use Rattle.std.proofs.lemmas.List.{drop_more}
 use Rattle.std.proofs.lemmas.Option.{get_or_from_slice_get}
-use Rattle.kc_notes.specs.declared.fault.NoteFault.TheVariants.{V1, V2}
+use Rattle.kc_notes.specs.declared.fault.NoteFault.TheVariants.{V1}
 use Rattle.kc_notes.specs.declared.note.Note.{Note}
 use Rattle.kc_notes.specs.declared.note.Step.{Step}
 use Rattle.kc_notes.specs.declared.note.Step.TheVariants.{End, Broken, Whole}
@@ -100,7 +100,3 @@ pub part_passed : (parts : List (List ℕ)) (index : ℕ) (bytes : List ℕ) →
     → text_from index (drop index parts) ≡ text_from (index + 1) (drop (index + 1) parts)
 part_passed parts index bytes below is none =
     text_from-more parts index bytes below is ∙ ap (λ r. on_part index r (text_from (index + 1) (drop (index + 1) parts))) none
-
--- no part is left
-pub text_from-none : (parts : List (List ℕ)) (index : ℕ) → length parts ≤ index → text_from index (drop index parts) ≡ Err V2
-text_from-none parts index past = ap (text_from index) (drop_all index parts past)

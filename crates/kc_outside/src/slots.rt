@@ -31,18 +31,6 @@ impl<T> Slots<T> {
         }
     }
 
-    // What a slot has, to be changed in any way.
-    pub(crate) fn get_mut(&mut self, slot: Slot) -> &mut T {
-        match slot {
-            Slot::Dump => &mut self.dump,
-            Slot::Btf => &mut self.btf,
-            Slot::Map => &mut self.map,
-            Slot::Plan => &mut self.plan,
-            Slot::Report => &mut self.report,
-            Slot::Module => &mut self.extra,
-        }
-    }
-
     // Gives a slot another value, and says what it had.
     pub(crate) fn replace(&mut self, slot: Slot, value: T) -> T
         ensures before { result ≡ in_slot self.old slot }
