@@ -2,9 +2,9 @@
 use Rattle.std.proofs.Common.{ℕ, List, Option, Some, None, IfSome, Result, Ok, Err}
 use Rattle.kc_outside.specs.declared.store.Slot.{Slot}
 use Rattle.kc_outside.specs.declared.store.Slot.TheVariants.{Dump, Btf, Map}
-use Rattle.kc_found.specs.Image.{Image}
-use Rattle.kc_found.specs.Laws.{PlacesStand}
-use Rattle.kc_found.specs.Places.{AllStandIn}
+use Rattle.kc_memory.specs.Image.{Image}
+use Rattle.kc_memory.specs.Laws.{PlacesStand}
+use Rattle.kc_memory.specs.Places.{AllStandIn}
 use Rattle.kc_view.specs.Laws.{ValuesStand}
 use Rattle.kc_app.specs.Command.{Asked, AsksWord, AsksLayout, AsksShow, command}
 use Rattle.kc_app.specs.Output.{Places, Sought, places_in, places_sought, places_asked, word_image, show_sought, ShownStand}

@@ -6,13 +6,13 @@ use Rattle.kc_app.specs.declared.answer.Answer.{Answer}
 use Rattle.kc_app.specs.declared.answer.Answer.TheVariants.{Done, Broken}
 use Rattle.kc_app.specs.declared.answer.Halt.{Halt}
 use Rattle.kc_app.specs.declared.answer.Halt.TheVariants.{Refused, Store, Memory}
-use Rattle.kc_found.specs.declared.words.VWord.{VWord}
-use Rattle.kc_found.specs.declared.space.Stop.{Stop}
-use Rattle.kc_found.specs.declared.space.Stop.TheVariants.{Miss, Fault}
+use Rattle.kc_memory.specs.declared.words.VWord.{VWord}
+use Rattle.kc_memory.specs.declared.space.Stop.{Stop}
+use Rattle.kc_memory.specs.declared.space.Stop.TheVariants.{Miss, Fault}
 use Rattle.kc_app.specs.declared.command.Question.{Question as CodeQuestion}
 use Rattle.kc_app.specs.declared.target.Target.{Target as CodeTarget}
 use Rattle.kc_layout.specs.Views.{number_view}
-use Rattle.kc_found.specs.Bits.{Number}
+use Rattle.kc_memory.specs.Bits.{Number}
 use Rattle.kc_app.specs.Command.{Asked, AsksWord, AsksLayout, AsksShow, Question}
 use Rattle.kc_app.specs.Made.{Is, gives}
 use Rattle.kc_app.specs.Paging.{IsTable}

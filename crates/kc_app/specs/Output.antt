@@ -5,12 +5,12 @@ use Rattle.kc_word.specs.declared.plain.PageCfg.{PageCfg}
 use Rattle.kc_outside.specs.declared.store.Slot.{Slot}
 use Rattle.kc_outside.specs.declared.store.Slot.TheVariants.{Dump, Btf, Map}
 use Rattle.kc_outside.specs.Files.{Files}
-use Rattle.kc_found.specs.declared.words.VWord.{VWord}
-use Rattle.kc_found.specs.Stopped.{Stopped}
-use Rattle.kc_found.specs.Image.{Image}
-use Rattle.kc_found.specs.declared.words.Place.{Place}
-use Rattle.kc_found.specs.Translation.{vword}
-use Rattle.kc_found.specs.Places.{AllStandIn, places_of}
+use Rattle.kc_memory.specs.declared.words.VWord.{VWord}
+use Rattle.kc_memory.specs.Stopped.{Stopped}
+use Rattle.kc_memory.specs.Image.{Image}
+use Rattle.kc_memory.specs.declared.words.Place.{Place}
+use Rattle.kc_memory.specs.Translation.{vword}
+use Rattle.kc_memory.specs.Places.{AllStandIn, places_of}
 use Rattle.kc_elf.specs.declared.fault.CoreFault.{CoreFault}
 use Rattle.kc_elf.specs.Parts.{Parts}
 use Rattle.kc_elf.specs.CoreFile.{core}
@@ -22,7 +22,7 @@ use Rattle.kc_layout.specs.declared.fault.QRule.TheVariants.{Q5}
 use Rattle.kc_layout.specs.Find.{find}
 use Rattle.kc_layout.specs.Listing.{compound_under, listing}
 use Rattle.kc_app.specs.Made.{◌>>=◌, gives, refuses, short_file}
-use Rattle.kc_found.specs.Bits.{Number, number_places}
+use Rattle.kc_memory.specs.Bits.{Number, number_places}
 use Rattle.kc_notes.specs.Info.{info}
 use Rattle.kc_layout.specs.declared.fault.PathFault.{PathFault}
 use Rattle.kc_layout.specs.Ends.{NumberAt, field}

@@ -1,7 +1,7 @@
 -- The texts of a number, and of what refuses a map or a symbol.
 use Rattle.std.specs.Prelude.{ℕ, List, ◌++◌, codes, decimal, Ok}
 use Rattle.std.specs.Fmt.{signed_decimal}
-use Rattle.kc_found.specs.Bits.{Number, number_places}
+use Rattle.kc_memory.specs.Bits.{Number, number_places}
 use Rattle.kc_syms.specs.declared.fault.SymFault.{SymFault}
 use Rattle.kc_syms.specs.declared.fault.SymFault.TheVariants.{S2, S3}
 use Rattle.kc_app.specs.Texts.{hex, place_lines}

@@ -1,12 +1,12 @@
 -- The texts that are printed.
 use Rattle.std.specs.Prelude.{ℕ, ◌+◌, Bool, true, false, if◌then◌else◌, List, [], ◌∷◌, ◌++◌, codes, decimal, Option, Some, None}
 use Rattle.kc_word.specs.Hex.{hex_digits}
-use Rattle.kc_found.specs.declared.rule.Rule.{Rule}
-use Rattle.kc_found.specs.declared.rule.Rule.TheVariants.{M1, M2, M3, M4, M5, M6}
-use Rattle.kc_found.specs.declared.words.Place.{Place}
-use Rattle.kc_found.specs.declared.words.VWord.{VWord}
-use Rattle.kc_found.specs.Stopped.{Stopped}
-use Rattle.kc_found.specs.Places.{entry_places}
+use Rattle.kc_memory.specs.declared.rule.Rule.{Rule}
+use Rattle.kc_memory.specs.declared.rule.Rule.TheVariants.{M1, M2, M3, M4, M5, M6}
+use Rattle.kc_memory.specs.declared.words.Place.{Place}
+use Rattle.kc_memory.specs.declared.words.VWord.{VWord}
+use Rattle.kc_memory.specs.Stopped.{Stopped}
+use Rattle.kc_memory.specs.Places.{entry_places}
 use Rattle.kc_elf.specs.declared.fault.CoreFault.{CoreFault}
 use Rattle.kc_elf.specs.declared.fault.CoreFault.TheVariants.{E1, E2, E3, E4, E5, E6, E7, E8, E9, E10}
 use Rattle.kc_notes.specs.declared.fault.NoteFault.{NoteFault}

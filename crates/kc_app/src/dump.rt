@@ -15,7 +15,7 @@ use crate::answer::{Answer, Halt};
 use crate::file::open;
 use crate::text::{broken_text, core_line, note_line};
 use kc_elf::{Core, CoreStop, read_core};
-use kc_found::Stop;
+use kc_memory::Stop;
 use kc_notes::{Info, NoteFault, kernel_info, vmcoreinfo};
 use kc_outside::{Slot, Store};
 use std::alloc::Global;

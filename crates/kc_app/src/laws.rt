@@ -1,7 +1,7 @@
 // What the definition of the output says.
 ghost use Rattle.kc_app.specs.Output.{ShownStand};
 
-use kc_found::know_places;
+use kc_memory::know_places;
 use kc_view::know_values;
 
 /// Does nothing. Every word of a dump that an output shows stands in the dump at the printed places.

@@ -6,7 +6,7 @@ ghost use Rattle.kc_app.specs.ShowTexts.{map_line, symbol_code, symbol_line, num
 
 use crate::push::{push, push_hex, push_numbered};
 use itoa::Buffer;
-use kc_found::{Place, Scalar};
+use kc_memory::{Place, Scalar};
 use kc_syms::SymFault;
 use kc_word::NoMemory;
 use std::alloc::Global;

@@ -18,7 +18,7 @@ ghost use Rattle.kc_phys.specs.Stored.{AreInside};
 use crate::kaudit;
 use kc_elf::read_core;
 use kc_fixture::{MAP, NOTE, btf_file, core_file, core_with_note, set_bytes, set_word};
-use kc_found::{Space, VWord};
+use kc_memory::{Space, VWord};
 use kc_mem::Memory;
 use kc_outside::{MemSink, MemStore, Slot, Store};
 use kc_phys::Phys;

@@ -1,11 +1,11 @@
 // The texts that are printed, made whole before a byte of them is put anywhere.
 ghost use Rattle.std.specs.Prelude.{◌≡◌, ◌+◌, ◌≤◌, ◌++◌, ◌∷◌, [], codes, decimal, IfOk, OnOk};
-ghost use Rattle.kc_found.specs.Places.{entry_places};
+ghost use Rattle.kc_memory.specs.Places.{entry_places};
 ghost use Rattle.kc_app.specs.Texts.{word_line, rule_code, rule_lines, stop_line, place_lines, broken_text, core_code, dump_line, key_text, note_code, tells_stop};
 
 use crate::push::{push, push_hex, push_numbered};
 use kc_elf::CoreFault;
-use kc_found::{Miss, PWord, Rule, VWord};
+use kc_memory::{Miss, PWord, Rule, VWord};
 use kc_notes::{NoteFault, NoteKey};
 use kc_word::NoMemory;
 use std::alloc::Global;

@@ -1,13 +1,13 @@
 // The words at virtual addresses.
 ghost use Rattle.std.specs.Prelude.{◌≡◌, ◌+◌, ◌%◌, ◌^◌, ◌<◌, ◌≤◌, None, Err, IsTrue, IfSome, IfOk};
 ghost use Rattle.kc_outside.specs.Counts.{Rose};
-ghost use Rattle.kc_found.specs.Image.{pword};
-ghost use Rattle.kc_found.specs.Stopped.{is_stop};
-ghost use Rattle.kc_found.specs.Space.{AnswersAs, OnFault, StopsAt, UnlessFault};
-ghost use Rattle.kc_found.specs.Translation.{levels, vword, word_or_stop};
+ghost use Rattle.kc_memory.specs.Image.{pword};
+ghost use Rattle.kc_memory.specs.Stopped.{is_stop};
+ghost use Rattle.kc_memory.specs.Space.{AnswersAs, OnFault, StopsAt, UnlessFault};
+ghost use Rattle.kc_memory.specs.Translation.{levels, vword, word_or_stop};
 ghost use Rattle.kc_mem.specs.Paged.{with_paging, refused, most_one, most_six};
 
-use kc_found::{FrameStop, Frames, Miss, Rule, Space, Stop, VWord};
+use kc_memory::{FrameStop, Frames, Miss, Rule, Space, Stop, VWord};
 use kc_page::walk;
 use kc_word::{NoMemory, Pa, PageCfg, Steps};
 use std::alloc::Global;

@@ -1,11 +1,11 @@
 -- One level of the way down through the page tables.
 use Rattle.std.proofs.Common.{◌≡◌, ◌≢◌, ℕ, zero, suc, ◌+◌, ◌-◌, ◌%◌, Option, Some, None, Result, Ok, Err, arith, refl, subst, sym, ap}
-use Rattle.kc_found.specs.declared.space.Stop.{Stop}
-use Rattle.kc_found.specs.declared.space.Stop.TheVariants.{Miss, Fault}
-use Rattle.kc_found.specs.Stopped.{Stopped}
-use Rattle.kc_found.specs.Image.{Physical}
-use Rattle.kc_found.specs.Space.{AnswersAs, Is}
-use Rattle.kc_found.specs.Translation.{entered, follow, xlate, and_then}
+use Rattle.kc_memory.specs.declared.space.Stop.{Stop}
+use Rattle.kc_memory.specs.declared.space.Stop.TheVariants.{Miss, Fault}
+use Rattle.kc_memory.specs.Stopped.{Stopped}
+use Rattle.kc_memory.specs.Image.{Physical}
+use Rattle.kc_memory.specs.Space.{AnswersAs, Is}
+use Rattle.kc_memory.specs.Translation.{entered, follow, xlate, and_then}
 use Rattle.kc_page.specs.declared.entry.Step.TheVariants.{Table, Large}
 use Rattle.kc_page.specs.Step.{StepsAs}
 

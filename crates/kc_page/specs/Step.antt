@@ -1,12 +1,12 @@
 -- A step of the walk, in the code's own types.
 use Rattle.std.specs.Prelude.{◌≡◌, ℕ, ◌%◌, ◌^◌, ◌<◌, Option, Some, None, Result, Ok, Err, ⊤}
 use Rattle.kc_word.specs.declared.plain.Pa.{Pa}
-use Rattle.kc_found.specs.declared.space.Stop.{Stop}
-use Rattle.kc_found.specs.declared.space.Stop.TheVariants.{Miss, Fault}
-use Rattle.kc_found.specs.Stopped.{Stopped}
-use Rattle.kc_found.specs.Image.{Physical}
-use Rattle.kc_found.specs.Translation.{Way}
-use Rattle.kc_found.specs.Translation as words
+use Rattle.kc_memory.specs.declared.space.Stop.{Stop}
+use Rattle.kc_memory.specs.declared.space.Stop.TheVariants.{Miss, Fault}
+use Rattle.kc_memory.specs.Stopped.{Stopped}
+use Rattle.kc_memory.specs.Image.{Physical}
+use Rattle.kc_memory.specs.Translation.{Way}
+use Rattle.kc_memory.specs.Translation as words
 use Rattle.kc_page.specs.declared.entry.Step.{Step}
 use Rattle.kc_page.specs.declared.entry.Step.TheVariants.{Table, Large}
 

@@ -1,10 +1,10 @@
 // One entry of a page table (Intel SDM volume 3A, chapter "Paging": "Hierarchical Paging Structures").
 ghost use Rattle.std.specs.Prelude.{◌≡◌, ◌+◌, ◌-◌, ◌*◌, ◌%◌, ◌/◌, ◌^◌, ◌<◌, ◌≤◌, ◌&&◌, nat_eq, nat_lt, Some, IfOk};
-ghost use Rattle.kc_found.specs.Space.{OnFault, StopsAt};
-ghost use Rattle.kc_found.specs.Translation.{Way, address_from, has_reserved, in_page, index_at, is_set, judged, refusal, way};
+ghost use Rattle.kc_memory.specs.Space.{OnFault, StopsAt};
+ghost use Rattle.kc_memory.specs.Translation.{Way, address_from, has_reserved, in_page, index_at, is_set, judged, refusal, way};
 ghost use Rattle.kc_page.specs.Step.{IsJudged, IsStep, Keeps};
 
-use kc_found::{Miss, PWord, Rule, Stop};
+use kc_memory::{Miss, PWord, Rule, Stop};
 
 const PAGE_BITS: u32 = 12;
 

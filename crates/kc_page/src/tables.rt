@@ -2,13 +2,13 @@
 ghost use Rattle.std.specs.Prelude.{◌≡◌, ◌+◌, ◌%◌, ◌^◌, ◌<◌, ◌≤◌, None, Err, IfOk};
 ghost use Rattle.std.specs.Bool.{OnFalse};
 ghost use Rattle.kc_outside.specs.Counts.{Rose};
-ghost use Rattle.kc_found.specs.declared.rule.Rule.TheVariants.{M2};
-ghost use Rattle.kc_found.specs.Space.{AnswersAs, OnFault, StopsAt, UnlessFault};
-ghost use Rattle.kc_found.specs.Translation.{entered, is_canonical, levels, translated, xlate};
+ghost use Rattle.kc_memory.specs.declared.rule.Rule.TheVariants.{M2};
+ghost use Rattle.kc_memory.specs.Space.{AnswersAs, OnFault, StopsAt, UnlessFault};
+ghost use Rattle.kc_memory.specs.Translation.{entered, is_canonical, levels, translated, xlate};
 ghost use Rattle.kc_page.specs.Step.{IsWalked, Keeps, StepsAs};
 
 use crate::entry::{Step, index_at, judge};
-use kc_found::{FrameStop, Frames, Miss, Rule, Stop};
+use kc_memory::{FrameStop, Frames, Miss, Rule, Stop};
 use kc_word::{Pa, PageCfg, Steps};
 use std::sync::ledger::Ledger;
 

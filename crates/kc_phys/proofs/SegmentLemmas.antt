@@ -3,7 +3,7 @@ use Rattle.std.proofs.Common.{◌≡◌, ℕ, suc, ◌+◌, ◌≤◌, Bool, tru
 use Rattle.std.specs.List.{All, find}
 use Rattle.std.proofs.lemmas.Bool.Decides.{nat_tests}
 use Rattle.kc_word.specs.declared.plain.Segment.{Segment}
-use Rattle.kc_found.specs.Image.{holds, holder, offset_in}
+use Rattle.kc_memory.specs.Image.{holds, holder, offset_in}
 use Rattle.kc_phys.specs.Stored.{IsInside, AreInside}
 
 All-tail : {X : Type 0} (P : X → Type 0) (x : X) (xs : List X) → All P (x ∷ xs) → All P xs

@@ -5,13 +5,13 @@ ghost use Rattle.std.specs.Option.{ForSome};
 ghost use Rattle.kc_outside.specs.declared.store.Slot.TheVariants.{Dump};
 ghost use Rattle.kc_outside.specs.Counts.{Rose};
 ghost use Rattle.kc_outside.specs.Files.{content};
-ghost use Rattle.kc_found.specs.Frames.{OnFault, ReadsWord, UnlessFault};
-ghost use Rattle.kc_found.specs.Image.{holder, offset_in};
+ghost use Rattle.kc_memory.specs.Frames.{OnFault, ReadsWord, UnlessFault};
+ghost use Rattle.kc_memory.specs.Image.{holder, offset_in};
 ghost use Rattle.kc_phys.specs.Stored.{AreInside, IsPart, StandsAt, stored};
 
 use crate::segments::offset_of;
 use byteorder::{ByteOrder, LittleEndian};
-use kc_found::{FrameStop, Frames, PWord};
+use kc_memory::{FrameStop, Frames, PWord};
 use kc_outside::{Failed, Slot, Store};
 use kc_word::{NoMemory, Segment, Steps};
 use std::alloc::Global;

@@ -2,7 +2,7 @@
 ghost use Rattle.std.specs.Prelude.{◌≡◌, ◌+◌, ◌≤◌, IsSome, IfSome, option_map};
 ghost use Rattle.std.specs.Option.{ForSome};
 ghost use Rattle.kc_outside.specs.declared.store.Slot.TheVariants.{Dump};
-ghost use Rattle.kc_found.specs.Image.{holder, holds, offset_in};
+ghost use Rattle.kc_memory.specs.Image.{holder, holds, offset_in};
 ghost use Rattle.kc_phys.specs.Stored.{AreInside};
 
 use kc_outside::Store;

@@ -1,12 +1,12 @@
 -- One pointer on the way.
 use Rattle.std.proofs.Common.{◌≡◌, ◌≢◌, ℕ, ◌+◌, ◌%◌, ◌^◌, ◌≤◌, ◌<◌, List, [], ◌∷◌, length, drop, slice_index_or, nat_eq, false, Option, Some, None, Result, Ok, Err, refl, arith}
 use Rattle.std.proofs.lemmas.Bool.{ne_eqb}
-use Rattle.kc_found.specs.declared.space.Stop.{Stop}
-use Rattle.kc_found.specs.declared.space.Stop.TheVariants.{Miss, Fault}
-use Rattle.kc_found.specs.declared.words.Place.{Place}
-use Rattle.kc_found.specs.Bits.{Number}
-use Rattle.kc_found.specs.Image.{Image}
-use Rattle.kc_found.specs.Space.{AnswersAs}
+use Rattle.kc_memory.specs.declared.space.Stop.{Stop}
+use Rattle.kc_memory.specs.declared.space.Stop.TheVariants.{Miss, Fault}
+use Rattle.kc_memory.specs.declared.words.Place.{Place}
+use Rattle.kc_memory.specs.Bits.{Number}
+use Rattle.kc_memory.specs.Image.{Image}
+use Rattle.kc_memory.specs.Space.{AnswersAs}
 use Rattle.kc_view.specs.declared.pointers.Reached.{Reached}
 use Rattle.kc_view.specs.declared.pointers.Reached.TheVariants.{Address, NullPointer}
 use Rattle.kc_view.specs.Pointers.{behind, pointer, reached, target}

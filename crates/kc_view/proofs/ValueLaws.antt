@@ -1,11 +1,11 @@
 -- What fields and paths show is true of the dump, and where they lead.
 use Rattle.std.proofs.Common.{◌≡◌, ℕ, ◌+◌, ◌*◌, Bool, true, false, nat_eq, if◌then◌else◌, List, [], ◌∷◌, Result, Ok, Err, refl, ap, ◌∙◌, arith}
-use Rattle.kc_found.specs.Bits.{Number, bits, first_bit, number_places}
-use Rattle.kc_found.specs.Image.{Image}
-use Rattle.kc_found.specs.Laws.{NumbersStand}
-use Rattle.kc_found.specs.Places.{AllStandIn}
-use Rattle.kc_found.specs.Stopped.{Stopped}
-use Rattle.kc_found.specs.Translation.{and_then}
+use Rattle.kc_memory.specs.Bits.{Number, bits, first_bit, number_places}
+use Rattle.kc_memory.specs.Image.{Image}
+use Rattle.kc_memory.specs.Laws.{NumbersStand}
+use Rattle.kc_memory.specs.Places.{AllStandIn}
+use Rattle.kc_memory.specs.Stopped.{Stopped}
+use Rattle.kc_memory.specs.Translation.{and_then}
 use Rattle.kc_layout.specs.declared.ends.Located.{Located}
 use Rattle.kc_layout.specs.HopList.{hop_list}
 use Rattle.kc_view.specs.declared.pointers.Reached.{Reached}

@@ -1,10 +1,10 @@
 -- What the definitions of fields and paths say of the dump.
 use Rattle.std.specs.Prelude.{◌≡◌, ℕ, ◌+◌, ◌*◌, List, [], ◌∷◌, Result, Ok, Err}
-use Rattle.kc_found.specs.declared.words.Place.{Place}
-use Rattle.kc_found.specs.Bits.{number_places}
-use Rattle.kc_found.specs.Image.{Image}
-use Rattle.kc_found.specs.Places.{AllStandIn, entry_places}
-use Rattle.kc_found.specs.Stopped.{Stopped}
+use Rattle.kc_memory.specs.declared.words.Place.{Place}
+use Rattle.kc_memory.specs.Bits.{number_places}
+use Rattle.kc_memory.specs.Image.{Image}
+use Rattle.kc_memory.specs.Places.{AllStandIn, entry_places}
+use Rattle.kc_memory.specs.Stopped.{Stopped}
 use Rattle.kc_layout.specs.declared.ends.Located.{Located}
 use Rattle.kc_layout.specs.Ends.{BitsAt}
 use Rattle.kc_layout.specs.HopList.{hop_list}

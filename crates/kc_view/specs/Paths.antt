@@ -1,9 +1,9 @@
 -- Where a path leads from a view.
 use Rattle.std.specs.Prelude.{◌≡◌, ⊤, ℕ, Result, Ok}
 use Rattle.kc_btf.specs.Btf.{Types}
-use Rattle.kc_found.specs.Image.{Image}
-use Rattle.kc_found.specs.Stopped.{Stopped}
-use Rattle.kc_found.specs.Translation.{and_then}
+use Rattle.kc_memory.specs.Image.{Image}
+use Rattle.kc_memory.specs.Stopped.{Stopped}
+use Rattle.kc_memory.specs.Translation.{and_then}
 use Rattle.kc_layout.specs.declared.ends.Located.{Located}
 use Rattle.kc_layout.specs.HopList.{hop_list}
 use Rattle.kc_view.specs.declared.pointers.Reached.{Reached}

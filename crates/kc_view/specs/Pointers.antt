@@ -2,10 +2,10 @@
 -- an offset from where the one before points.
 use Rattle.std.specs.Prelude.{ℕ, ℤ, pos, negsuc, List, [], ◌∷◌, false, nat_eq, if◌then◌else◌, Result, Ok}
 use Rattle.kc_layout.specs.Ends.{BitsAt}
-use Rattle.kc_found.specs.Bits.{Number, bits}
-use Rattle.kc_found.specs.Image.{Image}
-use Rattle.kc_found.specs.Stopped.{Stopped}
-use Rattle.kc_found.specs.Translation.{and_then}
+use Rattle.kc_memory.specs.Bits.{Number, bits}
+use Rattle.kc_memory.specs.Image.{Image}
+use Rattle.kc_memory.specs.Stopped.{Stopped}
+use Rattle.kc_memory.specs.Translation.{and_then}
 use Rattle.kc_view.specs.declared.pointers.Reached.{Reached}
 use Rattle.kc_view.specs.declared.pointers.Reached.TheVariants.{Address, NullPointer}
 use Rattle.kc_view.specs.Typed.{bytes_on}

@@ -1,12 +1,12 @@
 // Pointers in memory, and where they lead.
 ghost use Rattle.std.specs.Prelude.{◌≡◌, ◌+◌, ◌*◌, ◌≤◌, false, length, take, IfOk};
 ghost use Rattle.kc_outside.specs.Counts.{Rose};
-ghost use Rattle.kc_found.specs.Bits.{InBits};
-ghost use Rattle.kc_found.specs.Space.{AnswersAs, OnFault, UnlessFault};
+ghost use Rattle.kc_memory.specs.Bits.{InBits};
+ghost use Rattle.kc_memory.specs.Space.{AnswersAs, OnFault, UnlessFault};
 ghost use Rattle.kc_layout.specs.HopList.{hop_list};
 ghost use Rattle.kc_view.specs.Pointers.{behind, pointer, reached, target};
 
-use kc_found::{Place, Scalar, Space, Stop, read_bits};
+use kc_memory::{Place, Scalar, Space, Stop, read_bits};
 use kc_layout::Hops;
 use kc_word::{Bits, Steps};
 use std::sync::ledger::Ledger;

@@ -4,7 +4,7 @@ ghost use Rattle.std.proofs.Common.{lit≤};
 
 use crate::{Led, View};
 use kc_btf::Btf;
-use kc_found::{Miss, Rule, Space, Stop, VWord};
+use kc_memory::{Miss, Rule, Space, Stop, VWord};
 use kc_layout::{Field, Hops, Located};
 use kc_word::{Bits, Steps};
 use std::alloc::Global;

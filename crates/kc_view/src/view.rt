@@ -1,7 +1,7 @@
 // A type of the kernel's type information at a virtual address.
 use crate::pointers::{Reached, all_offsets, behind, reach};
 use kc_btf::Btf;
-use kc_found::{Place, Scalar, Space, Stop, read_bits};
+use kc_memory::{Place, Scalar, Space, Stop, read_bits};
 use kc_layout::{Field, Located, array_under, size_of};
 use kc_word::Steps;
 use std::marker::Model;
@@ -40,8 +40,8 @@ pub enum Led<'b> {
 impl<'b> View<'b> {
     ghost use Rattle.std.specs.Prelude.{◌≡◌, ◌+◌, ◌*◌, ◌≤◌, length, IfOk, IfSome};
     ghost use Rattle.kc_outside.specs.Counts.{Rose};
-    ghost use Rattle.kc_found.specs.Bits.{InBits};
-    ghost use Rattle.kc_found.specs.Space.{AnswersAs, OnFault, UnlessFault};
+    ghost use Rattle.kc_memory.specs.Bits.{InBits};
+    ghost use Rattle.kc_memory.specs.Space.{AnswersAs, OnFault, UnlessFault};
     ghost use Rattle.kc_layout.specs.HopList.{hop_list};
     ghost use Rattle.kc_layout.specs.Views.{bits_view};
     ghost use Rattle.kc_view.specs.Elements.{element_of};

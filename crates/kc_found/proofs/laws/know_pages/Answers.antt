@@ -1,5 +1,0 @@
-use Rattle.kc_found.proofs.PageLaws.{pages_move_whole}
-use Rattle.kc_found.proofs.laws.know_pages.Goals as goal
-
-pub returns : goal.returns
-returns c = pages_move_whole

@@ -1,8 +1,0 @@
-use Rattle.kc_found.proofs.WordLaws.{words_stand_first, absent_where_none}
-use Rattle.kc_found.proofs.laws.know_words.Goals as goal
-
-pub returns-clause-first : goal.returns-clause-first
-returns-clause-first c = words_stand_first
-
-pub returns-clause-absent : goal.returns-clause-absent
-returns-clause-absent c = absent_where_none

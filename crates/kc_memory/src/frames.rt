@@ -1,0 +1,48 @@
+// Physical memory as a trait.
+ghost use Rattle.std.specs.Prelude.{◌≡◌, ℕ, ◌+◌, ◌%◌, ◌≤◌, List, Option};
+ghost use Rattle.kc_outside.specs.Counts.{Rose};
+ghost use Rattle.kc_outside.specs.Files.{Files};
+ghost use Rattle.kc_memory.specs.Image.{Physical};
+ghost use Rattle.kc_memory.specs.Frames.{ReadsWord, OnFault, UnlessFault};
+
+use crate::words::PWord;
+use kc_word::Steps;
+use std::sync::ledger::Ledger;
+
+/// Why there is no physical word.
+#[derive(Clone, Copy, Debug, PartialEq, Eq)]
+pub enum FrameStop {
+    /// The dump doesn't have it.
+    Absent,
+    /// Reading the dump failed. The count of faults rose.
+    Fault,
+}
+
+/// The physical memory of a dump.
+pub trait Frames {
+    /// The dump's bytes and segments, or `None` where they aren't told.
+    ghost image: { Self → Option Physical };
+
+    /// The files of the store that words are read from, or `None` where they aren't told.
+    ghost files: { Self → Option Files };
+
+    /// How often reading failed.
+    ghost faults: { Self → ℕ };
+
+    /// The names of the borrows that words are read through, the outer one first.
+    ghost through: { Self → List ℕ };
+
+    /// The word at a physical address in bytes, a multiple of 8. It takes one step.
+    fn word<L: Ledger>(&mut self, pa: u64, steps: &mut Steps<L>) -> Result<PWord, FrameStop>
+        requires { pa % 8 ≡ 0 }
+
+        ensures word { ReadsWord (image self.old) pa result }
+        ensures steps { steps.new ≡ steps.old + 1 }
+
+        ensures image { image self.new ≡ image self.old }
+        ensures files { files self.new ≡ files self.old }
+        ensures through { through self.new ≡ through self.old }
+        ensures later { faults self.old ≤ faults self.new }
+        ensures quiet { UnlessFault result (faults self.new ≡ faults self.old) }
+        ensures cause { OnFault result (Rose (faults self.old) (faults self.new)) };
+}

@@ -1,0 +1,28 @@
+// What the definitions of words say, for a reader to believe and a caller to learn. These functions do
+// nothing: each carries a law.
+ghost use Rattle.kc_memory.specs.Laws.{WordsStandFirst, AbsentWhereNone, PagesMoveWhole, PlacesStand, NumbersStand, NumbersFit, BitsAreOfMemory};
+
+/// A word of the dump is the eight bytes at its file offset, and no earlier segment holds them. It is
+/// absent only where no segment does.
+pub fn know_words()
+    ensures first { WordsStandFirst }
+    ensures absent { AbsentWhereNone }
+{}
+
+/// A translation keeps the low 12 bits of an address, and moves a page whole.
+pub fn know_pages()
+    ensures { PagesMoveWhole }
+{}
+
+/// The places that an answer shows are true of the dump.
+pub fn know_places()
+    ensures { PlacesStand }
+{}
+
+/// The places that a whole number shows are true of the dump. Its bits hold the number, and they are the bits of
+/// memory.
+pub fn know_numbers()
+    ensures stand { NumbersStand }
+    ensures fit { NumbersFit }
+    ensures bits { BitsAreOfMemory }
+{}
