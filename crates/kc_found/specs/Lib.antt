@@ -1,0 +1,9 @@
+pub use Rattle.kc_memory.specs.Bits
+pub use Rattle.kc_memory.specs.Frames
+pub use Rattle.kc_memory.specs.Held
+pub use Rattle.kc_memory.specs.Image
+pub use Rattle.kc_memory.specs.Laws
+pub use Rattle.kc_memory.specs.Places
+pub use Rattle.kc_memory.specs.Space
+pub use Rattle.kc_memory.specs.Stopped
+pub use Rattle.kc_memory.specs.Translation
