@@ -8,9 +8,9 @@ FOLDER has the files that the words name: `vmcore`, `btf`, `System.map`. Each co
 time is the least of them in seconds, and the memory the greatest, in MiB.
 """
 import os
-import subprocess
 import sys
-import time
+
+import child
 
 RUNS = 5
 
@@ -32,26 +32,17 @@ def wanted_answers(path):
         yield words, text, 0
 
 
-def measured(command, folder):
-    """How a command ended, its two texts, its time and its memory."""
-    began = time.perf_counter()
-    run = subprocess.Popen(command, cwd=folder, stdout=subprocess.PIPE, stderr=subprocess.PIPE)
-    out, err = run.stdout.read(), run.stderr.read()
-    _, status, usage = os.wait4(run.pid, 0)
-    return os.waitstatus_to_exitcode(status), out, err, time.perf_counter() - began, usage.ru_maxrss / 1024
-
-
 def main():
     kaudit, folder, answers = os.path.abspath(sys.argv[1]), sys.argv[2], sys.argv[3]
     wrong, slowest, largest = 0, 0, 0
     for words, text, status in wanted_answers(answers):
-        runs = [measured([kaudit] + words, folder) for _ in range(RUNS)]
+        runs = [child.run([kaudit] + words, folder) for _ in range(RUNS)]
         wanted = "".join(text).encode()
         refused = status not in (0, 1)
         fine = all(
             r[0] == status and r[1] == (b"" if refused else wanted) and r[2] == (wanted if refused else b"") for r in runs
         )
-        seconds, memory = min(r[3] for r in runs), max(r[4] for r in runs)
+        seconds, memory = min(r[3] for r in runs), child.most_memory([kaudit] + words, folder)
         print("ok   " if fine else "WRONG", f"{seconds:.3f} s {memory:.1f} MiB", *words)
         if not fine:
             print(runs[0][0], runs[0][1].decode(), runs[0][2].decode(), "wanted", status, wanted.decode())

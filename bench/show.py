@@ -9,21 +9,18 @@ symbols; where drgn or that file isn't there, it is left out.
 """
 import os
 import shutil
-import subprocess
 import sys
-import time
+
+import child
 
 RUNS = 5
 
 
 def measured(command, folder):
-    """A run's text, its seconds and its memory."""
-    began = time.perf_counter()
-    run = subprocess.Popen(command, cwd=folder, stdout=subprocess.PIPE)
-    text = run.stdout.read().decode()
-    _, status, usage = os.wait4(run.pid, 0)
-    assert status == 0, (command, text)
-    return text, time.perf_counter() - began, usage.ru_maxrss / 1024
+    """A run's text and its seconds."""
+    status, out, _, seconds = child.run(command, folder)
+    assert status == 0, (command, out)
+    return out.decode(), seconds
 
 
 def main():
@@ -44,7 +41,8 @@ def main():
     values = {program: [line for line in r[0][0].splitlines() if line.startswith("value")] for program, r in runs.items()}
     best = {program: min(run[1] for run in r) for program, r in runs.items()}
     for program, r in runs.items():
-        print(f"{program} {best[program]:.3f} s {max(run[2] for run in r):.1f} MiB", *values[program])
+        memory = child.most_memory(commands[program], folder)
+        print(f"{program} {best[program]:.3f} s {memory:.1f} MiB", *values[program])
     if "drgn" in best:
         assert values["drgn"] == values["kaudit"]
         print(f"ratio of the times {best['drgn'] / best['kaudit']:.1f}")

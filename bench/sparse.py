@@ -8,9 +8,9 @@ the search goes through all of them.
 """
 import os
 import struct
-import subprocess
 import sys
-import time
+
+import child
 
 SEGMENTS = 1000
 SIZE = 1 << 40
@@ -41,18 +41,14 @@ def make(small, path):
 
 
 def measure(kaudit, dump, runs=20):
-    """The fastest of some runs in milliseconds, and the peak memory in KiB."""
-    best, peak = None, 0
+    """The fastest of some runs in milliseconds, and the most memory in MiB."""
+    command = [kaudit, "word", dump, "-", "ffffffff8000b120"]
+    best = None
     for _ in range(runs):
-        start = time.perf_counter()
-        process = subprocess.Popen([kaudit, "word", dump, "-", "ffffffff8000b120"], stdout=subprocess.PIPE)
-        out = process.stdout.read()
-        _, status, usage = os.wait4(process.pid, 0)
-        spent = (time.perf_counter() - start) * 1000
+        status, out, _, seconds = child.run(command)
         assert status == 0 and out.startswith(b"ffffffff8000b120 000000000000b120 "), out
-        best = spent if best is None else min(best, spent)
-        peak = max(peak, usage.ru_maxrss)
-    return best, peak
+        best = seconds * 1000 if best is None else min(best, seconds * 1000)
+    return best, child.most_memory(command)
 
 
 def main():
@@ -64,9 +60,9 @@ def main():
         many, many_peak = measure(kaudit, sparse)
     finally:
         os.unlink(sparse)
-    print(f"small dump:  {one:.2f} ms, {one_peak} KiB")
-    print(f"1 TiB dump:  {many:.2f} ms, {many_peak} KiB, {many / one:.1f} times as long")
-    return many >= 50 or many_peak >= 16 * 1024
+    print(f"small dump:  {one:.2f} ms, {one_peak:.1f} MiB")
+    print(f"1 TiB dump:  {many:.2f} ms, {many_peak:.1f} MiB, {many / one:.1f} times as long")
+    return many >= 50 or many_peak >= 16
 
 
 sys.exit(main())

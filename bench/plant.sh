@@ -1,0 +1,16 @@
+#!/usr/bin/env bash
+# Tries the wrong bodies of planted/, which the gate leaves out: the prover has to refuse each of them.
+# usage: plant.sh [CRATE..]      without a crate: all that planted/ has
+# It works on a copy of what git knows of the repository, as the files stand now, and ends with 1 where one isn't refused.
+set -eu
+cd "$(dirname "$0")/.."
+if [ $# -gt 0 ]; then crates=("$@"); else mapfile -t crates < <(ls planted); fi
+copy=$(mktemp -d)
+trap 'rm -rf "$copy"' EXIT
+git ls-files -z --cached --others --exclude-standard -- crates crates.txt HANDLES | xargs -0 cp --parents -t "$copy"
+rm -rf "$copy"/crates/*/must-fail
+for crate in "${crates[@]}"; do
+  cp -r "planted/$crate" "$copy/crates/$crate/must-fail"
+done
+cd "$copy"
+rt must-fail "${crates[@]}"
