@@ -36,6 +36,41 @@ fn rule_code(rule: Rule) -> &'static [u8]
         Rule::M4 => b"M4",
         Rule::M5 => b"M5",
         Rule::M6 => b"M6",
+        Rule::N => b"N",
+        Rule::K => b"K",
+        Rule::A => b"A",
+        Rule::L1 => b"L1",
+        Rule::H1 => b"H1",
+        Rule::R1 => b"R1",
+        Rule::R2 => b"R2",
+        Rule::R3 => b"R3",
+        Rule::R4 => b"R4",
+        Rule::R5 => b"R5",
+        Rule::R6 => b"R6",
+        Rule::X1 => b"X1",
+        Rule::X2 => b"X2",
+        Rule::X3 => b"X3",
+        Rule::X4 => b"X4",
+        Rule::X5 => b"X5",
+        Rule::X6 => b"X6",
+        Rule::X7 => b"X7",
+        Rule::X8 => b"X8",
+        Rule::X9 => b"X9",
+        Rule::U1 => b"U1",
+        Rule::U2 => b"U2",
+        Rule::U3 => b"U3",
+        Rule::U4 => b"U4",
+        Rule::U5 => b"U5",
+        Rule::U6 => b"U6",
+        Rule::U7 => b"U7",
+        Rule::T1 => b"T1",
+        Rule::T2 => b"T2",
+        Rule::T3 => b"T3",
+        Rule::T4 => b"T4",
+        Rule::T5 => b"T5",
+        Rule::T6 => b"T6",
+        Rule::T7 => b"T7",
+        Rule::C => b"C",
     }
 }
 
@@ -44,8 +79,8 @@ fn tells_stop(rule: Rule) -> bool
     ensures { result ≡ tells_stop rule }
 {
     match rule {
-        Rule::M1 | Rule::M2 => false,
         Rule::M3 | Rule::M4 | Rule::M5 | Rule::M6 => true,
+        _ => false,
     }
 }
 
