@@ -7,3 +7,12 @@ pub use Rattle.kc_memory.specs.Places
 pub use Rattle.kc_memory.specs.Space
 pub use Rattle.kc_memory.specs.Stopped
 pub use Rattle.kc_memory.specs.Translation
+pub mod Chains
+pub mod FiniteLists
+pub mod HashChains
+pub mod Nodes
+pub mod Rings
+pub mod Taken
+pub mod Trials
+pub mod Violations
+pub mod Walks

@@ -1,7 +1,22 @@
 //! What is found in a dump's memory, over the words of `kc_memory`, whose public items are this crate's too.
 #![tactic(auto)]
 
+mod asked;
+mod claims;
+mod found;
+mod items;
+mod list_space;
+mod shapes;
+mod verdict;
+
+pub use asked::Asked;
+pub use claims::Claims;
+pub use found::{Found, WalkStop, broken_at, stopped};
+pub use items::{Counts, Items, Name, Places, Walked};
 pub use kc_memory::{
     FrameStop, Frames, Miss, PWord, Place, Rule, Scalar, Space, Stop, VWord, entry_place,
     know_numbers, know_pages, know_places, know_words, place_of, read_bits,
 };
+pub use list_space::ListSpace;
+pub use shapes::{HShape, ListShape};
+pub use verdict::{AuditCount, Verdict};

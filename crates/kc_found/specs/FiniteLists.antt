@@ -1,0 +1,58 @@
+-- What a finite list of nodes has to meet, to be a ring or a hash chain. Source: the kernel's include/linux/list.h.
+use Rattle.std.specs.Prelude.{◌≡◌, ℕ, ◌||◌, nat_eq, not, IsTrue, List, [], ◌∷◌, ◌++◌, map, reverse, option_to_list, Option, Some, None, Result, Ok, Err}
+use Rattle.std.specs.List.{IsDistinct, AllByRecursion}
+use Rattle.kc_memory.specs.declared.words.VWord.{VWord}
+use Rattle.kc_memory.specs.Stopped.{Stopped}
+use Rattle.kc_found.specs.declared.shapes.ListShape.{ListShape}
+use Rattle.kc_found.specs.declared.shapes.HShape.{HShape}
+use Rattle.kc_found.specs.Nodes.{at_offset, is_poison}
+use Rattle.kc_found.specs.Trials.{Reader}
+
+-- the number that a word holds, where it can be read
+abbrev pub value_of : Result VWord Stopped → Option ℕ
+value_of (Ok w) = Some w.value
+value_of (Err s) = None
+
+-- its physical address
+abbrev pub pa_of : Result VWord Stopped → Option ℕ
+pa_of (Ok w) = Some w.pa
+pa_of (Err s) = None
+
+-- the numbers that the words at an offset of some nodes hold
+abbrev pub values : Reader → ℕ → List ℕ → List (Option ℕ)
+values read offset nodes = map (λ n. value_of (read (at_offset n offset))) nodes
+
+-- the physical addresses of two words of each node
+abbrev pub words_of : Reader → ℕ → ℕ → List ℕ → List ℕ
+words_of read first second [] = []
+words_of read first second (n ∷ ns) =
+    option_to_list (pa_of (read (at_offset n first))) ++ (option_to_list (pa_of (read (at_offset n second))) ++ words_of read first second ns)
+
+-- a node of a ring that isn't its head
+abbrev pub IsMember : ℕ → ℕ → Type 0
+IsMember head n = IsTrue (not (nat_eq n 0 || (is_poison n || nat_eq n head)))
+
+-- A ring: `next` leads from the head through the nodes and back, `prev` leads through them the other way, and no two of
+-- all these words are one.
+pub record Ring (read : Reader) (shape : ListShape) (head : ℕ) (ns : List ℕ) : Type 0 where
+  pub members : AllByRecursion (IsMember head) ns
+  pub forward : values read shape.next (head ∷ ns) ≡ map Some (ns ++ head ∷ [])
+  pub backward : values read shape.prev (head ∷ reverse ns) ≡ map Some (reverse ns ++ head ∷ [])
+  pub different : IsDistinct nat_eq (words_of read shape.next shape.prev (head ∷ ns))
+
+-- a node of a hash chain
+abbrev pub IsHashed : ℕ → Type 0
+IsHashed n = IsTrue (not (nat_eq n 0 || is_poison n))
+
+-- the addresses of the words that point to the nodes: the first one, and then `next` of each node but the last
+abbrev pub pointers : HShape → ℕ → List ℕ → List ℕ
+pointers shape first [] = []
+pointers shape first (n ∷ ns) = first ∷ pointers shape (at_offset n shape.next) ns
+
+-- A hash chain: `first` and then `next` lead through the nodes to 0, each `pprev` has the address of the word that points
+-- to its node, and no two of all these words are one.
+pub record HChain (read : Reader) (shape : HShape) (head : ℕ) (ns : List ℕ) : Type 0 where
+  pub members : AllByRecursion IsHashed ns
+  pub forward : value_of (read (at_offset head shape.first)) ∷ values read shape.next ns ≡ map Some (ns ++ 0 ∷ [])
+  pub backward : values read shape.pprev ns ≡ map Some (pointers shape (at_offset head shape.first) ns)
+  pub different : IsDistinct nat_eq (option_to_list (pa_of (read (at_offset head shape.first))) ++ words_of read shape.next shape.pprev ns)

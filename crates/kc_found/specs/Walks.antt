@@ -1,0 +1,51 @@
+-- What the answer of a walk says.
+use Rattle.std.specs.Prelude.{◌≡◌, ℕ, Option, Some, None, Result, Ok, Err, ⊤}
+use Rattle.kc_memory.specs.declared.space.Stop.{Stop}
+use Rattle.kc_memory.specs.declared.space.Stop.TheVariants as stops
+use Rattle.kc_memory.specs.declared.words.VWord.{VWord}
+use Rattle.kc_found.specs.declared.asked.Asked.{Asked}
+use Rattle.kc_found.specs.declared.found.WalkStop.{WalkStop}
+use Rattle.kc_found.specs.declared.found.WalkStop.TheVariants as ends
+use Rattle.kc_found.specs.Violations.{Violation, missed}
+
+-- a stop is by this violation, short of want of memory
+abbrev pub IsBroken : WalkStop → Violation → Type 0
+IsBroken (ends.Broken f) v = f ≡ v
+IsBroken ends.Fault v = ⊥
+IsBroken ends.NoMemory v = ⊤
+
+-- a walk ends at a word that can't be read: by the rule that stopped the reading, or by its failure
+abbrev pub IsStopped : WalkStop → Asked → Option VWord → Stop → Type 0
+IsStopped end asked led (stops.Miss s) = IsBroken end (missed asked led s)
+IsStopped end asked led stops.Fault = end ≡ ends.Fault
+
+-- short of a fault and of want of memory, an answer is this one
+abbrev pub IsWalk : {A B : Type 0} → (A → B) → Result B Violation → Result A WalkStop → Type 0
+IsWalk view truth (Ok x) = truth ≡ Ok (view x)
+IsWalk view truth (Err (ends.Broken f)) = truth ≡ Err f
+IsWalk view truth (Err ends.Fault) = ⊤
+IsWalk view truth (Err ends.NoMemory) = ⊤
+
+-- the answer, seen by a view, is the one that a definition gives of the dump, where the dump is told
+abbrev pub WalksAs : {A B I : Type 0} → (A → B) → (I → Result B Violation) → Option I → Result A WalkStop → Type 0
+WalksAs view truth None r = ⊤
+WalksAs view truth (Some image) r = IsWalk view (truth image) r
+
+abbrev pub OnWalkFault : {A : Type 0} → Result A WalkStop → Type 0 → Type 0
+OnWalkFault (Ok x) P = ⊤
+OnWalkFault (Err (ends.Broken f)) P = ⊤
+OnWalkFault (Err ends.Fault) P = P
+OnWalkFault (Err ends.NoMemory) P = ⊤
+
+abbrev pub OnBroken : {A : Type 0} → Result A WalkStop → Type 0 → Type 0
+OnBroken (Ok x) P = ⊤
+OnBroken (Err (ends.Broken f)) P = P
+OnBroken (Err ends.Fault) P = ⊤
+OnBroken (Err ends.NoMemory) P = ⊤
+
+-- a violation names this audit and this start
+abbrev pub IsNamed : {A : Type 0} → Result A WalkStop → ℕ → ℕ → Type 0
+IsNamed (Ok x) audit start = ⊤
+IsNamed (Err (ends.Broken f)) audit start = (f.audit ≡ audit) × (f.start ≡ start)
+IsNamed (Err ends.Fault) audit start = ⊤
+IsNamed (Err ends.NoMemory) audit start = ⊤

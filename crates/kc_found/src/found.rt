@@ -1,0 +1,129 @@
+// Violations, and why a walk ends early.
+ghost use Rattle.std.specs.Prelude.{◌≡◌, ◌++◌, false, map, option_to_list, IfOk, OnOk};
+ghost use Rattle.kc_memory.specs.Places.{place_of, entry_places};
+ghost use Rattle.kc_found.specs.Violations.{breaks, missed, is_of_reading};
+ghost use Rattle.kc_found.specs.Walks.{IsBroken, IsStopped};
+
+use crate::asked::Asked;
+use crate::items::Places;
+use kc_memory::{Miss, Place, Rule, Stop, VWord, entry_place, place_of};
+use kc_word::NoMemory;
+use std::alloc::Global;
+use std::marker::Model;
+
+/// The first violation of a walk. A stop is there exactly for the rules M1 to M6. The rule is then the stop's, and `at`
+/// is the address at which the reading stopped.
+#[derive(Drop)]
+pub struct Found {
+    /// The number of the audit in its plan.
+    pub audit: u32,
+    /// The virtual address at which the walk starts.
+    pub start: u64,
+    /// The rule that is broken.
+    pub rule: Rule,
+    /// The virtual address that the violation is about.
+    pub at: u64,
+    /// What the word, field or count should be, in 64 bits, or `None` where no rule says so.
+    pub expected: Option<u64>,
+    /// Where reading stopped.
+    pub stop: Option<Miss>,
+    /// The words that show it.
+    pub places: Places,
+}
+
+impl Model for Found {
+    ghost use Rattle.kc_found.specs.Violations.{Violation, IsStopOf};
+
+    ghost Value = { Violation };
+
+    ghost view = { λ f. record { audit = f.audit; start = f.start; rule = f.rule; at = f.at; expected = f.expected; stop = f.stop; places = f.places } };
+
+    ghost invariant = { λ f. IsStopOf f.rule f.at f.stop };
+}
+
+/// Why a walk ends early.
+#[derive(Drop)]
+pub enum WalkStop {
+    /// The structure breaks a rule.
+    Broken(Found),
+    /// Reading the dump failed. The count of faults rose.
+    Fault,
+    /// No memory was left.
+    NoMemory,
+}
+
+/// The violation of a rule that one word shows, at the word's address. It is out of memory where none is left for the
+/// place.
+pub fn broken_at(
+    alloc: Global,
+    asked: &Asked,
+    rule: Rule,
+    word: &VWord,
+    expected: Option<u64>,
+) -> WalkStop
+    requires { is_of_reading rule ≡ false }
+    ensures { IsBroken result (breaks asked.now rule word.now expected) }
+{
+    let mut places = Places::new(alloc);
+    match places.push(place_of(word)) {
+        Ok(()) => WalkStop::Broken(Found {
+            audit: asked.audit,
+            start: asked.start,
+            rule,
+            at: word.va,
+            expected,
+            stop: None,
+            places,
+        }),
+        Err(NoMemory) => WalkStop::NoMemory,
+    }
+}
+
+// Adds a place, where there is one.
+fn push_place(places: &mut Places, place: Option<Place>) -> Result<(), NoMemory>
+    ensures { OnOk result (places.new ≡ places.old ++ option_to_list place) }
+{
+    match place {
+        Some(place) => places.push(place),
+        None => Ok(()),
+    }
+}
+
+// The place of the word that led to a site, and then that of the refused paging entry.
+fn missed_places(alloc: Global, miss: &Miss, led: Option<VWord>) -> Result<Places, NoMemory>
+    ensures { IfOk result (λ places. places ≡ map place_of (option_to_list led) ++ entry_places miss.now.pa miss.now.entry) }
+{
+    let mut places = Places::new(alloc);
+    push_place(&mut places, led.map(|word| place_of(&word)))?;
+    push_place(&mut places, entry_place(miss))?;
+    Ok(places)
+}
+
+// The violation by a word that can't be read, after the word that led to its site.
+fn missed_at(alloc: Global, asked: &Asked, miss: Miss, led: Option<VWord>) -> WalkStop
+    ensures { IsBroken result (missed asked.now led miss) }
+{
+    match missed_places(alloc, &miss, led) {
+        Ok(places) => WalkStop::Broken(Found {
+            audit: asked.audit,
+            start: asked.start,
+            rule: miss.rule,
+            at: miss.va,
+            expected: None,
+            stop: Some(miss),
+            places,
+        }),
+        Err(NoMemory) => WalkStop::NoMemory,
+    }
+}
+
+/// How a walk ends at a word that can't be read, after the word that led to its site: by the rule that stopped the
+/// reading, or by its failure. It is out of memory where none is left for the places.
+pub fn stopped(alloc: Global, asked: &Asked, stop: Stop, led: Option<VWord>) -> WalkStop
+    ensures { IsStopped result asked.now led stop }
+{
+    match stop {
+        Stop::Miss(miss) => missed_at(alloc, asked, miss, led),
+        Stop::Fault => WalkStop::Fault,
+    }
+}

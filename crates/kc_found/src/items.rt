@@ -1,0 +1,76 @@
+// Lists that contracts see as lists.
+ghost use Rattle.std.specs.Prelude.{◌≡◌, ◌<◌, ◌^◌, [], ◌∷◌, ◌++◌, length, OnOk, OnErr, Some, slice_get};
+
+use crate::verdict::AuditCount;
+use kc_memory::Place;
+use kc_word::NoMemory;
+use std::alloc::Global;
+use std::marker::Model;
+
+/// A list that grows at its end.
+#[derive(Drop)]
+pub struct Items<T> {
+    items: Vec<T>,
+}
+
+/// The places that show a violation, in the order in which they are printed.
+pub type Places = Items<Place>;
+
+/// The virtual addresses of the elements or nodes that a walk met, in its order.
+pub type Walked = Items<u64>;
+
+/// The counts of a plan's audits, in the order of the plan.
+pub type Counts = Items<AuditCount>;
+
+/// The bytes of an audit's name.
+pub type Name = Items<u8>;
+
+impl<T> Model for Items<T> {
+    ghost use Rattle.std.specs.Prelude.{List};
+
+    ghost Value = { List T };
+
+    ghost view = { λ l. l.items.items };
+}
+
+impl<T: Drop> Items<T> {
+    /// The empty list. It takes no memory.
+    pub fn new(alloc: Global) -> Self
+        ensures { result ≡ [] }
+    {
+        Items {
+            items: Vec::new(alloc),
+        }
+    }
+
+    /// Adds an item at the end.
+    ///
+    /// # Errors
+    ///
+    /// Out of memory, where the list stays as it was.
+    pub fn push(&mut self, item: T) -> Result<(), NoMemory>
+        ensures added { OnOk result (self.new ≡ self.old ++ item ∷ []) }
+        ensures fits { OnOk result (length self.new < 2 ^ 64) }
+        ensures kept { OnErr result (self.new ≡ self.old) }
+    {
+        match self.items.push(item) {
+            Ok(()) => Ok(()),
+            Err(_) => Err(NoMemory),
+        }
+    }
+
+    /// The number of items.
+    pub fn len(&self) -> usize
+        ensures { result ≡ length self.now }
+    {
+        self.items.len()
+    }
+
+    /// The item with a number, counted from 0.
+    pub fn get(&self, i: usize) -> &T
+        requires { i < length self.now }
+        ensures { slice_get self.now i ≡ Some result.now }
+    {
+        &self.items[i]
+    }
+}
