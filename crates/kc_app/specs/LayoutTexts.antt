@@ -1,5 +1,5 @@
 -- The texts of a layout, and of what refuses one.
-use Rattle.std.specs.Prelude.{ℕ, ◌&&◌, nat_le, if◌then◌else◌, List, [], ◌∷◌, ◌++◌, codes, decimal, map, Option, Some, None}
+use Rattle.std.specs.Prelude.{ℕ, List, [], ◌∷◌, ◌++◌, codes, decimal, map, Option, Some, None}
 use Rattle.kc_btf.specs.declared.kind.Kind.{Kind}
 use Rattle.kc_btf.specs.declared.kind.Kind.TheVariants.{Struct}
 use Rattle.kc_btf.specs.declared.stop.BRule.{BRule}
@@ -11,6 +11,7 @@ use Rattle.kc_layout.specs.declared.fault.QRule.{QRule}
 use Rattle.kc_layout.specs.declared.fault.QRule.TheVariants.{Q2, Q3, Q4, Q5, Q6, Q7, Q8}
 use Rattle.kc_layout.specs.declared.fault.PathFault.{PathFault}
 use Rattle.kc_layout.specs.declared.listing.Line.{Line}
+use Rattle.kc_text.specs.Text.{name_text, visible}
 
 -- the code of a rule of the file of types
 abbrev pub btf_code : BRule → List ℕ
@@ -48,15 +49,6 @@ path_line fault = codes "refused path " ++ path_code fault.rule ++ codes " step 
 -- of a type that isn't there
 abbrev pub no_type : List ℕ
 no_type = codes "refused path Q1 step 0\n"
-
--- a byte of a name: what is no visible ASCII character is a question mark
-abbrev pub visible : ℕ → ℕ
-visible c = if nat_le 0x21 c && nat_le c 0x7e then c else 63
-
--- a name, or a dash in place of none
-abbrev pub name_text : List ℕ → List ℕ
-name_text [] = codes "-"
-name_text (c ∷ cs) = map visible (c ∷ cs)
 
 -- a width in bits, or a dash where it isn't known
 abbrev pub width_text : Option ℕ → List ℕ

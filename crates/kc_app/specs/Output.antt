@@ -32,7 +32,8 @@ use Rattle.kc_syms.specs.Rows.{RowText, addresses, rows}
 use Rattle.kc_view.specs.Pointers.{value_at}
 use Rattle.kc_app.specs.Paging.{by_info, paging_of}
 use Rattle.kc_app.specs.Command.{Asked, AsksWord, AsksLayout, AsksShow, Question, command, name_in, slot_word}
-use Rattle.kc_app.specs.Texts.{word_line, broken_text, core_code, note_code, dump_line, usage_text}
+use Rattle.kc_report.specs.Lines.{broken_text}
+use Rattle.kc_app.specs.Texts.{word_line, core_code, note_code, dump_line, usage_text}
 use Rattle.kc_app.specs.LayoutTexts.{btf_line, btf_long, path_line, no_type, compound_line, member_lines}
 use Rattle.kc_app.specs.ShowTexts.{map_line, map_long, symbol_line, number_text}
 

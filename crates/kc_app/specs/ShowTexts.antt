@@ -4,7 +4,8 @@ use Rattle.std.specs.Fmt.{signed_decimal}
 use Rattle.kc_memory.specs.Bits.{Number, number_places}
 use Rattle.kc_syms.specs.declared.fault.SymFault.{SymFault}
 use Rattle.kc_syms.specs.declared.fault.SymFault.TheVariants.{S2, S3}
-use Rattle.kc_app.specs.Texts.{hex, place_lines}
+use Rattle.kc_report.specs.Lines.{place_lines}
+use Rattle.kc_text.specs.Text.{hex}
 
 -- the line of a refused map, by the number of its first line that is no row
 abbrev pub map_line : ℕ → List ℕ

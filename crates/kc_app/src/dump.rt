@@ -13,11 +13,12 @@ ghost use Rattle.kc_app.specs.Answer.{IsStopped, NotStore, OnStore, UnlessStore}
 
 use crate::answer::{Answer, Halt};
 use crate::file::open;
-use crate::text::{broken_text, core_line, note_line};
+use crate::text::{core_line, note_line};
 use kc_elf::{Core, CoreStop, read_core};
 use kc_memory::Stop;
 use kc_notes::{Info, NoteFault, kernel_info, vmcoreinfo};
 use kc_outside::{Slot, Store};
+use kc_report::broken_text;
 use std::alloc::Global;
 
 /// Opens a dump, and reads its segments and notes.

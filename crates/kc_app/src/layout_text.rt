@@ -2,11 +2,12 @@
 ghost use Rattle.std.specs.Prelude.{◌≡◌, ◌<◌, ◌++◌, length, map, IfOk, OnOk};
 ghost use Rattle.kc_btf.specs.Readers.{name_at};
 ghost use Rattle.kc_layout.specs.Listing.{AreNamed};
-ghost use Rattle.kc_app.specs.LayoutTexts.{btf_code, btf_line, path_code, path_line, no_type, visible, name_text, width_text, member_line, member_lines, compound_word, compound_line};
+ghost use Rattle.kc_text.specs.Text.{visible};
+ghost use Rattle.kc_app.specs.LayoutTexts.{btf_code, btf_line, path_code, path_line, no_type, width_text, member_line, member_lines, compound_word, compound_line};
 
-use crate::push::{push, push_decimal, push_numbered};
 use kc_btf::{BRule, Btf, BtfFault, Kind, TypeRef};
 use kc_layout::{Line, PathFault, QRule};
+use kc_text::{push, push_decimal, push_name, push_name_or_dash, push_numbered};
 use kc_word::NoMemory;
 use std::alloc::Global;
 
@@ -72,33 +73,6 @@ pub fn no_type_line(alloc: Global) -> Result<Vec<u8>, NoMemory>
     Ok(text)
 }
 
-// A byte of a name as it is printed.
-fn visible(c: u8) -> u8
-    ensures { result ≡ visible c }
-{
-    if (0x21..=0x7e).contains(&c) { c } else { b'?' }
-}
-
-// Adds the bytes of a name.
-fn push_name(text: &mut Vec<u8>, name: &[u8]) -> Result<(), NoMemory>
-    ensures { OnOk result (text.new.items ≡ text.old.items ++ map visible name.now) }
-{
-    for c in name {
-        text.push(visible(*c))?;
-    }
-    Ok(())
-}
-
-// Adds a member's name, or a dash in place of none.
-fn push_member_name(text: &mut Vec<u8>, name: &[u8]) -> Result<(), NoMemory>
-    ensures { OnOk result (text.new.items ≡ text.old.items ++ name_text name.now) }
-{
-    if name.is_empty() {
-        return push(text, b"-");
-    }
-    push_name(text, name)
-}
-
 fn push_width(text: &mut Vec<u8>, width: Option<u64>) -> Result<(), NoMemory>
     ensures { OnOk result (text.new.items ≡ text.old.items ++ width_text width) }
 {
@@ -116,7 +90,7 @@ fn push_member(text: &mut Vec<u8>, types: &Btf, line: &Line) -> Result<(), NoMem
     push(text, b" ")?;
     push_width(text, line.width)?;
     push(text, b" ")?;
-    push_member_name(text, types.name(line.name))?;
+    push_name_or_dash(text, types.name(line.name))?;
     push(text, b"\n")
 }
 

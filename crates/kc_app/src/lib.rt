@@ -9,7 +9,6 @@ mod laws;
 mod layout;
 mod layout_text;
 mod print;
-mod push;
 mod show;
 mod show_text;
 mod target;

@@ -1,13 +1,13 @@
 // The texts of a number, and of what refuses a map or a symbol.
 ghost use Rattle.std.specs.Prelude.{◌≡◌, ◌++◌, codes, option_to_list, IfOk, OnOk};
-ghost use Rattle.std.specs.Fmt.{signed_decimal};
-ghost use Rattle.kc_app.specs.Texts.{address_text, hex, place_line, place_lines};
+ghost use Rattle.kc_text.specs.Text.{hex};
+ghost use Rattle.kc_report.specs.Lines.{place_lines};
 ghost use Rattle.kc_app.specs.ShowTexts.{map_line, symbol_code, symbol_line, number_text};
 
-use crate::push::{push, push_hex, push_numbered};
-use itoa::Buffer;
 use kc_memory::{Place, Scalar};
+use kc_report::push_place;
 use kc_syms::SymFault;
+use kc_text::{push, push_hex, push_numbered, push_signed};
 use kc_word::NoMemory;
 use std::alloc::Global;
 
@@ -48,38 +48,6 @@ fn push_addresses(text: &mut Vec<u8>, first: u64, other: u64) -> Result<(), NoMe
     push_hex(text, first)?;
     push(text, b" ")?;
     push_hex(text, other)
-}
-
-// Adds a number in decimal, with a sign where it is negative.
-fn push_signed(text: &mut Vec<u8>, n: i128) -> Result<(), NoMemory>
-    ensures { OnOk result (text.new.items ≡ text.old.items ++ signed_decimal n) }
-{
-    let mut buffer = Buffer::new();
-    push(text, buffer.format(n).as_bytes())
-}
-
-// Adds a virtual address, or a dash in place of none.
-fn push_address(text: &mut Vec<u8>, va: Option<u64>) -> Result<(), NoMemory>
-    ensures { OnOk result (text.new.items ≡ text.old.items ++ address_text va) }
-{
-    match va {
-        Some(va) => push_hex(text, va),
-        None => push(text, b"-"),
-    }
-}
-
-fn push_place(text: &mut Vec<u8>, place: Place) -> Result<(), NoMemory>
-    ensures { OnOk result (text.new.items ≡ text.old.items ++ place_line place) }
-{
-    push(text, b"place ")?;
-    push_address(text, place.va)?;
-    push(text, b" ")?;
-    push_hex(text, place.pa)?;
-    push(text, b" ")?;
-    push_hex(text, place.off)?;
-    push(text, b" ")?;
-    push_hex(text, place.value)?;
-    push(text, b"\n")
 }
 
 fn push_second(text: &mut Vec<u8>, second: Option<Place>) -> Result<(), NoMemory>

@@ -1,12 +1,11 @@
 // The texts that are printed, made whole before a byte of them is put anywhere.
-ghost use Rattle.std.specs.Prelude.{◌≡◌, ◌+◌, ◌≤◌, ◌++◌, ◌∷◌, [], codes, decimal, IfOk, OnOk};
-ghost use Rattle.kc_memory.specs.Places.{entry_places};
-ghost use Rattle.kc_app.specs.Texts.{word_line, rule_code, rule_lines, stop_line, place_lines, broken_text, core_code, dump_line, key_text, note_code, tells_stop};
+ghost use Rattle.std.specs.Prelude.{◌≡◌, ◌++◌, codes, decimal, IfOk, OnOk};
+ghost use Rattle.kc_app.specs.Texts.{word_line, core_code, dump_line, key_text, note_code};
 
-use crate::push::{push, push_hex, push_numbered};
 use kc_elf::CoreFault;
-use kc_memory::{Miss, PWord, Rule, VWord};
+use kc_memory::VWord;
 use kc_notes::{NoteFault, NoteKey};
+use kc_text::{push, push_hex, push_numbered};
 use kc_word::NoMemory;
 use std::alloc::Global;
 
@@ -23,112 +22,6 @@ pub fn word_line(alloc: Global, word: &VWord) -> Result<Vec<u8>, NoMemory>
     push(&mut text, b" ")?;
     push_hex(&mut text, word.value)?;
     push(&mut text, b"\n")?;
-    Ok(text)
-}
-
-fn rule_code(rule: Rule) -> &'static [u8]
-    ensures { result.now ≡ rule_code rule }
-{
-    match rule {
-        Rule::M1 => b"M1",
-        Rule::M2 => b"M2",
-        Rule::M3 => b"M3",
-        Rule::M4 => b"M4",
-        Rule::M5 => b"M5",
-        Rule::M6 => b"M6",
-        Rule::N => b"N",
-        Rule::K => b"K",
-        Rule::A => b"A",
-        Rule::L1 => b"L1",
-        Rule::H1 => b"H1",
-        Rule::R1 => b"R1",
-        Rule::R2 => b"R2",
-        Rule::R3 => b"R3",
-        Rule::R4 => b"R4",
-        Rule::R5 => b"R5",
-        Rule::R6 => b"R6",
-        Rule::X1 => b"X1",
-        Rule::X2 => b"X2",
-        Rule::X3 => b"X3",
-        Rule::X4 => b"X4",
-        Rule::X5 => b"X5",
-        Rule::X6 => b"X6",
-        Rule::X7 => b"X7",
-        Rule::X8 => b"X8",
-        Rule::X9 => b"X9",
-        Rule::U1 => b"U1",
-        Rule::U2 => b"U2",
-        Rule::U3 => b"U3",
-        Rule::U4 => b"U4",
-        Rule::U5 => b"U5",
-        Rule::U6 => b"U6",
-        Rule::U7 => b"U7",
-        Rule::T1 => b"T1",
-        Rule::T2 => b"T2",
-        Rule::T3 => b"T3",
-        Rule::T4 => b"T4",
-        Rule::T5 => b"T5",
-        Rule::T6 => b"T6",
-        Rule::T7 => b"T7",
-        Rule::C => b"C",
-    }
-}
-
-// Whether a physical word stopped the reading.
-fn tells_stop(rule: Rule) -> bool
-    ensures { result ≡ tells_stop rule }
-{
-    match rule {
-        Rule::M3 | Rule::M4 | Rule::M5 | Rule::M6 => true,
-        _ => false,
-    }
-}
-
-fn push_rule(text: &mut Vec<u8>, rule: Rule, va: u64) -> Result<(), NoMemory>
-    ensures { OnOk result (text.new.items ≡ text.old.items ++ rule_lines rule va) }
-{
-    push(text, b"broken\nrule ")?;
-    push(text, rule_code(rule))?;
-    push(text, b"\nat ")?;
-    push_hex(text, va)?;
-    push(text, b"\n")
-}
-
-fn push_stop(text: &mut Vec<u8>, rule: Rule, level: u8, pa: u64) -> Result<(), NoMemory>
-    requires { level ≤ 5 }
-    ensures { OnOk result (text.new.items ≡ text.old.items ++ stop_line rule level pa) }
-{
-    if !tells_stop(rule) {
-        return Ok(());
-    }
-    push(text, b"stop ")?;
-    push(text, &[b'0' + level])?;
-    push(text, b" ")?;
-    push_hex(text, pa)?;
-    push(text, b"\n")
-}
-
-fn push_entry(text: &mut Vec<u8>, pa: u64, entry: Option<PWord>) -> Result<(), NoMemory>
-    ensures { OnOk result (text.new.items ≡ text.old.items ++ place_lines (entry_places pa entry)) }
-{
-    let Some(word) = entry else { return Ok(()) };
-    push(text, b"place - ")?;
-    push_hex(text, pa)?;
-    push(text, b" ")?;
-    push_hex(text, word.off)?;
-    push(text, b" ")?;
-    push_hex(text, word.value)?;
-    push(text, b"\n")
-}
-
-/// The lines of a stop: its rule, the address that was asked, and the word that shows it.
-pub fn broken_text(alloc: Global, miss: Miss) -> Result<Vec<u8>, NoMemory>
-    ensures { IfOk result (λ text. text.items ≡ broken_text miss) }
-{
-    let mut text = Vec::new(alloc);
-    push_rule(&mut text, miss.rule, miss.va)?;
-    push_stop(&mut text, miss.rule, miss.level, miss.pa)?;
-    push_entry(&mut text, miss.pa, miss.entry)?;
     Ok(text)
 }
 

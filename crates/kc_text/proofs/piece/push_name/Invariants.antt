@@ -1,6 +1,6 @@
 use Rattle.std.proofs.Common.{◌≡◌, ◌++◌, drop, map}
-use Rattle.kc_app.specs.LayoutTexts.{visible}
-use Rattle.kc_app.proofs.layout_text.push_name.Given as goal
+use Rattle.kc_text.specs.Text.{visible}
+use Rattle.kc_text.proofs.piece.push_name.Given as goal
 
 -- what was added, and what is still to come, are the whole
 abbrev pub invariant-loop-c : goal.invariant-loop-c
