@@ -20,7 +20,8 @@ use Rattle.kc_btf.specs.Btf.{Types, btf}
 use Rattle.kc_layout.specs.declared.listing.Line.{Line}
 use Rattle.kc_layout.specs.declared.fault.QRule.TheVariants.{Q5}
 use Rattle.kc_layout.specs.Find.{find}
-use Rattle.kc_layout.specs.Listing.{compound_under, listing}
+use Rattle.kc_layout.specs.Listing.{listing}
+use Rattle.kc_layout.specs.Bare.{compound_under}
 use Rattle.kc_app.specs.Made.{◌>>=◌, gives, refuses, short_file}
 use Rattle.kc_memory.specs.Bits.{Number, number_places}
 use Rattle.kc_notes.specs.Info.{info}

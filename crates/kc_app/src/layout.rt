@@ -3,7 +3,7 @@ ghost use Rattle.std.specs.Prelude.{◌≡◌, ◌≤◌, Some, IfSome, IsTrue, 
 ghost use Rattle.kc_btf.specs.Kind.{is_compound};
 ghost use Rattle.kc_btf.specs.Readers.{type_numbered};
 ghost use Rattle.kc_layout.specs.Find.{find};
-ghost use Rattle.kc_layout.specs.Listing.{compound_under};
+ghost use Rattle.kc_layout.specs.Bare.{compound_under};
 ghost use Rattle.kc_outside.specs.declared.store.Slot.{Slot};
 ghost use Rattle.kc_outside.specs.Counts.{Rose};
 ghost use Rattle.kc_app.specs.Answer.{NotStore, OnStore, shown_by, UnlessStore};

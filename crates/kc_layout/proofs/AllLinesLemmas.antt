@@ -9,7 +9,7 @@ use Rattle.kc_btf.specs.Btf.{Types}
 use Rattle.kc_layout.specs.declared.listing.Line.{Line}
 use Rattle.kc_layout.specs.Listing.{Listed, behind, and_list, line_at, listed, listed_all, lists, listing, HasLine, AreAll}
 use Rattle.kc_layout.specs.Listing.HasLine.{itself, inside}
-use Rattle.kc_layout.specs.Numbered.{members_numbered}
+use Rattle.kc_layout.specs.Bare.{members_numbered}
 
 -- what a member listed on the way to a list stands in it
 pub record ListsInto (go : ℕ → ℕ → ℕ → Option Listed) (types : Types) (base : ℕ) (m : Member) (lines : List Line) : Type 0 where

@@ -3,7 +3,7 @@ use Rattle.std.proofs.Common.{◌≡◌, ℕ, zero, suc, ◌-◌, ◌*◌, ◌<�
 use Rattle.kc_btf.specs.declared.types.ArrayOf.{ArrayOf}
 use Rattle.kc_btf.specs.Btf.{Types}
 use Rattle.kc_layout.specs.declared.size.Extent.TheVariants.{Bytes, Elements, Target, Unknown}
-use Rattle.kc_layout.specs.Modifiers.{modified, under}
+use Rattle.kc_layout.specs.Bare.{modified, under}
 use Rattle.kc_layout.specs.Size.{extent, size_within, if_counted}
 
 -- a type that is no modifier

@@ -4,7 +4,7 @@ use Rattle.kc_btf.specs.declared.types.Member.{Member}
 use Rattle.kc_btf.specs.Btf.{Types}
 use Rattle.kc_layout.specs.declared.listing.Line.{Line}
 use Rattle.kc_layout.specs.Listing.{Listed, behind, so_far, and_list, listed, listed_all, lists, listing}
-use Rattle.kc_layout.specs.Numbered.{members_numbered}
+use Rattle.kc_layout.specs.Bare.{members_numbered}
 
 -- a list that may enter one more level
 pub lists-next : (levels : ℕ) (types : Types) (id base left : ℕ) → 0 < levels →

@@ -8,10 +8,10 @@ use Rattle.kc_btf.specs.declared.types.TypeRef.{TypeRef}
 use Rattle.kc_btf.specs.declared.types.Member.{Member}
 use Rattle.kc_btf.specs.Btf.{Types}
 use Rattle.kc_btf.specs.Readers.{name_at}
-use Rattle.kc_layout.specs.declared.search.Search.{Search}
-use Rattle.kc_layout.specs.declared.search.Search.TheVariants.{Found, Absent, Beyond}
-use Rattle.kc_layout.specs.Modifiers.{under}
-use Rattle.kc_layout.specs.Numbered.{members_numbered, compound_numbered}
+use Rattle.kc_layout.specs.declared.member.Search.{Search}
+use Rattle.kc_layout.specs.declared.member.Search.TheVariants.{Found, Absent, Beyond}
+use Rattle.kc_layout.specs.Bare.{under}
+use Rattle.kc_layout.specs.Bare.{members_numbered, compound_numbered}
 use Rattle.kc_layout.specs.Search.{among, search, lent, lent_by, and_on, spot_of, FindsMember}
 use Rattle.kc_layout.specs.Search.Lies.{own, inner}
 

@@ -4,9 +4,9 @@ use Rattle.std.specs.Prelude.{bytes_eq}
 use Rattle.kc_btf.specs.declared.types.Member.{Member}
 use Rattle.kc_btf.specs.Btf.{Types}
 use Rattle.kc_btf.specs.Readers.{name_at}
-use Rattle.kc_layout.specs.declared.search.Search.{Search}
-use Rattle.kc_layout.specs.declared.search.Search.TheVariants.{Found, Absent, Beyond}
-use Rattle.kc_layout.specs.Numbered.{members_numbered}
+use Rattle.kc_layout.specs.declared.member.Search.{Search}
+use Rattle.kc_layout.specs.declared.member.Search.TheVariants.{Found, Absent, Beyond}
+use Rattle.kc_layout.specs.Bare.{members_numbered}
 use Rattle.kc_layout.specs.Search.{among, search, lent, and_on, spot_of}
 
 -- a search that may enter one more level

@@ -10,8 +10,8 @@ use Rattle.kc_btf.specs.Readers.{record_numbered, int_of}
 use Rattle.kc_layout.specs.declared.fault.QRule.{QRule}
 use Rattle.kc_layout.specs.declared.fault.QRule.TheVariants.{Q5, Q6}
 use Rattle.kc_layout.specs.declared.fault.PathFault.{PathFault}
-use Rattle.kc_layout.specs.declared.number.Number.{Number}
-use Rattle.kc_layout.specs.declared.spot.Spot.{Spot}
+use Rattle.kc_layout.specs.declared.place.Number.{Number}
+use Rattle.kc_layout.specs.declared.place.Spot.{Spot}
 use Rattle.kc_layout.specs.Places.{◌>>=◌, Place, at_step, bare, end_of, whole_byte}
 
 -- a byte: the byte offsets of the pointers that lead to a struct, a byte in it, and the type there

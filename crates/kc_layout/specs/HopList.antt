@@ -1,6 +1,6 @@
 -- The pointers to follow.
 use Rattle.std.specs.Prelude.{ℕ, List, [], ◌∷◌, take}
-use Rattle.kc_layout.specs.declared.hops.Hops.{Hops}
+use Rattle.kc_layout.specs.declared.place.Hops.{Hops}
 
 -- their byte offsets, the first first
 abbrev pub hop_list : Hops → List ℕ

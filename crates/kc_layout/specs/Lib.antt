@@ -1,10 +1,8 @@
-pub mod Elements
+pub mod Bare
 pub mod Ends
 pub mod Find
 pub mod HopList
 pub mod Listing
-pub mod Modifiers
-pub mod Numbered
 pub mod Path
 pub mod PathViews
 pub mod Places

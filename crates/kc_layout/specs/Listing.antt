@@ -1,5 +1,5 @@
 -- The members of a struct or union, line by line.
-use Rattle.std.specs.Prelude.{◌≡◌, ◌<◌, ℕ, zero, suc, ◌+◌, ◌*◌, List, [], ◌∷◌, ◌++◌, length, All, Contains, Option, Some, None, option_map, option_and_then, ◌==◌, if◌then◌else◌}
+use Rattle.std.specs.Prelude.{◌≡◌, ◌<◌, ℕ, zero, suc, ◌+◌, ◌*◌, List, [], ◌∷◌, ◌++◌, length, All, Contains, Option, Some, None, option_map, ◌==◌, if◌then◌else◌}
 use Rattle.std.specs.Option.{option_map_or}
 use Rattle.kc_btf.specs.declared.types.IntOf.{IntOf}
 use Rattle.kc_btf.specs.declared.types.Member.{Member}
@@ -7,18 +7,9 @@ use Rattle.kc_btf.specs.declared.types.TypeRef.{TypeRef}
 use Rattle.kc_btf.specs.Btf.{Types}
 use Rattle.kc_btf.specs.Readers.{name_at}
 use Rattle.kc_layout.specs.declared.listing.Line.{Line}
-use Rattle.kc_layout.specs.Modifiers.{under}
-use Rattle.kc_layout.specs.Numbered.{compound_numbered, int_numbered, members_numbered}
+use Rattle.kc_layout.specs.Bare.{members_numbered, compound_under, int_under}
 use Rattle.kc_layout.specs.Search.{Lies}
 use Rattle.kc_layout.specs.Size.{size}
-
--- the struct or union under the modifiers of a type
-abbrev pub compound_under : Types → ℕ → Option TypeRef
-compound_under types id = option_and_then (compound_numbered types) (under 32 types id)
-
--- how the whole number under the modifiers of a type lies
-abbrev pub int_under : Types → ℕ → Option IntOf
-int_under types id = option_and_then (int_numbered types) (under 32 types id)
 
 -- the line of a member that is no bit-field and begins at a bit: a whole number lies there as its type says,
 -- and another type fills its bytes

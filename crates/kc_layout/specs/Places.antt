@@ -1,19 +1,15 @@
 -- Where the paths of a type lead.
-use Rattle.std.specs.Prelude.{◌<◌, ◌≤◌, ℕ, ◌+◌, ◌*◌, ◌/◌, ◌%◌, ◌^◌, List, [], ◌∷◌, ◌++◌, length, Option, Some, None, Result, Ok, Err, option_and_then, ◌==◌, ◌&&◌, nat_lt, if◌then◌else◌}
+use Rattle.std.specs.Prelude.{◌<◌, ◌≤◌, ℕ, ◌+◌, ◌*◌, ◌/◌, ◌%◌, ◌^◌, List, [], ◌∷◌, ◌++◌, length, Option, Some, None, Result, Ok, Err, ◌==◌, ◌&&◌, nat_lt, if◌then◌else◌}
 use Rattle.std.specs.Option.{ok_or}
-use Rattle.kc_btf.specs.declared.kind.Kind.{Kind}
-use Rattle.kc_btf.specs.declared.kind.Kind.TheVariants.{Ptr}
 use Rattle.kc_btf.specs.declared.types.ArrayOf.{ArrayOf}
 use Rattle.kc_btf.specs.Btf.{Types}
-use Rattle.kc_btf.specs.Readers.{type_numbered}
 use Rattle.kc_layout.specs.declared.fault.QRule.{QRule}
 use Rattle.kc_layout.specs.declared.fault.QRule.TheVariants.{Q2, Q3, Q4, Q5, Q7, Q8}
 use Rattle.kc_layout.specs.declared.fault.PathFault.{PathFault}
-use Rattle.kc_layout.specs.declared.spot.Spot.{Spot}
-use Rattle.kc_layout.specs.declared.search.Search.{Search}
-use Rattle.kc_layout.specs.declared.search.Search.TheVariants.{Found, Absent, Beyond}
-use Rattle.kc_layout.specs.Modifiers.{under}
-use Rattle.kc_layout.specs.Numbered.{compound_numbered, array_numbered}
+use Rattle.kc_layout.specs.declared.place.Spot.{Spot}
+use Rattle.kc_layout.specs.declared.member.Search.{Search}
+use Rattle.kc_layout.specs.declared.member.Search.TheVariants.{Found, Absent, Beyond}
+use Rattle.kc_layout.specs.Bare.{under, compound_numbered, array_numbered, target_numbered}
 use Rattle.kc_layout.specs.Path.{Step, path_steps}
 use Rattle.kc_layout.specs.Path.Step.{Member, Element, Pointee}
 use Rattle.kc_layout.specs.Search.{search}
@@ -80,14 +76,6 @@ element_step types spot index = do
   id ← bare types spot.ty
   array ← ok_or (array_numbered types id) Q3
   element_of types array spot index
-
--- what the type of a number points to, where it is a pointer
-abbrev pub target_if : Kind → ℕ → Option ℕ
-target_if Ptr target = Some target
-target_if _ target = None
-
-abbrev pub target_numbered : Types → ℕ → Option ℕ
-target_numbered types id = option_and_then (λ t. target_if t.kind t.rest) (type_numbered types id)
 
 -- the byte at which a spot begins that is no bit-field
 abbrev pub whole_byte : Spot → Option ℕ

@@ -4,11 +4,11 @@ use Rattle.std.specs.Option.{option_map_or}
 use Rattle.kc_btf.specs.declared.types.Member.{Member}
 use Rattle.kc_btf.specs.Btf.{Types}
 use Rattle.kc_btf.specs.Readers.{name_at}
-use Rattle.kc_layout.specs.declared.spot.Spot.{Spot}
-use Rattle.kc_layout.specs.declared.search.Search.{Search}
-use Rattle.kc_layout.specs.declared.search.Search.TheVariants.{Found, Absent, Beyond}
-use Rattle.kc_layout.specs.Modifiers.{under}
-use Rattle.kc_layout.specs.Numbered.{compound_numbered, members_numbered}
+use Rattle.kc_layout.specs.declared.place.Spot.{Spot}
+use Rattle.kc_layout.specs.declared.member.Search.{Search}
+use Rattle.kc_layout.specs.declared.member.Search.TheVariants.{Found, Absent, Beyond}
+use Rattle.kc_layout.specs.Bare.{under}
+use Rattle.kc_layout.specs.Bare.{compound_numbered, members_numbered}
 
 -- where a member of a struct lies that begins at a bit
 abbrev pub spot_of : ℕ → Member → Spot

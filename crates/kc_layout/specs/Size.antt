@@ -8,7 +8,7 @@ use Rattle.kc_btf.specs.Btf.{Types}
 use Rattle.kc_btf.specs.Readers.{type_numbered}
 use Rattle.kc_layout.specs.declared.size.Extent.{Extent}
 use Rattle.kc_layout.specs.declared.size.Extent.TheVariants.{Bytes, Elements, Target, Unknown}
-use Rattle.kc_layout.specs.Numbered.{array_numbered}
+use Rattle.kc_layout.specs.Bare.{array_numbered}
 
 -- where the size of a type stands, by its kind: in its own record; 8 bytes for a pointer; in the type that
 -- it is made of

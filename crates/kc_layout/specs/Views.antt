@@ -1,8 +1,8 @@
 -- What the code answers, as the definitions have it.
 use Rattle.std.specs.Prelude.{◌≡◌, Result, Ok, Err}
 use Rattle.kc_word.specs.declared.bits.Bits.{Bits}
-use Rattle.kc_layout.specs.declared.ends.Located.{Located}
-use Rattle.kc_layout.specs.declared.ends.Field.{Field}
+use Rattle.kc_layout.specs.declared.place.Located.{Located}
+use Rattle.kc_layout.specs.declared.place.Field.{Field}
 use Rattle.kc_layout.specs.declared.place.Place.{Place as CodePlace}
 use Rattle.kc_layout.specs.declared.place.End.{End as CodeEnd}
 use Rattle.kc_layout.specs.Places.{Place, End}

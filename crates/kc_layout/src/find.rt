@@ -4,8 +4,7 @@ ghost use Rattle.kc_btf.specs.Role.{LiesInside, rest_role};
 ghost use Rattle.kc_btf.specs.Readers.{name_at};
 ghost use Rattle.kc_layout.specs.Find.{find, least, is_wanted, leads_to_compound, IsFound};
 
-use crate::modifiers::{MODIFIERS, under};
-use crate::numbered::compound_of;
+use crate::bare::{MODIFIERS, compound_of, under};
 use kc_btf::{Btf, Kind, TypeRef};
 
 // What is looked for by a name.

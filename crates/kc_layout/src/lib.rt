@@ -2,33 +2,22 @@
 //! and the place of a member that a path names.
 #![tactic(auto)]
 
-mod elements;
-mod ends;
+mod bare;
 mod fault;
 mod find;
-mod hops;
 mod listing;
-mod locating;
-mod modifiers;
-mod number;
-mod numbered;
+mod member;
 mod path;
 mod place;
 mod resolving;
-mod search;
 mod size;
-mod spot;
-mod step;
 #[cfg(test)]
 mod tests;
-mod walk;
 
-pub use elements::array_under;
-pub use ends::{Field, Located};
+pub use bare::{array_under, compound_under};
 pub use fault::{PathFault, QRule};
 pub use find::find_type;
-pub use hops::Hops;
-pub use listing::{Line, compound_under, list_members};
-pub use locating::locate;
-pub use resolving::resolve;
+pub use listing::{Line, list_members};
+pub use place::{Field, Hops, Located};
+pub use resolving::{locate, resolve};
 pub use size::size_of;

@@ -2,12 +2,12 @@
 ghost use Rattle.std.specs.Prelude.{◌≡◌, ◌+◌, ◌*◌, ◌^◌, ◌<◌, ◌≤◌, length, Some, All, option_map, IfOk, IfSome, IsTrue};
 ghost use Rattle.kc_btf.specs.Kind.{is_compound};
 ghost use Rattle.kc_btf.specs.Readers.{type_numbered};
-ghost use Rattle.kc_layout.specs.Listing.{compound_under, int_under, line_at, anonymous, behind, so_far, listed, lists, listing, AreAll, AreNamed, IsLine};
+ghost use Rattle.kc_layout.specs.Listing.{line_at, anonymous, behind, so_far, listed, lists, listing, AreAll, AreNamed, IsLine};
+ghost use Rattle.kc_layout.specs.Bare.{compound_under, int_under};
 ghost use Rattle.kc_layout.specs.Size.{size};
 
-use crate::modifiers::{MODIFIERS, under};
-use crate::numbered::{compound_of, int_of};
-use crate::search::{LEVELS, MEMBERS};
+use crate::bare::{compound_under, int_under};
+use crate::member::{LEVELS, MEMBERS};
 use crate::size::size_of;
 use kc_btf::{Btf, IntOf, Member, TypeRef};
 use kc_word::NoMemory;
@@ -22,25 +22,6 @@ pub struct Line {
     pub width: Option<u64>,
     /// The name's offset in the strings; an empty name is no name.
     pub name: u32,
-}
-
-/// The struct or union under the modifiers of a type, of which at most 32 are followed. `None` for other
-/// types, and under more.
-pub fn compound_under(btf: &Btf, id: u32) -> Option<TypeRef>
-    requires { id ≤ length btf.now.records }
-    ensures exact { result ≡ compound_under btf.now id }
-    ensures ours { IfSome result (λ t. type_numbered btf.now t.id ≡ Some t) }
-    ensures compound { IfSome result (λ t. IsTrue (is_compound t.kind)) }
-{
-    compound_of(btf, under(btf, id, MODIFIERS)?)
-}
-
-// How the whole number under the modifiers of a type lies.
-fn int_under(btf: &Btf, id: u32) -> Option<IntOf>
-    requires { id ≤ length btf.now.records }
-    ensures { result ≡ int_under btf.now id }
-{
-    int_of(btf, under(btf, id, MODIFIERS)?)
 }
 
 // The line of a member that begins at a bit.

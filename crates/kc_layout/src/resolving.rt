@@ -1,19 +1,241 @@
-// The number that a path leads to.
-ghost use Rattle.std.specs.Prelude.{◌≡◌, ◌+◌, ◌<◌, ◌≤◌, ◌^◌, length, IfOk, IfSome};
-ghost use Rattle.kc_layout.specs.Places.{IsReached};
-ghost use Rattle.kc_layout.specs.Ends.{number_numbered, bits_at, bits_of, number_at, field};
-ghost use Rattle.kc_layout.specs.Views.{Gives, bits_view, number_view, place_view};
+// The steps of a path, and where they lead.
+ghost use Rattle.std.specs.Prelude.{◌≡◌, ℕ, ◌+◌, ◌*◌, ◌^◌, ◌<◌, ◌≤◌, ◌∷◌, [], length, take, drop, option_map, All, IfOk, IfSome};
+ghost use Rattle.kc_layout.specs.HopList.{hop_list};
+ghost use Rattle.kc_layout.specs.Places.{start_of, if_near, bare, behind, member_step, element_step, whole_byte, with_hop, follow, member_of, take_step, IsReached, end_of};
+ghost use Rattle.kc_layout.specs.Bare.{target_numbered};
+ghost use Rattle.kc_layout.specs.PathViews.{step_view};
+ghost use Rattle.kc_layout.specs.Views.{Gives, place_view, end_view, byte_view, bits_view, number_view};
+ghost use Rattle.kc_layout.specs.Ends.{located, number_numbered, bits_at, bits_of, number_at, field};
 
-use crate::ends::Field;
+use crate::bare::{MODIFIERS, array_of, compound_of, target_of, type_of, under};
 use crate::fault::{PathFault, QRule};
-use crate::number::Number;
-use crate::numbered::type_of;
-use crate::place::Place;
-use crate::spot::Spot;
-use crate::step::bare_of;
-use crate::walk::walk;
+use crate::member::{Search, find_member};
+use crate::path::{PATH_BYTES, Step, cut_step, is_path};
+use crate::place::{End, Field, Hops, Located, Number, Place, Spot};
+use crate::size::size_of;
 use kc_btf::{Btf, Kind};
 use kc_word::Bits;
+
+/// Bits from here on aren't counted.
+const FAR: u64 = 1 << 36;
+
+// The type under the modifiers of a type.
+pub(crate) fn bare_of(btf: &Btf, ty: u32) -> Result<u32, QRule>
+    requires { ty ≤ length btf.now.records }
+    ensures exact { result ≡ bare btf.now ty }
+    ensures inside { IfOk result (λ id. id ≤ length btf.now.records) }
+{
+    under(btf, ty, MODIFIERS).ok_or(QRule::Q5)
+}
+
+// A spot, where its bit is counted.
+fn if_near(spot: Spot) -> Result<Spot, QRule>
+    ensures exact { result ≡ if_near spot }
+    ensures near { IfOk result (λ near. near.bit < 2 ^ 36) }
+    ensures same { IfOk result (λ near. near.ty ≡ spot.ty) }
+{
+    if spot.bit < FAR {
+        Ok(spot)
+    } else {
+        Err(QRule::Q5)
+    }
+}
+
+// The member with a name.
+#[tactic(auto, unfolding(crate::specs::Places::member_step))]
+pub(crate) fn member_step(btf: &Btf, spot: Spot, name: &[u8]) -> Result<Spot, QRule>
+    requires { IsReached (length btf.now.records) spot }
+    ensures exact { result ≡ member_step btf.now spot name.now }
+    ensures reached { IfOk result (IsReached (length btf.now.records)) }
+{
+    let bare = bare_of(btf, spot.ty)?;
+    let t = compound_of(btf, bare).ok_or(QRule::Q3)?;
+    match find_member(btf, t, name, spot.bit) {
+        Search::Found(found) => if_near(found),
+        Search::Absent(_) => Err(QRule::Q2),
+        Search::Beyond => Err(QRule::Q5),
+    }
+}
+
+// An element of an array.
+#[tactic(auto, unfolding(crate::specs::Places::element_step))]
+pub(crate) fn element_step(btf: &Btf, spot: Spot, index: u64) -> Result<Spot, QRule>
+    requires { IsReached (length btf.now.records) spot }
+    ensures exact { result ≡ element_step btf.now spot index }
+    ensures reached { IfOk result (IsReached (length btf.now.records)) }
+{
+    let bare = bare_of(btf, spot.ty)?;
+    let array = array_of(btf, bare).ok_or(QRule::Q3)?;
+    if index >= u64::from(array.nelems) {
+        return Err(QRule::Q4);
+    }
+    match size_of(btf, array.ty) {
+        Some(size) => element_spot(spot.bit, index, size, array.ty),
+        None => Err(QRule::Q5),
+    }
+}
+
+// The spot of an element of a size, where its bit is counted.
+fn element_spot(bit: u64, index: u64, size: u64, ty: u32) -> Result<Spot, QRule>
+    requires near { bit < 2 ^ 36 }
+    requires index { index < 2 ^ 32 }
+    requires size { size < 2 ^ 32 }
+    ensures exact { result ≡ if_near (record { bit = bit + 8 * (index * size); width = 0; ty = ty }) }
+    ensures near { IfOk result (λ near. near.bit < 2 ^ 36) }
+    ensures same { IfOk result (λ near. near.ty ≡ ty) }
+{
+    let bytes = index * size;
+    if bytes >= FAR {
+        return Err(QRule::Q5);
+    }
+    if_near(Spot {
+        bit: bit + 8 * bytes,
+        width: 0,
+        ty,
+    })
+}
+
+// The byte at which a spot begins that is no bit-field.
+pub(crate) fn whole_byte(spot: Spot) -> Option<u64>
+    ensures { result ≡ whole_byte spot }
+{
+    if spot.width == 0 && spot.bit % 8 == 0 {
+        Some(spot.bit / 8)
+    } else {
+        None
+    }
+}
+
+// Follows the pointer at a place.
+#[tactic(auto, unfolding(crate::specs::Places::follow))]
+fn follow(btf: &Btf, place: &Place) -> Result<Place, QRule>
+    requires { IsReached (length btf.now.records) place.now.spot }
+    ensures exact { Gives place_view result (follow btf.now (place_view place.now)) }
+    ensures reached { IfOk result (λ next. IsReached (length btf.now.records) next.spot) }
+{
+    let bare = bare_of(btf, place.spot.ty)?;
+    let target = target_of(btf, bare).ok_or(QRule::Q7)?;
+    let byte = whole_byte(place.spot).ok_or(QRule::Q7)?;
+    let hops = place.hops.push(byte).ok_or(QRule::Q5)?;
+    Ok(Place {
+        hops,
+        spot: start_of(target),
+    })
+}
+
+// The first bit of a type.
+pub(crate) fn start_of(ty: u32) -> Spot
+    ensures { result ≡ start_of ty }
+{
+    Spot {
+        bit: 0,
+        width: 0,
+        ty,
+    }
+}
+
+// The member with a name at a place.
+fn member_of(btf: &Btf, place: &Place, name: &[u8]) -> Result<Place, QRule>
+    requires { IsReached (length btf.now.records) place.now.spot }
+    ensures exact { Gives place_view result (member_of btf.now name.now (place_view place.now)) }
+    ensures reached { IfOk result (λ next. IsReached (length btf.now.records) next.spot) }
+{
+    let spot = member_step(btf, place.spot, name)?;
+    Ok(Place {
+        hops: place.hops,
+        spot,
+    })
+}
+
+// An element at a place.
+fn element_of(btf: &Btf, place: &Place, index: u64) -> Result<Place, QRule>
+    requires { IsReached (length btf.now.records) place.now.spot }
+    ensures exact { Gives place_view result (behind (hop_list place.now.hops) (element_step btf.now place.now.spot index)) }
+    ensures reached { IfOk result (λ next. IsReached (length btf.now.records) next.spot) }
+{
+    let spot = element_step(btf, place.spot, index)?;
+    Ok(Place {
+        hops: place.hops,
+        spot,
+    })
+}
+
+// One step from a place.
+pub(crate) fn take_step(btf: &Btf, place: &Place, step: Step<'_>) -> Result<Place, QRule>
+    requires { IsReached (length btf.now.records) place.now.spot }
+    ensures exact { Gives place_view result (take_step btf.now (place_view place.now) (step_view step.entry)) }
+    ensures reached { IfOk result (λ next. IsReached (length btf.now.records) next.spot) }
+{
+    match step {
+        Step::Member(name) => member_of(btf, place, name),
+        Step::Element(index) => element_of(btf, place, index),
+        Step::Pointee(name) => {
+            let pointee = follow(btf, place)?;
+            member_of(btf, &pointee, name)
+        }
+    }
+}
+
+// Takes the steps of a path from the first bit of a type.
+pub(crate) fn walk(btf: &Btf, id: u32, path: &[u8]) -> Result<End, PathFault>
+    requires { id ≤ length btf.now.records }
+    ensures exact { Gives end_view result (end_of btf.now id path.now) }
+    ensures reached { IfOk result (λ end. IsReached (length btf.now.records) end.place.spot) }
+{
+    if !is_path(path) {
+        return Err(PathFault {
+            rule: QRule::Q8,
+            step: 0,
+        });
+    }
+    let mut place = Place {
+        hops: Hops::new(0, 0, 0, 0, 0),
+        spot: start_of(id),
+    };
+    let mut rest = path;
+    for taken in 0..PATH_BYTES {
+        let Some(cut) = cut_step(rest, taken == 0) else {
+            return Ok(End { place, step: taken });
+        };
+        match take_step(btf, &place, cut.step) {
+            Ok(next) => place = next,
+            Err(rule) => {
+                return Err(PathFault {
+                    rule,
+                    step: taken + 1,
+                });
+            }
+        }
+        rest = cut.rest;
+    }
+    Ok(End {
+        place,
+        step: PATH_BYTES,
+    })
+}
+
+/// The byte that a path leads to from a type's first. A path is empty, or a name and then any of `.name`,
+/// `[decimal]` and `->name`; it is refused with the first step that breaks a rule. The last type is told as
+/// it stands, with its modifiers.
+pub fn locate(btf: &Btf, id: u32, path: &[u8]) -> Result<Located, PathFault>
+    requires { id ≤ length btf.now.records }
+    ensures exact { Gives byte_view result (located btf.now id path.now) }
+    ensures near { IfOk result (λ place. place.byte < 2 ^ 33) }
+    ensures there { IfOk result (λ place. place.ty ≤ length btf.now.records) }
+{
+    let end = walk(btf, id, path)?;
+    match whole_byte(end.place.spot) {
+        Some(byte) => Ok(Located {
+            hops: end.place.hops,
+            byte,
+            ty: end.place.spot.ty,
+        }),
+        None => Err(PathFault {
+            rule: QRule::Q6,
+            step: end.step,
+        }),
+    }
+}
 
 /// The number that a path leads to from a type's first bit: a whole number or an enum, or a pointer, of 1 to
 /// 64 bits. The path is refused as `locate` refuses it. A bit-field has its own width; a whole number that

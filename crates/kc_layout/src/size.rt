@@ -2,7 +2,7 @@
 ghost use Rattle.std.specs.Prelude.{◌≡◌, ◌*◌, ◌^◌, ◌<◌, ◌≤◌, length, IfSome};
 ghost use Rattle.kc_layout.specs.Size.{size, size_within, extent, if_counted, StaysInside};
 
-use crate::numbered::{array_of, type_of};
+use crate::bare::{array_of, type_of};
 use kc_btf::{ArrayOf, Btf, Kind};
 
 /// How many arrays and modifiers a size is looked for under.

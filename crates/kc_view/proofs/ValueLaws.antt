@@ -6,7 +6,7 @@ use Rattle.kc_memory.specs.Laws.{NumbersStand}
 use Rattle.kc_memory.specs.Places.{AllStandIn}
 use Rattle.kc_memory.specs.Stopped.{Stopped}
 use Rattle.kc_memory.specs.Translation.{and_then}
-use Rattle.kc_layout.specs.declared.ends.Located.{Located}
+use Rattle.kc_layout.specs.declared.place.Located.{Located}
 use Rattle.kc_layout.specs.HopList.{hop_list}
 use Rattle.kc_view.specs.declared.pointers.Reached.{Reached}
 use Rattle.kc_view.specs.declared.pointers.Reached.TheVariants.{Address, NullPointer}

@@ -1,7 +1,7 @@
 -- The elements of an array at a virtual address.
 use Rattle.std.specs.Prelude.{ℕ, ◌*◌, nat_lt, if◌then◌else◌, Option, None, option_map, option_and_then}
 use Rattle.kc_btf.specs.declared.types.ArrayOf.{ArrayOf}
-use Rattle.kc_layout.specs.Elements.{array_under}
+use Rattle.kc_layout.specs.Bare.{array_under}
 use Rattle.kc_layout.specs.Size.{size}
 use Rattle.kc_view.specs.Typed.{Typed, laid}
 

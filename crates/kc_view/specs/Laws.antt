@@ -5,7 +5,7 @@ use Rattle.kc_memory.specs.Bits.{number_places}
 use Rattle.kc_memory.specs.Image.{Image}
 use Rattle.kc_memory.specs.Places.{AllStandIn, entry_places}
 use Rattle.kc_memory.specs.Stopped.{Stopped}
-use Rattle.kc_layout.specs.declared.ends.Located.{Located}
+use Rattle.kc_layout.specs.declared.place.Located.{Located}
 use Rattle.kc_layout.specs.Ends.{BitsAt}
 use Rattle.kc_layout.specs.HopList.{hop_list}
 use Rattle.kc_view.specs.declared.view.Led.{Led}

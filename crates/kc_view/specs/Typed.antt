@@ -1,7 +1,7 @@
 -- A type at a virtual address.
 use Rattle.std.specs.Prelude.{ℕ, ◌+◌, ◌%◌, ◌^◌, nat_eq, if◌then◌else◌, Option, Some, None}
 use Rattle.kc_btf.specs.Btf.{Types}
-use Rattle.kc_layout.specs.declared.ends.Located.{Located}
+use Rattle.kc_layout.specs.declared.place.Located.{Located}
 
 -- a type, by its number among these, at an address
 pub record Typed : Type 0 where

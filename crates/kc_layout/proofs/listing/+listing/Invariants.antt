@@ -2,7 +2,7 @@ use Rattle.std.proofs.Common.{◌≡◌, ◌+◌, ◌-◌, ◌*◌, ◌<◌, ◌
 use Rattle.std.specs.Prelude.{All}
 use Rattle.kc_btf.specs.declared.types.Member.{Member}
 use Rattle.kc_layout.specs.Listing.{behind, listed_all, lists, AreNamed}
-use Rattle.kc_layout.specs.Numbered.{members_numbered}
+use Rattle.kc_layout.specs.Bare.{members_numbered}
 use Rattle.kc_layout.proofs.listing.+listing.Given as goal
 
 abbrev pub decreases-list_member : goal.decreases-list_member

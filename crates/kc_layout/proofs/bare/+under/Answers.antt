@@ -1,6 +1,6 @@
 use Rattle.std.proofs.Common.{arith}
 use Rattle.kc_layout.proofs.LayerLemmas.{under-here, under-last, under-next}
-use Rattle.kc_layout.proofs.modifiers.+under.Goals as goal
+use Rattle.kc_layout.proofs.bare.+under.Goals as goal
 
 pub returns-in-None-clause-exact : goal.returns-in-None-clause-exact
 returns-in-None-clause-exact t c = grind (arith, under-here)

@@ -2,8 +2,8 @@ use Rattle.std.proofs.Common.{◌≡◌, ◌+◌, ◌-◌, ◌*◌, ◌<◌, ◌
 use Rattle.std.specs.Prelude.{All}
 use Rattle.kc_btf.specs.declared.types.Member.{Member}
 use Rattle.kc_layout.specs.Search.{among, search}
-use Rattle.kc_layout.specs.Numbered.{members_numbered}
-use Rattle.kc_layout.proofs.search.+search.Given as goal
+use Rattle.kc_layout.specs.Bare.{members_numbered}
+use Rattle.kc_layout.proofs.member.+search.Given as goal
 
 abbrev pub decreases-search_lent : goal.decreases-search_lent
 decreases-search_lent l = 2 * l.levels + 1

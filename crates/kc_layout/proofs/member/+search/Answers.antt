@@ -3,10 +3,10 @@ use Rattle.std.specs.Prelude.{bytes_eq}
 use Rattle.std.proofs.lemmas.List.Elements.{All-tail}
 use Rattle.kc_btf.specs.declared.types.Member.{Member}
 use Rattle.kc_btf.specs.Readers.{name_at}
-use Rattle.kc_layout.specs.declared.search.Search.TheVariants.{Found, Absent, Beyond}
+use Rattle.kc_layout.specs.declared.member.Search.TheVariants.{Found, Absent, Beyond}
 use Rattle.kc_layout.specs.Search.{search}
 use Rattle.kc_layout.proofs.SearchLemmas.{search-next, search-last, among-end, among-last, among-found, search-lent}
-use Rattle.kc_layout.proofs.search.+search.Goals as goal
+use Rattle.kc_layout.proofs.member.+search.Goals as goal
 
 pub search_type-returns-then-levels-eq0-clause-exact : goal.search_type-returns-then-levels-eq0-clause-exact
 search_type-returns-then-levels-eq0-clause-exact t c =

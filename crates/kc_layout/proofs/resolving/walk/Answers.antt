@@ -5,7 +5,7 @@ use Rattle.kc_layout.specs.Places.{led}
 use Rattle.kc_layout.specs.Views.{place_view}
 use Rattle.kc_layout.proofs.PathLemmas.{steps-after, steps-ended, steps-all, is_some-next}
 use Rattle.kc_layout.proofs.PlaceLemmas.{led-end, led-next, led-fault}
-use Rattle.kc_layout.proofs.walk.walk.Goals as goal
+use Rattle.kc_layout.proofs.resolving.walk.Goals as goal
 
 pub returns-in_default-clause-exact : goal.returns-in_default-clause-exact
 returns-in_default-clause-exact c =

@@ -2,7 +2,7 @@ use Rattle.std.proofs.Common.{◌≡◌, ◌-◌, nat_eq, length, is_some, true}
 use Rattle.kc_layout.specs.Path.{steps_from}
 use Rattle.kc_layout.specs.Places.{led, end_of, IsReached}
 use Rattle.kc_layout.specs.Views.{place_view}
-use Rattle.kc_layout.proofs.walk.walk.Given as goal
+use Rattle.kc_layout.proofs.resolving.walk.Given as goal
 
 -- from the place so far, what is left of the path leads where the whole does
 abbrev pub invariant-loop-taken : goal.invariant-loop-taken

@@ -4,9 +4,8 @@ ghost use Rattle.kc_btf.specs.Kind.{is_compound};
 ghost use Rattle.kc_btf.specs.Readers.{type_numbered};
 ghost use Rattle.kc_layout.specs.Search.{lent, search, spot_of, FindsMember, LiesBehind};
 
-use crate::modifiers::{MODIFIERS, under};
-use crate::numbered::compound_of;
-use crate::spot::Spot;
+use crate::bare::{MODIFIERS, compound_of, under};
+use crate::place::Spot;
 use kc_btf::{Btf, Member, TypeRef};
 
 // How a search for a member ends.
