@@ -108,6 +108,7 @@ fn stopped(va: u64, rule: Rule, pa: u64) -> Stop
 }
 
 // The word at a virtual address: M1, else the stop of the walk, else M6, else the word.
+#[tactic(auto, unfolding(kc_memory::specs::Translation::vword))]
 fn read<F: Frames, L: Ledger>(
     frames: &mut F,
     paging: &PageCfg,

@@ -1,3 +1,4 @@
+pub mod HeldLaws
 mod NumberLaws
 mod PageLaws
 mod PlaceLaws

@@ -1,5 +1,5 @@
 -- What a number shows, and its bits.
-use Rattle.std.proofs.Common.{◌≡◌, ℕ, zero, suc, ◌+◌, ◌-◌, ◌*◌, ◌/◌, ◌%◌, ◌^◌, ◌<◌, ◌≤◌, pos, ◌+ℤ◌, ◌-ℤ◌, ◌≤ℤ◌, ◌<ℤ◌, Bool, true, false, ◌&&◌, if◌then◌else◌, nat_eq, nat_le, nat_lt, List, [], ◌∷◌, drop, get_or, length, Result, Ok, Err, arith, lit<, mod-eq_of_lt, refl, sym, ap, ◌∙◌, subst}
+use Rattle.std.proofs.Common.{◌≡◌, ℕ, zero, suc, ◌+◌, ◌-◌, ◌*◌, ◌/◌, ◌%◌, ◌^◌, ◌<◌, ◌≤◌, pos, ◌+ℤ◌, ◌-ℤ◌, ◌≤ℤ◌, ◌<ℤ◌, Bool, true, false, ◌&&◌, if◌then◌else◌, nat_le, nat_lt, List, [], ◌∷◌, drop, get_or, length, Result, Ok, Err, arith, lit<, mod-eq_of_lt, refl, sym, ap, ◌∙◌, subst}
 use Rattle.std.specs.Int.{bit_at}
 use Rattle.std.specs.List.{All}
 use Rattle.byteorder.specs.Endian.{little_number}
@@ -105,7 +105,7 @@ byte_small xs all i = by_cases (nat_lt i (length xs)) refl
 
 word_small : (image : Image) (va : ℕ) (w : VWord) → All (λ b. b < 256) image.physical.bytes → vword image va ≡ Ok w → w.value < 2 ^ 64
 word_small image va w bytes is =
-    let there = word_stands image va (nat_eq (va % 8) 0) w is in
+    let there = word_stands image va w is in
     let first = words_stand_first image.physical w.pa (record { value = w.value; off = w.off }) there.stands in
     let rest = drop w.off image.physical.bytes in
     subst (λ (v : ℕ). v < 2 ^ 64) (sym first.4) (little_small rest (byte_small rest (All-drop (λ b. b < 256) w.off image.physical.bytes bytes)))

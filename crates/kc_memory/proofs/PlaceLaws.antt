@@ -89,19 +89,27 @@ behind_word : (image : Image) (va : ℕ) (r : Result ℕ Stopped) (w : VWord) �
 behind_word image va (Ok pa) w is = last_word image va pa (pword image.physical pa) w refl is
 behind_word image va (Err t) w is = let none : ⊥ = cc in absurd none
 
-pub word_stands : (image : Image) (va : ℕ) (b : Bool) (w : VWord) → (if b then and_then (translated image va) (λ pa. word_or_stop va pa (pword image.physical pa)) else stop va M1 0 0 None) ≡ Ok w → WordStands image va w
-word_stands image va true w is = behind_word image va (translated image va) w is
-word_stands image va false w is = let none : ⊥ = cc in absurd none
+by_test : (image : Image) (va : ℕ) (b : Bool) (w : VWord) → (if b then and_then (translated image va) (λ pa. word_or_stop va pa (pword image.physical pa)) else stop va M1 0 0 None) ≡ Ok w → WordStands image va w
+by_test image va true w is = behind_word image va (translated image va) w is
+by_test image va false w is = let none : ⊥ = cc in absurd none
+
+pub word_stands : (image : Image) (va : ℕ) (w : VWord) → vword image va ≡ Ok w → WordStands image va w
+unfolding vword
+word_stands image va w is = by_test image va (nat_eq (va % 8) 0) w is
 
 entry_stands : (image : Image) (pa : ℕ) (o : Option PWord) → IfSome o (λ e. pword image.physical pa ≡ Some e) → AllStandIn image (entry_places pa o)
 entry_stands image pa None there = tt
 entry_stands image pa (Some word) there = (record { physically = there; virtually = tt }, tt)
 
+refused_entry : (image : Image) (va : ℕ) (s : Stopped) → vword image va ≡ Err s → EntryStands image.physical s
+unfolding vword
+refused_entry image va s is = stop_entry image va (nat_eq (va % 8) 0) s is
+
 places_of_answer : (image : Image) (va : ℕ) (r : Result VWord Stopped) → vword image va ≡ r → AllStandIn image (places_of r)
 unfolding EntryStands
-places_of_answer image va (Err s) is = entry_stands image s.pa s.entry (stop_entry image va (nat_eq (va % 8) 0) s is)
+places_of_answer image va (Err s) is = entry_stands image s.pa s.entry (refused_entry image va s is)
 places_of_answer image va (Ok w) is =
-    let there = word_stands image va (nat_eq (va % 8) 0) w is in
+    let there = word_stands image va w is in
     (record { physically = there.stands; virtually = ap (vword image) there.asked ∙ is }, tt)
 
 pub places_stand : PlacesStand

@@ -1,13 +1,15 @@
 -- What the definitions of words say, in the words of the field.
-use Rattle.std.specs.Prelude.{◌≡◌, ℕ, ◌+◌, ◌-◌, ◌*◌, ◌%◌, ◌/◌, ◌^◌, ◌<◌, ◌≤◌, ℤ, pos, Bool, Some, None, Ok, slice_get, List, drop}
+use Rattle.std.specs.Prelude.{◌≡◌, ℕ, ◌+◌, ◌-◌, ◌*◌, ◌%◌, ◌/◌, ◌^◌, ◌<◌, ◌≤◌, ℤ, pos, Bool, true, nat_eq, Some, None, Ok, slice_get, List, drop}
 use Rattle.std.specs.Int.{bit_at, int_rem_euclid}
 use Rattle.std.specs.Int.RustNames.{unsigned_abs}
 use Rattle.std.specs.List.{All}
+use Rattle.std.specs.Set.{is_member}
 use Rattle.byteorder.specs.Endian.{little_number}
 use Rattle.kc_word.specs.declared.plain.Segment.{Segment}
 use Rattle.kc_memory.specs.declared.words.PWord.{PWord}
 use Rattle.kc_memory.specs.declared.words.VWord.{VWord}
 use Rattle.kc_memory.specs.Image.{Physical, Image, pword}
+use Rattle.kc_memory.specs.Held.{held}
 use Rattle.kc_memory.specs.Translation.{xlate, vword}
 use Rattle.kc_memory.specs.Places.{AllStandIn, places_of}
 use Rattle.kc_memory.specs.Bits.{Number, bits, first_bit, word_of, InBits, number_places}
@@ -36,11 +38,16 @@ AbsentWhereNone =
     (physical : Physical) (pa : ℕ) → pword physical pa ≡ None
     → (i : ℕ) (s : Segment) → HoldsAt physical.segments pa i s → ⊥
 
--- a page moves whole: an address keeps its low 12 bits, and another address of its page goes where it goes, but
--- for the low 12 bits
+-- a word that is found at a virtual address is one that the dump holds
+abbrev pub FoundIsHeld : Type 0
+FoundIsHeld =
+    (image : Image) (va : ℕ) (w : VWord) → vword image va ≡ Ok w → is_member nat_eq (held image.physical) w.pa ≡ true
+
+-- a page moves whole, from any table: an address keeps its low 12 bits, and another address of its page goes where
+-- it goes, but for the low 12 bits
 abbrev pub PagesMoveWhole : Type 0
 PagesMoveWhole =
-    (physical : Physical) (mask level table va pa : ℕ) → table % 4096 ≡ 0 → xlate physical mask va level table ≡ Ok pa
+    (physical : Physical) (mask level table va pa : ℕ) → 1 ≤ level → xlate physical mask va level table ≡ Ok pa
     → (pa % 4096 ≡ va % 4096)
     × ((other : ℕ) → other / 4096 ≡ va / 4096 → xlate physical mask other level table ≡ Ok (pa / 4096 * 4096 + other % 4096))
 

@@ -121,7 +121,7 @@ word_or_stop va pa None = stop va M6 0 pa None
 word_or_stop va pa (Some word) = Ok (record { va = va; pa = pa; off = word.off; value = word.value })
 
 -- the word at a virtual address
-abbrev pub vword : Image → ℕ → Result VWord Stopped
+unfoldable pub vword : Image → ℕ → Result VWord Stopped
 vword image va =
     if nat_eq (va % 8) 0 then and_then (translated image va) (λ pa. word_or_stop va pa (pword image.physical pa))
     else stop va M1 0 0 None

@@ -1,12 +1,14 @@
 // What the definitions of words say, for a reader to believe and a caller to learn. These functions do
 // nothing: each carries a law.
-ghost use Rattle.kc_memory.specs.Laws.{WordsStandFirst, AbsentWhereNone, PagesMoveWhole, PlacesStand, NumbersStand, NumbersFit, BitsAreOfMemory};
+ghost use Rattle.kc_memory.specs.Laws.{WordsStandFirst, AbsentWhereNone, FoundIsHeld, PagesMoveWhole, PlacesStand, NumbersStand, NumbersFit, BitsAreOfMemory};
 
 /// A word of the dump is the eight bytes at its file offset, and no earlier segment holds them. It is
-/// absent only where no segment does.
+/// absent only where no segment does. A word that is found at a virtual address is one of those that the dump
+/// holds.
 pub fn know_words()
     ensures first { WordsStandFirst }
     ensures absent { AbsentWhereNone }
+    ensures held { FoundIsHeld }
 {}
 
 /// A translation keeps the low 12 bits of an address, and moves a page whole.

@@ -1,3 +1,4 @@
+use Rattle.kc_memory.proofs.HeldLaws.{found_is_held}
 use Rattle.kc_memory.proofs.WordLaws.{words_stand_first, absent_where_none}
 use Rattle.kc_memory.proofs.laws.know_words.Goals as goal
 
@@ -6,3 +7,6 @@ returns-clause-first c = words_stand_first
 
 pub returns-clause-absent : goal.returns-clause-absent
 returns-clause-absent c = absent_where_none
+
+pub returns-clause-held : goal.returns-clause-held
+returns-clause-held c = found_is_held
