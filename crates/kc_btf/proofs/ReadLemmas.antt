@@ -8,12 +8,12 @@ use Rattle.kc_btf.specs.declared.stop.BtfFault.{BtfFault}
 use Rattle.kc_btf.specs.declared.stop.BRule.TheVariants.{B8}
 use Rattle.kc_btf.specs.Answers.{unless}
 use Rattle.kc_btf.specs.Header.{header_fault, types_at, types_end, strings_end, string_section, type_section, IsHeader, IsInside}
-use Rattle.kc_btf.specs.Records.{Record, record_at, places, refers_inside}
+use Rattle.kc_btf.specs.Records.{Record, record_at, places, refers_inside, IsRecord}
 use Rattle.kc_btf.specs.Btf.{Types, btf, types_of, outside_fault, RefersInside}
-use Rattle.kc_btf.specs.Kept.{kept, IsKept}
+use Rattle.kc_btf.specs.Kept.{kept}
 use Rattle.kc_btf.specs.Spelling.{spelled, HasForm}
 use Rattle.kc_btf.proofs.SpellingLemmas.{IsBytes, spelled-places, form-record_at}
-use Rattle.std.specs.Prelude.{All}
+use Rattle.std.specs.Prelude.{All, IsTrue}
 use Rattle.std.proofs.lemmas.List.Elements.{All-map}
 use Rattle.std.proofs.lemmas.List.Folds.{flat_map-map}
 
@@ -84,13 +84,22 @@ spelled-kept bytes header table fit is =
     ∙ ap (λ at. slice_range bytes at header.types_end) is.read.types
     ∙ ap (λ end. slice_range bytes (types_at bytes) end) is.read.types_end
 
-pub form-kept : (bytes : List ℕ) (header : Header) (table : List ℕ) → IsBytes bytes → IsKept bytes header table → All HasForm (kept bytes header table).records
-form-kept bytes header table fit is =
-    All-map HasForm (λ place. record_at bytes (header.types + place)) table (λ k d more. form-record_at bytes (header.types + get_or table k d) fit (is.found k d more))
+-- a record stands at each place of a table
+abbrev pub AreRecords : List ℕ → Header → List ℕ → Type 0
+AreRecords bytes header table = All (λ place. IsRecord bytes (header.types + place)) table
 
-pub inside-kept : (bytes : List ℕ) (header : Header) (table : List ℕ) → IsKept bytes header table → All (RefersInside (kept bytes header table)) (kept bytes header table).records
-inside-kept bytes header table is =
+-- and refers to what is there
+abbrev pub ReferInside : List ℕ → Header → List ℕ → Type 0
+ReferInside bytes header table =
+    All (λ place. IsTrue (refers_inside (length (slice_range bytes header.strings header.strings_end)) (length table) (record_at bytes (header.types + place)))) table
+
+pub form-kept : (bytes : List ℕ) (header : Header) (table : List ℕ) → IsBytes bytes → AreRecords bytes header table → All HasForm (kept bytes header table).records
+form-kept bytes header table fit found =
+    All-map HasForm (λ place. record_at bytes (header.types + place)) table (λ k d more. form-record_at bytes (header.types + get_or table k d) fit (found k d more))
+
+pub inside-kept : (bytes : List ℕ) (header : Header) (table : List ℕ) → ReferInside bytes header table → All (RefersInside (kept bytes header table)) (kept bytes header table).records
+inside-kept bytes header table refer =
     let count : length (kept bytes header table).records ≡ length table = simp length-map in
     let strings = length (kept bytes header table).strings in
     All-map (RefersInside (kept bytes header table)) (λ place. record_at bytes (header.types + place)) table
-    (λ k d more. subst (λ n. refers_inside strings n (record_at bytes (header.types + get_or table k d)) ≡ true) (sym count) (is.refer k d more))
+    (λ k d more. subst (λ n. refers_inside strings n (record_at bytes (header.types + get_or table k d)) ≡ true) (sym count) (refer k d more))

@@ -5,6 +5,7 @@ use Rattle.kc_btf.specs.declared.header.Header.{Header}
 use Rattle.kc_btf.specs.Header.{IsInside}
 use Rattle.kc_btf.specs.Records.{record_at, refers_inside, IsRecord}
 use Rattle.kc_btf.specs.Btf.{Types}
+use Rattle.kc_btf.specs.Whole.{AreOf}
 
 -- the types that are kept so
 abbrev pub kept : List ℕ → Header → List ℕ → Types
@@ -13,9 +14,10 @@ kept bytes header table = record {
   strings = slice_range bytes header.strings header.strings_end;
 }
 
--- what is kept is sound
+-- what is kept is sound: the records are all of the file's, and each stands where the table says
 pub record IsKept (bytes : List ℕ) (header : Header) (table : List ℕ) : Type 0 where
   pub sections : IsInside bytes header
   pub few : length table < 2 ^ 32
   pub found : All (λ place. IsRecord bytes (header.types + place)) table
   pub refer : All (λ place. IsTrue (refers_inside (length (slice_range bytes header.strings header.strings_end)) (length table) (record_at bytes (header.types + place)))) table
+  pub whole : AreOf bytes (kept bytes header table)

@@ -8,3 +8,4 @@ pub mod Readers
 pub mod Records
 pub mod Role
 pub mod Spelling
+pub mod Whole

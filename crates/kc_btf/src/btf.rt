@@ -37,6 +37,7 @@ impl Btf {
     ghost use Rattle.kc_btf.specs.Btf.{btf, RefersInside};
     ghost use Rattle.kc_btf.specs.Header.{type_section};
     ghost use Rattle.kc_btf.specs.Spelling.{spelled, HasForm};
+    ghost use Rattle.kc_btf.specs.Whole.{AreOfAFile};
     ghost use Rattle.kc_btf.specs.Kind.{is_compound};
     ghost use Rattle.kc_btf.specs.Role.{rest_role, LiesInside};
     ghost use Rattle.kc_btf.specs.Readers.{name_at, record_numbered, type_numbered, members_of, array_of, int_of};
@@ -61,6 +62,14 @@ impl Btf {
             header,
             table,
         })
+    }
+
+    /// Does nothing, and tells a proof that the types are all those of a file: its records, written out again,
+    /// are its section of types, and each name and type that one refers to is there.
+    pub fn know_types(&self)
+        ensures { AreOfAFile self.now }
+    {
+        let _ = &self.table;
     }
 
     /// How many types there are, without void.

@@ -4,7 +4,8 @@ use Rattle.kc_btf.specs.declared.stop.BtfFault.{BtfFault}
 use Rattle.kc_btf.specs.Answers.{unless}
 use Rattle.kc_btf.specs.Btf.{outside_fault}
 use Rattle.kc_btf.specs.Kept.{kept}
-use Rattle.kc_btf.proofs.ReadLemmas.{IsTabled, btf-table, none-outside, length-strings, spelled-kept, form-kept, inside-kept}
+use Rattle.kc_btf.specs.Whole.{AreOf}
+use Rattle.kc_btf.proofs.ReadLemmas.{IsTabled, AreRecords, ReferInside, btf-table, none-outside, length-strings, spelled-kept, form-kept, inside-kept}
 use Rattle.kc_btf.proofs.SpellingLemmas.{IsBytes, are_bytes}
 use Rattle.kc_btf.proofs.btf.Btf.read.Goals as goal
 
@@ -40,31 +41,46 @@ none c = rw (c.deref-3.ensures.value, c.deref-4.ensures.value) at c.in_ok-check_
 bytes_fit : (c : goal.In_ok-check_inside) → IsBytes c.args.bytes.items
 bytes_fit c = are_bytes c.args.bytes.items (λ i within. omega arith)
 
-pub invariant_of-result : goal.invariant_of-result
-invariant_of-result c =
+found : (c : goal.In_ok-check_inside) → AreRecords c.args.bytes.items c.in_ok-header.header c.in_ok-table.table.items
+found c = rw c.deref-2.ensures.value at c.in_ok-table.ensures.found
+
+refer : (c : goal.In_ok-check_inside) → ReferInside c.args.bytes.items c.in_ok-header.header c.in_ok-table.table.items
+refer c =
     let bytes = c.args.bytes.items in
     let header = c.in_ok-header.header in
     let table = c.in_ok-table.table.items in
-    let inside = (tabled c).inside in
+    rw (length-strings bytes header (tabled c).inside) (none-outside bytes (header.strings_end - header.strings) (length table) header.types table (none c))
+
+whole : (c : goal.In_ok-check_inside) → let header = c.in_ok-header.header in let table = c.in_ok-table.table.items in
+    AreOf c.args.bytes.items (kept c.args.bytes.items header table)
+whole c =
+    let bytes = c.args.bytes.items in
+    let header = c.in_ok-header.header in
+    let table = c.in_ok-table.table.items in
     record {
-      sections = inside;
-      few = omega (arith, inside.short, c.in_ok-table.ensures.few);
-      found = rw c.deref-2.ensures.value at c.in_ok-table.ensures.found;
-      refer = rw (length-strings bytes header inside) (none-outside bytes (header.strings_end - header.strings) (length table) header.types table (none c));
+      read = btf-table bytes header table (tabled c) ∙ ap (λ (f : Option BtfFault). unless f (Ok (kept bytes header table))) (none c);
+      spelled = spelled-kept bytes header table (bytes_fit c) (tabled c);
+      form = form-kept bytes header table (bytes_fit c) (found c);
+      inside = inside-kept bytes header table (refer c);
     }
 
+pub invariant_of-result : goal.invariant_of-result
+invariant_of-result c = record {
+  sections = (tabled c).inside;
+  few = omega (arith, (tabled c).inside.short, c.in_ok-table.ensures.few);
+  found = found c;
+  refer = refer c;
+  whole = whole c;
+}
+
 pub returns-clause-exact : goal.returns-clause-exact
-returns-clause-exact c =
-    let bytes = c.args.bytes.items in
-    let header = c.in_ok-header.header in
-    let table = c.in_ok-table.table.items in
-    btf-table bytes header table (tabled c) ∙ ap (λ (f : Option BtfFault). unless f (Ok (kept bytes header table))) (none c)
+returns-clause-exact c = (whole c).read
 
 pub returns-clause-spelled : goal.returns-clause-spelled
-returns-clause-spelled c = spelled-kept c.args.bytes.items c.in_ok-header.header c.in_ok-table.table.items (bytes_fit c) (tabled c)
+returns-clause-spelled c = (whole c).spelled
 
 pub returns-clause-form : goal.returns-clause-form
-returns-clause-form c = form-kept c.args.bytes.items c.in_ok-header.header c.in_ok-table.table.items (bytes_fit c) (invariant_of-result c)
+returns-clause-form c = (whole c).form
 
 pub returns-clause-inside : goal.returns-clause-inside
-returns-clause-inside c = inside-kept c.args.bytes.items c.in_ok-header.header c.in_ok-table.table.items (invariant_of-result c)
+returns-clause-inside c = (whole c).inside
