@@ -1,5 +1,4 @@
 mod Flip
-pub mod Among
 pub mod Passed
 pub mod Reached
 pub mod Told

@@ -1,0 +1,7 @@
+mod Finite
+mod Pairs
+mod Reading
+mod RingLaw
+mod RingSites
+mod RingWalk
+mod Stops

@@ -1,0 +1,6 @@
+#![tactic(auto)]
+
+mod list;
+mod words;
+
+pub use list::ring;

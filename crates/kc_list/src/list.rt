@@ -1,0 +1,153 @@
+// Rings.
+ghost use Rattle.std.specs.Prelude.{◌≡◌, ℕ, List, ◌+◌, ◌*◌, ◌≤◌, Ok, IfOk, IfSome};
+ghost use Rattle.kc_outside.specs.Counts.{Rose};
+ghost use Rattle.kc_memory.specs.Held.{word_count};
+ghost use Rattle.kc_memory.specs.Translation.{vword};
+ghost use Rattle.kc_found.specs.FiniteLists.{Ring};
+ghost use Rattle.kc_found.specs.Nodes.{two_taken};
+ghost use Rattle.kc_found.specs.Rings.{links, ring_site, ring_walk};
+ghost use Rattle.kc_found.specs.Trials.{passed};
+ghost use Rattle.kc_found.specs.Walks.{IsNamed, OnBroken, OnWalkFault, WalksAs};
+
+use crate::words::{enter_both, is_poison, push_node};
+use kc_found::{Asked, Claims, ListShape, Rule, Space, VWord, WalkStop, Walked, broken_at};
+use kc_word::Steps;
+use std::alloc::Global;
+use std::sync::ledger::Ledger;
+
+// Reads and takes the words `next` and `prev` of a node, to which `led` leads.
+fn enter_links<S: Space, L: Ledger>(
+    alloc: Global,
+    space: &mut S,
+    shape: &ListShape,
+    asked: &Asked,
+    claims: &mut Claims,
+    node: u64,
+    led: Option<VWord>,
+    steps: &mut Steps<L>,
+) -> Result<(VWord, VWord), WalkStop>
+    ensures links { IfOk result (λ p. IfSome (S.image space.old) (λ image. links (vword image) shape.now node ≡ Ok p)) }
+    ensures site { WalksAs (λ _. claims.new) (λ image. passed {X = ℕ} claims.old (two_taken asked.now led (links (vword image) shape.now node))) (S.image space.old) result }
+    ensures named { IsNamed result asked.now.audit asked.now.start }
+    ensures steps { steps.new ≤ steps.old + 2 * S.most space.old }
+
+    ensures image { S.image space.new ≡ S.image space.old }
+    ensures files { S.files space.new ≡ S.files space.old }
+    ensures through { S.through space.new ≡ S.through space.old }
+    ensures most { S.most space.new ≡ S.most space.old }
+    ensures later { S.faults space.old ≤ S.faults space.new }
+    ensures cause { OnWalkFault result (Rose (S.faults space.old) (S.faults space.new)) }
+{
+    let next = node.wrapping_add(shape.next);
+    let prev = node.wrapping_add(shape.prev);
+    enter_both(alloc, space, asked, claims, next, prev, led, steps)
+}
+
+// Enters the node that a pointer leads to from the node `before`, and gives its `next` and `prev`.
+fn enter_node<S: Space, L: Ledger>(
+    alloc: Global,
+    space: &mut S,
+    shape: &ListShape,
+    asked: &Asked,
+    claims: &mut Claims,
+    from: VWord,
+    before: u64,
+    steps: &mut Steps<L>,
+) -> Result<(VWord, VWord), WalkStop>
+    ensures links { IfOk result (λ p. IfSome (S.image space.old) (λ image. links (vword image) shape.now from.value ≡ Ok p)) }
+    ensures site { WalksAs (λ _. claims.new) (λ image. passed claims.old (ring_site asked.now (links (vword image) shape.now from.value) from before)) (S.image space.old) result }
+    ensures named { IsNamed result asked.now.audit asked.now.start }
+    ensures steps { steps.new ≤ steps.old + 2 * S.most space.old }
+
+    ensures image { S.image space.new ≡ S.image space.old }
+    ensures files { S.files space.new ≡ S.files space.old }
+    ensures through { S.through space.new ≡ S.through space.old }
+    ensures most { S.most space.new ≡ S.most space.old }
+    ensures later { S.faults space.old ≤ S.faults space.new }
+    ensures cause { OnWalkFault result (Rose (S.faults space.old) (S.faults space.new)) }
+{
+    if from.value == 0 {
+        return Err(broken_at(alloc, asked, Rule::N, &from, None));
+    }
+    if is_poison(from.value) {
+        return Err(broken_at(alloc, asked, Rule::K, &from, None));
+    }
+    let node = from.value;
+    let links = match enter_links(alloc, space, shape, asked, claims, node, Some(from), steps) {
+        Ok(links) => links,
+        Err(stop) => return Err(stop),
+    };
+    if links.1.value != before {
+        return Err(broken_at(alloc, asked, Rule::L1, &links.1, Some(before)));
+    }
+    Ok(links)
+}
+
+/// The nodes of the ring with a head at virtual address `head`, without the head, in the order of `next`. The audit's
+/// number is named where the ring breaks a rule.
+///
+/// # Errors
+///
+/// The first violation, exactly where the ring has one; a failure of the space, whose count of faults then rose; or out
+/// of memory.
+pub fn ring<S: Space, L: Ledger>(
+    alloc: Global,
+    space: &mut S,
+    shape: &ListShape,
+    head: u64,
+    audit: u32,
+    steps: &mut Steps<L>,
+) -> Result<Walked, WalkStop>
+    ensures walk { WalksAs (λ w. w) (λ image. ring_walk image shape.now audit head) (S.image space.old) result }
+    ensures finite { IfOk result (λ ns. IfSome (S.image space.old) (λ image. Ring (vword image) shape.now head ns)) }
+    ensures none { OnBroken result (IfSome (S.image space.old) (λ image. (ns : List ℕ) → Ring (vword image) shape.now head ns → ⊥)) }
+    ensures named { IsNamed result audit head }
+    ensures bound { IfSome (S.image space.old) (λ image. steps.new ≤ steps.old + S.most space.old * (2 * word_count image.physical + 128)) }
+
+    ensures image { S.image space.new ≡ S.image space.old }
+    ensures files { S.files space.new ≡ S.files space.old }
+    ensures through { S.through space.new ≡ S.through space.old }
+    ensures most { S.most space.new ≡ S.most space.old }
+    ensures later { S.faults space.old ≤ S.faults space.new }
+    ensures cause { OnWalkFault result (Rose (S.faults space.old) (S.faults space.new)) }
+{
+    let asked = Asked { audit, start: head };
+    let mut claims = Claims::new(alloc);
+    let mut walked = Walked::new(alloc);
+    let (mut from, last) = match enter_links(
+        alloc,
+        space,
+        shape,
+        &asked,
+        &mut claims,
+        head,
+        None,
+        steps,
+    ) {
+        Ok(links) => links,
+        Err(stop) => return Err(stop),
+    };
+    let mut before = head;
+    while from.value != head {
+        let links = match enter_node(
+            alloc,
+            space,
+            shape,
+            &asked,
+            &mut claims,
+            from,
+            before,
+            steps,
+        ) {
+            Ok(links) => links,
+            Err(stop) => return Err(stop),
+        };
+        push_node(&mut walked, from.value)?;
+        before = from.value;
+        from = links.0;
+    }
+    if last.value != before {
+        return Err(broken_at(alloc, &asked, Rule::L1, &last, Some(before)));
+    }
+    Ok(walked)
+}

@@ -1,0 +1,136 @@
+// Words that a walk reads and takes.
+ghost use Rattle.std.specs.Prelude.{◌≡◌, ℕ, ◌+◌, ◌*◌, ◌^◌, ◌<◌, ◌≤◌, ◌∷◌, ◌++◌, [], length, None, Ok, OnOk, IfOk, IfErr, IfSome};
+ghost use Rattle.kc_outside.specs.Counts.{Rose};
+ghost use Rattle.kc_memory.specs.Space.{AnswersAs, OnFault};
+ghost use Rattle.kc_memory.specs.Translation.{vword};
+ghost use Rattle.kc_memory.specs.declared.rule.Rule.TheVariants.{A};
+ghost use Rattle.kc_found.specs.Nodes.{both, one_taken, two_taken};
+ghost use Rattle.kc_found.specs.Trials.{claimed, passed};
+ghost use Rattle.kc_found.specs.Violations.{breaks};
+ghost use Rattle.kc_found.specs.Walks.{IsNamed, IsWalk, OnWalkFault, WalksAs};
+
+use kc_found::{Asked, Claims, Rule, Space, Stop, VWord, WalkStop, Walked, broken_at, stopped};
+use kc_word::{NoMemory, Steps};
+use std::alloc::Global;
+use std::sync::ledger::Ledger;
+
+// Two words, the first one first.
+fn read_both<S: Space, L: Ledger>(
+    space: &mut S,
+    first: u64,
+    second: u64,
+    steps: &mut Steps<L>,
+) -> Result<(VWord, VWord), Stop>
+    ensures words { AnswersAs (λ image. both (vword image) first second) (S.image space.old) result }
+    ensures steps { steps.new ≤ steps.old + 2 * S.most space.old }
+
+    ensures image { S.image space.new ≡ S.image space.old }
+    ensures files { S.files space.new ≡ S.files space.old }
+    ensures through { S.through space.new ≡ S.through space.old }
+    ensures most { S.most space.new ≡ S.most space.old }
+    ensures later { S.faults space.old ≤ S.faults space.new }
+    ensures cause { OnFault result (Rose (S.faults space.old) (S.faults space.new)) }
+{
+    let a = space.word(first, steps)?;
+    let b = space.word(second, steps)?;
+    Ok((a, b))
+}
+
+// Takes a word: rule A where it was taken before.
+fn take_word(
+    alloc: Global,
+    claims: &mut Claims,
+    asked: &Asked,
+    word: &VWord,
+) -> Result<(), WalkStop>
+    ensures taken { IsWalk (λ _. claims.new) (claimed claims.old word.now.pa (breaks asked.now A word.now None)) result }
+    ensures named { IsNamed result asked.now.audit asked.now.start }
+    ensures no_fault { OnWalkFault result ⊥ }
+{
+    match claims.take(word.pa) {
+        Ok(true) => Ok(()),
+        Ok(false) => Err(broken_at(alloc, asked, Rule::A, word, None)),
+        Err(NoMemory) => Err(WalkStop::NoMemory),
+    }
+}
+
+// Reads and takes a word, to which `led` leads.
+pub(crate) fn enter_word<S: Space, L: Ledger>(
+    alloc: Global,
+    space: &mut S,
+    asked: &Asked,
+    claims: &mut Claims,
+    va: u64,
+    led: Option<VWord>,
+    steps: &mut Steps<L>,
+) -> Result<VWord, WalkStop>
+    ensures word { IfOk result (λ w. IfSome (S.image space.old) (λ image. vword image va ≡ Ok w)) }
+    ensures site { WalksAs (λ _. claims.new) (λ image. passed {X = ℕ} claims.old (one_taken asked.now led (vword image va))) (S.image space.old) result }
+    ensures named { IsNamed result asked.now.audit asked.now.start }
+    ensures steps { steps.new ≤ steps.old + 2 * S.most space.old }
+
+    ensures image { S.image space.new ≡ S.image space.old }
+    ensures files { S.files space.new ≡ S.files space.old }
+    ensures through { S.through space.new ≡ S.through space.old }
+    ensures most { S.most space.new ≡ S.most space.old }
+    ensures later { S.faults space.old ≤ S.faults space.new }
+    ensures cause { OnWalkFault result (Rose (S.faults space.old) (S.faults space.new)) }
+{
+    let word = match space.word(va, steps) {
+        Ok(word) => word,
+        Err(stop) => return Err(stopped(alloc, asked, stop, led)),
+    };
+    take_word(alloc, claims, asked, &word)?;
+    Ok(word)
+}
+
+// Reads and takes two words, to which `led` leads.
+pub(crate) fn enter_both<S: Space, L: Ledger>(
+    alloc: Global,
+    space: &mut S,
+    asked: &Asked,
+    claims: &mut Claims,
+    first: u64,
+    second: u64,
+    led: Option<VWord>,
+    steps: &mut Steps<L>,
+) -> Result<(VWord, VWord), WalkStop>
+    ensures words { IfOk result (λ p. IfSome (S.image space.old) (λ image. both (vword image) first second ≡ Ok p)) }
+    ensures site { WalksAs (λ _. claims.new) (λ image. passed {X = ℕ} claims.old (two_taken asked.now led (both (vword image) first second))) (S.image space.old) result }
+    ensures named { IsNamed result asked.now.audit asked.now.start }
+    ensures steps { steps.new ≤ steps.old + 2 * S.most space.old }
+
+    ensures image { S.image space.new ≡ S.image space.old }
+    ensures files { S.files space.new ≡ S.files space.old }
+    ensures through { S.through space.new ≡ S.through space.old }
+    ensures most { S.most space.new ≡ S.most space.old }
+    ensures later { S.faults space.old ≤ S.faults space.new }
+    ensures cause { OnWalkFault result (Rose (S.faults space.old) (S.faults space.new)) }
+{
+    let words = match read_both(space, first, second, steps) {
+        Ok(words) => words,
+        Err(stop) => return Err(stopped(alloc, asked, stop, led)),
+    };
+    take_word(alloc, claims, asked, &words.0)?;
+    take_word(alloc, claims, asked, &words.1)?;
+    Ok(words)
+}
+
+// Whether a list pointer is one that the kernel leaves in a node that it took out.
+pub(crate) fn is_poison(value: u64) -> bool
+    ensures { result ≡ Rattle.kc_found.specs.Nodes.is_poison value }
+{
+    value == 0xdead_0000_0000_0100 || value == 0xdead_0000_0000_0122
+}
+
+// Adds the address of a node to the walked list.
+pub(crate) fn push_node(walked: &mut Walked, node: u64) -> Result<(), WalkStop>
+    ensures added { OnOk result (walked.new ≡ walked.old ++ node ∷ []) }
+    ensures fits { OnOk result (length walked.new < 2 ^ 64) }
+    ensures memory { IfErr result (λ stop. stop ≡ WalkStop.NoMemory) }
+{
+    match walked.push(node) {
+        Ok(()) => Ok(()),
+        Err(NoMemory) => Err(WalkStop::NoMemory),
+    }
+}
