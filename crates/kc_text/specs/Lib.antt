@@ -1,2 +1,6 @@
+pub mod Answers
+pub mod Compose
+pub mod Format
+pub mod Readers
+pub mod Reading
 pub mod Text
-pub use Rattle.kc_word.specs.Hex

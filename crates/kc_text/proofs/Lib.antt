@@ -1,0 +1,4 @@
+pub mod FormatLaws
+pub mod LineLaws
+mod LoopLemmas
+pub mod ReaderLaws

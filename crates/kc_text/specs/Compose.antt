@@ -1,0 +1,74 @@
+-- Formats made of others. Each law is proved once, so a composition has its laws from its parts.
+use Rattle.std.specs.Prelude.{◌≡◌, ℕ, zero, suc, ◌⊎◌, List, [], ◌∷◌, ◌++◌, length, Result, Ok, Err, All}
+use Rattle.std.proofs.Common.{inl, inr}
+use Rattle.kc_text.specs.Format.{Format}
+use Rattle.kc_text.specs.Reading.{and_then, or_else}
+use Rattle.kc_text.specs.Readers.{read_literal}
+
+-- one text after another; how the second is written may depend on the first's value
+abbrev pub both : {X Y : Type 0} → Format X → (X → Format Y) → Format (X × Y)
+both f g = record {
+  Good = λ p. f.Good p.0 × (g p.0).Good p.1;
+  spell = λ p. f.spell p.0 ++ (g p.0).spell p.1;
+  read = λ bytes. and_then (f.read bytes) (λ r. and_then ((g r.0).read r.1) (λ s. Ok ((r.0, s.0), s.1)));
+}
+
+-- the same texts, for other values
+abbrev pub mapped : {X Y : Type 0} → (X → Y) → (Y → Type 0) → (Y → List ℕ) → Format X → Format Y
+mapped to Good spell f = record {
+  Good = Good;
+  spell = spell;
+  read = λ bytes. and_then (f.read bytes) (λ r. Ok (to r.0, r.1));
+}
+
+-- nothing is written for this one value
+abbrev pub nothing : {X : Type 0} → X → Format X
+nothing x = record { Good = λ y. x ≡ y; spell = λ _. []; read = λ bytes. Ok (x, bytes) }
+
+-- either a text of the one or a text of the other
+abbrev pub either_good : {X Y : Type 0} → (X → Type 0) → (Y → Type 0) → X ⊎ Y → Type 0
+either_good P Q (inl x) = P x
+either_good P Q (inr y) = Q y
+
+abbrev pub either_text : {X Y : Type 0} → (X → List ℕ) → (Y → List ℕ) → X ⊎ Y → List ℕ
+either_text s t (inl x) = s x
+either_text s t (inr y) = t y
+
+abbrev pub either : {X Y : Type 0} → Format X → Format Y → Format (X ⊎ Y)
+either f g = record {
+  Good = either_good f.Good g.Good;
+  spell = either_text f.spell g.spell;
+  read = λ bytes. or_else (and_then (f.read bytes) (λ r. Ok (inl r.0, r.1))) (and_then (g.read bytes) (λ r. Ok (inr r.0, r.1)));
+}
+
+-- a text that always stands before a value's, or after it
+abbrev pub after : {X : Type 0} → List ℕ → Format X → Format X
+after text f = record {
+  Good = f.Good;
+  spell = λ x. text ++ f.spell x;
+  read = λ bytes. and_then (read_literal text bytes) (λ r. f.read r.1);
+}
+
+abbrev pub followed : {X : Type 0} → Format X → List ℕ → Format X
+followed f text = record {
+  Good = f.Good;
+  spell = λ x. f.spell x ++ text;
+  read = λ bytes. and_then (f.read bytes) (λ r. and_then (read_literal text r.1) (λ s. Ok (r.0, s.1)));
+}
+
+-- values to the end, each with its text: there are no more of them than bytes
+abbrev pub texts : {X : Type 0} → (X → List ℕ) → List X → List ℕ
+texts spell [] = []
+texts spell (x ∷ xs) = spell x ++ texts spell xs
+
+unfoldable pub read_lines : {X : Type 0} → (List ℕ → Result (X × List ℕ) (List ℕ)) → ℕ → List ℕ → Result (List X) (List ℕ)
+read_lines read most [] = Ok []
+read_lines read zero (c ∷ cs) = Err (c ∷ cs)
+read_lines read (suc most) (c ∷ cs) = and_then (read (c ∷ cs)) (λ r. and_then (read_lines read most r.1) (λ xs. Ok (r.0 ∷ xs)))
+
+abbrev pub lines : {X : Type 0} → Format X → Format (List X)
+lines f = record {
+  Good = All f.Good;
+  spell = texts f.spell;
+  read = λ bytes. and_then (read_lines f.read (length bytes) bytes) (λ xs. Ok (xs, []));
+}
