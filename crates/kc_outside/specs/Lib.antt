@@ -1,6 +1,7 @@
 pub mod Counts
 pub mod FileStore
 pub mod Files
+pub mod Host
 pub mod MemFiles
 pub mod MemLaws
 pub mod MemSink
@@ -8,6 +9,5 @@ pub mod MemStore
 pub mod Seen
 pub mod SeenLaws
 pub mod Slots
-pub mod System
 pub mod Texts
 pub mod WriterSink

@@ -1,7 +1,6 @@
-// The counts of calls and of faults, as each implementation keeps them.
+// The counts of calls and of failures, as each implementation keeps them.
 ghost use Rattle.std.specs.Prelude.{◌≡◌, ◌≤◌, MatchResult, IsErr, Ok};
-ghost use Rattle.kc_outside.specs.Counts.{next_count};
-ghost use Rattle.kc_outside.specs.System.{after_answer};
+ghost use Rattle.kc_outside.specs.Counts.{next_count, faults_after};
 
 use crate::store::Failed;
 use std::io;
@@ -40,10 +39,11 @@ impl Counts {
         self.faults = self.faults.saturating_add(1);
         Failed
     }
+
     // What the system answered. An error is counted as a failure.
     pub(crate) fn told<T>(&mut self, answer: io::Result<T>) -> Result<T, Failed>
         ensures answer { MatchResult answer (λ value. result ≡ Ok value) (λ _. IsErr result) }
-        ensures counts { self.new ≡ after_answer self.old result }
+        ensures faults { self.new ≡ record self.old { faults = faults_after self.old.faults result } }
         ensures later { self.old.faults ≤ self.new.faults }
     {
         match answer {

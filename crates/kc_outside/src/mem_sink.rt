@@ -23,6 +23,10 @@ impl MemSink {
     ghost use Rattle.kc_outside.specs.MemSink.{bytes_in, limit_of, faults_of, calls_of};
 
     /// An empty sink, with memory for `limit` bytes.
+    ///
+    /// # Errors
+    ///
+    /// Out of memory.
     pub fn new(alloc: Global, limit: usize) -> Result<MemSink, NoMemory>
         ensures bytes { IfOk result (λ sink. bytes_in sink ≡ []) }
         ensures limit { IfOk result (λ sink. limit_of sink ≡ limit) }
@@ -46,8 +50,8 @@ impl MemSink {
 }
 
 impl Sink for MemSink {
-    ghost use Rattle.std.specs.Prelude.{◌≡◌, ◌-◌, ◌<◌, length, take, min, Some, IfOk, OnOk, OnErr, is_ok, nat_lt, if◌then◌else◌};
-    ghost use Rattle.kc_outside.specs.Counts.{Rose, next_count};
+    ghost use Rattle.std.specs.Prelude.{◌≡◌, ◌-◌, ◌<◌, length, take, min, Some, IfOk, OnOk, OnErr, is_ok, nat_lt};
+    ghost use Rattle.kc_outside.specs.Counts.{Rose, next_count, faults_after};
     ghost use Rattle.kc_outside.specs.Texts.{with_piece};
     ghost use Rattle.kc_outside.specs.MemSink.{bytes_in, limit_of, faults_of, calls_of};
 
@@ -57,14 +61,18 @@ impl Sink for MemSink {
 
     ghost asked = { calls_of };
 
-    /// Takes as many of the piece's bytes as are left below the limit. It fails exactly where none is
-    /// left, and takes no memory.
+    /// Takes as many of the piece's bytes as are left below the limit. It takes no memory.
+    ///
+    /// # Errors
+    ///
+    /// No byte is left below the limit.
     fn put(&mut self, piece: &[u8]) -> Result<usize, Failed>
         requires { 0 < length piece.now }
 
         ensures some { IfOk result (λ n. 0 < n) }
         ensures within { IfOk result (λ n. n ≤ length piece.now) }
-        ensures taken { IfOk result (λ n. Some (bytes_in self.new) ≡ with_piece (Some (bytes_in self.old)) (take n piece.now)) }
+        ensures taken { IfOk result (λ n.
+            Some (bytes_in self.new) ≡ with_piece (Some (bytes_in self.old)) (take n piece.now)) }
         ensures nothing { OnErr result (Some (bytes_in self.new) ≡ Some (bytes_in self.old)) }
 
         ensures later { faults_of self.old ≤ faults_of self.new }
@@ -75,9 +83,10 @@ impl Sink for MemSink {
 
         // What this sink adds.
         ensures succeeds { is_ok result ≡ nat_lt (length (bytes_in self.old)) (limit_of self.old) }
-        ensures count { IfOk result (λ n. n ≡ min (length piece.now) (limit_of self.old - length (bytes_in self.old))) }
+        ensures count { IfOk result (λ n.
+            n ≡ min (length piece.now) (limit_of self.old - length (bytes_in self.old))) }
         ensures limit { limit_of self.new ≡ limit_of self.old }
-        ensures faults { faults_of self.new ≡ (if is_ok result then faults_of self.old else next_count (faults_of self.old)) }
+        ensures faults { faults_of self.new ≡ faults_after (faults_of self.old) result }
         ensures calls { calls_of self.new ≡ next_count (calls_of self.old) }
     {
         self.counts.ask();

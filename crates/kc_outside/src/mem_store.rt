@@ -56,10 +56,16 @@ impl MemStore {
     }
 
     /// Gives a name its bytes, in every slot. A name that is there already gets these bytes in place of
-    /// its own, and a slot that holds it doesn't know its size any more. Without memory nothing changes.
+    /// its own, and a slot that holds it doesn't know its size any more.
+    ///
+    /// # Errors
+    ///
+    /// Out of memory. Nothing changes then.
     pub fn add(&mut self, name: &str, bytes: &[u8]) -> Result<(), NoMemory>
-        ensures bytes { OnOk result ((other : List ℕ) → bytes_in self.new other ≡ (if bytes_eq name.now other then Some bytes.now else bytes_in self.old other)) }
-        ensures sizes { OnOk result ((slot : Slot) → size_in self.new slot ≡ (if is_name (opened_in self.old slot) name.now then None else size_in self.old slot)) }
+        ensures bytes { OnOk result ((other : List ℕ) →
+            bytes_in self.new other ≡ (if bytes_eq name.now other then Some bytes.now else bytes_in self.old other)) }
+        ensures sizes { OnOk result ((slot : Slot) →
+            size_in self.new slot ≡ (if is_name (opened_in self.old slot) name.now then None else size_in self.old slot)) }
         ensures opened { (slot : Slot) → opened_in self.new slot ≡ opened_in self.old slot }
         ensures failing { failing_in self.new ≡ failing_in self.old }
         ensures calls { calls_of self.new ≡ calls_of self.old }
@@ -82,9 +88,14 @@ impl MemStore {
     }
 
     /// Lists a call that is to fail, by its number: the first call of `Store` is 1. A number 0, or of a
-    /// call that was made already, has no effect. Without memory nothing changes.
+    /// call that was made already, has no effect.
+    ///
+    /// # Errors
+    ///
+    /// Out of memory. Nothing changes then.
     pub fn fail(&mut self, call: u64) -> Result<(), NoMemory>
-        ensures failing { OnOk result (failing_in self.new ≡ (if nat_lt (calls_of self.old) call then failing_in self.old ++ call ∷ [] else failing_in self.old)) }
+        ensures failing { OnOk result (failing_in self.new
+            ≡ (if nat_lt (calls_of self.old) call then failing_in self.old ++ call ∷ [] else failing_in self.old)) }
         ensures failing_stay { OnErr result (failing_in self.new ≡ failing_in self.old) }
         ensures memory { OnErr result (calls_of self.old < call) }
         ensures bytes { (other : List ℕ) → bytes_in self.new other ≡ bytes_in self.old other }
@@ -110,7 +121,7 @@ impl MemStore {
 impl MemStore {
     ghost use Rattle.std.specs.Prelude.{ℕ, ◌≤◌, ◌<◌, List, not, is_ok, is_some, length, vec_len, Some, None, IsSome, IfSome, OnOk, OnErr, if◌then◌else◌};
     ghost use Rattle.std.specs.Str.{bytes_eq};
-    ghost use Rattle.kc_outside.specs.Counts.{next_count};
+    ghost use Rattle.kc_outside.specs.Counts.{next_count, faults_after};
     ghost use Rattle.kc_outside.specs.Files.{content, OthersStay, HasLength};
     ghost use Rattle.kc_outside.specs.Slots.{with_slot};
     ghost use Rattle.kc_outside.specs.MemFiles.{name_of, bytes_of, is_name, held_name, held_place};
@@ -189,11 +200,13 @@ impl MemStore {
         self.slots = forget_sizes(&self.slots, at);
     }
 
-    // Puts a file of a new name behind the others.
+    // Puts a file of a new name after the others.
     fn push_file(&mut self, file: MemFile) -> Result<(), NoMemory>
         requires { bytes_in self.old (name_of file) ≡ None }
-        ensures bytes { OnOk result ((other : List ℕ) → bytes_in self.new other ≡ (if bytes_eq (name_of file) other then Some (bytes_of file) else bytes_in self.old other)) }
-        ensures sizes { OnOk result ((slot : Slot) → size_in self.new slot ≡ (if is_name (opened_in self.old slot) (name_of file) then None else size_in self.old slot)) }
+        ensures bytes { OnOk result ((other : List ℕ) →
+            bytes_in self.new other ≡ (if bytes_eq (name_of file) other then Some (bytes_of file) else bytes_in self.old other)) }
+        ensures sizes { OnOk result ((slot : Slot) →
+            size_in self.new slot ≡ (if is_name (opened_in self.old slot) (name_of file) then None else size_in self.old slot)) }
         ensures opened { (slot : Slot) → opened_in self.new slot ≡ opened_in self.old slot }
         ensures failing { self.new.failing ≡ self.old.failing }
         ensures counts { self.new.counts ≡ self.old.counts }
@@ -213,7 +226,7 @@ impl MemStore {
         ensures failing { self.new.failing ≡ self.old.failing }
         ensures calls { calls_of self.new ≡ next_count (calls_of self.old) }
         ensures calls_later { calls_of self.old ≤ calls_of self.new }
-        ensures faults { faults_of self.new ≡ (if is_ok result then faults_of self.old else next_count (faults_of self.old)) }
+        ensures faults { faults_of self.new ≡ faults_after (faults_of self.old) result }
         ensures later { faults_of self.old ≤ faults_of self.new }
     {
         let fails = self.next_fails();
@@ -269,7 +282,7 @@ fn first_of(files: &[MemFile], name: &str) -> Option<usize>
 impl Store for MemStore {
     ghost use Rattle.std.specs.Prelude.{ℕ, ◌+◌, ◌≤◌, ◌&&◌, List, length, Option, Some, None, IsSome, IfSome, IfOk, OnOk, OnErr, is_ok, is_some, not, if◌then◌else◌};
     ghost use Rattle.std.specs.Option.{ForSome};
-    ghost use Rattle.kc_outside.specs.Counts.{Rose, next_count};
+    ghost use Rattle.kc_outside.specs.Counts.{Rose, next_count, faults_after};
     ghost use Rattle.kc_outside.specs.Files.{Files, content, named, OthersStay, HasLength, HasPart};
     ghost use Rattle.kc_outside.specs.MemLaws.{size_has_name, size_is_small, size_is_length};
     ghost use Rattle.kc_outside.specs.MemStore.{bytes_in, files_in, opened_in, size_in, failing_in, faults_of, calls_of, next_fails};
@@ -292,11 +305,15 @@ impl Store for MemStore {
 
     ghost size_length = { λ store slot n known. size_is_length store.files.items (in_slot store.slots slot) n (store.held slot) known };
 
-    /// Puts the file of a name into a slot. It fails exactly where this call is listed to fail or there
-    /// is no such name, and takes no memory.
+    /// Puts the file of a name into a slot. It takes no memory.
+    ///
+    /// # Errors
+    ///
+    /// This call is listed to fail, or there is no such name.
     fn open_file(&mut self, slot: Slot, name: &str) -> Result<(), Failed>
         ensures opened { OnOk result (IsSome (opened_in self.new slot)) }
-        ensures content { OnOk result (content (files_in self.new) slot (opened_in self.new slot) ≡ named (files_in self.old) slot name.now) }
+        ensures content { OnOk result
+            (content (files_in self.new) slot (opened_in self.new slot) ≡ named (files_in self.old) slot name.now) }
         ensures there { OnOk result (IfSome (files_in self.old) (λ files. IsSome (files slot name.now))) }
         ensures closed { OnErr result (opened_in self.new slot ≡ None) }
         ensures unlearnt { size_in self.new slot ≡ None }
@@ -313,7 +330,7 @@ impl Store for MemStore {
         // What this store adds.
         ensures succeeds { is_ok result ≡ (not (next_fails self.old) && is_some (bytes_in self.old name.now)) }
         ensures name { OnOk result (opened_in self.new slot ≡ Some name.now) }
-        ensures faults { faults_of self.new ≡ (if is_ok result then faults_of self.old else next_count (faults_of self.old)) }
+        ensures faults { faults_of self.new ≡ faults_after (faults_of self.old) result }
         ensures calls { calls_of self.new ≡ next_count (calls_of self.old) }
         ensures failing { failing_in self.new ≡ failing_in self.old }
     {
@@ -328,8 +345,11 @@ impl Store for MemStore {
         }
     }
 
-    /// The length of the file in a slot, in bytes. It fails exactly where this call is listed to fail,
-    /// and takes no memory.
+    /// The length of the file in a slot, in bytes. It takes no memory.
+    ///
+    /// # Errors
+    ///
+    /// This call is listed to fail.
     fn size(&mut self, slot: Slot) -> Result<u64, Failed>
         requires { IsSome (opened_in self.old slot) }
 
@@ -348,7 +368,7 @@ impl Store for MemStore {
 
         // What this store adds.
         ensures succeeds { is_ok result ≡ not (next_fails self.old) }
-        ensures faults { faults_of self.new ≡ (if is_ok result then faults_of self.old else next_count (faults_of self.old)) }
+        ensures faults { faults_of self.new ≡ faults_after (faults_of self.old) result }
         ensures calls { calls_of self.new ≡ next_count (calls_of self.old) }
         ensures failing { failing_in self.new ≡ failing_in self.old }
     {
@@ -356,13 +376,17 @@ impl Store for MemStore {
         Ok(self.learn(slot))
     }
 
-    /// Fills the buffer with the file's bytes from the file offset `off` on. It fails exactly where this
-    /// call is listed to fail, and takes no memory.
+    /// Fills the buffer with the file's bytes from the file offset `off` on. It takes no memory.
+    ///
+    /// # Errors
+    ///
+    /// This call is listed to fail.
     fn read_at(&mut self, slot: Slot, off: u64, buf: &mut [u8]) -> Result<(), Failed>
         requires learnt { IsSome (size_in self.old slot) }
         requires within { ForSome (size_in self.old slot) (λ n. off + length buf.old ≤ n) }
 
-        ensures part { OnOk result (HasPart (content (files_in self.old) slot (opened_in self.old slot)) off (length buf.old) buf.new) }
+        ensures part { OnOk result
+            (HasPart (content (files_in self.old) slot (opened_in self.old slot)) off (length buf.old) buf.new) }
         ensures opened { opened_in self.new ≡ opened_in self.old }
         ensures sizes { size_in self.new ≡ size_in self.old }
 
@@ -375,7 +399,7 @@ impl Store for MemStore {
 
         // What this store adds.
         ensures succeeds { is_ok result ≡ not (next_fails self.old) }
-        ensures faults { faults_of self.new ≡ (if is_ok result then faults_of self.old else next_count (faults_of self.old)) }
+        ensures faults { faults_of self.new ≡ faults_after (faults_of self.old) result }
         ensures calls { calls_of self.new ≡ next_count (calls_of self.old) }
         ensures failing { failing_in self.new ≡ failing_in self.old }
     {

@@ -16,8 +16,12 @@ pub trait Sink {
     /// How many calls there were.
     ghost asked: { Self → ℕ };
 
-    /// Takes some of the piece's first bytes, at least one, and says how many. After a failure nothing
-    /// of it was taken, where it is told what is taken; else a first part of it may have gone on.
+    /// Takes some of the piece's first bytes, at least one, and says how many.
+    ///
+    /// # Errors
+    ///
+    /// The call failed: its count of failures rose. Nothing of the piece was taken, where it is told what
+    /// is taken; else a first part of it may have gone on.
     fn put(&mut self, piece: &[u8]) -> Result<usize, Failed>
         requires { 0 < length piece.now }
 

@@ -8,11 +8,17 @@ ghost use Rattle.kc_outside.specs.Files.{Files, content, named, OthersStay, HasL
 /// The places of a command's files. Each holds at most one file at a time.
 #[derive(Clone, Copy, Debug, PartialEq, Eq)]
 pub enum Slot {
+    /// The dump.
     Dump,
+    /// The kernel's types.
     Btf,
+    /// The kernel's symbol map.
     Map,
+    /// The plan of an audit.
     Plan,
+    /// A report to be checked.
     Report,
+    /// The types of a module.
     Module,
 }
 
@@ -23,7 +29,7 @@ pub struct Failed;
 /// A store of files. A name is put into a slot, its size is learnt, and then its bytes are read. No call
 /// changes a file.
 ///
-/// A count rises in a call where it is greater behind the call than before it; at 2^64 - 1 it stands
+/// A count rises in a call where it is greater after the call than before it; at 2^64 - 1 it stands
 /// still, and counts as risen.
 pub trait Store {
     /// Whether a name may be asked for in a slot.
@@ -44,12 +50,17 @@ pub trait Store {
     /// How many calls there were.
     ghost asked: { Self → ℕ };
 
-    /// Puts a file into a slot. Its size isn't known then. After a failure the slot holds nothing.
+    /// Puts a file into a slot. Its size isn't known then.
+    ///
+    /// # Errors
+    ///
+    /// The call failed: its count of failures rose. The slot then holds nothing.
     fn open_file(&mut self, slot: Slot, name: &str) -> Result<(), Failed>
         requires { may self.old slot name.now }
 
         ensures opened { OnOk result (IsSome (opened self.new slot)) }
-        ensures content { OnOk result (content (files self.new) slot (opened self.new slot) ≡ named (files self.old) slot name.now) }
+        ensures content { OnOk result
+            (content (files self.new) slot (opened self.new slot) ≡ named (files self.old) slot name.now) }
         ensures there { OnOk result (IfSome (files self.old) (λ files. IsSome (files slot name.now))) }
         ensures closed { OnErr result (opened self.new slot ≡ None) }
         ensures unlearnt { sizes self.new slot ≡ None }
@@ -66,6 +77,10 @@ pub trait Store {
         ensures asked_later { asked self.old ≤ asked self.new };
 
     /// The length of the file in a slot, in bytes.
+    ///
+    /// # Errors
+    ///
+    /// The call failed: its count of failures rose. What was learnt stays.
     fn size(&mut self, slot: Slot) -> Result<u64, Failed>
         requires { IsSome (opened self.old slot) }
 
@@ -84,13 +99,17 @@ pub trait Store {
         ensures asked { Rose (asked self.old) (asked self.new) }
         ensures asked_later { asked self.old ≤ asked self.new };
 
-    /// Fills the buffer with the file's bytes from the file offset `off` on. After a failure the buffer
-    /// holds any bytes.
+    /// Fills the buffer with the file's bytes from the file offset `off` on.
+    ///
+    /// # Errors
+    ///
+    /// The call failed: its count of failures rose. The buffer then holds any bytes.
     fn read_at(&mut self, slot: Slot, off: u64, buf: &mut [u8]) -> Result<(), Failed>
         requires learnt { IsSome (sizes self.old slot) }
         requires within { ForSome (sizes self.old slot) (λ n. off + length buf.old ≤ n) }
 
-        ensures part { OnOk result (HasPart (content (files self.old) slot (opened self.old slot)) off (length buf.old) buf.new) }
+        ensures part { OnOk result
+            (HasPart (content (files self.old) slot (opened self.old slot)) off (length buf.old) buf.new) }
         ensures opened { opened self.new ≡ opened self.old }
         ensures sizes { sizes self.new ≡ sizes self.old }
 
@@ -110,5 +129,6 @@ pub trait Store {
     ghost size_fits: { (store : Self) (slot : Slot) (n : ℕ) → sizes store slot ≡ Some n → n < 2 ^ 64 };
 
     /// A learnt size is the file's length.
-    ghost size_length: { (store : Self) (slot : Slot) (n : ℕ) → sizes store slot ≡ Some n → HasLength (content (files store) slot (opened store slot)) n };
+    ghost size_length: { (store : Self) (slot : Slot) (n : ℕ) →
+        sizes store slot ≡ Some n → HasLength (content (files store) slot (opened store slot)) n };
 }

@@ -1,21 +1,32 @@
 // The stores, called through their trait.
+ghost use Rattle.std.specs.Prelude.{◌≡◌, IsSome};
+
 use crate::{Failed, FileStore, MemStore, Slot, Store};
 use std::alloc::Global;
-use std::fs;
 use std::io::{Seek, SeekFrom, Write};
+use std::os::fd::AsRawFd;
 use std::test::Fail;
+use std::{fs, io};
 
-// The size of the file of a name and its three bytes from an offset on, by way of one slot.
+// The size of the file in a slot, and its three bytes from a file offset on.
+fn three_of<S: Store>(store: &mut S, slot: Slot, off: u64) -> Result<(u64, [u8; 3]), Failed>
+    requires { IsSome (S.opened store.old slot) }
+    ensures { S.opened store.new ≡ S.opened store.old }
+{
+    let mut part = [0; 3];
+    let size = store.size(slot)?;
+    if size >= 3 && off <= size - 3 {
+        store.read_at(slot, off, &mut part)?;
+    }
+    Ok((size, part))
+}
+
+// The same of the file of a name, by way of one slot.
 fn read_three<S: Store>(store: &mut S, name: &str, off: u64) -> Result<(u64, [u8; 3]), Failed>
     requires { S.may store.old Slot.Dump name.now }
 {
-    let mut part = [0; 3];
     store.open_file(Slot::Dump, name)?;
-    let size = store.size(Slot::Dump)?;
-    if size >= 3 && off <= size - 3 {
-        store.read_at(Slot::Dump, off, &mut part)?;
-    }
-    Ok((size, part))
+    three_of(store, Slot::Dump, off)
 }
 
 #[test]
@@ -89,7 +100,55 @@ fn files_are_read_by_parts(rt: HostRuntime) -> Result<(), Fail> {
         Err(Failed),
         "a missing name"
     );
-    assert_eq!(rt; read_three(&mut store, ".", 0), Err(Failed), "a directory");
+    Ok(())
+}
+
+// The same of two files in two slots, and of the first one again, seven bytes on.
+fn read_two<S: Store>(
+    store: &mut S,
+    first: &str,
+    second: &str,
+) -> Result<[(u64, [u8; 3]); 3], Failed>
+    requires first { S.may store.old Slot.Dump first.now }
+    requires second { S.may store.old Slot.Btf second.now }
+{
+    store.open_file(Slot::Dump, first)?;
+    store.open_file(Slot::Btf, second)?;
+    Ok([
+        three_of(store, Slot::Dump, 0)?,
+        three_of(store, Slot::Btf, 0)?,
+        three_of(store, Slot::Dump, 7)?,
+    ])
+}
+
+#[test]
+fn files_stay_in_their_slots(rt: HostRuntime) -> Result<(), Fail> {
+    let (plain, blank) = ("kc_outside-name", "kc_outside-name ");
+    fs::write(&rt, plain, "0123456789")?;
+    fs::write(&rt, blank, "abcdef")?;
+    let mut store = FileStore::new(&rt);
+    assert_eq!(rt;
+        read_two(&mut store, plain, blank),
+        Ok([(10, *b"012"), (6, *b"abc"), (10, *b"789")])
+    );
+    assert_eq!(rt;
+        read_three(&mut store, blank, 1),
+        Ok((6, *b"bcd")),
+        "a second file in its slot"
+    );
+    fs::remove_file(&rt, plain)?;
+    fs::remove_file(&rt, blank)?;
+    Ok(())
+}
+
+#[test]
+fn other_than_regular_files_are_refused(rt: HostRuntime) -> Result<(), Fail> {
+    let (reader, _writer) = io::pipe(&rt)?;
+    let pipe = format!(in rt.alloc(); "/proc/self/fd/{}", reader.as_raw_fd())?;
+    let mut store = FileStore::new(&rt);
+    for name in [".", "/dev/null", pipe.as_str()] {
+        assert_eq!(rt; store.open_file(Slot::Dump, name), Err(Failed), "{name}");
+    }
     Ok(())
 }
 
