@@ -1,5 +1,5 @@
 -- The type with a name.
-use Rattle.std.specs.Prelude.{◌≡◌, ◌<◌, IsTrue, ℕ, suc, Bool, true, false, List, [], ◌∷◌, Option, Some, None, option_map, is_some, option_and_then, ◌&&◌, position}
+use Rattle.std.specs.Prelude.{◌≡◌, ◌<◌, length, IsTrue, ℕ, suc, Bool, true, false, List, [], ◌∷◌, Option, Some, None, option_map, is_some, option_and_then, ◌&&◌, position}
 use Rattle.std.specs.Option.{option_or}
 use Rattle.std.specs.Str.{bytes_eq}
 use Rattle.kc_btf.specs.declared.kind.Kind.{Kind}
@@ -42,11 +42,31 @@ abbrev pub find : Types → List ℕ → Option ℕ
 find types [] = None
 find types (c ∷ cs) = option_or (least types (c ∷ cs) Compound) (least types (c ∷ cs) Alias)
 
--- what a type that is found is: it has the name, and leads to a struct or union under at most 32 modifiers;
--- and no struct or union with a lesser number has the name
-pub record IsFound (types : Types) (name : List ℕ) (id : ℕ) : Type 0 where
+-- what serves under a name: a struct or union; or a typedef that leads to one under at most 32 modifiers,
+-- itself among them
+abbrev pub Serves : Types → Wanted → ℕ → Kind → Type 0
+Serves types Compound id kind = IsTrue (is_compound kind)
+Serves types Alias id kind = (kind ≡ Typedef) × IsTrue (leads_to_compound 32 types id)
+
+-- a type that has a name and serves
+pub record Bears (types : Types) (name : List ℕ) (wanted : Wanted) (id : ℕ) : Type 0 where
   pub type_ref : TypeRef
   pub there : type_numbered types id ≡ Some type_ref
   pub named : IsTrue (bytes_eq (name_at types.strings type_ref.name) name)
+  pub serves : Serves types wanted id type_ref.kind
+
+-- what a type that is found is: it bears the name, which isn't empty, and leads to a struct or union under at
+-- most 32 modifiers; none of its sort with a lesser number bears the name; and where it is a typedef, no struct
+-- or union does at all
+pub record IsFound (types : Types) (name : List ℕ) (id : ℕ) : Type 0 where
+  pub wanted : Wanted
+  pub some : 0 < length name
+  pub bears : Bears types name wanted id
   pub leads : IsTrue (leads_to_compound 32 types id)
-  pub least : (k : ℕ) (t : TypeRef) → k < id → type_numbered types k ≡ Some t → IsTrue (is_compound t.kind) → bytes_eq (name_at types.strings t.name) name ≡ false
+  pub least : (k : ℕ) → k < id → Bears types name wanted k → ⊥
+  pub compounds_first : wanted ≡ Alias → (k : ℕ) → Bears types name Compound k → ⊥
+
+-- and where none is found, neither a struct or union nor a typedef that leads to one bears the name
+abbrev pub FindsType : Types → List ℕ → Option ℕ → Type 0
+FindsType types name (Some id) = IsFound types name id
+FindsType types name None = 0 < length name → (wanted : Wanted) (k : ℕ) → Bears types name wanted k → ⊥

@@ -67,6 +67,8 @@ pub record IsMember (types : Types) (name : List ℕ) (id base : ℕ) (spot : Sp
   pub lies : Lies types name id bit member
   pub same : spot ≡ record { bit = base + bit; width = member.width; ty = member.ty }
 
+-- what is found is such a member, and where none is, none lies there
 abbrev pub FindsMember : Types → List ℕ → ℕ → ℕ → Search → Type 0
 FindsMember types name id base (Found spot) = IsMember types name id base spot
-FindsMember types name id base _ = ⊤
+FindsMember types name id base (Absent left) = (bit : ℕ) (m : Member) → Lies types name id bit m → ⊥
+FindsMember types name id base Beyond = ⊤

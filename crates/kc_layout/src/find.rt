@@ -2,7 +2,7 @@
 ghost use Rattle.std.specs.Prelude.{◌≡◌, ℕ, ◌<◌, ◌≤◌, length, Some, option_and_then, is_some, bytes_eq, ◌&&◌, IfSome};
 ghost use Rattle.kc_btf.specs.Role.{LiesInside, rest_role};
 ghost use Rattle.kc_btf.specs.Readers.{name_at};
-ghost use Rattle.kc_layout.specs.Find.{find, least, is_wanted, leads_to_compound, IsFound};
+ghost use Rattle.kc_layout.specs.Find.{find, least, is_wanted, leads_to_compound, FindsType};
 
 use crate::bare::{MODIFIERS, compound_of, under};
 use kc_btf::{Btf, Kind, TypeRef};
@@ -23,8 +23,9 @@ pub fn find_type(btf: &Btf, name: &[u8]) -> Option<u32>
     ensures exact { result ≡ find btf.now name.now }
     ensures some { IfSome result (λ id. 0 < id) }
     ensures there { IfSome result (λ id. id ≤ length btf.now.records) }
-    // It has the name, leads to a struct or union, and no struct or union before it has the name.
-    ensures found { IfSome result (IsFound btf.now name.now) }
+    // It has the name and leads to a struct or union, and nothing before it that does comes first; `None` is the
+    // answer only where there is no such type.
+    ensures found { FindsType btf.now name.now result }
 {
     find_named(btf, name)
 }

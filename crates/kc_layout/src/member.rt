@@ -32,7 +32,7 @@ pub(crate) fn find_member(btf: &Btf, t: TypeRef, name: &[u8], base: u64) -> Sear
     requires near { base < 2 ^ 36 }
     ensures exact { result ≡ search 33 btf.now name.now t.id base 65536 }
     ensures inside { LiesBehind base (length btf.now.records) result }
-    // What is found is a member with the name, and the bits on the way to it add up.
+    // What is found is a member with the name, and the bits on the way to it add up; where none is, none lies there.
     ensures member { FindsMember btf.now name.now t.id base result }
 {
     search_type(btf, t, name, base, MEMBERS, LEVELS)
