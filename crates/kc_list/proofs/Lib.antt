@@ -1,4 +1,7 @@
 mod Finite
+mod HashLaw
+mod HashSites
+mod HashWalk
 mod Pairs
 mod Reading
 mod RingLaw

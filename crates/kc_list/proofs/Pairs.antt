@@ -1,5 +1,5 @@
 -- Sites at which two words are read and taken, after tests of the pointer, and before one of the words.
-use Rattle.std.proofs.Common.{◌≡◌, ℕ, nat_eq, Bool, true, false, List, [], ◌∷◌, ◌++◌, Option, Some, option_map, refl, ap}
+use Rattle.std.proofs.Common.{◌≡◌, ℕ, ◌≤◌, nat_eq, Bool, true, false, List, [], ◌∷◌, ◌++◌, length, Option, Some, option_map, refl, ap, arith}
 use Rattle.std.specs.Prelude.{Result, Ok, Err}
 use Rattle.std.specs.Set.{is_member}
 use Rattle.kc_memory.specs.declared.words.VWord.{VWord}
@@ -96,3 +96,6 @@ tested_passes asked led (Err s) test broken p e t = absurd (cc)
 -- what a good pair takes
 pub pair_takes : (asked : Asked) (led : Option VWord) (there : Result (VWord × VWord) Stopped) (p : VWord × VWord) → there ≡ Ok p → claimed_in {X = ℕ} (two_taken asked led there) ≡ p.0.pa ∷ p.1.pa ∷ []
 pair_takes asked led there p e = ap (λ r. claimed_in {X = ℕ} (two_taken asked led r)) e
+
+pub two_long : (xs : List ℕ) (a b : ℕ) → xs ≡ a ∷ b ∷ [] → 1 ≤ length xs
+two_long xs a b e = rw e (omega arith)

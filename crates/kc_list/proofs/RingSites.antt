@@ -1,5 +1,5 @@
 -- A ring is a chain, and how its walk goes on.
-use Rattle.std.proofs.Common.{◌≡◌, ℕ, ◌≤◌, nat_eq, Bool, false, List, [], ◌∷◌, ◌++◌, length, Option, None, Some, refl, ◌∙◌, arith}
+use Rattle.std.proofs.Common.{◌≡◌, ℕ, nat_eq, Bool, false, List, [], ◌++◌, Option, None, Some, refl, ◌∙◌}
 use Rattle.std.specs.Prelude.{Result, Err, not}
 use Rattle.kc_memory.specs.declared.words.VWord.{VWord}
 use Rattle.kc_memory.specs.declared.rule.Rule.TheVariants.{N, K, L1}
@@ -19,7 +19,7 @@ use Rattle.kc_found.specs.Trials.{Reader, Trial, broken_if, passed, met, claimed
 use Rattle.kc_found.specs.Violations.{breaks}
 use Rattle.kc_found.specs.Walks.{WalksAs}
 use Rattle.kc_found.proofs.Reached.{IsChain}
-use Rattle.kc_list.proofs.Pairs.{ReadsAmong, GoodPair, pair_among, pair_bare, pair_leads, pair_takes, leads_by, if_front, if_bare, if_passed, tested_bare, tested_takes, tested_passed}
+use Rattle.kc_list.proofs.Pairs.{ReadsAmong, GoodPair, pair_among, pair_bare, pair_leads, pair_takes, two_long, leads_by, if_front, if_bare, if_passed, tested_bare, tested_takes, tested_passed}
 use Rattle.kc_list.proofs.Stops.{stops_after, stops_before}
 
 -- `prev` isn't the node before
@@ -45,9 +45,6 @@ site_is asked there from before =
       one.0 ∙ two.0 ∙ tested_bare asked (Some from) there (is_wrong before) (λ p. breaks asked L1 p.1 (Some before)),
       one.1 ∙ two.1 ∙ tested_takes asked (Some from) there (is_wrong before) (λ p. breaks asked L1 p.1 (Some before)),
     )
-
-two_long : (xs : List ℕ) (a b : ℕ) → xs ≡ a ∷ b ∷ [] → 1 ≤ length xs
-two_long xs a b e = rw e (omega arith)
 
 -- what leads on from a node
 abbrev pub led_on : RingLed → VWord × VWord → RingLed

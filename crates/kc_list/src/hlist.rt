@@ -1,0 +1,149 @@
+// Hash chains.
+ghost use Rattle.std.specs.Prelude.{◌≡◌, ℕ, List, ◌+◌, ◌*◌, ◌≤◌, Ok, IfOk, IfSome};
+ghost use Rattle.kc_outside.specs.Counts.{Rose};
+ghost use Rattle.kc_memory.specs.Held.{word_count};
+ghost use Rattle.kc_memory.specs.Translation.{vword};
+ghost use Rattle.kc_found.specs.FiniteLists.{HChain};
+ghost use Rattle.kc_found.specs.HashChains.{hash_links, hash_site, hash_walk};
+ghost use Rattle.kc_found.specs.Nodes.{at_offset, one_taken, two_taken};
+ghost use Rattle.kc_found.specs.Trials.{passed};
+ghost use Rattle.kc_found.specs.Walks.{IsNamed, OnBroken, OnWalkFault, WalksAs};
+
+use crate::words::{enter_both, enter_word, is_poison, push_node};
+use kc_found::{Asked, Claims, HShape, Rule, Space, VWord, WalkStop, Walked, broken_at};
+use kc_word::Steps;
+use std::alloc::Global;
+use std::sync::ledger::Ledger;
+
+// Reads and takes the head's word `first`.
+fn enter_head<S: Space, L: Ledger>(
+    alloc: Global,
+    space: &mut S,
+    shape: &HShape,
+    asked: &Asked,
+    claims: &mut Claims,
+    steps: &mut Steps<L>,
+) -> Result<VWord, WalkStop>
+    ensures word { IfOk result (λ w. IfSome (S.image space.old) (λ image. vword image (at_offset asked.now.start shape.now.first) ≡ Ok w)) }
+    ensures site { WalksAs (λ _. claims.new) (λ image. passed {X = ℕ} claims.old (one_taken asked.now None (vword image (at_offset asked.now.start shape.now.first)))) (S.image space.old) result }
+    ensures named { IsNamed result asked.now.audit asked.now.start }
+    ensures steps { steps.new ≤ steps.old + 2 * S.most space.old }
+
+    ensures image { S.image space.new ≡ S.image space.old }
+    ensures files { S.files space.new ≡ S.files space.old }
+    ensures through { S.through space.new ≡ S.through space.old }
+    ensures most { S.most space.new ≡ S.most space.old }
+    ensures later { S.faults space.old ≤ S.faults space.new }
+    ensures cause { OnWalkFault result (Rose (S.faults space.old) (S.faults space.new)) }
+{
+    let first = asked.start.wrapping_add(shape.first);
+    enter_word(alloc, space, asked, claims, first, None, steps)
+}
+
+// Reads and takes the words `next` and `pprev` of the node that a pointer leads to.
+fn enter_links<S: Space, L: Ledger>(
+    alloc: Global,
+    space: &mut S,
+    shape: &HShape,
+    asked: &Asked,
+    claims: &mut Claims,
+    from: VWord,
+    steps: &mut Steps<L>,
+) -> Result<(VWord, VWord), WalkStop>
+    ensures links { IfOk result (λ p. IfSome (S.image space.old) (λ image. hash_links (vword image) shape.now from.value ≡ Ok p)) }
+    ensures site { WalksAs (λ _. claims.new) (λ image. passed {X = ℕ} claims.old (two_taken asked.now (Some from) (hash_links (vword image) shape.now from.value))) (S.image space.old) result }
+    ensures named { IsNamed result asked.now.audit asked.now.start }
+    ensures steps { steps.new ≤ steps.old + 2 * S.most space.old }
+
+    ensures image { S.image space.new ≡ S.image space.old }
+    ensures files { S.files space.new ≡ S.files space.old }
+    ensures through { S.through space.new ≡ S.through space.old }
+    ensures most { S.most space.new ≡ S.most space.old }
+    ensures later { S.faults space.old ≤ S.faults space.new }
+    ensures cause { OnWalkFault result (Rose (S.faults space.old) (S.faults space.new)) }
+{
+    let next = from.value.wrapping_add(shape.next);
+    let pprev = from.value.wrapping_add(shape.pprev);
+    enter_both(alloc, space, asked, claims, next, pprev, Some(from), steps)
+}
+
+// Enters the node that a pointer leads to, and gives its `next` and `pprev`.
+fn enter_node<S: Space, L: Ledger>(
+    alloc: Global,
+    space: &mut S,
+    shape: &HShape,
+    asked: &Asked,
+    claims: &mut Claims,
+    from: VWord,
+    steps: &mut Steps<L>,
+) -> Result<(VWord, VWord), WalkStop>
+    ensures links { IfOk result (λ p. IfSome (S.image space.old) (λ image. hash_links (vword image) shape.now from.value ≡ Ok p)) }
+    ensures site { WalksAs (λ _. claims.new) (λ image. passed claims.old (hash_site asked.now (hash_links (vword image) shape.now from.value) from)) (S.image space.old) result }
+    ensures named { IsNamed result asked.now.audit asked.now.start }
+    ensures steps { steps.new ≤ steps.old + 2 * S.most space.old }
+
+    ensures image { S.image space.new ≡ S.image space.old }
+    ensures files { S.files space.new ≡ S.files space.old }
+    ensures through { S.through space.new ≡ S.through space.old }
+    ensures most { S.most space.new ≡ S.most space.old }
+    ensures later { S.faults space.old ≤ S.faults space.new }
+    ensures cause { OnWalkFault result (Rose (S.faults space.old) (S.faults space.new)) }
+{
+    if is_poison(from.value) {
+        return Err(broken_at(alloc, asked, Rule::K, &from, None));
+    }
+    let links = match enter_links(alloc, space, shape, asked, claims, from, steps) {
+        Ok(links) => links,
+        Err(stop) => return Err(stop),
+    };
+    if links.1.value != from.va {
+        return Err(broken_at(alloc, asked, Rule::H1, &links.1, Some(from.va)));
+    }
+    Ok(links)
+}
+
+/// The nodes of the hash chain with a head at virtual address `head`, in the order of `next`. The audit's number is named
+/// where the chain breaks a rule.
+///
+/// # Errors
+///
+/// The first violation, exactly where the chain has one; a failure of the space, whose count of faults then rose; or out
+/// of memory.
+pub fn hchain<S: Space, L: Ledger>(
+    alloc: Global,
+    space: &mut S,
+    shape: &HShape,
+    head: u64,
+    audit: u32,
+    steps: &mut Steps<L>,
+) -> Result<Walked, WalkStop>
+    ensures walk { WalksAs (λ w. w) (λ image. hash_walk image shape.now audit head) (S.image space.old) result }
+    ensures finite { IfOk result (λ ns. IfSome (S.image space.old) (λ image. HChain (vword image) shape.now head ns)) }
+    ensures none { OnBroken result (IfSome (S.image space.old) (λ image. (ns : List ℕ) → HChain (vword image) shape.now head ns → ⊥)) }
+    ensures named { IsNamed result audit head }
+    ensures bound { IfSome (S.image space.old) (λ image. steps.new ≤ steps.old + S.most space.old * (2 * word_count image.physical + 128)) }
+
+    ensures image { S.image space.new ≡ S.image space.old }
+    ensures files { S.files space.new ≡ S.files space.old }
+    ensures through { S.through space.new ≡ S.through space.old }
+    ensures most { S.most space.new ≡ S.most space.old }
+    ensures later { S.faults space.old ≤ S.faults space.new }
+    ensures cause { OnWalkFault result (Rose (S.faults space.old) (S.faults space.new)) }
+{
+    let asked = Asked { audit, start: head };
+    let mut claims = Claims::new(alloc);
+    let mut walked = Walked::new(alloc);
+    let mut from = match enter_head(alloc, space, shape, &asked, &mut claims, steps) {
+        Ok(first) => first,
+        Err(stop) => return Err(stop),
+    };
+    while from.value != 0 {
+        let links = match enter_node(alloc, space, shape, &asked, &mut claims, from, steps) {
+            Ok(links) => links,
+            Err(stop) => return Err(stop),
+        };
+        push_node(&mut walked, from.value)?;
+        from = links.0;
+    }
+    Ok(walked)
+}
