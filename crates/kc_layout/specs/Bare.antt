@@ -71,6 +71,15 @@ under (suc most) types id = option_map_or (under most types) (modified types id)
 abbrev pub array_under : Types → ℕ → Option ArrayOf
 array_under types ty = option_and_then (array_numbered types) (under 32 types ty)
 
+-- what a type points to, where under its modifiers it is a pointer. A pointer has 64 bits.
+abbrev pub target_under : Types → ℕ → Option ℕ
+target_under types ty = option_and_then (target_numbered types) (under 32 types ty)
+
+-- how many pointers an array has, where under its modifiers a type is an array of them
+abbrev pub pointers_under : Types → ℕ → Option ℕ
+pointers_under types ty =
+    option_and_then (λ array. option_map (λ target. array.nelems) (target_under types array.ty)) (array_under types ty)
+
 -- the struct or union under the modifiers of a type
 abbrev pub compound_under : Types → ℕ → Option TypeRef
 compound_under types id = option_and_then (compound_numbered types) (under 32 types id)

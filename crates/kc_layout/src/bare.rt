@@ -3,7 +3,7 @@ ghost use Rattle.std.specs.Prelude.{◌≡◌, ◌<◌, ◌≤◌, length, Some,
 ghost use Rattle.kc_btf.specs.Kind.{is_compound};
 ghost use Rattle.kc_btf.specs.Role.{LiesInside, rest_role};
 ghost use Rattle.kc_btf.specs.Readers.{type_numbered};
-ghost use Rattle.kc_layout.specs.Bare.{compound_numbered, array_numbered, int_numbered, modified, under, array_under, compound_under, int_under, target_numbered};
+ghost use Rattle.kc_layout.specs.Bare.{compound_numbered, array_numbered, int_numbered, modified, under, array_under, compound_under, int_under, pointers_under, target_numbered};
 
 use kc_btf::{ArrayOf, Btf, IntOf, Kind, TypeRef};
 
@@ -109,6 +109,18 @@ pub fn array_under(btf: &Btf, id: u32) -> Option<ArrayOf>
     ensures inside { IfSome result (λ array. array.ty ≤ length btf.now.records) }
 {
     array_of(btf, under(btf, id, MODIFIERS)?)
+}
+
+/// How many pointers an array has: where a type is an array under its modifiers, of at most 32, and the type of
+/// its elements a pointer under its own, the number of elements, which may be 0. `None` for other types, and
+/// under more.
+pub fn pointers_under(btf: &Btf, id: u32) -> Option<u32>
+    requires { id ≤ length btf.now.records }
+    ensures { result ≡ pointers_under btf.now id }
+{
+    let array = array_under(btf, id)?;
+    target_of(btf, under(btf, array.ty, MODIFIERS)?)?;
+    Some(array.nelems)
 }
 
 /// The struct or union under the modifiers of a type, of which at most 32 are followed. `None` for other

@@ -14,7 +14,7 @@ mod size;
 #[cfg(test)]
 mod tests;
 
-pub use bare::{array_under, compound_under};
+pub use bare::{array_under, compound_under, pointers_under};
 pub use fault::{PathFault, QRule};
 pub use find::find_type;
 pub use listing::{Line, list_members};

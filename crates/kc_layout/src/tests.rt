@@ -4,7 +4,7 @@ ghost use Rattle.kc_layout.specs.Listing.{AreNamed};
 
 use crate::{
     Field, Line, Located, PathFault, QRule, compound_under, find_type, list_members, locate,
-    resolve, size_of,
+    pointers_under, resolve, size_of,
 };
 use kc_btf::Btf;
 use std::alloc::Global;
@@ -61,10 +61,34 @@ fn sizes_are_known(rt: HostRuntime) -> Result<(), Fail> {
         (73, Some(16)),
         (74, None),
     ];
-    assert_eq!(rt; btf.count(), 74);
+    assert_eq!(rt; btf.count(), 77);
     for (id, size) in rows.iter() {
         if *id <= btf.count() {
             assert_eq!(rt; size_of(&btf, *id), *size);
+        }
+    }
+    Ok(())
+}
+
+#[test]
+fn pointers_are_counted(rt: HostRuntime) -> Result<(), Fail> {
+    let btf = types(rt.alloc())?;
+    let rows: [(u32, Option<u32>); 8] = [
+        (15, Some(1)),
+        // none, under another name, of another name of a pointer
+        (77, Some(0)),
+        // a pointer, and arrays of numbers and of arrays
+        (17, None),
+        (34, None),
+        (35, None),
+        (26, None),
+        (14, None),
+        (0, None),
+    ];
+    assert_eq!(rt; btf.count(), 77);
+    for (id, count) in rows.iter() {
+        if *id <= btf.count() {
+            assert_eq!(rt; pointers_under(&btf, *id), *count);
         }
     }
     Ok(())

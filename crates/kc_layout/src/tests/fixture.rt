@@ -315,7 +315,11 @@ fn known_types(alloc: Global) -> Result<Maker, AllocError> {
 }
 
 pub(crate) fn types(alloc: Global) -> Result<Btf, Fail> {
-    let maker = known_types(alloc)?;
+    let mut maker = known_types(alloc)?;
+    // from type 75 on: another name of a pointer, an array of none of these, and another name of that
+    maker.add("", TYPEDEF, 17, Behind::Nothing)?;
+    maker.add("", ARRAY, 0, Behind::Array(FIRST_MORE, 3, 0))?;
+    maker.add("", TYPEDEF, FIRST_MORE + 1, Behind::Nothing)?;
     read(alloc, maker)
 }
 
