@@ -3,6 +3,7 @@ ghost use Rattle.std.specs.Prelude.{◌≡◌, ◌+◌, ◌%◌, ◌^◌, ◌<�
 ghost use Rattle.kc_outside.specs.Counts.{Rose};
 ghost use Rattle.kc_memory.specs.Image.{pword};
 ghost use Rattle.kc_memory.specs.Stopped.{is_stop};
+ghost use Rattle.kc_memory.specs.Reads.{StepsAre, word_reads};
 ghost use Rattle.kc_memory.specs.Space.{AnswersAs, OnFault, StopsAt, UnlessFault};
 ghost use Rattle.kc_memory.specs.Translation.{levels, vword, word_or_stop};
 ghost use Rattle.kc_mem.specs.Paged.{with_paging, refused, most_one, most_six};
@@ -17,7 +18,9 @@ use std::sync::ledger::Ledger;
 /// each word.
 #[derive(Drop)]
 pub struct Memory<F: Frames> {
+    /// The physical memory, where tables and words are read.
     pub frames: F,
+    /// How its addresses are translated. The physical address of the top table is a multiple of 4096 below 2^52.
     pub paging: PageCfg,
     ghost aligned: { paging.table % 4096 ≡ 0 },
     ghost small: { paging.table < 2 ^ 52 },
@@ -25,6 +28,10 @@ pub struct Memory<F: Frames> {
 
 impl<F: Frames> Memory<F> {
     /// The memory over these frames. `kept` is how many translations it may keep; it keeps none yet.
+    ///
+    /// # Errors
+    ///
+    /// `NoMemory` where no memory is left.
     pub fn new(alloc: Global, frames: F, paging: PageCfg, kept: usize) -> Result<Self, NoMemory>
         requires aligned { paging.table % 4096 ≡ 0 }
         requires small { paging.table < 2 ^ 52 }
@@ -37,7 +44,7 @@ impl<F: Frames> Memory<F> {
         Ok(Memory::over(frames, paging))
     }
 
-    /// The same, with nothing to keep. It takes no memory.
+    /// The same with no room for translations. It takes no memory.
     pub fn over(frames: F, paging: PageCfg) -> Self
         requires aligned { paging.table % 4096 ≡ 0 }
         requires small { paging.table < 2 ^ 52 }
@@ -88,13 +95,15 @@ impl<F: Frames> Space for Memory<F> {
         // What this memory adds: an address that is refused by itself is told at once, with no word read.
         ensures at_once { IfSome (refused self.old.paging va) (λ rule. result ≡ Err (Stop.Miss (record { va = va; rule = rule; level = 0; pa = 0; entry = None }))) }
         ensures unread { IfSome (refused self.old.paging va) (λ _. steps.new ≡ steps.old) }
+        // It looks at the entries on the way and at the word itself, and at no other word.
+        ensures reads { StepsAre (λ image. word_reads image va) (with_paging self.old.paging (F.image self.old.frames)) result steps.old steps.new }
     {
         read(&mut self.frames, &self.paging, va, steps)
     }
 }
 
 // A stop with no level and no entry.
-fn stopped(va: u64, rule: Rule, pa: u64) -> Stop
+fn stop_by(va: u64, rule: Rule, pa: u64) -> Stop
     requires { IsTrue (is_stop rule 0 None) }
     ensures { result ≡ Stop.Miss (record { va = va; rule = rule; level = 0; pa = pa; entry = None }) }
 {
@@ -108,7 +117,7 @@ fn stopped(va: u64, rule: Rule, pa: u64) -> Stop
 }
 
 // The word at a virtual address: M1, else the stop of the walk, else M6, else the word.
-#[tactic(auto, unfolding(kc_memory::specs::Translation::vword))]
+#[tactic(auto, unfolding(kc_memory::specs::Translation::vword, kc_memory::specs::Reads::word_reads))]
 fn read<F: Frames, L: Ledger>(
     frames: &mut F,
     paging: &PageCfg,
@@ -121,6 +130,7 @@ fn read<F: Frames, L: Ledger>(
     ensures word { AnswersAs (λ physical. vword (record { physical = physical; paging = paging.now }) va) (F.image frames.old) result }
     ensures at_once { IfSome (refused paging.now va) (λ rule. result ≡ Err (Stop.Miss (record { va = va; rule = rule; level = 0; pa = 0; entry = None }))) }
     ensures unread { IfSome (refused paging.now va) (λ _. steps.new ≡ steps.old) }
+    ensures reads { StepsAre (λ physical. word_reads (record { physical = physical; paging = paging.now }) va) (F.image frames.old) result steps.old steps.new }
     ensures asked { IfOk result (λ w. w.va ≡ va) }
     ensures stopped { StopsAt result va }
     ensures steps { steps.new ≤ steps.old + (levels paging.now + 1) }
@@ -132,7 +142,7 @@ fn read<F: Frames, L: Ledger>(
     ensures cause { OnFault result (Rose (F.faults frames.old) (F.faults frames.new)) }
 {
     if va % 8 != 0 {
-        return Err(stopped(va, Rule::M1, 0));
+        return Err(stop_by(va, Rule::M1, 0));
     }
     match walk(frames, paging, va, steps) {
         Ok(Pa(pa)) => read_at(frames, va, pa, steps),
@@ -167,7 +177,7 @@ fn read_at<F: Frames, L: Ledger>(
             off: word.off,
             value: word.value,
         }),
-        Err(FrameStop::Absent) => Err(stopped(va, Rule::M6, pa)),
+        Err(FrameStop::Absent) => Err(stop_by(va, Rule::M6, pa)),
         Err(FrameStop::Fault) => Err(Stop::Fault),
     }
 }

@@ -23,7 +23,7 @@ first_bit at bit = (at * 8 + bit) % 2 ^ 67
 abbrev pub word_of : ℕ → ℕ
 word_of n = n / 64 * 8
 
--- the address of the word behind a word: behind the last one of memory comes the one at 0
+-- the address of the word after a word: after the last one of memory comes the one at 0
 abbrev pub next_word : ℕ → ℕ
 next_word va = (va + 8) % 2 ^ 64
 

@@ -70,7 +70,7 @@ NumbersFit =
 abbrev pub pattern : ℕ → ℤ → ℕ
 pattern width number = unsigned_abs (int_rem_euclid number (pos (2 ^ width)))
 
--- the bits of a number are those of memory: its bit i is i behind the first one, in the word that holds it
+-- the bits of a number are those of memory: its bit i is i after the first one, in the word that holds it
 abbrev pub BitsAreOfMemory : Type 0
 BitsAreOfMemory =
     (image : Image) (at bit width i : ℕ) (signed : Bool) (number : Number) (word : VWord)

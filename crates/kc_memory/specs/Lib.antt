@@ -4,6 +4,7 @@ pub mod Held
 pub mod Image
 pub mod Laws
 pub mod Places
+pub mod Reads
 pub mod Space
 pub mod Stopped
 pub mod Translation

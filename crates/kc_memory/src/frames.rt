@@ -33,6 +33,10 @@ pub trait Frames {
     ghost through: { Self → List ℕ };
 
     /// The word at a physical address in bytes, a multiple of 8. It takes one step.
+    ///
+    /// # Errors
+    ///
+    /// Where the dump doesn't have the word, or reading it fails.
     fn word<L: Ledger>(&mut self, pa: u64, steps: &mut Steps<L>) -> Result<PWord, FrameStop>
         requires { pa % 8 ≡ 0 }
 

@@ -12,8 +12,12 @@ use kc_word::{Bits, Steps};
 use std::sync::ledger::Ledger;
 
 /// The whole number of these bits, counted from the byte at virtual address `at`. Addresses wrap at 2^64. It
-/// reads the word of the first bit, and the word behind that one only where the number reaches into it. A
-/// word that can't be read is the answer, the first one before the second is asked. It takes no memory.
+/// reads the word of the first bit, and the word after that one only where the number reaches into it. It takes
+/// no memory.
+///
+/// # Errors
+///
+/// The first of the two words that can't be read, with the reason. The second isn't asked after that.
 pub fn read_bits<S: Space, L: Ledger>(
     space: &mut S,
     at: u64,
@@ -63,7 +67,7 @@ fn word_of(n: u128) -> u64
     (n / 64 * 8) as u64
 }
 
-// The address of the word behind a word.
+// The address of the word after a word.
 fn next_word(va: u64) -> u64
     ensures { result ≡ next_word va }
 {

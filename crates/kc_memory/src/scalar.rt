@@ -12,7 +12,7 @@ pub struct Scalar {
     pub value: i128,
     /// The place of the word that holds its lowest bit.
     pub first: Place,
-    /// The place of the word behind that one, where it holds the number's highest bit.
+    /// The place of the word after that one, where it holds the number's highest bit.
     pub second: Option<Place>,
 }
 

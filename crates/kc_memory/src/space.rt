@@ -38,6 +38,10 @@ pub trait Space {
     ghost most: { Self → ℕ };
 
     /// The word at a virtual address in bytes, of any value. It takes no memory.
+    ///
+    /// # Errors
+    ///
+    /// Where the page tables or the memory of the dump end, or reading it fails.
     fn word<L: Ledger>(&mut self, va: u64, steps: &mut Steps<L>) -> Result<VWord, Stop>
         ensures word { AnswersAs (λ image. vword image va) (image self.old) result }
         ensures asked { IfOk result (λ w. w.va ≡ va) }

@@ -3,6 +3,7 @@ ghost use Rattle.std.specs.Prelude.{◌≡◌, ◌+◌, ◌%◌, ◌^◌, ◌<�
 ghost use Rattle.std.specs.Bool.{OnFalse};
 ghost use Rattle.kc_outside.specs.Counts.{Rose};
 ghost use Rattle.kc_memory.specs.declared.rule.Rule.TheVariants.{M2};
+ghost use Rattle.kc_memory.specs.Reads.{StepsAre, entries_read, walk_reads};
 ghost use Rattle.kc_memory.specs.Space.{AnswersAs, OnFault, StopsAt, UnlessFault};
 ghost use Rattle.kc_memory.specs.Translation.{entered, is_canonical, levels, translated, xlate};
 ghost use Rattle.kc_page.specs.Step.{IsWalked, Keeps, StepsAs};
@@ -68,6 +69,7 @@ fn descend<F: Frames, L: Ledger>(
     ensures stopped { StopsAt result va }
     ensures offset { IfOk result (λ pa. pa % 4096 ≡ va % 4096) }
     ensures small { IfOk result (λ pa. pa < 2 ^ 52) }
+    ensures reads { StepsAre (λ physical. entries_read physical sme va level table) (F.image frames.old) result steps.old steps.new }
     ensures steps { steps.new ≤ steps.old + level }
     ensures image { F.image frames.new ≡ F.image frames.old }
     ensures files { F.files frames.new ≡ F.files frames.old }
@@ -94,8 +96,13 @@ fn is_canonical(paging: &PageCfg, va: u64) -> bool
     va < 1 << sign || u64::MAX - va < 1 << sign
 }
 
-/// The physical address of a virtual one, both in bytes, by the page tables: M2, else the first entry that
-/// stops it, from the top table down. It takes at most a step for each level, and no memory.
+/// The physical address of a virtual one, both in bytes, by the page tables. It takes a step for each entry on the
+/// way, and no memory.
+///
+/// # Errors
+///
+/// A miss with M2 where the address isn't canonical, else one with M3 to M5 for the first entry that stops it, from the
+/// top table down; or a failure to read the dump.
 pub fn walk<F: Frames, L: Ledger>(
     frames: &mut F,
     paging: &PageCfg,
@@ -113,6 +120,8 @@ pub fn walk<F: Frames, L: Ledger>(
     ensures stopped { StopsAt result va }
     ensures offset { IfOk result (λ pa. pa.0 % 4096 ≡ va % 4096) }
     ensures small { IfOk result (λ pa. pa.0 < 2 ^ 52) }
+    // It looks at the entries on the way, and at no other word.
+    ensures reads { StepsAre (λ physical. walk_reads (record { physical = physical; paging = paging.now }) va) (F.image frames.old) result steps.old steps.new }
     ensures steps { steps.new ≤ steps.old + levels paging.now }
     ensures image { F.image frames.new ≡ F.image frames.old }
     ensures files { F.files frames.new ≡ F.files frames.old }

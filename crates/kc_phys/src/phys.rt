@@ -21,14 +21,20 @@ use std::sync::ledger::Ledger;
 /// read by one call of the store.
 #[derive(Drop)]
 pub struct Phys<'s, S: Store> {
+    /// The store whose file in slot Dump is read.
     pub store: &'s mut S,
+    /// The PT_LOAD program headers of the core file, in table order.
     pub segments: Vec<Segment>,
     ghost inside: { AreInside (S.sizes store.now Dump) segments.items },
 }
 
 impl<'s, S: Store> Phys<'s, S> {
     /// The physical memory by these segments of the core file, which it copies. Where a caller needs the store
-    /// behind `NoMemory`, it copies them itself and calls `over`.
+    /// after `NoMemory`, it copies them itself and calls `over`.
+    ///
+    /// # Errors
+    ///
+    /// `NoMemory` where no memory is left.
     pub fn new(alloc: Global, store: &'s mut S, segments: &[Segment]) -> Result<Self, NoMemory>
         requires { AreInside (S.sizes store.old Dump) segments.now }
         ensures store { IfOk result (λ p. p.store.now ≡ store.old) }
