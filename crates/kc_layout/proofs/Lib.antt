@@ -8,3 +8,4 @@ pub mod MemberLemmas
 pub mod PathLemmas
 pub mod PlaceLemmas
 pub mod SearchLemmas
+pub mod SpellingLemmas

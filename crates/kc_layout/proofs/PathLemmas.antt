@@ -56,7 +56,7 @@ steps-full zero first (c ∷ cs) full = grind (arith, nat_tests)
 steps-full (suc most) first text full = absurd (omega arith)
 
 -- a step is cut off some text
-some_text : (first : Bool) (text : List ℕ) (here : Cut) → Some here ≡ cut first text → (length text == 0) ≡ false
+pub some_text : (first : Bool) (text : List ℕ) (here : Cut) → Some here ≡ cut first text → (length text == 0) ≡ false
 some_text true [] here is = let none : ⊥ = cc in absurd none
 some_text false [] here is = let none : ⊥ = cc in absurd none
 some_text first (c ∷ cs) here is = grind (arith, nat_tests)

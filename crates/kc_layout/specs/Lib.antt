@@ -8,4 +8,5 @@ pub mod PathViews
 pub mod Places
 pub mod Search
 pub mod Size
+pub mod Spelling
 pub mod Views

@@ -18,6 +18,7 @@ pub use bare::{array_under, compound_under, pointers_under};
 pub use fault::{PathFault, QRule};
 pub use find::find_type;
 pub use listing::{Line, list_members};
+pub use path::know_paths;
 pub use place::{Field, Hops, Located};
 pub use resolving::{locate, resolve};
 pub use size::size_of;

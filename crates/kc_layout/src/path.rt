@@ -3,6 +3,7 @@ ghost use Rattle.std.specs.Prelude.{◌≡◌, ◌+◌, ◌-◌, ◌≤◌, leng
 ghost use Rattle.kc_layout.specs.Path.{is_digit, is_letter, is_word, begins_name, word_length, digits_length, name_cut, natural, index_of, behind_bracket, index_cut, by, cut, cut_arrow, path_steps};
 ghost use Rattle.kc_layout.specs.PathViews.{cut_view, names_view, index_view};
 ghost use Rattle.kc_layout.specs.Path.Step.{Member, Element};
+ghost use Rattle.kc_layout.specs.Spelling.{PathsAreSpelled};
 
 use kc_word::read_dec;
 
@@ -216,3 +217,10 @@ pub(crate) fn is_path(path: &[u8]) -> bool
     }
     rest.is_empty()
 }
+
+/// Does nothing, and tells a proof what the text of a path is: a text of at most 256 bytes is a path exactly where
+/// it is its steps written one after another, as `name`, `.name`, `[decimal]` and `->name`. So each path has its
+/// steps back from its text, and no text is two paths.
+pub fn know_paths()
+    ensures { PathsAreSpelled }
+{}
