@@ -37,6 +37,12 @@ OnWalkFault (Err (ends.Broken f)) P = ⊤
 OnWalkFault (Err ends.Fault) P = P
 OnWalkFault (Err ends.NoMemory) P = ⊤
 
+abbrev pub UnlessWalkFault : {A : Type 0} → Result A WalkStop → Type 0 → Type 0
+UnlessWalkFault (Ok x) P = P
+UnlessWalkFault (Err (ends.Broken f)) P = P
+UnlessWalkFault (Err ends.Fault) P = ⊤
+UnlessWalkFault (Err ends.NoMemory) P = P
+
 abbrev pub OnBroken : {A : Type 0} → Result A WalkStop → Type 0 → Type 0
 OnBroken (Ok x) P = ⊤
 OnBroken (Err (ends.Broken f)) P = P

@@ -7,7 +7,7 @@ ghost use Rattle.kc_found.specs.FiniteLists.{HChain};
 ghost use Rattle.kc_found.specs.HashChains.{hash_links, hash_site, hash_walk};
 ghost use Rattle.kc_found.specs.Nodes.{at_offset, one_taken, two_taken};
 ghost use Rattle.kc_found.specs.Trials.{passed};
-ghost use Rattle.kc_found.specs.Walks.{IsNamed, OnBroken, OnWalkFault, WalksAs};
+ghost use Rattle.kc_found.specs.Walks.{IsNamed, OnBroken, OnWalkFault, UnlessWalkFault, WalksAs};
 
 use crate::words::{enter_both, enter_word, is_poison, push_node};
 use kc_found::{Asked, Claims, HShape, Rule, Space, VWord, WalkStop, Walked, broken_at};
@@ -34,6 +34,7 @@ fn enter_head<S: Space, L: Ledger>(
     ensures through { S.through space.new ≡ S.through space.old }
     ensures most { S.most space.new ≡ S.most space.old }
     ensures later { S.faults space.old ≤ S.faults space.new }
+    ensures quiet { UnlessWalkFault result (S.faults space.new ≡ S.faults space.old) }
     ensures cause { OnWalkFault result (Rose (S.faults space.old) (S.faults space.new)) }
 {
     let first = asked.start.wrapping_add(shape.first);
@@ -60,6 +61,7 @@ fn enter_links<S: Space, L: Ledger>(
     ensures through { S.through space.new ≡ S.through space.old }
     ensures most { S.most space.new ≡ S.most space.old }
     ensures later { S.faults space.old ≤ S.faults space.new }
+    ensures quiet { UnlessWalkFault result (S.faults space.new ≡ S.faults space.old) }
     ensures cause { OnWalkFault result (Rose (S.faults space.old) (S.faults space.new)) }
 {
     let next = from.value.wrapping_add(shape.next);
@@ -87,6 +89,7 @@ fn enter_node<S: Space, L: Ledger>(
     ensures through { S.through space.new ≡ S.through space.old }
     ensures most { S.most space.new ≡ S.most space.old }
     ensures later { S.faults space.old ≤ S.faults space.new }
+    ensures quiet { UnlessWalkFault result (S.faults space.new ≡ S.faults space.old) }
     ensures cause { OnWalkFault result (Rose (S.faults space.old) (S.faults space.new)) }
 {
     if is_poison(from.value) {
@@ -128,6 +131,7 @@ pub fn hchain<S: Space, L: Ledger>(
     ensures through { S.through space.new ≡ S.through space.old }
     ensures most { S.most space.new ≡ S.most space.old }
     ensures later { S.faults space.old ≤ S.faults space.new }
+    ensures quiet { UnlessWalkFault result (S.faults space.new ≡ S.faults space.old) }
     ensures cause { OnWalkFault result (Rose (S.faults space.old) (S.faults space.new)) }
 {
     let asked = Asked { audit, start: head };

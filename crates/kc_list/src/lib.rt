@@ -9,3 +9,6 @@ mod words;
 pub use hlist::hchain;
 pub use laws::know_lists;
 pub use list::ring;
+
+#[cfg(test)]
+mod tests;

@@ -7,7 +7,7 @@ ghost use Rattle.kc_found.specs.FiniteLists.{Ring};
 ghost use Rattle.kc_found.specs.Nodes.{two_taken};
 ghost use Rattle.kc_found.specs.Rings.{links, ring_site, ring_walk};
 ghost use Rattle.kc_found.specs.Trials.{passed};
-ghost use Rattle.kc_found.specs.Walks.{IsNamed, OnBroken, OnWalkFault, WalksAs};
+ghost use Rattle.kc_found.specs.Walks.{IsNamed, OnBroken, OnWalkFault, UnlessWalkFault, WalksAs};
 
 use crate::words::{enter_both, is_poison, push_node};
 use kc_found::{Asked, Claims, ListShape, Rule, Space, VWord, WalkStop, Walked, broken_at};
@@ -36,6 +36,7 @@ fn enter_links<S: Space, L: Ledger>(
     ensures through { S.through space.new ≡ S.through space.old }
     ensures most { S.most space.new ≡ S.most space.old }
     ensures later { S.faults space.old ≤ S.faults space.new }
+    ensures quiet { UnlessWalkFault result (S.faults space.new ≡ S.faults space.old) }
     ensures cause { OnWalkFault result (Rose (S.faults space.old) (S.faults space.new)) }
 {
     let next = node.wrapping_add(shape.next);
@@ -64,6 +65,7 @@ fn enter_node<S: Space, L: Ledger>(
     ensures through { S.through space.new ≡ S.through space.old }
     ensures most { S.most space.new ≡ S.most space.old }
     ensures later { S.faults space.old ≤ S.faults space.new }
+    ensures quiet { UnlessWalkFault result (S.faults space.new ≡ S.faults space.old) }
     ensures cause { OnWalkFault result (Rose (S.faults space.old) (S.faults space.new)) }
 {
     if from.value == 0 {
@@ -109,6 +111,7 @@ pub fn ring<S: Space, L: Ledger>(
     ensures through { S.through space.new ≡ S.through space.old }
     ensures most { S.most space.new ≡ S.most space.old }
     ensures later { S.faults space.old ≤ S.faults space.new }
+    ensures quiet { UnlessWalkFault result (S.faults space.new ≡ S.faults space.old) }
     ensures cause { OnWalkFault result (Rose (S.faults space.old) (S.faults space.new)) }
 {
     let asked = Asked { audit, start: head };

@@ -1,13 +1,13 @@
 // Words that a walk reads and takes.
 ghost use Rattle.std.specs.Prelude.{◌≡◌, ℕ, ◌+◌, ◌*◌, ◌^◌, ◌<◌, ◌≤◌, ◌∷◌, ◌++◌, [], length, None, Ok, OnOk, IfOk, IfErr, IfSome};
 ghost use Rattle.kc_outside.specs.Counts.{Rose};
-ghost use Rattle.kc_memory.specs.Space.{AnswersAs, OnFault};
+ghost use Rattle.kc_memory.specs.Space.{AnswersAs, OnFault, UnlessFault};
 ghost use Rattle.kc_memory.specs.Translation.{vword};
 ghost use Rattle.kc_memory.specs.declared.rule.Rule.TheVariants.{A};
 ghost use Rattle.kc_found.specs.Nodes.{both, one_taken, two_taken};
 ghost use Rattle.kc_found.specs.Trials.{claimed, passed};
 ghost use Rattle.kc_found.specs.Violations.{breaks};
-ghost use Rattle.kc_found.specs.Walks.{IsNamed, IsWalk, OnWalkFault, WalksAs};
+ghost use Rattle.kc_found.specs.Walks.{IsNamed, IsWalk, OnWalkFault, UnlessWalkFault, WalksAs};
 
 use kc_found::{Asked, Claims, Rule, Space, Stop, VWord, WalkStop, Walked, broken_at, stopped};
 use kc_word::{NoMemory, Steps};
@@ -29,6 +29,7 @@ fn read_both<S: Space, L: Ledger>(
     ensures through { S.through space.new ≡ S.through space.old }
     ensures most { S.most space.new ≡ S.most space.old }
     ensures later { S.faults space.old ≤ S.faults space.new }
+    ensures quiet { UnlessFault result (S.faults space.new ≡ S.faults space.old) }
     ensures cause { OnFault result (Rose (S.faults space.old) (S.faults space.new)) }
 {
     let a = space.word(first, steps)?;
@@ -74,6 +75,7 @@ pub(crate) fn enter_word<S: Space, L: Ledger>(
     ensures through { S.through space.new ≡ S.through space.old }
     ensures most { S.most space.new ≡ S.most space.old }
     ensures later { S.faults space.old ≤ S.faults space.new }
+    ensures quiet { UnlessWalkFault result (S.faults space.new ≡ S.faults space.old) }
     ensures cause { OnWalkFault result (Rose (S.faults space.old) (S.faults space.new)) }
 {
     let word = match space.word(va, steps) {
@@ -105,6 +107,7 @@ pub(crate) fn enter_both<S: Space, L: Ledger>(
     ensures through { S.through space.new ≡ S.through space.old }
     ensures most { S.most space.new ≡ S.most space.old }
     ensures later { S.faults space.old ≤ S.faults space.new }
+    ensures quiet { UnlessWalkFault result (S.faults space.new ≡ S.faults space.old) }
     ensures cause { OnWalkFault result (Rose (S.faults space.old) (S.faults space.new)) }
 {
     let words = match read_both(space, first, second, steps) {

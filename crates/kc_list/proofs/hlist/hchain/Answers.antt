@@ -20,7 +20,7 @@ loop-from-init g c = record {
   files = c.in-Ok.ensures.files;
   through = c.in-Ok.ensures.through;
   most = c.in-Ok.ensures.most;
-  later = c.in-Ok.ensures.later;
+  quiet = c.in-Ok.ensures.quiet;
   fits = search rules;
   steps = rw c.new-walked.ensures (omega (arith, c.in-Ok.ensures.steps));
 }
@@ -51,7 +51,7 @@ loop-from-preserved g c = record {
   files = c.in-Ok-enter_node.ensures.files ∙ c.loop-from.invariant.files;
   through = c.in-Ok-enter_node.ensures.through ∙ c.loop-from.invariant.through;
   most = c.in-Ok-enter_node.ensures.most ∙ c.loop-from.invariant.most;
-  later = omega (arith, c.in-Ok-enter_node.ensures.later, c.loop-from.invariant.later);
+  quiet = c.in-Ok-enter_node.ensures.quiet ∙ c.loop-from.invariant.quiet;
   fits = search rules;
   steps = rw (ap length c.in_ok-push_node.ensures.added ∙ length-append c.loop-from.walked (c.loop-from.from.value ∷ []))
       (two_reads (g.S.Space.most c.args.space.now) (length c.loop-from.walked) c.args.steps.now c.loop-from.steps _ c.loop-from.invariant.steps (rw c.loop-from.invariant.most at c.in-Ok-enter_node.ensures.steps));

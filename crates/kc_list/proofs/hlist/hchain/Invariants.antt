@@ -10,7 +10,7 @@ invariant-loop-from g l = record {
   files : g.S.Space.files l.space ≡ g.S.Space.files l.fn.space;
   through : g.S.Space.through l.space ≡ g.S.Space.through l.fn.space;
   most : g.S.Space.most l.space ≡ g.S.Space.most l.fn.space;
-  later : g.S.Space.faults l.fn.space ≤ g.S.Space.faults l.space;
+  quiet : g.S.Space.faults l.space ≡ g.S.Space.faults l.fn.space;
   fits : length l.walked < 2 ^ 64;
   steps : l.steps ≤ l.fn.steps + g.S.Space.most l.fn.space * (2 + 2 * length l.walked);
 }
