@@ -1,10 +1,14 @@
-// Notes (gABI, "Note Section").
-ghost use Rattle.std.specs.Prelude.{◌≡◌, ◌+◌, ◌*◌, ◌/◌, ◌≤◌, length};
-ghost use Rattle.kc_notes.specs.Notes.{note_at, note_by, note_end, note_text, is_vmcoreinfo};
+// Notes (gABI, "Note Section"), and the search for VMCOREINFO.
+ghost use Rattle.std.specs.Prelude.{◌≡◌, ◌+◌, ◌*◌, ◌/◌, ◌≤◌, length, ◌==◌, ◌<◌, position, IfSome};
+ghost use Rattle.kc_notes.specs.Notes.{note_at, note_by, note_end, note_text, is_vmcoreinfo, part_text, text_in};
 ghost use Rattle.kc_notes.specs.Steps.{IsInside, IsWithin};
+ghost use Rattle.std.specs.Option.{option_copied};
+ghost use Rattle.kc_notes.specs.Gives.{Gives};
+ghost use Rattle.std.specs.List.{before_first};
 
-use crate::bytes::before_nul;
+use crate::fault::NoteFault;
 use byteorder::{ByteOrder, LittleEndian};
+use kc_elf::Core;
 
 /// A note: its type, and where its name and its descriptor stand in its part, in bytes.
 #[derive(Clone, Copy, Debug, PartialEq, Eq)]
@@ -117,4 +121,68 @@ pub fn note_text<'t>(bytes: &'t [u8], note: &Note) -> &'t [u8]
     ensures { result.now ≡ note_text bytes.now note.now }
 {
     before_nul(&bytes[note.descriptor..note.descriptor + note.descriptor_size])
+}
+
+// The text of the first VMCOREINFO in a part, or the place of a broken note before it.
+fn text_in_part(bytes: &[u8]) -> Result<Option<&[u8]>, usize>
+    ensures { Gives option_copied result (part_text bytes.now) }
+{
+    let mut place = 0;
+    loop {
+        match read_note(bytes, place) {
+            Step::End => return Ok(None),
+            Step::Broken => return Err(place),
+            Step::Whole(note) => {
+                if is_vmcoreinfo(bytes, &note) {
+                    return Ok(Some(note_text(bytes, &note)));
+                }
+                place = note_end(bytes.len(), &note);
+            }
+        }
+    }
+}
+
+/// The text of the kernel's VMCOREINFO note: its descriptor up to the first NUL. It is the first such note
+/// in the order of the parts, and nothing behind it is looked at.
+///
+/// The note has the name `VMCOREINFO` and the type 0 (the kernel's kdump documents, "VMCOREINFO").
+///
+/// # Errors
+///
+/// `V1` where a note before it passes the end of its part, and `V2` where there is none.
+pub fn vmcoreinfo(core: &Core) -> Result<&[u8], NoteFault>
+    ensures { Gives (λ text. text.now) result (text_in core.now.notes) }
+{
+    for index in 0..core.notes() {
+        match text_in_part(core.note(index)) {
+            Ok(Some(text)) => return Ok(text),
+            Ok(None) => {}
+            Err(place) => {
+                return Err(NoteFault::V1 {
+                    part: index as u32,
+                    at: place as u64,
+                });
+            }
+        }
+    }
+    Err(NoteFault::V2)
+}
+
+// The place of the first byte that is the wanted one.
+pub(crate) fn place_of(bytes: &[u8], wanted: u8) -> Option<usize>
+    ensures value { result ≡ position (λ c. c == wanted) bytes.now }
+    ensures within { IfSome result (λ place. place < length bytes.now) }
+{
+    bytes.iter().position(|c| *c == wanted)
+}
+
+// The bytes up to the first NUL.
+#[tactic(auto, using(crate::proofs::PlaceLemmas::before_place, crate::proofs::PlaceLemmas::before_none))]
+fn before_nul(bytes: &[u8]) -> &[u8]
+    ensures { result.now ≡ before_first (λ c. c == 0) bytes.now }
+{
+    match place_of(bytes, 0) {
+        Some(end) => &bytes[..end],
+        None => bytes,
+    }
 }

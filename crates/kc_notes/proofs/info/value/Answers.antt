@@ -2,7 +2,7 @@ use Rattle.std.proofs.Common.{sym, ◌∙◌, ap}
 use Rattle.std.proofs.lemmas.List.{take_rest}
 use Rattle.kc_notes.specs.Values.{behind_key}
 use Rattle.kc_notes.proofs.LineLemmas.{value_of-found, value_of-passed, value_of-last}
-use Rattle.kc_notes.proofs.lines.value.Goals as goal
+use Rattle.kc_notes.proofs.info.value.Goals as goal
 
 pub returns-in-Some-behind_key : goal.returns-in-Some-behind_key
 returns-in-Some-behind_key c =

@@ -1,6 +1,6 @@
 use Rattle.std.proofs.Common.{◌-◌, Ok, Some, length, sym, ap, ◌∙◌, arith}
 use Rattle.kc_notes.proofs.SearchLemmas.{search_ends, search_breaks, search_finds, search_passes}
-use Rattle.kc_notes.proofs.search.text_in_part.Goals as goal
+use Rattle.kc_notes.proofs.note.text_in_part.Goals as goal
 
 pub returns-in-End : goal.returns-in-End
 returns-in-End c =

@@ -1,6 +1,6 @@
 use Rattle.std.proofs.Common.{◌≡◌, ◌-◌, ◌≤◌, length}
 use Rattle.kc_notes.specs.Notes.{search_from, part_text}
-use Rattle.kc_notes.proofs.search.text_in_part.Given as goal
+use Rattle.kc_notes.proofs.note.text_in_part.Given as goal
 
 -- the notes from the place on give the part's answer
 abbrev pub invariant-loop-note : goal.invariant-loop-note

@@ -1,6 +1,6 @@
 use Rattle.std.proofs.Common.{◌≡◌, length}
 use Rattle.kc_notes.specs.Values.{value_of}
-use Rattle.kc_notes.proofs.lines.value.Given as goal
+use Rattle.kc_notes.proofs.info.value.Given as goal
 
 -- no line so far has the key
 abbrev pub invariant-loop-end : goal.invariant-loop-end

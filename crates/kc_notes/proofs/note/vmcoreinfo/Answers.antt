@@ -1,6 +1,6 @@
 use Rattle.std.proofs.Common.{◌<◌, length, sym, ◌∙◌, arith}
 use Rattle.kc_notes.proofs.SearchLemmas.{part_found, part_broken, part_passed}
-use Rattle.kc_notes.proofs.search.vmcoreinfo.Goals as goal
+use Rattle.kc_notes.proofs.note.vmcoreinfo.Goals as goal
 
 pub returns-in-Ok-Some : goal.returns-in-Ok-Some
 returns-in-Ok-Some c =
