@@ -9,7 +9,7 @@ use Rattle.kc_found.specs.declared.found.WalkStop.TheVariants as ends
 use Rattle.kc_found.specs.Chains.{ChainOf, chain_walk}
 use Rattle.kc_found.specs.Trials.{Break, and_then, passed}
 use Rattle.kc_found.specs.Violations.{Violation}
-use Rattle.kc_found.specs.Walks.{IsBroken, WalksAs}
+use Rattle.kc_found.specs.Walks.{IsBroken, WalksAs, WithinSteps}
 use Rattle.kc_found.proofs.Reached.{IsChain, Reached, begins, begins_broken, goes_on, goes_broken, ends_with, few}
 
 -- each is a chain of its dump's memory
@@ -67,10 +67,7 @@ told_ends_broken u chain (Some i) taken walked s v (ends.Broken f) are r ends br
 told_ends_broken u chain (Some i) taken walked s v ends.Fault are r ends broken is = tt
 told_ends_broken u chain (Some i) taken walked s v ends.NoMemory are r ends broken is = tt
 
--- The steps of a walk that reads at most two words a site, where a word takes so many at most.
-abbrev pub WithinSteps : Option Image → ℕ → ℕ → ℕ → Type 0
-WithinSteps image most old new = IfSome image (λ i. new ≤ old + most * (2 * word_count i.physical + 128))
-
+-- The steps of a walk that reads at most two words a site.
 more_reads : (most old new reads bound : ℕ) → new ≤ old + most * reads → reads ≤ bound → new ≤ old + most * bound
 more_reads most old new reads bound le fits = let more = mul-le-mul_left most fits in omega (arith, more, le)
 

@@ -22,11 +22,14 @@ pa_of (Err s) = None
 abbrev pub values : Reader → ℕ → List ℕ → List (Option ℕ)
 values read offset nodes = map (λ n. value_of (read (at_offset n offset))) nodes
 
--- the physical addresses of two words of each node
+-- the physical address of a word of a node, where it can be read
+abbrev pub pa_at : Reader → ℕ → ℕ → List ℕ
+pa_at read node offset = option_to_list (pa_of (read (at_offset node offset)))
+
+-- those of two words of each node
 abbrev pub words_of : Reader → ℕ → ℕ → List ℕ → List ℕ
 words_of read first second [] = []
-words_of read first second (n ∷ ns) =
-    option_to_list (pa_of (read (at_offset n first))) ++ (option_to_list (pa_of (read (at_offset n second))) ++ words_of read first second ns)
+words_of read first second (n ∷ ns) = pa_at read n first ++ (pa_at read n second ++ words_of read first second ns)
 
 -- a node of a ring that isn't its head
 abbrev pub IsMember : ℕ → ℕ → Type 0
@@ -40,6 +43,10 @@ pub record Ring (read : Reader) (shape : ListShape) (head : ℕ) (ns : List ℕ)
   pub backward : values read shape.prev (head ∷ reverse ns) ≡ map Some (reverse ns ++ head ∷ [])
   pub different : IsDistinct nat_eq (words_of read shape.next shape.prev (head ∷ ns))
 
+-- no list of nodes is a ring
+abbrev pub NoRing : Reader → ListShape → ℕ → Type 0
+NoRing read shape head = (ns : List ℕ) → Ring read shape head ns → ⊥
+
 -- a node of a hash chain
 abbrev pub IsHashed : ℕ → Type 0
 IsHashed n = IsTrue (not (nat_eq n 0 || is_poison n))
@@ -49,10 +56,14 @@ abbrev pub pointers : HShape → ℕ → List ℕ → List ℕ
 pointers shape first [] = []
 pointers shape first (n ∷ ns) = first ∷ pointers shape (at_offset n shape.next) ns
 
--- A hash chain: `first` and then `next` lead through the nodes to 0, each `pprev` has the address of the word that points
--- to its node, and no two of all these words are one.
+-- A hash chain: `first` and then `next` lead through the nodes to 0, each `pprev` has the address of the word that
+-- points to its node, and no two of all these words are one.
 pub record HChain (read : Reader) (shape : HShape) (head : ℕ) (ns : List ℕ) : Type 0 where
   pub members : AllByRecursion IsHashed ns
   pub forward : value_of (read (at_offset head shape.first)) ∷ values read shape.next ns ≡ map Some (ns ++ 0 ∷ [])
   pub backward : values read shape.pprev ns ≡ map Some (pointers shape (at_offset head shape.first) ns)
-  pub different : IsDistinct nat_eq (option_to_list (pa_of (read (at_offset head shape.first))) ++ words_of read shape.next shape.pprev ns)
+  pub different : IsDistinct nat_eq (pa_at read head shape.first ++ words_of read shape.next shape.pprev ns)
+
+-- no list of nodes is a hash chain
+abbrev pub NoHChain : Reader → HShape → ℕ → Type 0
+NoHChain read shape head = (ns : List ℕ) → HChain read shape head ns → ⊥

@@ -1,5 +1,5 @@
 -- The sites of a ring. Source: the kernel's include/linux/list.h, `struct list_head`; the order is this project's.
-use Rattle.std.specs.Prelude.{ℕ, nat_eq, not, List, ◌++◌, Some, None, option_map, Result}
+use Rattle.std.specs.Prelude.{ℕ, Bool, nat_eq, not, List, ◌++◌, Some, None, option_map, Result}
 use Rattle.kc_memory.specs.declared.words.VWord.{VWord}
 use Rattle.kc_memory.specs.declared.rule.Rule.TheVariants.{N, K, L1}
 use Rattle.kc_memory.specs.Image.{Image}
@@ -22,6 +22,18 @@ pub record RingLed : Type 0 where
   pub before : ℕ
   pub last : VWord
 
+-- what leads to a head's first node, by the head's words
+abbrev pub led_first : ℕ → VWord × VWord → RingLed
+led_first head p = record { from = p.0; before = head; last = p.1 }
+
+-- what leads on from a node, by its words
+abbrev pub led_on : RingLed → VWord × VWord → RingLed
+led_on s p = record { from = p.0; before = s.from.value; last = s.last }
+
+-- `prev` isn't the node before
+abbrev pub is_wrong : ℕ → VWord × VWord → Bool
+is_wrong before p = not (nat_eq p.1.value before)
+
 -- The site that a pointer leads to, by its two words: N and K of the pointer, both words are read and taken, and then
 -- L1 of `prev`.
 abbrev pub ring_site : Asked → Result (VWord × VWord) Stopped → VWord → ℕ → List (Trial ℕ)
@@ -29,20 +41,21 @@ ring_site asked there from before =
     broken_if (nat_eq from.value 0) (breaks asked N from None)
     ++ (broken_if (is_poison from.value) (breaks asked K from None)
     ++ (two_taken asked (Some from) there
-    ++ from_there (readable there) (λ p. broken_if (not (nat_eq p.1.value before)) (breaks asked L1 p.1 (Some before)))))
+    ++ from_there (readable there) (λ p. broken_if (is_wrong before p) (breaks asked L1 p.1 (Some before)))))
 
 -- A ring, whose head is where the walk starts. It ends where a pointer leads back to the head: L1 of the head's `prev`.
 abbrev pub ring_chain : Reader → ListShape → Asked → ChainOf RingLed
 ring_chain read shape asked = record {
   head = two_taken asked None (links read shape asked.start);
-  start = option_map (λ p. record { from = p.0; before = asked.start; last = p.1 }) (readable (links read shape asked.start));
+  start = option_map (led_first asked.start) (readable (links read shape asked.start));
   ends = λ s. nat_eq s.from.value asked.start;
   last = λ s. broken_if (not (nat_eq s.last.value s.before)) (breaks asked L1 s.last (Some s.before));
   site = λ s. ring_site asked (links read shape s.from.value) s.from s.before;
   element = λ s. s.from.value;
-  next = λ s. option_map (λ p. record { from = p.0; before = s.from.value; last = s.last }) (readable (links read shape s.from.value));
+  next = λ s. option_map (led_on s) (readable (links read shape s.from.value));
 }
 
 -- the nodes of a ring without its head, or its first violation
 abbrev pub ring_walk : Image → ListShape → ℕ → ℕ → Result (List ℕ) Violation
-ring_walk image shape audit head = chain_walk image.physical (ring_chain (vword image) shape (record { audit = audit; start = head }))
+ring_walk image shape audit head =
+    chain_walk image.physical (ring_chain (vword image) shape (record { audit = audit; start = head }))

@@ -1,11 +1,14 @@
 -- What the answer of a walk says.
-use Rattle.std.specs.Prelude.{◌≡◌, ℕ, Option, Some, None, Result, Ok, Err, ⊤}
+use Rattle.std.specs.Prelude.{◌≡◌, ℕ, ◌+◌, ◌*◌, ◌≤◌, List, IfSome, Option, Some, None, Result, Ok, Err, ⊤}
 use Rattle.kc_memory.specs.declared.space.Stop.{Stop}
 use Rattle.kc_memory.specs.declared.space.Stop.TheVariants as stops
 use Rattle.kc_memory.specs.declared.words.VWord.{VWord}
+use Rattle.kc_memory.specs.Held.{word_count}
+use Rattle.kc_memory.specs.Image.{Image}
 use Rattle.kc_found.specs.declared.asked.Asked.{Asked}
 use Rattle.kc_found.specs.declared.found.WalkStop.{WalkStop}
 use Rattle.kc_found.specs.declared.found.WalkStop.TheVariants as ends
+use Rattle.kc_found.specs.Trials.{Trial, passed}
 use Rattle.kc_found.specs.Violations.{Violation, missed}
 
 -- a stop is by this violation, short of want of memory
@@ -55,3 +58,11 @@ IsNamed (Ok x) audit start = ⊤
 IsNamed (Err (ends.Broken f)) audit start = (f.audit ≡ audit) × (f.start ≡ start)
 IsNamed (Err ends.Fault) audit start = ⊤
 IsNamed (Err ends.NoMemory) audit start = ⊤
+
+-- the words taken before and after a step of a walk are those of these trials
+abbrev pub TakesAs : {A I : Type 0} → (I → List (Trial ℕ)) → List ℕ → List ℕ → Option I → Result A WalkStop → Type 0
+TakesAs trials before after image r = WalksAs (λ _. after) (λ i. passed before (trials i)) image r
+
+-- A walk's steps, where a word takes so many at most: in a memory of W words it asks for 2 * W + 128 words at most.
+abbrev pub WithinSteps : Option Image → ℕ → ℕ → ℕ → Type 0
+WithinSteps image most before after = IfSome image (λ i. after ≤ before + most * (2 * word_count i.physical + 128))

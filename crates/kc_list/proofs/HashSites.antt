@@ -1,6 +1,6 @@
 -- A hash chain is a chain.
-use Rattle.std.proofs.Common.{◌≡◌, ℕ, nat_eq, Bool, false, List, [], ◌++◌, Option, None, Some, refl, ◌∙◌, ap}
-use Rattle.std.specs.Prelude.{Result, Ok, Err, not}
+use Rattle.std.proofs.Common.{◌≡◌, ℕ, false, List, [], ◌++◌, Option, None, Some, refl, ◌∙◌, ap}
+use Rattle.std.specs.Prelude.{Result, Ok, Err}
 use Rattle.kc_memory.specs.declared.words.VWord.{VWord}
 use Rattle.kc_memory.specs.declared.rule.Rule.TheVariants.{K, H1}
 use Rattle.kc_memory.specs.Held.{held}
@@ -10,16 +10,12 @@ use Rattle.kc_memory.proofs.HeldLaws.{AllAmong}
 use Rattle.kc_found.specs.declared.asked.Asked.{Asked}
 use Rattle.kc_found.specs.declared.shapes.HShape.{HShape}
 use Rattle.kc_found.specs.Chains.{from_there}
-use Rattle.kc_found.specs.HashChains.{hash_links, hash_site, hash_chain}
+use Rattle.kc_found.specs.HashChains.{hash_links, points_wrong, next_of, hash_site, hash_chain}
 use Rattle.kc_found.specs.Nodes.{at_offset, is_poison, readable, one_taken, two_taken}
 use Rattle.kc_found.specs.Trials.{Reader, broken_if, met, claimed_in, IsUnbroken}
 use Rattle.kc_found.specs.Violations.{breaks}
 use Rattle.kc_found.proofs.Reached.{IsChain}
 use Rattle.kc_list.proofs.Pairs.{ReadsAmong, GoodPair, pair_among, pair_takes, two_long, leads_by, if_front, if_passed, tested_bare, tested_takes, tested_passed}
-
--- `pprev` isn't the address of the pointer
-abbrev pub points_wrong : VWord → VWord × VWord → Bool
-points_wrong from p = not (nat_eq p.1.value from.va)
 
 -- what a good site has
 pub record GoodHashed (there : Result (VWord × VWord) Stopped) (from : VWord) : Type 0 where
@@ -49,10 +45,6 @@ one_among known read va asked led (Err s) among e = tt
 pub first_read : (asked : Asked) (led : Option VWord) (there : Result VWord Stopped) → IsUnbroken {X = ℕ} (one_taken asked led there) → (w : VWord) × (there ≡ Ok w)
 first_read asked led (Ok w) u = (w, refl)
 first_read asked led (Err s) u = absurd u
-
--- the word that leads on from a node
-abbrev pub next_of : VWord × VWord → VWord
-next_of p = p.0
 
 pub hash_is_chain : (physical : Physical) (read : Reader) (shape : HShape) (asked : Asked) → ReadsAmong (held physical) read → IsChain physical (hash_chain read shape asked)
 hash_is_chain physical read shape asked among = record {

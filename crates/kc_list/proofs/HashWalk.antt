@@ -9,7 +9,7 @@ use Rattle.kc_found.specs.declared.found.WalkStop.TheVariants as ends
 use Rattle.kc_found.specs.declared.shapes.HShape.{HShape}
 use Rattle.kc_found.specs.Chains.{ChainOf}
 use Rattle.kc_found.specs.FiniteLists.{HChain, words_of}
-use Rattle.kc_found.specs.HashChains.{hash_links, hash_site, hash_chain, hash_walk}
+use Rattle.kc_found.specs.HashChains.{hash_links, next_of, hash_site, hash_chain, hash_walk}
 use Rattle.kc_found.specs.Nodes.{at_offset, readable, one_taken}
 use Rattle.kc_found.specs.Trials.{passed}
 use Rattle.kc_found.specs.Violations.{Violation}
@@ -17,7 +17,7 @@ use Rattle.kc_found.specs.Walks.{OnBroken, WalksAs}
 use Rattle.kc_found.proofs.Told.{AreChains, Reaches, IsWalkOf, told_begins, told_begins_broken, told_goes, told_goes_broken, told_ends}
 use Rattle.kc_found.proofs.Whole.{whole_of_walk, walk_of_whole}
 use Rattle.kc_list.proofs.HashLaw.{hash_words, hashed_of_whole, whole_of_hashed}
-use Rattle.kc_list.proofs.HashSites.{next_of, hash_is_chain}
+use Rattle.kc_list.proofs.HashSites.{hash_is_chain}
 use Rattle.kc_list.proofs.Pairs.{leads_by}
 use Rattle.kc_list.proofs.Reading.{reads_held, reads_there}
 use Rattle.kc_list.proofs.RingWalk.{asked_at}

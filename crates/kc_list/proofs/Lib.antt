@@ -7,4 +7,5 @@ mod Reading
 mod RingLaw
 mod RingSites
 mod RingWalk
+mod Rows
 mod Stops

@@ -11,13 +11,13 @@ use Rattle.kc_found.specs.declared.asked.Asked.{Asked}
 use Rattle.kc_found.specs.declared.shapes.ListShape.{ListShape}
 use Rattle.kc_found.specs.FiniteLists.{Ring, IsMember, value_of, values, words_of}
 use Rattle.kc_found.specs.Nodes.{at_offset, is_poison, two_taken}
-use Rattle.kc_found.specs.Rings.{RingLed, links, ring_chain}
+use Rattle.kc_found.specs.Rings.{RingLed, links, is_wrong, led_first, led_on, ring_chain}
 use Rattle.kc_found.specs.Trials.{Reader, IsUnbroken}
 use Rattle.kc_found.specs.Violations.{breaks}
 use Rattle.kc_found.proofs.Whole.{Linked, HasWords, Whole}
 use Rattle.kc_list.proofs.Finite.{words_at, some_word, first_of, snoc_some, turned, turned_some, if_only, not_false, not_true, or_false}
 use Rattle.kc_list.proofs.Pairs.{both_read, both_of, if_none, if_passes, leads_by, tested_passes, pair_takes}
-use Rattle.kc_list.proofs.RingSites.{good_node, is_wrong, led_on, site_is}
+use Rattle.kc_list.proofs.RingSites.{good_node, site_is}
 
 pub ring_words : (read : Reader) (shape : ListShape) (asked : Asked) → HasWords (ring_chain read shape asked) (words_of read shape.next shape.prev)
 ring_words read shape asked = record {
@@ -106,9 +106,6 @@ head_read asked (Err s) u = absurd u
 head_good : (asked : Asked) (there : Result (VWord × VWord) Stopped) (p : VWord × VWord) → there ≡ Ok p → IsUnbroken {X = ℕ} (two_taken asked None there)
 head_good asked (Ok q) p e = tt
 head_good asked (Err s) p e = absurd (cc)
-
-abbrev led_first : ℕ → VWord × VWord → RingLed
-led_first head p = record { from = p.0; before = head; last = p.1 }
 
 pub ring_of_whole : (read : Reader) (shape : ListShape) (asked : Asked) (ns : List ℕ) → Whole (ring_chain read shape asked) (words_of read shape.next shape.prev) ns → Ring read shape asked.start ns
 ring_of_whole read shape asked ns whole =

@@ -1,5 +1,5 @@
 -- A ring is a chain, and how its walk goes on.
-use Rattle.std.proofs.Common.{◌≡◌, ℕ, nat_eq, Bool, false, List, [], ◌++◌, Option, None, Some, refl, ◌∙◌}
+use Rattle.std.proofs.Common.{◌≡◌, ℕ, nat_eq, false, List, [], ◌++◌, Option, None, Some, refl, ◌∙◌}
 use Rattle.std.specs.Prelude.{Result, Err, not}
 use Rattle.kc_memory.specs.declared.words.VWord.{VWord}
 use Rattle.kc_memory.specs.declared.rule.Rule.TheVariants.{N, K, L1}
@@ -14,17 +14,13 @@ use Rattle.kc_found.specs.declared.found.WalkStop.{WalkStop}
 use Rattle.kc_found.specs.declared.shapes.ListShape.{ListShape}
 use Rattle.kc_found.specs.Chains.{from_there}
 use Rattle.kc_found.specs.Nodes.{at_offset, is_poison, readable, two_taken}
-use Rattle.kc_found.specs.Rings.{RingLed, links, ring_site, ring_chain}
+use Rattle.kc_found.specs.Rings.{links, is_wrong, led_first, led_on, ring_site, ring_chain}
 use Rattle.kc_found.specs.Trials.{Reader, Trial, broken_if, passed, met, claimed_in, IsUnbroken}
 use Rattle.kc_found.specs.Violations.{breaks}
 use Rattle.kc_found.specs.Walks.{WalksAs}
 use Rattle.kc_found.proofs.Reached.{IsChain}
 use Rattle.kc_list.proofs.Pairs.{ReadsAmong, GoodPair, pair_among, pair_bare, pair_leads, pair_takes, two_long, leads_by, if_front, if_bare, if_passed, tested_bare, tested_takes, tested_passed}
 use Rattle.kc_list.proofs.Stops.{stops_after, stops_before}
-
--- `prev` isn't the node before
-abbrev pub is_wrong : ℕ → VWord × VWord → Bool
-is_wrong before p = not (nat_eq p.1.value before)
 
 -- what a good site has
 pub record GoodNode (there : Result (VWord × VWord) Stopped) (from : VWord) (before : ℕ) : Type 0 where
@@ -46,16 +42,12 @@ site_is asked there from before =
       one.1 ∙ two.1 ∙ tested_takes asked (Some from) there (is_wrong before) (λ p. breaks asked L1 p.1 (Some before)),
     )
 
--- what leads on from a node
-abbrev pub led_on : RingLed → VWord × VWord → RingLed
-led_on s p = record { from = p.0; before = s.from.value; last = s.last }
-
 pub ring_is_chain : (physical : Physical) (read : Reader) (shape : ListShape) (asked : Asked) → ReadsAmong (held physical) read → IsChain physical (ring_chain read shape asked)
 ring_is_chain physical read shape asked among = record {
   head_bare = pair_bare asked None (links read shape asked.start);
   site_bare = λ s. (site_is asked (links read shape s.from.value) s.from s.before).0;
   last_bare = λ s. if_bare (not (nat_eq s.last.value s.before)) (breaks asked L1 s.last (Some s.before));
-  head_leads = λ u. pair_leads asked None (links read shape asked.start) (λ p. record { from = p.0; before = asked.start; last = p.1 }) u;
+  head_leads = λ u. pair_leads asked None (links read shape asked.start) (led_first asked.start) u;
   site_leads = λ s u.
       let good = (good_node asked (links read shape s.from.value) s.from s.before u).words in
       (led_on s good.pair, leads_by (links read shape s.from.value) (led_on s) good.pair good.read);

@@ -11,7 +11,7 @@ use Rattle.kc_found.specs.declared.found.WalkStop.TheVariants as ends
 use Rattle.kc_found.specs.declared.shapes.ListShape.{ListShape}
 use Rattle.kc_found.specs.Chains.{ChainOf}
 use Rattle.kc_found.specs.Nodes.{two_taken}
-use Rattle.kc_found.specs.Rings.{RingLed, links, ring_site, ring_chain, ring_walk}
+use Rattle.kc_found.specs.Rings.{RingLed, links, led_first, led_on, ring_site, ring_chain, ring_walk}
 use Rattle.kc_found.specs.Trials.{passed, broken_if}
 use Rattle.kc_found.specs.FiniteLists.{Ring, words_of}
 use Rattle.kc_found.specs.Violations.{Violation, breaks}
@@ -20,7 +20,7 @@ use Rattle.kc_found.proofs.Told.{AreChains, Reaches, IsWalkOf, told_begins, told
 use Rattle.kc_found.proofs.Whole.{whole_of_walk, walk_of_whole}
 use Rattle.kc_list.proofs.Pairs.{leads_by}
 use Rattle.kc_list.proofs.RingLaw.{ring_words, ring_of_whole, whole_of_ring}
-use Rattle.kc_list.proofs.RingSites.{led_on, ring_is_chain}
+use Rattle.kc_list.proofs.RingSites.{ring_is_chain}
 use Rattle.kc_list.proofs.Stops.{if_some}
 use Rattle.kc_list.proofs.Reading.{reads_held}
 
@@ -42,7 +42,7 @@ pub begins : {A : Type 0} (v : A → List ℕ) (image : Option Image) (shape : L
     Reaches (rings shape audit head) image (v x) [] (led_to p.0 head p.1)
 begins v image shape audit head x p there e =
     told_begins v (rings shape audit head) image x (led_to p.0 head p.1) (rings_are shape audit head)
-    (if_some (λ (i : Image). links (vword i) shape head ≡ Ok p) (λ (i : Image). (rings shape audit head i).start ≡ Some (led_to p.0 head p.1)) image (λ i h. leads_by (links (vword i) shape head) (λ q. led_to q.0 head q.1) p h) there) e
+    (if_some (λ (i : Image). links (vword i) shape head ≡ Ok p) (λ (i : Image). (rings shape audit head i).start ≡ Some (led_to p.0 head p.1)) image (λ i h. leads_by (links (vword i) shape head) (led_first head) p h) there) e
 
 pub begins_broken : {A B : Type 0} (v : A → List ℕ) (u : B → List ℕ) (image : Option Image) (shape : ListShape) (audit head : ℕ) (stop : WalkStop) →
     WalksAs v (λ i. passed {X = ℕ} [] (two_taken (asked_at audit head) None (links (vword i) shape head))) image (Err stop) → IsWalkOf u (rings shape audit head) image (Err stop)

@@ -1,13 +1,11 @@
 // Hash chains.
 ghost use Rattle.std.specs.Prelude.{◌≡◌, ℕ, List, ◌+◌, ◌*◌, ◌≤◌, Ok, IfOk, IfSome};
 ghost use Rattle.kc_outside.specs.Counts.{Rose};
-ghost use Rattle.kc_memory.specs.Held.{word_count};
 ghost use Rattle.kc_memory.specs.Translation.{vword};
-ghost use Rattle.kc_found.specs.FiniteLists.{HChain};
+ghost use Rattle.kc_found.specs.FiniteLists.{HChain, NoHChain};
 ghost use Rattle.kc_found.specs.HashChains.{hash_links, hash_site, hash_walk};
 ghost use Rattle.kc_found.specs.Nodes.{at_offset, one_taken, two_taken};
-ghost use Rattle.kc_found.specs.Trials.{passed};
-ghost use Rattle.kc_found.specs.Walks.{IsNamed, OnBroken, OnWalkFault, UnlessWalkFault, WalksAs};
+ghost use Rattle.kc_found.specs.Walks.{IsNamed, OnBroken, OnWalkFault, TakesAs, UnlessWalkFault, WalksAs, WithinSteps};
 
 use crate::words::{enter_both, enter_word, is_poison, push_node};
 use kc_found::{Asked, Claims, HShape, Rule, Space, VWord, WalkStop, Walked, broken_at};
@@ -24,8 +22,8 @@ fn enter_head<S: Space, L: Ledger>(
     claims: &mut Claims,
     steps: &mut Steps<L>,
 ) -> Result<VWord, WalkStop>
-    ensures word { IfOk result (λ w. IfSome (S.image space.old) (λ image. vword image (at_offset asked.now.start shape.now.first) ≡ Ok w)) }
-    ensures site { WalksAs (λ _. claims.new) (λ image. passed {X = ℕ} claims.old (one_taken asked.now None (vword image (at_offset asked.now.start shape.now.first)))) (S.image space.old) result }
+    ensures word { IfOk result (λ w. IfSome (S.image space.old) (λ i. vword i (at_offset asked.now.start shape.now.first) ≡ Ok w)) }
+    ensures site { TakesAs (λ i. (one_taken asked.now None (vword i (at_offset asked.now.start shape.now.first)))) claims.old claims.new (S.image space.old) result }
     ensures named { IsNamed result asked.now.audit asked.now.start }
     ensures steps { steps.new ≤ steps.old + 2 * S.most space.old }
 
@@ -51,8 +49,8 @@ fn enter_links<S: Space, L: Ledger>(
     from: VWord,
     steps: &mut Steps<L>,
 ) -> Result<(VWord, VWord), WalkStop>
-    ensures links { IfOk result (λ p. IfSome (S.image space.old) (λ image. hash_links (vword image) shape.now from.value ≡ Ok p)) }
-    ensures site { WalksAs (λ _. claims.new) (λ image. passed {X = ℕ} claims.old (two_taken asked.now (Some from) (hash_links (vword image) shape.now from.value))) (S.image space.old) result }
+    ensures links { IfOk result (λ p. IfSome (S.image space.old) (λ i. hash_links (vword i) shape.now from.value ≡ Ok p)) }
+    ensures site { TakesAs (λ i. (two_taken asked.now (Some from) (hash_links (vword i) shape.now from.value))) claims.old claims.new (S.image space.old) result }
     ensures named { IsNamed result asked.now.audit asked.now.start }
     ensures steps { steps.new ≤ steps.old + 2 * S.most space.old }
 
@@ -79,8 +77,8 @@ fn enter_node<S: Space, L: Ledger>(
     from: VWord,
     steps: &mut Steps<L>,
 ) -> Result<(VWord, VWord), WalkStop>
-    ensures links { IfOk result (λ p. IfSome (S.image space.old) (λ image. hash_links (vword image) shape.now from.value ≡ Ok p)) }
-    ensures site { WalksAs (λ _. claims.new) (λ image. passed claims.old (hash_site asked.now (hash_links (vword image) shape.now from.value) from)) (S.image space.old) result }
+    ensures links { IfOk result (λ p. IfSome (S.image space.old) (λ i. hash_links (vword i) shape.now from.value ≡ Ok p)) }
+    ensures site { TakesAs (λ i. (hash_site asked.now (hash_links (vword i) shape.now from.value) from)) claims.old claims.new (S.image space.old) result }
     ensures named { IsNamed result asked.now.audit asked.now.start }
     ensures steps { steps.new ≤ steps.old + 2 * S.most space.old }
 
@@ -105,13 +103,13 @@ fn enter_node<S: Space, L: Ledger>(
     Ok(links)
 }
 
-/// The nodes of the hash chain with a head at virtual address `head`, in the order of `next`. The audit's number is named
-/// where the chain breaks a rule.
+/// The nodes of the hash chain with a head at virtual address `head`, in the order of `next`. The audit's number is
+/// named where the chain breaks a rule.
 ///
 /// # Errors
 ///
-/// The first violation, exactly where the chain has one; a failure of the space, whose count of faults then rose; or out
-/// of memory.
+/// The first violation, exactly where the chain has one; a failure of the space, whose count of faults then rose; or
+/// out of memory.
 pub fn hchain<S: Space, L: Ledger>(
     alloc: Global,
     space: &mut S,
@@ -122,9 +120,9 @@ pub fn hchain<S: Space, L: Ledger>(
 ) -> Result<Walked, WalkStop>
     ensures walk { WalksAs (λ w. w) (λ image. hash_walk image shape.now audit head) (S.image space.old) result }
     ensures finite { IfOk result (λ ns. IfSome (S.image space.old) (λ image. HChain (vword image) shape.now head ns)) }
-    ensures none { OnBroken result (IfSome (S.image space.old) (λ image. (ns : List ℕ) → HChain (vword image) shape.now head ns → ⊥)) }
+    ensures none { OnBroken result (IfSome (S.image space.old) (λ image. NoHChain (vword image) shape.now head)) }
     ensures named { IsNamed result audit head }
-    ensures bound { IfSome (S.image space.old) (λ image. steps.new ≤ steps.old + S.most space.old * (2 * word_count image.physical + 128)) }
+    ensures bound { WithinSteps (S.image space.old) (S.most space.old) steps.old steps.new }
 
     ensures image { S.image space.new ≡ S.image space.old }
     ensures files { S.files space.new ≡ S.files space.old }

@@ -1,8 +1,8 @@
 // What the definitions of walks say, for a reader to believe and a caller to learn.
 ghost use Rattle.kc_list.specs.Laws.{HashChainsAreWalked, RingsAreWalked};
 
-/// Does nothing. A finite list of nodes that makes up a ring, or a hash chain, is what its walk gives, and a walk without
-/// a violation gives such a list.
+/// Does nothing. A finite list of nodes that makes up a ring, or a hash chain, is what its walk gives, and a walk
+/// without a violation gives such a list.
 pub fn know_lists()
     ensures rings { RingsAreWalked }
     ensures hash_chains { HashChainsAreWalked }

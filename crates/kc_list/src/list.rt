@@ -1,13 +1,11 @@
 // Rings.
 ghost use Rattle.std.specs.Prelude.{◌≡◌, ℕ, List, ◌+◌, ◌*◌, ◌≤◌, Ok, IfOk, IfSome};
 ghost use Rattle.kc_outside.specs.Counts.{Rose};
-ghost use Rattle.kc_memory.specs.Held.{word_count};
 ghost use Rattle.kc_memory.specs.Translation.{vword};
-ghost use Rattle.kc_found.specs.FiniteLists.{Ring};
+ghost use Rattle.kc_found.specs.FiniteLists.{NoRing, Ring};
 ghost use Rattle.kc_found.specs.Nodes.{two_taken};
 ghost use Rattle.kc_found.specs.Rings.{links, ring_site, ring_walk};
-ghost use Rattle.kc_found.specs.Trials.{passed};
-ghost use Rattle.kc_found.specs.Walks.{IsNamed, OnBroken, OnWalkFault, UnlessWalkFault, WalksAs};
+ghost use Rattle.kc_found.specs.Walks.{IsNamed, OnBroken, OnWalkFault, TakesAs, UnlessWalkFault, WalksAs, WithinSteps};
 
 use crate::words::{enter_both, is_poison, push_node};
 use kc_found::{Asked, Claims, ListShape, Rule, Space, VWord, WalkStop, Walked, broken_at};
@@ -26,8 +24,8 @@ fn enter_links<S: Space, L: Ledger>(
     led: Option<VWord>,
     steps: &mut Steps<L>,
 ) -> Result<(VWord, VWord), WalkStop>
-    ensures links { IfOk result (λ p. IfSome (S.image space.old) (λ image. links (vword image) shape.now node ≡ Ok p)) }
-    ensures site { WalksAs (λ _. claims.new) (λ image. passed {X = ℕ} claims.old (two_taken asked.now led (links (vword image) shape.now node))) (S.image space.old) result }
+    ensures links { IfOk result (λ p. IfSome (S.image space.old) (λ i. links (vword i) shape.now node ≡ Ok p)) }
+    ensures site { TakesAs (λ i. (two_taken asked.now led (links (vword i) shape.now node))) claims.old claims.new (S.image space.old) result }
     ensures named { IsNamed result asked.now.audit asked.now.start }
     ensures steps { steps.new ≤ steps.old + 2 * S.most space.old }
 
@@ -55,8 +53,8 @@ fn enter_node<S: Space, L: Ledger>(
     before: u64,
     steps: &mut Steps<L>,
 ) -> Result<(VWord, VWord), WalkStop>
-    ensures links { IfOk result (λ p. IfSome (S.image space.old) (λ image. links (vword image) shape.now from.value ≡ Ok p)) }
-    ensures site { WalksAs (λ _. claims.new) (λ image. passed claims.old (ring_site asked.now (links (vword image) shape.now from.value) from before)) (S.image space.old) result }
+    ensures links { IfOk result (λ p. IfSome (S.image space.old) (λ i. links (vword i) shape.now from.value ≡ Ok p)) }
+    ensures site { TakesAs (λ i. (ring_site asked.now (links (vword i) shape.now from.value) from before)) claims.old claims.new (S.image space.old) result }
     ensures named { IsNamed result asked.now.audit asked.now.start }
     ensures steps { steps.new ≤ steps.old + 2 * S.most space.old }
 
@@ -102,9 +100,9 @@ pub fn ring<S: Space, L: Ledger>(
 ) -> Result<Walked, WalkStop>
     ensures walk { WalksAs (λ w. w) (λ image. ring_walk image shape.now audit head) (S.image space.old) result }
     ensures finite { IfOk result (λ ns. IfSome (S.image space.old) (λ image. Ring (vword image) shape.now head ns)) }
-    ensures none { OnBroken result (IfSome (S.image space.old) (λ image. (ns : List ℕ) → Ring (vword image) shape.now head ns → ⊥)) }
+    ensures none { OnBroken result (IfSome (S.image space.old) (λ image. NoRing (vword image) shape.now head)) }
     ensures named { IsNamed result audit head }
-    ensures bound { IfSome (S.image space.old) (λ image. steps.new ≤ steps.old + S.most space.old * (2 * word_count image.physical + 128)) }
+    ensures bound { WithinSteps (S.image space.old) (S.most space.old) steps.old steps.new }
 
     ensures image { S.image space.new ≡ S.image space.old }
     ensures files { S.files space.new ≡ S.files space.old }

@@ -5,9 +5,9 @@ ghost use Rattle.kc_memory.specs.Space.{AnswersAs, OnFault, UnlessFault};
 ghost use Rattle.kc_memory.specs.Translation.{vword};
 ghost use Rattle.kc_memory.specs.declared.rule.Rule.TheVariants.{A};
 ghost use Rattle.kc_found.specs.Nodes.{both, one_taken, two_taken};
-ghost use Rattle.kc_found.specs.Trials.{claimed, passed};
+ghost use Rattle.kc_found.specs.Trials.{claimed};
 ghost use Rattle.kc_found.specs.Violations.{breaks};
-ghost use Rattle.kc_found.specs.Walks.{IsNamed, IsWalk, OnWalkFault, UnlessWalkFault, WalksAs};
+ghost use Rattle.kc_found.specs.Walks.{IsNamed, IsWalk, OnWalkFault, TakesAs, UnlessWalkFault};
 
 use kc_found::{Asked, Claims, Rule, Space, Stop, VWord, WalkStop, Walked, broken_at, stopped};
 use kc_word::{NoMemory, Steps};
@@ -66,7 +66,7 @@ pub(crate) fn enter_word<S: Space, L: Ledger>(
     steps: &mut Steps<L>,
 ) -> Result<VWord, WalkStop>
     ensures word { IfOk result (λ w. IfSome (S.image space.old) (λ image. vword image va ≡ Ok w)) }
-    ensures site { WalksAs (λ _. claims.new) (λ image. passed {X = ℕ} claims.old (one_taken asked.now led (vword image va))) (S.image space.old) result }
+    ensures site { TakesAs (λ i. (one_taken asked.now led (vword i va))) claims.old claims.new (S.image space.old) result }
     ensures named { IsNamed result asked.now.audit asked.now.start }
     ensures steps { steps.new ≤ steps.old + 2 * S.most space.old }
 
@@ -98,7 +98,7 @@ pub(crate) fn enter_both<S: Space, L: Ledger>(
     steps: &mut Steps<L>,
 ) -> Result<(VWord, VWord), WalkStop>
     ensures words { IfOk result (λ p. IfSome (S.image space.old) (λ image. both (vword image) first second ≡ Ok p)) }
-    ensures site { WalksAs (λ _. claims.new) (λ image. passed {X = ℕ} claims.old (two_taken asked.now led (both (vword image) first second))) (S.image space.old) result }
+    ensures site { TakesAs (λ i. (two_taken asked.now led (both (vword i) first second))) claims.old claims.new (S.image space.old) result }
     ensures named { IsNamed result asked.now.audit asked.now.start }
     ensures steps { steps.new ≤ steps.old + 2 * S.most space.old }
 
