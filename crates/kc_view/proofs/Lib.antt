@@ -1,2 +1,3 @@
 mod PointerLemmas
 mod ValueLaws
+mod WordLemmas

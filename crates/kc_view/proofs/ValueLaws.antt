@@ -1,18 +1,19 @@
 -- What fields and paths show is true of the dump, and where they lead.
-use Rattle.std.proofs.Common.{◌≡◌, ℕ, ◌+◌, ◌*◌, Bool, true, false, nat_eq, if◌then◌else◌, List, [], ◌∷◌, Result, Ok, Err, refl, ap, ◌∙◌, arith}
-use Rattle.kc_memory.specs.Bits.{Number, bits, first_bit, number_places}
+use Rattle.std.proofs.Common.{◌≡◌, ℕ, ◌+◌, ◌*◌, ◌/◌, ◌%◌, Bool, true, false, nat_eq, if◌then◌else◌, List, [], ◌∷◌, Result, Ok, Err, refl, ap, ◌∙◌, arith}
+use Rattle.kc_memory.specs.Bits.{Number, bits, bits_at, first_bit, number_places}
 use Rattle.kc_memory.specs.Image.{Image}
 use Rattle.kc_memory.specs.Laws.{NumbersStand}
 use Rattle.kc_memory.specs.Places.{AllStandIn}
 use Rattle.kc_memory.specs.Stopped.{Stopped}
 use Rattle.kc_memory.specs.Translation.{and_then}
 use Rattle.kc_layout.specs.declared.place.Located.{Located}
+use Rattle.kc_layout.specs.Ends.{BitsAt}
 use Rattle.kc_layout.specs.HopList.{hop_list}
 use Rattle.kc_view.specs.declared.pointers.Reached.{Reached}
 use Rattle.kc_view.specs.declared.pointers.Reached.TheVariants.{Address, NullPointer}
 use Rattle.kc_view.specs.declared.view.Led.{Led}
 use Rattle.kc_view.specs.declared.view.Led.TheVariants.{At}
-use Rattle.kc_view.specs.Laws.{PathsStand, ReadsWhereLed, ValuesStand, led_places}
+use Rattle.kc_view.specs.Laws.{PathsStand, ReadsFromByte, ReadsWhereLed, ValuesStand, led_places}
 use Rattle.kc_view.specs.Paths.{led}
 use Rattle.kc_view.specs.Pointers.{behind, pointer, reached, target, unless_null, value_at}
 use Rattle.kc_view.specs.Typed.{Typed, bytes_on, laid}
@@ -96,3 +97,14 @@ reads_where_led image view end to whole part is bit width signed =
     let read : value_at image view.at (hop_list to.hops) whole ≡ bits image way.0 whole.bit whole.width whole.signed = ap (λ r. and_then r (λ a. bits image a whole.bit whole.width whole.signed)) behind_hops in
     let there : bits image way.0 whole.bit whole.width whole.signed ≡ bits image end.at part.bit part.width part.signed = rw (same, width, signed) refl in
     read ∙ there
+
+from_byte : (image : Image) (r : Result ℕ Stopped) (b : BitsAt)
+    → and_then r (λ end. bits image end b.bit b.width b.signed)
+    ≡ and_then r (λ end. bits image (bytes_on end (b.bit / 8)) (b.bit % 8) b.width b.signed)
+from_byte image (Ok end) b =
+    let same : first_bit end b.bit ≡ first_bit (bytes_on end (b.bit / 8)) (b.bit % 8) = omega arith in
+    ap (λ n. bits_at image n b.width b.signed) same
+from_byte image (Err s) b = refl
+
+pub reads_from_byte : ReadsFromByte
+reads_from_byte image at hops b = from_byte image (behind image at hops) b

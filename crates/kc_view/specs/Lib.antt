@@ -3,3 +3,4 @@ pub mod Laws
 pub mod Paths
 pub mod Pointers
 pub mod Typed
+pub mod Words

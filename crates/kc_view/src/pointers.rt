@@ -5,9 +5,10 @@ ghost use Rattle.kc_memory.specs.Bits.{InBits};
 ghost use Rattle.kc_memory.specs.Space.{AnswersAs, OnFault, UnlessFault};
 ghost use Rattle.kc_layout.specs.HopList.{hop_list};
 ghost use Rattle.kc_view.specs.Pointers.{behind, pointer, reached, target};
+ghost use Rattle.kc_view.specs.Words.{StepsOf, words_behind, words_of_pointer, words_reached};
 
-use kc_memory::{Place, Scalar, Space, Stop, read_bits};
 use kc_layout::Hops;
+use kc_memory::{Place, Scalar, Space, Stop, read_bits};
 use kc_word::{Bits, Steps};
 use std::sync::ledger::Ledger;
 
@@ -48,6 +49,8 @@ fn read_pointer<S: Space, L: Ledger>(
     ensures exact { AnswersAs (λ image. pointer image at offset) (S.image space.old) result }
     ensures range { IfOk result (λ pointer. InBits false 64 pointer.value) }
     ensures steps { steps.new ≤ steps.old + 2 * S.most space.old }
+    ensures words { StepsOf (λ image. words_of_pointer image at offset)
+        (S.image space.old) result (S.most space.old) steps.old steps.new }
 
     ensures image { S.image space.new ≡ S.image space.old }
     ensures files { S.files space.new ≡ S.files space.old }
@@ -74,6 +77,8 @@ pub(crate) fn behind<S: Space, L: Ledger>(
 ) -> Result<u64, Stop>
     ensures exact { AnswersAs (λ image. behind image at offsets.now) (S.image space.old) result }
     ensures steps { steps.new ≤ steps.old + 2 * (length offsets.now * S.most space.old) }
+    ensures words { StepsOf (λ image. words_behind image at offsets.now)
+        (S.image space.old) result (S.most space.old) steps.old steps.new }
 
     ensures image { S.image space.new ≡ S.image space.old }
     ensures files { S.files space.new ≡ S.files space.old }
@@ -101,6 +106,8 @@ pub(crate) fn reach<S: Space, L: Ledger>(
 ) -> Result<Reached, Stop>
     ensures exact { AnswersAs (λ image. reached image at offsets.now) (S.image space.old) result }
     ensures steps { steps.new ≤ steps.old + 2 * (length offsets.now * S.most space.old) }
+    ensures words { StepsOf (λ image. words_reached image at offsets.now)
+        (S.image space.old) result (S.most space.old) steps.old steps.new }
 
     ensures image { S.image space.new ≡ S.image space.old }
     ensures files { S.files space.new ≡ S.files space.old }

@@ -4,8 +4,8 @@ ghost use Rattle.std.proofs.Common.{lit≤};
 
 use crate::{Led, View};
 use kc_btf::Btf;
-use kc_memory::{Miss, Rule, Space, Stop, VWord};
 use kc_layout::{Field, Hops, Located};
+use kc_memory::{Miss, Rule, Space, Stop, VWord};
 use kc_word::{Bits, Steps};
 use std::alloc::Global;
 use std::marker::Brand;
@@ -210,6 +210,36 @@ fn numbers_are_read_behind_pointers(rt: HostRuntime) -> Result<(), Fail> {
     Ok(())
 }
 
+// The address behind pointers, or the address where reading them stopped.
+fn behind<L: Ledger>(view: &View<'_>, offsets: &[u64], blank: Blank) -> Result<u64, Option<u64>>
+    requires name { blank.name ≡ L.name }
+    requires parts { blank.parts ≡ L.parts }
+    requires some { 0 < L.parts }
+{
+    let mut steps = Steps::<L>::new(blank);
+    view.behind(&mut Words, &hops(offsets), &mut steps)
+        .map_err(missing)
+}
+
+#[test]
+fn addresses_are_found_behind_pointers(rt: HostRuntime) -> Result<(), Fail> {
+    let btf = types(rt.alloc())?;
+    let rows: [(u64, &[u64], Result<u64, Option<u64>>); 6] = [
+        (ITEM + 3, &[], Ok(ITEM + 3)),
+        (ITEM, &[0, 8], Ok(ITEM)),
+        // A pointer in two words, and one to an odd address.
+        (ODD, &[20], Ok(ITEM)),
+        (ODD, &[22], Ok(0xffff_8880_0001)),
+        (ODD, &[0], Ok(0)),
+        (ODD, &[0, 8], Err(Some(8))),
+    ];
+    for (at, offsets, wanted) in rows {
+        let found = behind::<Brand>(&View::new(&btf, 0, at), offsets, Blank::new(1));
+        assert_eq!(rt; found, wanted, "{at:x}");
+    }
+    Ok(())
+}
+
 // Where a path leads: a type and its address, or a null pointer's word and address.
 #[derive(Clone, Copy, Debug, PartialEq, Eq)]
 enum End {
@@ -280,7 +310,7 @@ fn parts_have_no_pointers(rt: HostRuntime) -> Result<(), Fail> {
 }
 
 #[test]
-fn elements_lie_one_behind_the_other(rt: HostRuntime) -> Result<(), Fail> {
+fn elements_lie_one_after_the_other(rt: HostRuntime) -> Result<(), Fail> {
     let btf = types(rt.alloc())?;
     let rows: [(u32, u64, u64, Option<(u32, u64)>); 12] = [
         (2, ITEM, 0, Some((1, ITEM))),

@@ -1,8 +1,8 @@
 // A type of the kernel's type information at a virtual address.
 use crate::pointers::{Reached, all_offsets, behind, reach};
 use kc_btf::Btf;
+use kc_layout::{Field, Hops, Located, array_under, size_of};
 use kc_memory::{Place, Scalar, Space, Stop, read_bits};
-use kc_layout::{Field, Located, array_under, size_of};
 use kc_word::Steps;
 use std::marker::Model;
 use std::sync::ledger::Ledger;
@@ -46,8 +46,9 @@ impl<'b> View<'b> {
     ghost use Rattle.kc_layout.specs.Views.{bits_view};
     ghost use Rattle.kc_view.specs.Elements.{element_of};
     ghost use Rattle.kc_view.specs.Paths.{LeadsTo, followed};
-    ghost use Rattle.kc_view.specs.Pointers.{value_at};
+    ghost use Rattle.kc_view.specs.Pointers.{behind, value_at};
     ghost use Rattle.kc_view.specs.Typed.{laid, part_of};
+    ghost use Rattle.kc_view.specs.Words.{StepsOf, words_at, words_behind, words_reached};
 
     /// The type of a number at a virtual address.
     pub fn new(btf: &'b Btf, ty: u32, at: u64) -> View<'b>
@@ -85,7 +86,7 @@ impl<'b> View<'b> {
         }
     }
 
-    /// The element with an index, from 0 on. `None` where the type isn't an array, under at most 32
+    /// The element with an index, starting at 0. `None` where the type isn't an array, under at most 32
     /// modifiers, where the array has no element with that index, and where an element has no size.
     pub fn element(&self, index: u64) -> Option<View<'b>>
         ensures exact { result ≡ element_of self.now index }
@@ -99,8 +100,41 @@ impl<'b> View<'b> {
         Some(self.laid(self.at, index * size, array.ty))
     }
 
-    /// The number of a field: its pointers are followed, a null one like any other, and then its bits are
-    /// read. Only its pointers and bits are used. It takes no memory.
+    /// The virtual address behind pointers, in bytes: where the bits of a field with these pointers are counted
+    /// from, and the view's own address where there is no pointer. A null pointer is followed like any other. It
+    /// takes no memory.
+    ///
+    /// The byte that a field begins in, which of a bit-field is that of its first bit, is as many bytes on from
+    /// there as its first bit has whole bytes.
+    ///
+    /// # Errors
+    ///
+    /// The first stop, and `Fault` where reading the dump failed.
+    pub fn behind<S: Space, L: Ledger>(
+        &self,
+        space: &mut S,
+        hops: &Hops,
+        steps: &mut Steps<L>,
+    ) -> Result<u64, Stop>
+        ensures exact { AnswersAs (λ image. behind image self.now.at (hop_list hops.now)) (S.image space.old) result }
+        ensures steps { steps.new ≤ steps.old + 2 * (length (hop_list hops.now) * S.most space.old) }
+        ensures words { StepsOf (λ image. words_behind image self.now.at (hop_list hops.now))
+            (S.image space.old) result (S.most space.old) steps.old steps.new }
+
+        ensures image { S.image space.new ≡ S.image space.old }
+        ensures files { S.files space.new ≡ S.files space.old }
+        ensures through { S.through space.new ≡ S.through space.old }
+        ensures most { S.most space.new ≡ S.most space.old }
+        ensures later { S.faults space.old ≤ S.faults space.new }
+        ensures quiet { UnlessFault result (S.faults space.new ≡ S.faults space.old) }
+        ensures cause { OnFault result (Rose (S.faults space.old) (S.faults space.new)) }
+    {
+        let offsets = all_offsets(hops);
+        behind(space, self.at, &offsets[..usize::from(hops.count)], steps)
+    }
+
+    /// The number of a field: the bits from the address on that `behind` gives. Only its pointers and bits are
+    /// used. It reads no word that the number doesn't need, and takes no memory.
     ///
     /// # Errors
     ///
@@ -111,9 +145,15 @@ impl<'b> View<'b> {
         field: &Field,
         steps: &mut Steps<L>,
     ) -> Result<Scalar, Stop>
-        ensures exact { AnswersAs (λ image. value_at image self.now.at (hop_list field.now.hops) (bits_view field.now.bits)) (S.image space.old) result }
+        ensures exact { AnswersAs
+            (λ image. value_at image self.now.at (hop_list field.now.hops) (bits_view field.now.bits))
+            (S.image space.old) result }
         ensures range { IfOk result (λ number. InBits field.now.bits.signed 64 number.value) }
-        ensures steps { steps.new ≤ steps.old + 2 * (length (hop_list field.now.hops) * S.most space.old) + 2 * S.most space.old }
+        ensures steps { steps.new
+            ≤ steps.old + 2 * (length (hop_list field.now.hops) * S.most space.old) + 2 * S.most space.old }
+        ensures words { StepsOf
+            (λ image. words_at image self.now.at (hop_list field.now.hops) (bits_view field.now.bits))
+            (S.image space.old) result (S.most space.old) steps.old steps.new }
 
         ensures image { S.image space.new ≡ S.image space.old }
         ensures files { S.files space.new ≡ S.files space.old }
@@ -123,15 +163,14 @@ impl<'b> View<'b> {
         ensures quiet { UnlessFault result (S.faults space.new ≡ S.faults space.old) }
         ensures cause { OnFault result (Rose (S.faults space.old) (S.faults space.new)) }
     {
-        let offsets = all_offsets(&field.hops);
-        let hops = &offsets[..usize::from(field.hops.count)];
-        match behind(space, self.at, hops, steps) {
+        match self.behind(space, &field.hops, steps) {
             Ok(at) => read_bits(space, at, field.bits, steps),
             Err(stop) => Err(stop),
         }
     }
 
-    /// Where a path leads. Its pointers are followed up to the first null one. It takes no memory.
+    /// Where a path leads. Its pointers are followed up to the first null one, and no word is read that isn't
+    /// one of theirs. It takes no memory.
     ///
     /// # Errors
     ///
@@ -147,6 +186,8 @@ impl<'b> View<'b> {
         ensures exact { AnswersAs (λ image. followed image self.now to.now) (S.image space.old) result }
         ensures leads { IfOk result (LeadsTo self.now.types to.now.ty) }
         ensures steps { steps.new ≤ steps.old + 2 * (length (hop_list to.now.hops) * S.most space.old) }
+        ensures words { StepsOf (λ image. words_reached image self.now.at (hop_list to.now.hops))
+            (S.image space.old) result (S.most space.old) steps.old steps.new }
 
         ensures image { S.image space.new ≡ S.image space.old }
         ensures files { S.files space.new ≡ S.files space.old }
