@@ -1,4 +1,8 @@
+pub mod Faults
+pub mod Formats
+pub mod Heads
+pub mod IsReport
 pub mod Lines
-pub use Rattle.kc_memory.specs.Places
-pub use Rattle.kc_memory.specs.Stopped
-pub use Rattle.kc_text.specs.Text
+pub mod Reads
+pub mod Report
+pub mod ReportText

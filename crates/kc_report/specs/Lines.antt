@@ -51,9 +51,13 @@ rule_code T6 = codes "T6"
 rule_code T7 = codes "T7"
 rule_code C = codes "C"
 
+-- the rule, and the address that it is about
+abbrev pub rule_at : Rule → ℕ → List ℕ
+rule_at rule va = codes "rule " ++ rule_code rule ++ codes "\nat " ++ hex va ++ codes "\n"
+
 -- the rule, and the address that was asked
 abbrev pub rule_lines : Rule → ℕ → List ℕ
-rule_lines rule va = codes "broken\nrule " ++ rule_code rule ++ codes "\nat " ++ hex va ++ codes "\n"
+rule_lines rule va = codes "broken\n" ++ rule_at rule va
 
 -- whether a physical word stopped the reading
 abbrev pub tells_stop : Rule → Bool
@@ -64,8 +68,11 @@ tells_stop M6 = true
 tells_stop rule = false
 
 -- the level in one digit, and the physical address of that word
+abbrev pub stop_text : ℕ → ℕ → List ℕ
+stop_text level pa = codes "stop " ++ (48 + level) ∷ [] ++ codes " " ++ hex pa ++ codes "\n"
+
 abbrev pub stop_line : Rule → ℕ → ℕ → List ℕ
-stop_line rule level pa = if tells_stop rule then codes "stop " ++ (48 + level) ∷ [] ++ codes " " ++ hex pa ++ codes "\n" else []
+stop_line rule level pa = if tells_stop rule then stop_text level pa else []
 
 -- a word that shows something: its virtual address, or `-` for a paging entry, its physical address, its file
 -- offset and its value

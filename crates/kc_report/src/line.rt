@@ -1,7 +1,7 @@
 // The lines of a broken rule, of a stop, and of a place.
 ghost use Rattle.std.specs.Prelude.{◌≡◌, ◌+◌, ◌≤◌, ◌++◌, ◌∷◌, [], codes, IfOk, OnOk};
 ghost use Rattle.kc_memory.specs.Places.{entry_places};
-ghost use Rattle.kc_report.specs.Lines.{address_text, broken_text, place_line, place_lines, rule_code, rule_lines, stop_line, tells_stop};
+ghost use Rattle.kc_report.specs.Lines.{address_text, broken_text, place_line, place_lines, rule_at, rule_code, rule_lines, stop_line, stop_text, tells_stop};
 
 use kc_memory::{Miss, PWord, Place, Rule};
 use kc_text::{push, push_hex};
@@ -71,7 +71,15 @@ fn tells_stop(rule: Rule) -> bool
 pub fn push_rule(text: &mut Vec<u8>, rule: Rule, va: u64) -> Result<(), NoMemory>
     ensures { OnOk result (text.new.items ≡ text.old.items ++ rule_lines rule va) }
 {
-    push(text, b"broken\nrule ")?;
+    push(text, b"broken\n")?;
+    push_rule_at(text, rule, va)
+}
+
+// Adds the lines of a rule and of the address that it is about.
+pub(crate) fn push_rule_at(text: &mut Vec<u8>, rule: Rule, va: u64) -> Result<(), NoMemory>
+    ensures { OnOk result (text.new.items ≡ text.old.items ++ rule_at rule va) }
+{
+    push(text, b"rule ")?;
     push(text, rule_code(rule))?;
     push(text, b"\nat ")?;
     push_hex(text, va)?;
@@ -87,6 +95,14 @@ pub fn push_stop(text: &mut Vec<u8>, rule: Rule, level: u8, pa: u64) -> Result<(
     if !tells_stop(rule) {
         return Ok(());
     }
+    push_stop_text(text, level, pa)
+}
+
+// Adds the line of a physical word that stopped the reading: the level and the physical address.
+pub(crate) fn push_stop_text(text: &mut Vec<u8>, level: u8, pa: u64) -> Result<(), NoMemory>
+    requires { level ≤ 5 }
+    ensures { OnOk result (text.new.items ≡ text.old.items ++ stop_text level pa) }
+{
     push(text, b"stop ")?;
     push(text, &[b'0' + level])?;
     push(text, b" ")?;

@@ -1,0 +1,398 @@
+-- The laws of a report's formats: they come from those of their parts, and the texts are the same.
+use Rattle.std.proofs.Common.{◌≡◌, ℕ, ◌<◌, ◌≤◌, ◌^◌, ◌⊎◌, true, ◌&&◌, leb, List, [], ◌∷◌, ◌++◌, length, codes, Option, Some, None, Ok, Err, IsTrue, refl, sym, ap, ◌∙◌, inl, inr, arith, lit<, lit≤, append_assoc}
+use Rattle.std.proofs.lemmas.List.Elements.{All-nil}
+use Rattle.std.proofs.lemmas.Bool.Decides.{nat_tests}
+use Rattle.kc_memory.specs.declared.rule.Rule.{Rule}
+use Rattle.kc_memory.specs.declared.rule.Rule.TheVariants.{M1, M2, M3, M4, M5, M6, N, K, A, L1, H1, R1, R2, R3, R4, R5, R6, X1, X2, X3, X4, X5, X6, X7, X8, X9, U1, U2, U3, U4, U5, U6, U7, T1, T2, T3, T4, T5, T6, T7, C}
+use Rattle.kc_memory.specs.declared.words.Place.{Place}
+use Rattle.kc_word.specs.Hex.{hex_digits}
+use Rattle.kc_text.specs.Format.{Format, Anything, Nothing, IsFormat, IsWhole}
+use Rattle.kc_text.specs.Readers.{literal, name_and, decimal_and, hex16, read_hex_digits, digit_from, IsAmong}
+use Rattle.kc_text.specs.Compose.{both, mapped, either, after, followed, texts, lines}
+use Rattle.kc_text.proofs.FormatLaws.{both-law, mapped-law, nothing-law, either-law, ok_not_err}
+use Rattle.kc_text.proofs.ReaderLaws.{literal-law, name-law, decimal-law, hex-law, digit-law}
+use Rattle.kc_text.proofs.LineLaws.{after-law, followed-law, one-law, lines-law}
+use Rattle.kc_report.specs.declared.read.Coded.{Coded}
+use Rattle.kc_report.specs.Lines.{rule_code, address_text, place_line, place_lines}
+use Rattle.kc_report.specs.Report.{AuditLine, BrokenLines, IsNumber, IsStopNumber, IsLine, IsShown, IsBroken, stop_levels, is_stop_at}
+use Rattle.kc_report.specs.ReportText.{audit_line, expected_text, stop_lines, broken_lines}
+use Rattle.kc_report.specs.Formats.{line_of, line_parts, line_format, number_or_none, address_format, expected_format, place_of, place_parts, place_format, coded, coded_rules, code_format, rule_format, stop_parts, stop_format, Parts, broken_of, broken_parts, broken_format, clean_format}
+
+small : 0 < 2 ^ 64
+small = lit< tt
+
+-- an audit of a clean report
+abbrev elements_format : Format ℕ
+elements_format = after (codes "elements ") (decimal_and 10)
+
+elements-law : IsFormat elements_format
+elements-law = after-law Anything (codes "elements ") (decimal_and 10) (decimal-law 10 refl) (0, small)
+
+abbrev walks_format : Format (ℕ × ℕ)
+walks_format = after (codes "walks ") (both (decimal_and 32) (λ _. elements_format))
+
+walks-law : IsFormat walks_format
+walks-law =
+    after-law Anything (codes "walks ") (both (decimal_and 32) (λ _. elements_format))
+    (both-law Anything (decimal_and 32) (λ _. elements_format) (decimal-law 32 refl) (λ n good. elements-law) (λ n good. (0, small)))
+    ((0, 0), (small, small))
+
+line-parts-law : IsFormat line_parts
+line-parts-law =
+    after-law Anything (codes "audit ") (both (name_and 32) (λ _. walks_format))
+    (both-law Anything (name_and 32) (λ _. walks_format) (name-law 32 refl) (λ name good. walks-law) (λ name good. ((0, 0), (small, small))))
+    ((97 ∷ [], (0, 0)), (refl, (small, small)))
+
+line-text : (p : List ℕ × (ℕ × ℕ)) → audit_line (line_of p) ≡ line_parts.spell p
+line-text p = simp append_assoc
+
+pub line-law : IsFormat line_format
+line-law =
+    mapped-law line_of IsLine audit_line Anything line_parts line-parts-law
+    (λ p good. (record { name = good.0; walks = good.1.0; elements = good.1.1 }, line-text p))
+    (λ l good. ((l.name, (l.walks, l.elements)), (good.name, (good.walks, good.elements)), refl))
+
+pub line-some : (l : AuditLine) → IsLine l → 1 ≤ length (audit_line l)
+line-some l good = omega arith
+
+-- a number, or a word in place of one
+none-apart : (text : List ℕ) → ((more : List ℕ) → read_hex_digits 16 0 (text ++ more) ≡ Err (text ++ more)) → (u : Unit {0}) (more : List ℕ) → Unit {0} → (t : ℕ × List ℕ)
+    → hex16.read ((literal text).spell u ++ more) ≡ Ok t → ⊥
+none-apart text stops u more good t is = ok_not_err t (text ++ more) (sym is ∙ stops more)
+
+module _ (text : List ℕ) (stops : (more : List ℕ) → read_hex_digits 16 0 (text ++ more) ≡ Err (text ++ more)) (spell : Option ℕ → List ℕ)
+    (none : spell None ≡ text) (some : (n : ℕ) → spell (Some n) ≡ hex_digits 16 n) where
+  number_good : (z : Unit {0} ⊎ ℕ) → (either (literal text) hex16).Good z → IsNumber (number_or_none z) × (spell (number_or_none z) ≡ (either (literal text) hex16).spell z)
+  number_good (inl u) good = (tt, none)
+  number_good (inr n) good = (good, some n)
+
+  number_back : (o : Option ℕ) → IsNumber o → (z : Unit {0} ⊎ ℕ) × (either (literal text) hex16).Good z × (number_or_none z ≡ o)
+  number_back None good = (inl tt, tt, refl)
+  number_back (Some n) good = (inr n, good, refl)
+
+  number-law : IsFormat (mapped number_or_none IsNumber spell (either (literal text) hex16))
+  number-law =
+      mapped-law number_or_none IsNumber spell Anything (either (literal text) hex16)
+      (either-law Anything (literal text) hex16 (literal-law text) hex-law (none-apart text stops)) number_good number_back
+
+dash-stops : (more : List ℕ) → read_hex_digits 16 0 (codes "-" ++ more) ≡ Err (codes "-" ++ more)
+unfolding read_hex_digits
+dash-stops more = refl
+
+none-stops : (more : List ℕ) → read_hex_digits 16 0 (codes "none" ++ more) ≡ Err (codes "none" ++ more)
+unfolding read_hex_digits
+none-stops more = refl
+
+address-law : IsFormat address_format
+address-law = number-law (codes "-") dash-stops address_text refl (λ n. refl)
+
+expected-law : IsFormat expected_format
+expected-law = number-law (codes "none") none-stops expected_text refl (λ n. refl)
+
+-- a place
+abbrev value_format : Format ℕ
+value_format = after (codes " ") (followed hex16 (codes "\n"))
+
+value-law : IsFormat value_format
+value-law = after-law Anything (codes " ") (followed hex16 (codes "\n")) (followed-law hex16 (codes "\n") hex-law) (0, small)
+
+abbrev off_format : Format (ℕ × ℕ)
+off_format = after (codes " ") (both hex16 (λ _. value_format))
+
+off-law : IsFormat off_format
+off-law =
+    after-law Anything (codes " ") (both hex16 (λ _. value_format)) (both-law Anything hex16 (λ _. value_format) hex-law (λ n good. value-law) (λ n good. (0, small)))
+    ((0, 0), (small, small))
+
+abbrev pa_format : Format (ℕ × (ℕ × ℕ))
+pa_format = after (codes " ") (both hex16 (λ _. off_format))
+
+pa-law : IsFormat pa_format
+pa-law =
+    after-law Anything (codes " ") (both hex16 (λ _. off_format)) (both-law Anything hex16 (λ _. off_format) hex-law (λ n good. off-law) (λ n good. ((0, 0), (small, small))))
+    ((0, (0, 0)), (small, (small, small)))
+
+place-parts-law : IsFormat place_parts
+place-parts-law =
+    after-law Anything (codes "place ") (both address_format (λ _. pa_format))
+    (both-law Anything address_format (λ _. pa_format) address-law (λ va good. pa-law) (λ va good. ((0, (0, 0)), (small, (small, small)))))
+    ((None, (0, (0, 0))), (tt, (small, (small, small))))
+
+place-text : (p : Option ℕ × (ℕ × (ℕ × ℕ))) → place_line (place_of p) ≡ place_parts.spell p
+place-text p = simp append_assoc
+
+pub place-law : IsFormat place_format
+place-law =
+    mapped-law place_of IsShown place_line Anything place_parts place-parts-law
+    (λ p good. (record { va = good.0; pa = good.1.0; off = good.1.1.0; value = good.1.1.1 }, place-text p))
+    (λ p good. ((p.va, (p.pa, (p.off, p.value))), (good.va, (good.pa, (good.off, good.value))), refl))
+
+-- a rule
+code-again : (rule : Rule) (rest : List ℕ) → code_format.read (rule_code rule ++ rest) ≡ Ok (coded rule, rest)
+code-again M1 rest = refl
+code-again M2 rest = refl
+code-again M3 rest = refl
+code-again M4 rest = refl
+code-again M5 rest = refl
+code-again M6 rest = refl
+code-again N rest = refl
+code-again K rest = refl
+code-again A rest = refl
+code-again L1 rest = refl
+code-again H1 rest = refl
+code-again R1 rest = refl
+code-again R2 rest = refl
+code-again R3 rest = refl
+code-again R4 rest = refl
+code-again R5 rest = refl
+code-again R6 rest = refl
+code-again X1 rest = refl
+code-again X2 rest = refl
+code-again X3 rest = refl
+code-again X4 rest = refl
+code-again X5 rest = refl
+code-again X6 rest = refl
+code-again X7 rest = refl
+code-again X8 rest = refl
+code-again X9 rest = refl
+code-again U1 rest = refl
+code-again U2 rest = refl
+code-again U3 rest = refl
+code-again U4 rest = refl
+code-again U5 rest = refl
+code-again U6 rest = refl
+code-again U7 rest = refl
+code-again T1 rest = refl
+code-again T2 rest = refl
+code-again T3 rest = refl
+code-again T4 rest = refl
+code-again T5 rest = refl
+code-again T6 rest = refl
+code-again T7 rest = refl
+code-again C rest = refl
+
+code-law : IsFormat code_format
+code-law = one-law (λ (c : Coded). rule_code c.0) (coded M1) (coded M2 ∷ coded M3 ∷ coded M4 ∷ coded M5 ∷ coded M6 ∷ coded N ∷ coded K ∷ coded A ∷ coded L1 ∷ coded H1 ∷ coded R1 ∷ coded R2 ∷ coded R3 ∷ coded R4 ∷ coded R5 ∷ coded R6 ∷ coded X1 ∷ coded X2 ∷ coded X3 ∷ coded X4 ∷ coded X5 ∷ coded X6 ∷ coded X7 ∷ coded X8 ∷ coded X9 ∷ coded U1 ∷ coded U2 ∷ coded U3 ∷ coded U4 ∷ coded U5 ∷ coded U6 ∷ coded U7 ∷ coded T1 ∷ coded T2 ∷ coded T3 ∷ coded T4 ∷ coded T5 ∷ coded T6 ∷ coded T7 ∷ coded C ∷ []) (λ c rest among. code-again c.0 rest)
+
+coded_among : (c : Coded) → IsAmong c coded_rules
+coded_among c = (code-law.takes (rule_code c.0 ++ []) [] c (code-again c.0 [])).0
+
+rule-law : IsFormat rule_format
+rule-law = mapped-law (λ c. c.0) (λ _. Unit {0}) rule_code Anything code_format code-law (λ c good. (tt, refl)) (λ rule good. (coded rule, coded_among (coded rule), refl))
+
+-- a stop
+IsLevels : Option (ℕ × ℕ) → Type 0
+IsLevels None = Unit {0}
+IsLevels (Some levels) = levels.0 ≤ levels.1
+
+levels_ordered : (rule : Rule) → IsLevels (stop_levels rule)
+unfolding IsLevels
+levels_ordered M3 = lit≤ tt
+levels_ordered M4 = lit≤ tt
+levels_ordered M5 = lit≤ tt
+levels_ordered M6 = lit≤ tt
+levels_ordered rule = tt
+
+abbrev stop_pa_format : Format ℕ
+stop_pa_format = after (codes " ") (followed hex16 (codes "\n"))
+
+stop-parts-law : (levels : ℕ × ℕ) → levels.0 ≤ levels.1 → IsFormat (stop_parts levels)
+stop-parts-law levels some =
+    after-law Anything (codes "stop ") (both (digit_from levels.0 levels.1) (λ _. stop_pa_format))
+    (both-law Anything (digit_from levels.0 levels.1) (λ _. stop_pa_format) (digit-law levels.0 levels.1 some) (λ level good. value-law) (λ level good. (0, small)))
+    ((levels.0, 0), ((omega arith, some), small))
+
+stop-text : (levels stop : ℕ × ℕ) → stop_lines (Some stop) ≡ (stop_parts levels).spell stop
+stop-text levels stop = simp append_assoc
+
+stop_inside : (low high level : ℕ) → (leb low level && leb level high) ≡ true → (low ≤ level) × (level ≤ high)
+stop_inside low high level is = (grind (arith, nat_tests), grind (arith, nat_tests))
+
+stop_within : (low high level : ℕ) → low ≤ level → level ≤ high → (leb low level && leb level high) ≡ true
+stop_within low high level above below = grind (arith, nat_tests)
+
+IsStopOf : Option (ℕ × ℕ) → Option (ℕ × ℕ) → Type 0
+IsStopOf levels stop = IsTrue (is_stop_at levels stop) × IsStopNumber stop
+
+stop_back : (levels : ℕ × ℕ) (o : Option (ℕ × ℕ)) → IsTrue (is_stop_at (Some levels) o) × IsStopNumber o → (stop : ℕ × ℕ) × (stop_parts levels).Good stop × (Some stop ≡ o)
+stop_back levels None good = absurd (let wrong = good.0 in let none : ⊥ = cc in none)
+stop_back levels (Some stop) good = (stop, (stop_inside levels.0 levels.1 stop.0 good.0, good.1), refl)
+
+stop-law : (levels : Option (ℕ × ℕ)) → IsLevels levels → IsFormat (stop_format levels)
+unfolding IsLevels
+stop-law None some = nothing-law None
+stop-law (Some levels) some =
+    mapped-law (λ stop. Some stop) (λ stop. IsTrue (is_stop_at (Some levels) stop) × IsStopNumber stop) stop_lines Anything (stop_parts levels) (stop-parts-law levels some)
+    (λ stop good. ((stop_within levels.0 levels.1 stop.0 good.0.0 good.0.1, good.1), stop-text levels stop))
+    (stop_back levels)
+
+-- what the format of a stop says of it, and what says that it has a text
+stop_good : (levels stop : Option (ℕ × ℕ)) → (stop_format levels).Good stop → IsStopOf levels stop
+unfolding IsStopOf
+stop_good None None good = (refl, tt)
+stop_good None (Some stop) good = absurd (let none : ⊥ = cc in none)
+stop_good (Some levels) stop good = good
+
+stop_has : (levels stop : Option (ℕ × ℕ)) → IsStopOf levels stop → (stop_format levels).Good stop
+unfolding IsStopOf
+stop_has None None good = refl
+stop_has None (Some stop) good = absurd (let wrong = good.0 in let none : ⊥ = cc in none)
+stop_has (Some levels) stop good = good
+
+stop_spelled : (levels stop : Option (ℕ × ℕ)) → (stop_format levels).Good stop → (stop_format levels).spell stop ≡ stop_lines stop
+stop_spelled None None good = refl
+stop_spelled None (Some stop) good = absurd (let none : ⊥ = cc in none)
+stop_spelled (Some levels) stop good = refl
+
+stop_some : (levels : Option (ℕ × ℕ)) → IsLevels levels → (stop : Option (ℕ × ℕ)) × (stop_format levels).Good stop
+unfolding IsLevels
+stop_some None some = (None, refl)
+stop_some (Some levels) some = (Some (levels.0, 0), (stop_within levels.0 levels.1 levels.0 (omega arith) some, small))
+
+-- the places
+pub place-some : (p : Place) → IsShown p → 1 ≤ length (place_line p)
+place-some p good = omega arith
+
+places-law : IsWhole (lines place_format)
+places-law = lines-law place_format place-law place-some
+
+pub place_lines-texts : (ps : List Place) → place_lines ps ≡ texts place_line ps
+place_lines-texts [] = refl
+place_lines-texts (p ∷ ps) = ap (λ l. place_line p ++ l) (place_lines-texts ps)
+
+-- a report of a violation, from its end
+abbrev end_format : Rule → Format (Option (ℕ × ℕ) × List Place)
+end_format rule = both (stop_format (stop_levels rule)) (λ _. lines place_format)
+
+end-law : (rule : Rule) → IsWhole (end_format rule)
+end-law rule =
+    both-law Nothing (stop_format (stop_levels rule)) (λ _. lines place_format) (stop-law (stop_levels rule) (levels_ordered rule)) (λ stop good. places-law) (λ stop good. ([], All-nil IsShown))
+
+end_some : (rule : Rule) → (e : Option (ℕ × ℕ) × List Place) × (end_format rule).Good e
+end_some rule =
+    let s = stop_some (stop_levels rule) (levels_ordered rule) in
+    ((s.0, []), (s.1, All-nil IsShown))
+
+abbrev expected_end : Rule → Format (Option ℕ × (Option (ℕ × ℕ) × List Place))
+expected_end rule = after (codes "expected ") (both (followed expected_format (codes "\n")) (λ _. end_format rule))
+
+expected_some : (rule : Rule) → (e : Option ℕ × (Option (ℕ × ℕ) × List Place)) × (expected_end rule).Good e
+expected_some rule = let e = end_some rule in ((None, e.0), (tt, e.1))
+
+expected-end-law : (rule : Rule) → IsWhole (expected_end rule)
+expected-end-law rule =
+    after-law Nothing (codes "expected ") (both (followed expected_format (codes "\n")) (λ _. end_format rule))
+    (both-law Nothing (followed expected_format (codes "\n")) (λ _. end_format rule) (followed-law expected_format (codes "\n") expected-law) (λ o good. end-law rule) (λ o good. end_some rule))
+    (expected_some rule)
+
+abbrev at_end : Rule → Format (ℕ × (Option ℕ × (Option (ℕ × ℕ) × List Place)))
+at_end rule = after (codes "at ") (both (followed hex16 (codes "\n")) (λ _. expected_end rule))
+
+at_some : (rule : Rule) → (e : ℕ × (Option ℕ × (Option (ℕ × ℕ) × List Place))) × (at_end rule).Good e
+at_some rule = let e = expected_some rule in ((0, e.0), (small, e.1))
+
+at-end-law : (rule : Rule) → IsWhole (at_end rule)
+at-end-law rule =
+    after-law Nothing (codes "at ") (both (followed hex16 (codes "\n")) (λ _. expected_end rule))
+    (both-law Nothing (followed hex16 (codes "\n")) (λ _. expected_end rule) (followed-law hex16 (codes "\n") hex-law) (λ n good. expected-end-law rule) (λ n good. expected_some rule))
+    (at_some rule)
+
+abbrev RuleEnd : Type 0
+RuleEnd = Rule × (ℕ × (Option ℕ × (Option (ℕ × ℕ) × List Place)))
+
+abbrev rule_end : Format RuleEnd
+rule_end = after (codes "rule ") (both (followed rule_format (codes "\n")) (λ rule. at_end rule))
+
+rule_some : (e : RuleEnd) × rule_end.Good e
+rule_some = let e = at_some M1 in ((M1, e.0), (tt, e.1))
+
+rule-end-law : IsWhole rule_end
+rule-end-law =
+    after-law Nothing (codes "rule ") (both (followed rule_format (codes "\n")) (λ rule. at_end rule))
+    (both-law Nothing (followed rule_format (codes "\n")) (λ rule. at_end rule) (followed-law rule_format (codes "\n") rule-law) (λ rule good. at-end-law rule) (λ rule good. at_some rule))
+    rule_some
+
+abbrev start_end : Format (ℕ × RuleEnd)
+start_end = after (codes "start ") (both (followed hex16 (codes "\n")) (λ _. rule_end))
+
+start_some : (e : ℕ × RuleEnd) × start_end.Good e
+start_some = let e = rule_some in ((0, e.0), (small, e.1))
+
+start-end-law : IsWhole start_end
+start-end-law =
+    after-law Nothing (codes "start ") (both (followed hex16 (codes "\n")) (λ _. rule_end))
+    (both-law Nothing (followed hex16 (codes "\n")) (λ _. rule_end) (followed-law hex16 (codes "\n") hex-law) (λ n good. rule-end-law) (λ n good. rule_some))
+    start_some
+
+parts_some : (p : Parts) × broken_parts.Good p
+parts_some = let e = start_some in ((97 ∷ [], e.0), (refl, e.1))
+
+broken-parts-law : IsWhole broken_parts
+broken-parts-law =
+    after-law Nothing (codes "broken\naudit ") (both (name_and 10) (λ _. start_end))
+    (both-law Nothing (name_and 10) (λ _. start_end) (name-law 10 refl) (λ name good. start-end-law) (λ name good. start_some))
+    parts_some
+
+-- the text, whatever its end, grouped in the two ways
+grouped : (a n c b s d r e t f x stop places : List ℕ)
+    → (a ++ n ++ ((c ++ b) ++ s ++ c)) ++ (d ++ r ++ (c ++ e) ++ t ++ c) ++ (f ++ x ++ c ++ stop ++ places)
+    ≡ a ++ ((n ++ c) ++ (b ++ ((s ++ c) ++ (d ++ ((r ++ c) ++ (e ++ ((t ++ c) ++ (f ++ ((x ++ c) ++ (stop ++ places))))))))))
+grouped a n c b s d r e t f x stop places = simp append_assoc
+
+module _ (p : Parts) (stop places : List ℕ) where
+  abbrev lines_with : List ℕ
+  lines_with =
+      (codes "broken\naudit " ++ p.0 ++ (codes "\nstart " ++ hex_digits 16 p.1.0 ++ codes "\n"))
+      ++ (codes "rule " ++ rule_code p.1.1.0 ++ codes "\nat " ++ hex_digits 16 p.1.1.1.0 ++ codes "\n")
+      ++ (codes "expected " ++ expected_text p.1.1.1.1.0 ++ codes "\n" ++ stop ++ places)
+
+  abbrev parts_with : List ℕ
+  parts_with =
+      codes "broken\naudit " ++ ((p.0 ++ 10 ∷ []) ++ (codes "start " ++ ((hex_digits 16 p.1.0 ++ codes "\n") ++ (codes "rule " ++ ((rule_code p.1.1.0 ++ codes "\n")
+      ++ (codes "at " ++ ((hex_digits 16 p.1.1.1.0 ++ codes "\n") ++ (codes "expected " ++ ((expected_text p.1.1.1.1.0 ++ codes "\n") ++ (stop ++ places))))))))))
+
+  same_lines : lines_with ≡ parts_with
+  same_lines =
+      grouped (codes "broken\naudit ") p.0 (codes "\n") (codes "start ") (hex_digits 16 p.1.0) (codes "rule ") (rule_code p.1.1.0) (codes "at ") (hex_digits 16 p.1.1.1.0)
+      (codes "expected ") (expected_text p.1.1.1.1.0) stop places
+
+broken-text : (p : Parts) → broken_parts.Good p → broken_lines (broken_of p) ≡ broken_parts.spell p
+broken-text p good =
+    let rule = p.1.1.0 in
+    let stop = p.1.1.1.1.1.0 in
+    let places = p.1.1.1.1.1.1 in
+    same_lines p (stop_lines stop) (place_lines places)
+    ∙ ap (parts_with p (stop_lines stop)) (place_lines-texts places)
+    ∙ ap (λ l. parts_with p l (texts place_line places)) (sym (stop_spelled (stop_levels rule) stop good.1.1.1.1.1.0))
+
+broken_good : (p : Parts) → broken_parts.Good p → IsBroken (broken_of p)
+unfolding IsStopOf
+broken_good p good =
+    let s = stop_good (stop_levels p.1.1.0) p.1.1.1.1.1.0 good.1.1.1.1.1.0 in
+    record {
+      audit = good.0;
+      start = good.1.0;
+      at = good.1.1.1.0;
+      expected = good.1.1.1.1.0;
+      stop = s.0;
+      stop_number = s.1;
+      places = good.1.1.1.1.1.1;
+    }
+
+broken_back : (b : BrokenLines) → IsBroken b → (p : Parts) × broken_parts.Good p × (broken_of p ≡ b)
+unfolding IsStopOf
+broken_back b good = (
+  (b.audit, (b.start, (b.rule, (b.at, (b.expected, (b.stop, b.places)))))),
+  (good.audit, (good.start, (tt, (good.at, (good.expected, (stop_has (stop_levels b.rule) b.stop (good.stop, good.stop_number), good.places)))))),
+  refl,
+)
+
+pub broken-law : IsWhole broken_format
+broken-law = mapped-law broken_of IsBroken broken_lines Nothing broken_parts broken-parts-law (λ p good. (broken_good p good, broken-text p good)) broken_back
+
+pub clean-law : IsWhole clean_format
+clean-law = after-law Nothing (codes "clean\n") (lines line_format) (lines-law line_format line-law line-some) ([], All-nil IsLine)
+
+-- a report of either kind
+pub either-report-law : IsWhole (either clean_format broken_format)
+either-report-law = either-law Nothing clean_format broken_format clean-law broken-law (λ ls more good t is. ok_not_err t (clean_format.spell ls ++ more) (sym is))

@@ -1,0 +1,3 @@
+mod BackLemmas
+mod FormatLaws
+mod ItemLemmas

@@ -1,0 +1,15 @@
+use Rattle.kc_report.proofs.BackLemmas.{report_is, rest_within, refused_is, stopped_at}
+use Rattle.kc_report.proofs.back.read_report.Goals as goal
+
+pub overflow_sub-result : goal.overflow_sub-result
+overflow_sub-result c =
+    let bytes = c.args.bytes.now in
+    rest_within bytes c.in-Err-At.rest.now (stopped_at bytes c.in-Err-At.field-0 c.in-Err-At.rest c.in-Err-At.field-0-is c.in-Err-At.ensures)
+
+pub returns-in-Ok-clause-report : goal.returns-in-Ok-clause-report
+returns-in-Ok-clause-report c = report_is c.args.bytes.now c.in-Ok.report c.in-Ok.ensures
+
+pub returns-in-Err-At-clause-refused : goal.returns-in-Err-At-clause-refused
+returns-in-Err-At-clause-refused c =
+    let bytes = c.args.bytes.now in
+    refused_is bytes c.in-Err-At.rest.now (stopped_at bytes c.in-Err-At.field-0 c.in-Err-At.rest c.in-Err-At.field-0-is c.in-Err-At.ensures)

@@ -1,0 +1,101 @@
+-- The formats of a report's lines.
+use Rattle.std.specs.Prelude.{ℕ, ◌⊎◌, List, [], ◌∷◌, codes, Option, Some, None, Result, Ok, IsTrue}
+use Rattle.std.proofs.Common.{inl, inr}
+use Rattle.kc_memory.specs.declared.rule.Rule.{Rule}
+use Rattle.kc_memory.specs.declared.rule.Rule.TheVariants.{M1, M2, M3, M4, M5, M6, N, K, A, L1, H1, R1, R2, R3, R4, R5, R6, X1, X2, X3, X4, X5, X6, X7, X8, X9, U1, U2, U3, U4, U5, U6, U7, T1, T2, T3, T4, T5, T6, T7, C}
+use Rattle.kc_memory.specs.declared.words.Place.{Place}
+use Rattle.kc_report.specs.declared.read.Coded.{Coded}
+use Rattle.kc_text.specs.Format.{Format}
+use Rattle.kc_text.specs.Reading.{and_then}
+use Rattle.kc_text.specs.Readers.{literal, name_and, decimal_and, hex16, digit_from, one_of}
+use Rattle.kc_text.specs.Compose.{both, mapped, nothing, either, after, followed, lines}
+use Rattle.kc_report.specs.Lines.{rule_code, address_text, place_line}
+use Rattle.kc_report.specs.Report.{AuditLine, BrokenLines, IsNumber, IsStopNumber, IsLine, IsShown, IsBroken, stop_levels, is_stop_at}
+use Rattle.kc_report.specs.ReportText.{audit_line, expected_text, stop_lines, broken_lines}
+
+abbrev pub line_of : List ℕ × (ℕ × ℕ) → AuditLine
+line_of p = record { name = p.0; walks = p.1.0; elements = p.1.1 }
+
+abbrev pub line_parts : Format (List ℕ × (ℕ × ℕ))
+line_parts = after (codes "audit ") (both (name_and 32) (λ _. after (codes "walks ") (both (decimal_and 32) (λ _. after (codes "elements ") (decimal_and 10)))))
+
+abbrev pub line_format : Format AuditLine
+line_format = mapped line_of IsLine audit_line line_parts
+
+-- a number, or a word that stands for none
+abbrev pub number_or_none : Unit {0} ⊎ ℕ → Option ℕ
+number_or_none (inl u) = None
+number_or_none (inr n) = Some n
+
+abbrev pub read_number : List ℕ → List ℕ → Result (Option ℕ × List ℕ) (List ℕ)
+read_number none bytes = and_then ((either (literal none) hex16).read bytes) (λ r. Ok (number_or_none r.0, r.1))
+
+abbrev pub address_format : Format (Option ℕ)
+address_format = mapped number_or_none IsNumber address_text (either (literal (codes "-")) hex16)
+
+abbrev pub expected_format : Format (Option ℕ)
+expected_format = mapped number_or_none IsNumber expected_text (either (literal (codes "none")) hex16)
+
+abbrev pub place_of : Option ℕ × (ℕ × (ℕ × ℕ)) → Place
+place_of p = record { va = p.0; pa = p.1.0; off = p.1.1.0; value = p.1.1.1 }
+
+abbrev pub place_parts : Format (Option ℕ × (ℕ × (ℕ × ℕ)))
+place_parts =
+    after (codes "place ") (both address_format (λ _.
+    after (codes " ") (both hex16 (λ _. after (codes " ") (both hex16 (λ _. after (codes " ") (followed hex16 (codes "\n"))))))))
+
+abbrev pub place_format : Format Place
+place_format = mapped place_of IsShown place_line place_parts
+
+-- the rules, in the order in which they are tried
+abbrev pub coded : Rule → Coded
+coded rule = record { 0 = rule }
+
+abbrev pub coded_rules : List Coded
+coded_rules =
+    coded M1 ∷ coded M2 ∷ coded M3 ∷ coded M4 ∷ coded M5 ∷ coded M6 ∷ coded N ∷ coded K ∷ coded A ∷ coded L1 ∷ coded H1 ∷ coded R1 ∷ coded R2 ∷ coded R3 ∷ coded R4 ∷ coded R5 ∷ coded R6
+    ∷ coded X1 ∷ coded X2 ∷ coded X3 ∷ coded X4 ∷ coded X5 ∷ coded X6 ∷ coded X7 ∷ coded X8 ∷ coded X9 ∷ coded U1 ∷ coded U2 ∷ coded U3 ∷ coded U4 ∷ coded U5 ∷ coded U6 ∷ coded U7
+    ∷ coded T1 ∷ coded T2 ∷ coded T3 ∷ coded T4 ∷ coded T5 ∷ coded T6 ∷ coded T7 ∷ coded C ∷ []
+
+abbrev pub code_format : Format Coded
+code_format = one_of (λ c. rule_code c.0) coded_rules
+
+abbrev pub rule_format : Format Rule
+rule_format = mapped (λ c. c.0) (λ _. Unit {0}) rule_code code_format
+
+abbrev pub stop_parts : ℕ × ℕ → Format (ℕ × ℕ)
+stop_parts levels = after (codes "stop ") (both (digit_from levels.0 levels.1) (λ _. after (codes " ") (followed hex16 (codes "\n"))))
+
+-- a stop of one of these levels, or where there are none nothing
+abbrev pub stop_format : Option (ℕ × ℕ) → Format (Option (ℕ × ℕ))
+stop_format None = nothing None
+stop_format (Some levels) = mapped (λ stop. Some stop) (λ stop. IsTrue (is_stop_at (Some levels) stop) × IsStopNumber stop) stop_lines (stop_parts levels)
+
+abbrev pub Parts : Type 0
+Parts = List ℕ × (ℕ × (Rule × (ℕ × (Option ℕ × (Option (ℕ × ℕ) × List Place)))))
+
+abbrev pub broken_of : Parts → BrokenLines
+broken_of p = record {
+  audit = p.0;
+  start = p.1.0;
+  rule = p.1.1.0;
+  at = p.1.1.1.0;
+  expected = p.1.1.1.1.0;
+  stop = p.1.1.1.1.1.0;
+  places = p.1.1.1.1.1.1;
+}
+
+abbrev pub broken_parts : Format Parts
+broken_parts =
+    after (codes "broken\naudit ") (both (name_and 10) (λ _.
+    after (codes "start ") (both (followed hex16 (codes "\n")) (λ _.
+    after (codes "rule ") (both (followed rule_format (codes "\n")) (λ rule.
+    after (codes "at ") (both (followed hex16 (codes "\n")) (λ _.
+    after (codes "expected ") (both (followed expected_format (codes "\n")) (λ _.
+    both (stop_format (stop_levels rule)) (λ _. lines place_format)))))))))))
+
+abbrev pub broken_format : Format BrokenLines
+broken_format = mapped broken_of IsBroken broken_lines broken_parts
+
+abbrev pub clean_format : Format (List AuditLine)
+clean_format = after (codes "clean\n") (lines line_format)

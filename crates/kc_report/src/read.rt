@@ -1,0 +1,184 @@
+// The lines of reports, read back.
+ghost use Rattle.std.specs.Prelude.{◌≡◌, ◌≤◌, Some, None};
+ghost use Rattle.kc_text.specs.Answers.{Gives};
+ghost use Rattle.kc_report.specs.Formats.{line_format, place_format, read_number, stop_format};
+ghost use Rattle.kc_report.specs.Heads.{HeadGives};
+ghost use Rattle.kc_report.specs.Report.{stop_levels};
+
+use crate::line::rule_code;
+use kc_memory::{Place, Rule};
+use kc_text::{
+    Written, read_decimal, read_digit, read_hex16, read_literal, read_name, read_one_of, shorter,
+};
+
+// The name of an audit that found nothing, and its counts of walks and of elements.
+type Line<'a> = (&'a [u8], u64, u64);
+
+// What stands in a report of a violation before its places.
+#[derive(Clone, Copy)]
+pub struct Head<'a> {
+    pub audit: &'a [u8],
+    pub start: u64,
+    pub rule: Rule,
+    pub at: u64,
+    pub expected: Option<u64>,
+    pub stop: Option<(u8, u64)>,
+}
+
+// A rule as it is written: by its code.
+#[derive(Clone, Copy)]
+pub struct Coded(pub Rule);
+
+impl Written for Coded {
+    ghost use Rattle.kc_report.specs.Lines.{rule_code};
+
+    ghost text = { λ c. rule_code c.0 };
+
+    fn text(&self) -> &'static [u8] {
+        rule_code(self.0)
+    }
+}
+
+// The rules, in the order in which they are tried.
+const CODES: [Coded; 41] = [
+    Coded(Rule::M1),
+    Coded(Rule::M2),
+    Coded(Rule::M3),
+    Coded(Rule::M4),
+    Coded(Rule::M5),
+    Coded(Rule::M6),
+    Coded(Rule::N),
+    Coded(Rule::K),
+    Coded(Rule::A),
+    Coded(Rule::L1),
+    Coded(Rule::H1),
+    Coded(Rule::R1),
+    Coded(Rule::R2),
+    Coded(Rule::R3),
+    Coded(Rule::R4),
+    Coded(Rule::R5),
+    Coded(Rule::R6),
+    Coded(Rule::X1),
+    Coded(Rule::X2),
+    Coded(Rule::X3),
+    Coded(Rule::X4),
+    Coded(Rule::X5),
+    Coded(Rule::X6),
+    Coded(Rule::X7),
+    Coded(Rule::X8),
+    Coded(Rule::X9),
+    Coded(Rule::U1),
+    Coded(Rule::U2),
+    Coded(Rule::U3),
+    Coded(Rule::U4),
+    Coded(Rule::U5),
+    Coded(Rule::U6),
+    Coded(Rule::U7),
+    Coded(Rule::T1),
+    Coded(Rule::T2),
+    Coded(Rule::T3),
+    Coded(Rule::T4),
+    Coded(Rule::T5),
+    Coded(Rule::T6),
+    Coded(Rule::T7),
+    Coded(Rule::C),
+];
+
+// Reads the line of an audit that found nothing.
+pub fn read_line(bytes: &[u8]) -> Result<(Line<'_>, &[u8]), &[u8]>
+    ensures { Gives (λ r. (record { name = r.0.0.now; walks = r.0.1; elements = r.0.2 }, r.1.now)) result (line_format.read bytes.now) }
+{
+    let rest = read_literal(bytes, b"audit ")?;
+    let (name, rest) = read_name(rest, b' ')?;
+    let rest = read_literal(rest, b"walks ")?;
+    let (walks, rest) = read_decimal(rest, b' ')?;
+    let rest = read_literal(rest, b"elements ")?;
+    let (elements, rest) = read_decimal(rest, b'\n')?;
+    Ok(((name, walks, elements), rest))
+}
+
+// Reads a number in hex, or a word that stands for none.
+fn read_or_none<'a>(bytes: &'a [u8], none: &[u8]) -> Result<(Option<u64>, &'a [u8]), &'a [u8]>
+    ensures { Gives (λ r. (r.0, r.1.now)) result (read_number none.now bytes.now) }
+{
+    match read_literal(bytes, none) {
+        Ok(rest) => Ok((None, rest)),
+        Err(rest) => match read_hex16(bytes) {
+            Ok((n, rest)) => Ok((Some(n), rest)),
+            Err(other) => Err(shorter(rest, other)),
+        },
+    }
+}
+
+// Reads the line of a word that shows something.
+pub fn read_place(bytes: &[u8]) -> Result<(Place, &[u8]), &[u8]>
+    ensures { Gives (λ r. (r.0, r.1.now)) result (place_format.read bytes.now) }
+{
+    let rest = read_literal(bytes, b"place ")?;
+    let (va, rest) = read_or_none(rest, b"-")?;
+    let rest = read_literal(rest, b" ")?;
+    let (pa, rest) = read_hex16(rest)?;
+    let rest = read_literal(rest, b" ")?;
+    let (off, rest) = read_hex16(rest)?;
+    let rest = read_literal(rest, b" ")?;
+    let (value, rest) = read_hex16(rest)?;
+    let rest = read_literal(rest, b"\n")?;
+    Ok((Place { va, pa, off, value }, rest))
+}
+
+// Reads the line of a stop whose level is one of these.
+fn read_stop_line(bytes: &[u8], low: u8, high: u8) -> Result<(Option<(u8, u64)>, &[u8]), &[u8]>
+    requires low { low ≤ 9 }
+    requires high { high ≤ 9 }
+    ensures { Gives (λ r. (r.0, r.1.now)) result ((stop_format (Some (low, high))).read bytes.now) }
+{
+    let rest = read_literal(bytes, b"stop ")?;
+    let (level, rest) = read_digit(rest, low, high)?;
+    let rest = read_literal(rest, b" ")?;
+    let (pa, rest) = read_hex16(rest)?;
+    let rest = read_literal(rest, b"\n")?;
+    Ok((Some((level, pa)), rest))
+}
+
+// Reads the line of a stop, where this rule has one.
+fn read_stop(bytes: &[u8], rule: Rule) -> Result<(Option<(u8, u64)>, &[u8]), &[u8]>
+    ensures { Gives (λ r. (r.0, r.1.now)) result ((stop_format (stop_levels rule)).read bytes.now) }
+{
+    match rule {
+        Rule::M3 | Rule::M4 | Rule::M5 => read_stop_line(bytes, 1, 5),
+        Rule::M6 => read_stop_line(bytes, 0, 0),
+        _ => Ok((None, bytes)),
+    }
+}
+
+// Reads a report of a violation up to its places.
+pub fn read_head(bytes: &[u8]) -> Result<(Head<'_>, &[u8]), &[u8]>
+    ensures { HeadGives result bytes.now }
+{
+    let rest = read_literal(bytes, b"broken\naudit ")?;
+    let (audit, rest) = read_name(rest, b'\n')?;
+    let rest = read_literal(rest, b"start ")?;
+    let (start, rest) = read_hex16(rest)?;
+    let rest = read_literal(rest, b"\n")?;
+    let rest = read_literal(rest, b"rule ")?;
+    let (Coded(rule), rest) = read_one_of(rest, &CODES)?;
+    let rest = read_literal(rest, b"\n")?;
+    let rest = read_literal(rest, b"at ")?;
+    let (at, rest) = read_hex16(rest)?;
+    let rest = read_literal(rest, b"\n")?;
+    let rest = read_literal(rest, b"expected ")?;
+    let (expected, rest) = read_or_none(rest, b"none")?;
+    let rest = read_literal(rest, b"\n")?;
+    let (stop, rest) = read_stop(rest, rule)?;
+    Ok((
+        Head {
+            audit,
+            start,
+            rule,
+            at,
+            expected,
+            stop,
+        },
+        rest,
+    ))
+}
