@@ -11,7 +11,7 @@ use Rattle.kc_found.specs.declared.found.WalkStop.TheVariants as ends
 use Rattle.kc_found.specs.Trials.{Trial, passed}
 use Rattle.kc_found.specs.Violations.{Violation, missed}
 
--- a stop is by this violation, short of want of memory
+-- a stop is by this violation, unless it is out of memory
 abbrev pub IsBroken : WalkStop → Violation → Type 0
 IsBroken (ends.Broken f) v = f ≡ v
 IsBroken ends.Fault v = ⊥
@@ -22,7 +22,7 @@ abbrev pub IsStopped : WalkStop → Asked → Option VWord → Stop → Type 0
 IsStopped end asked led (stops.Miss s) = IsBroken end (missed asked led s)
 IsStopped end asked led stops.Fault = end ≡ ends.Fault
 
--- short of a fault and of want of memory, an answer is this one
+-- short of a failure and of being out of memory, an answer is this one
 abbrev pub IsWalk : {A B : Type 0} → (A → B) → Result B Violation → Result A WalkStop → Type 0
 IsWalk view truth (Ok x) = truth ≡ Ok (view x)
 IsWalk view truth (Err (ends.Broken f)) = truth ≡ Err f

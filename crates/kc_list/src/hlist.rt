@@ -23,7 +23,7 @@ fn enter_head<S: Space, L: Ledger>(
     steps: &mut Steps<L>,
 ) -> Result<VWord, WalkStop>
     ensures word { IfOk result (λ w. IfSome (S.image space.old) (λ i. vword i (at_offset asked.now.start shape.now.first) ≡ Ok w)) }
-    ensures site { TakesAs (λ i. (one_taken asked.now None (vword i (at_offset asked.now.start shape.now.first)))) claims.old claims.new (S.image space.old) result }
+    ensures site { TakesAs (λ i. one_taken asked.now None (vword i (at_offset asked.now.start shape.now.first))) claims.old claims.new (S.image space.old) result }
     ensures named { IsNamed result asked.now.audit asked.now.start }
     ensures steps { steps.new ≤ steps.old + 2 * S.most space.old }
 
@@ -50,7 +50,7 @@ fn enter_links<S: Space, L: Ledger>(
     steps: &mut Steps<L>,
 ) -> Result<(VWord, VWord), WalkStop>
     ensures links { IfOk result (λ p. IfSome (S.image space.old) (λ i. hash_links (vword i) shape.now from.value ≡ Ok p)) }
-    ensures site { TakesAs (λ i. (two_taken asked.now (Some from) (hash_links (vword i) shape.now from.value))) claims.old claims.new (S.image space.old) result }
+    ensures site { TakesAs (λ i. two_taken asked.now (Some from) (hash_links (vword i) shape.now from.value)) claims.old claims.new (S.image space.old) result }
     ensures named { IsNamed result asked.now.audit asked.now.start }
     ensures steps { steps.new ≤ steps.old + 2 * S.most space.old }
 
@@ -78,7 +78,7 @@ fn enter_node<S: Space, L: Ledger>(
     steps: &mut Steps<L>,
 ) -> Result<(VWord, VWord), WalkStop>
     ensures links { IfOk result (λ p. IfSome (S.image space.old) (λ i. hash_links (vword i) shape.now from.value ≡ Ok p)) }
-    ensures site { TakesAs (λ i. (hash_site asked.now (hash_links (vword i) shape.now from.value) from)) claims.old claims.new (S.image space.old) result }
+    ensures site { TakesAs (λ i. hash_site asked.now (hash_links (vword i) shape.now from.value) from) claims.old claims.new (S.image space.old) result }
     ensures named { IsNamed result asked.now.audit asked.now.start }
     ensures steps { steps.new ≤ steps.old + 2 * S.most space.old }
 

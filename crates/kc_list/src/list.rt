@@ -25,7 +25,7 @@ fn enter_links<S: Space, L: Ledger>(
     steps: &mut Steps<L>,
 ) -> Result<(VWord, VWord), WalkStop>
     ensures links { IfOk result (λ p. IfSome (S.image space.old) (λ i. links (vword i) shape.now node ≡ Ok p)) }
-    ensures site { TakesAs (λ i. (two_taken asked.now led (links (vword i) shape.now node))) claims.old claims.new (S.image space.old) result }
+    ensures site { TakesAs (λ i. two_taken asked.now led (links (vword i) shape.now node)) claims.old claims.new (S.image space.old) result }
     ensures named { IsNamed result asked.now.audit asked.now.start }
     ensures steps { steps.new ≤ steps.old + 2 * S.most space.old }
 
@@ -54,7 +54,7 @@ fn enter_node<S: Space, L: Ledger>(
     steps: &mut Steps<L>,
 ) -> Result<(VWord, VWord), WalkStop>
     ensures links { IfOk result (λ p. IfSome (S.image space.old) (λ i. links (vword i) shape.now from.value ≡ Ok p)) }
-    ensures site { TakesAs (λ i. (ring_site asked.now (links (vword i) shape.now from.value) from before)) claims.old claims.new (S.image space.old) result }
+    ensures site { TakesAs (λ i. ring_site asked.now (links (vword i) shape.now from.value) from before) claims.old claims.new (S.image space.old) result }
     ensures named { IsNamed result asked.now.audit asked.now.start }
     ensures steps { steps.new ≤ steps.old + 2 * S.most space.old }
 

@@ -66,7 +66,7 @@ pub(crate) fn enter_word<S: Space, L: Ledger>(
     steps: &mut Steps<L>,
 ) -> Result<VWord, WalkStop>
     ensures word { IfOk result (λ w. IfSome (S.image space.old) (λ image. vword image va ≡ Ok w)) }
-    ensures site { TakesAs (λ i. (one_taken asked.now led (vword i va))) claims.old claims.new (S.image space.old) result }
+    ensures site { TakesAs (λ i. one_taken asked.now led (vword i va)) claims.old claims.new (S.image space.old) result }
     ensures named { IsNamed result asked.now.audit asked.now.start }
     ensures steps { steps.new ≤ steps.old + 2 * S.most space.old }
 
@@ -98,7 +98,7 @@ pub(crate) fn enter_both<S: Space, L: Ledger>(
     steps: &mut Steps<L>,
 ) -> Result<(VWord, VWord), WalkStop>
     ensures words { IfOk result (λ p. IfSome (S.image space.old) (λ image. both (vword image) first second ≡ Ok p)) }
-    ensures site { TakesAs (λ i. (two_taken asked.now led (both (vword i) first second))) claims.old claims.new (S.image space.old) result }
+    ensures site { TakesAs (λ i. two_taken asked.now led (both (vword i) first second)) claims.old claims.new (S.image space.old) result }
     ensures named { IsNamed result asked.now.audit asked.now.start }
     ensures steps { steps.new ≤ steps.old + 2 * S.most space.old }
 
