@@ -4,3 +4,8 @@ pub mod Paths
 pub mod Pointers
 pub mod Typed
 pub mod Words
+pub use Rattle.kc_layout.specs.HopList
+pub use Rattle.kc_layout.specs.Views
+pub use Rattle.kc_memory.specs.Bits
+pub use Rattle.kc_memory.specs.Space
+pub use Rattle.kc_outside.specs.Counts
