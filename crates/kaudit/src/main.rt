@@ -1,28 +1,25 @@
 //! kaudit: audits the structures of a Linux kernel in a crash dump.
 #![tactic(auto)]
 
-use kc_app::kaudit;
+use kc_app::{Status, kaudit};
 use kc_outside::{ErrSink, FileStore, OutSink};
 use std::env::{self, Env};
 use std::io;
 use std::process::ExitCode;
 
-// Want of memory, as the program tells it.
-const MEMORY: u8 = 5;
-
-// The words behind the program's name. One that isn't UTF-8 makes them no command, as no words do.
-fn read_words(rt: &(impl Env + AllocGlobal)) -> Result<Vec<String>, u8> {
+// The words after the program's name. One that isn't UTF-8 makes them no command, as no words do.
+fn read_words(rt: &(impl Env + AllocGlobal)) -> Result<Vec<String>, Status> {
     let mut words = Vec::new(rt.alloc());
     match env::args(rt) {
         Ok(args) => {
             for word in args.skip(1) {
                 if words.push(word).is_err() {
-                    return Err(MEMORY);
+                    return Err(Status::OutOfMemory);
                 }
             }
             Ok(words)
         }
-        Err(error) if error.kind() == io::ErrorKind::OutOfMemory => Err(MEMORY),
+        Err(error) if error.kind() == io::ErrorKind::OutOfMemory => Err(Status::OutOfMemory),
         Err(_) => Ok(words),
     }
 }
@@ -35,5 +32,5 @@ fn main(rt: HostRuntime) -> ExitCode {
         Ok(words) => kaudit(rt.alloc(), &words, &mut store, &mut out, &mut err),
         Err(status) => status,
     };
-    ExitCode::from(status)
+    ExitCode::from(u8::from(status))
 }

@@ -1,4 +1,3 @@
-mod CommandLemmas
 mod Pieces
-mod ShownLemmas
 mod Usage
+mod WordForms

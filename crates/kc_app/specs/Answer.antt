@@ -1,78 +1,73 @@
--- What the code's own types stand for.
-use Rattle.std.specs.Prelude.{◌≡◌, IfSome, Result, Ok, Err, ⊤}
-use Rattle.kc_app.specs.declared.command.Command.{Command}
-use Rattle.kc_app.specs.declared.command.Command.TheVariants.{Word, Layout, Show}
-use Rattle.kc_app.specs.declared.answer.Answer.{Answer}
-use Rattle.kc_app.specs.declared.answer.Answer.TheVariants.{Done, Broken}
-use Rattle.kc_app.specs.declared.answer.Halt.{Halt}
-use Rattle.kc_app.specs.declared.answer.Halt.TheVariants.{Refused, Store, Memory}
-use Rattle.kc_memory.specs.declared.words.VWord.{VWord}
+-- What the code's answers are.
+use Rattle.std.specs.Prelude.{◌≡◌, ⊤, ℕ, List, [], Option, Some, None, IfSome, option_map, Result, Ok, Err}
+use Rattle.kc_outside.specs.Files.{Files}
 use Rattle.kc_memory.specs.declared.space.Stop.{Stop}
 use Rattle.kc_memory.specs.declared.space.Stop.TheVariants.{Miss, Fault}
-use Rattle.kc_app.specs.declared.command.Question.{Question as CodeQuestion}
-use Rattle.kc_app.specs.declared.target.Target.{Target as CodeTarget}
-use Rattle.kc_layout.specs.Views.{number_view}
-use Rattle.kc_memory.specs.Bits.{Number}
-use Rattle.kc_app.specs.Command.{Asked, AsksWord, AsksLayout, AsksShow, Question}
-use Rattle.kc_app.specs.Made.{Is, gives}
-use Rattle.kc_app.specs.Paging.{IsTable}
-use Rattle.kc_app.specs.Output.{Shown, Target, broken, number_shown, word_shown}
+use Rattle.kc_memory.specs.declared.words.Place.{Place}
+use Rattle.kc_memory.specs.Places.{entry_places}
+use Rattle.kc_input.specs.declared.halt.Halt.{Halt}
+use Rattle.kc_input.specs.declared.halt.Halt.TheVariants.{Refused, Store, Memory}
+use Rattle.kc_input.specs.Made.{Halts, Made}
+use Rattle.kc_app.specs.declared.answer.Answer.{Answer}
+use Rattle.kc_app.specs.declared.answer.Answer.TheVariants.{Done, Broken}
+use Rattle.kc_app.specs.declared.status.Status.TheVariants as status
+use Rattle.kc_app.specs.Asked.{Asked, asked_files}
+use Rattle.kc_app.specs.Output.{ending, written}
+use Rattle.kc_app.specs.Shown.{Said, Stop as StopSaid, Shown, Written, said_status, seen_text}
 
--- the words of a question
-abbrev pub worded : CodeQuestion → Question
-worded q = record { dump = q.dump.now; btf = q.btf.now; map = q.map.now; symbol = q.symbol.now; name = q.name.now; path = q.path.now }
+-- what an answer writes
+abbrev pub written_by : Answer → Written
+written_by (Done text) = record { out = text.items; err = []; status = status.Done }
+written_by (Broken text) = record { out = text.items; err = []; status = status.Broken }
 
-abbrev pub asked : Command → Asked
-asked (Word dump table address) = AsksWord dump.now table address
-asked (Layout btf name) = AsksLayout btf.now name.now
-asked (Show question) = AsksShow (worded question)
+-- the code ends as is made
+abbrev pub Prints : Made Shown → Result Answer Halt → Type 0
+Prints made (Ok answer) = option_map written (ending made) ≡ Some (written_by answer)
+Prints made (Err halt) = Halts made halt
 
-abbrev pub target_view : CodeTarget → Target
-target_view t = record { at = t.at; number = number_view t.field }
+-- the same of the files, where they are told
+abbrev pub PrintsOf : (Files → Made Shown) → Option Files → Result Answer Halt → Type 0
+PrintsOf made None r = ⊤
+PrintsOf made (Some files) r = Prints (made files) r
 
--- a top table that is named can be one
-abbrev pub HasTable : Command → Type 0
-HasTable (Word dump table address) = IfSome table IsTable
-HasTable (Layout btf name) = ⊤
-HasTable (Show question) = ⊤
+-- the same of the bytes of one file
+abbrev pub PrintsOfBytes : (List ℕ → Made Shown) → Option (List ℕ) → Result Answer Halt → Type 0
+PrintsOfBytes made None r = ⊤
+PrintsOfBytes made (Some bytes) r = Prints (made bytes) r
 
--- what an answer shows on standard output, and the status
-abbrev pub shown_by : Answer → Shown
-shown_by (Done text) = record { text = text.items; status = 0 }
-shown_by (Broken text) = record { text = text.items; status = 1 }
+-- the code answers what the words ask for, or that they aren't a command
+abbrev pub Runs : Option Asked → Option Files → Option (Result Answer Halt) → Type 0
+Runs asks files None = asks ≡ None
+Runs asks files (Some r) = (asked : Asked) × (asks ≡ Some asked) × PrintsOf (λ f. asked.made (asked_files asked f)) files r
 
-abbrev pub OnStore : {A : Type 0} → Result A Halt → Type 0 → Type 0
-OnStore (Ok answer) P = ⊤
-OnStore (Err (Refused line)) P = ⊤
-OnStore (Err Store) P = P
-OnStore (Err Memory) P = ⊤
+-- what is said of words of a dump is written, unless no memory was left
+abbrev pub Writes : Said → List Place → Result Answer Halt → Type 0
+Writes said places (Ok answer) = written_by answer ≡ record { out = seen_text said places; err = []; status = said_status said }
+Writes said places (Err (Refused refusal)) = ⊥
+Writes said places (Err Store) = ⊥
+Writes said places (Err Memory) = ⊤
 
-abbrev pub UnlessStore : {A : Type 0} → Result A Halt → Type 0 → Type 0
-UnlessStore (Ok answer) P = P
-UnlessStore (Err (Refused line)) P = P
-UnlessStore (Err Store) P = ⊤
-UnlessStore (Err Memory) P = P
-
-abbrev pub NotStore : {A : Type 0} → Result A Halt → Type 0
-NotStore r = OnStore r ⊥
-
-abbrev pub NotRefused : {A : Type 0} → Result A Halt → Type 0
-NotRefused (Ok answer) = ⊤
-NotRefused (Err (Refused line)) = ⊥
-NotRefused (Err Store) = ⊤
-NotRefused (Err Memory) = ⊤
-
--- a miss is shown, and a fault of the space is one of the store
+-- a miss is shown, and a failure of the space is one of the store
 abbrev pub IsStopped : Stop → Result Answer Halt → Type 0
-IsStopped (Miss s) r = Is shown_by (gives (broken s)) r × NotStore r
+IsStopped (Miss s) r = Writes (StopSaid s.rule s.va s.level s.pa) (entry_places s.pa s.entry) r
 IsStopped Fault r = r ≡ Err Store
 
--- the answer on a number
-abbrev pub IsNumber : Result Number Stop → Result Answer Halt → Type 0
-IsNumber (Ok number) r = Is shown_by (gives (number_shown (Ok number))) r × NotStore r
-IsNumber (Err stop) r = IsStopped stop r
+-- what is said where there is no command
+abbrev pub OnNone : Option (Result Answer Halt) → Type 0 → Type 0
+OnNone None P = P
+OnNone (Some r) P = ⊤
 
--- the answer on a word
-abbrev pub IsAnswer : Result VWord Stop → Result Answer Halt → Type 0
-IsAnswer (Ok word) r = Is shown_by (gives (word_shown (Ok word))) r × NotStore r
-IsAnswer (Err stop) r = IsStopped stop r
+-- what is said where the store failed in a command, and where it didn't
+abbrev pub OnStoreIn : Option (Result Answer Halt) → Type 0 → Type 0
+OnStoreIn None P = ⊤
+OnStoreIn (Some (Ok answer)) P = ⊤
+OnStoreIn (Some (Err (Refused refusal))) P = ⊤
+OnStoreIn (Some (Err Store)) P = P
+OnStoreIn (Some (Err Memory)) P = ⊤
+
+abbrev pub UnlessStoreIn : Option (Result Answer Halt) → Type 0 → Type 0
+UnlessStoreIn None P = P
+UnlessStoreIn (Some (Ok answer)) P = P
+UnlessStoreIn (Some (Err (Refused refusal))) P = P
+UnlessStoreIn (Some (Err Store)) P = ⊤
+UnlessStoreIn (Some (Err Memory)) P = P

@@ -1,10 +1,10 @@
 // What a command comes to.
 ghost use Rattle.std.specs.Prelude.{◌≡◌};
-ghost use Rattle.kc_app.specs.declared.answer.Halt.TheVariants.{Store, Memory};
 
-use kc_outside::Failed;
-use kc_word::NoMemory;
-use std::alloc::AllocError;
+use kc_input::Halt;
+use kc_memory::Stop;
+use kc_report::broken_text;
+use std::alloc::Global;
 
 /// The whole text of an answer, by the status that it is printed under.
 #[derive(Debug, Drop)]
@@ -15,37 +15,16 @@ pub enum Answer {
     Broken(Vec<u8>),
 }
 
-/// Why there is no answer.
-#[derive(Debug, Drop)]
-pub enum Halt {
-    /// A file, a symbol, a type or a path is refused, by this line.
-    Refused(Vec<u8>),
-    /// A call of the store failed. Its count of faults rose.
-    Store,
-    /// No memory was left.
-    Memory,
-}
+impl Answer {
+    ghost use Rattle.kc_app.specs.Answer.{IsStopped};
 
-impl From<Failed> for Halt {
-    ghost from_gives = { λ _ e. e ≡ Store };
-
-    fn from(_: Failed) -> Self {
-        Halt::Store
-    }
-}
-
-impl From<NoMemory> for Halt {
-    ghost from_gives = { λ _ e. e ≡ Memory };
-
-    fn from(_: NoMemory) -> Self {
-        Halt::Memory
-    }
-}
-
-impl From<AllocError> for Halt {
-    ghost from_gives = { λ _ e. e ≡ Memory };
-
-    fn from(_: AllocError) -> Self {
-        Halt::Memory
+    /// The answer where memory can't be read.
+    pub fn stopped(alloc: Global, stop: Stop) -> Result<Answer, Halt>
+        ensures output { IsStopped stop result }
+    {
+        match stop {
+            Stop::Miss(miss) => Ok(Answer::Broken(broken_text(alloc, miss)?)),
+            Stop::Fault => Err(Halt::Store),
+        }
     }
 }

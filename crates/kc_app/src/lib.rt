@@ -3,21 +3,16 @@
 
 mod answer;
 mod command;
-mod dump;
-mod file;
 mod laws;
 mod layout;
-mod layout_text;
 mod print;
 mod show;
-mod show_text;
-mod target;
-mod text;
+mod status;
 mod top;
-mod types;
 mod word;
 
 pub use laws::know_shown;
+pub use status::Status;
 pub use top::kaudit;
 
 #[cfg(test)]

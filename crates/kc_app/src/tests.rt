@@ -1,7 +1,8 @@
 // The program over made files. The files beside this one have the cases, and an empty line ends a case. Its lines
-// give the words; what is changed: `put` a word of the dump at a physical address, `bytes` some at a file offset,
-// `types` some of the types at a file offset, `map` the map's lines, `row` one line more; which call fails; and
-// what is wanted. Numbers are hex.
+// give the words (`words` several, `word` one that is empty or has spaces); what is changed: `put` a word of the dump
+// at a physical address, `bytes` some at a file offset, `types` some of the types at a file offset, `map` the map's
+// lines, `row` one line more; which files aren't there; which call fails; and what is wanted, where `usage` stands for
+// its lines. Numbers are hex.
 mod commands;
 mod layouts;
 mod numbers;
@@ -39,6 +40,8 @@ struct Case {
     dump: Vec<u8>,
     types: Vec<u8>,
     map: Vec<u8>,
+    has_types: bool,
+    has_map: bool,
     fails: u64,
     out_limit: usize,
     err_limit: usize,
@@ -90,6 +93,14 @@ fn push_line(text: &mut Vec<u8>, line: &str) -> Result<(), AllocError> {
     Ok(())
 }
 
+// Adds the words that a line separates by spaces.
+fn push_words(alloc: Global, words: &mut Vec<String>, line: &str) -> Result<(), AllocError> {
+    for word in line.split(' ') {
+        words.push(String::from_str(alloc, word)?)?;
+    }
+    Ok(())
+}
+
 impl Case {
     fn new(alloc: Global, lines: &str) -> Result<Case, AllocError> {
         let note = read_text(alloc, lines, "note ", NOTE)?;
@@ -98,6 +109,8 @@ impl Case {
             dump: core_with_note(alloc, &note)?,
             types: btf_file(alloc)?,
             map: read_text(alloc, lines, "map ", MAP.as_bytes())?,
+            has_types: true,
+            has_map: true,
             fails: 0,
             out_limit: ENOUGH,
             err_limit: ENOUGH,
@@ -107,12 +120,26 @@ impl Case {
         })
     }
 
-    // Takes one line: the words, a change of the dump, a limit, or a line that is wanted.
+    // Takes one line: the words, a change of a file, a limit, or what is wanted.
     fn take(&mut self, alloc: Global, name: &str, value: &str) -> Result<(), AllocError> {
         match name {
-            "word" => {
-                self.words.push(String::from_str(alloc, value)?)?;
-            }
+            "words" => push_words(alloc, &mut self.words, value)?,
+            "word" => self.words.push(String::from_str(alloc, value)?)?,
+            "fails" => self.fails = hex(value),
+            "out_limit" => self.out_limit = small(value),
+            "err_limit" => self.err_limit = small(value),
+            "status" => self.status = hex(value),
+            "out" => push_line(&mut self.out, value)?,
+            "err" => push_line(&mut self.err, value)?,
+            "usage" => self.err.extend_from_slice(commands::USAGE.as_bytes())?,
+            _ => self.change(name, value)?,
+        }
+        Ok(())
+    }
+
+    // Takes one line that changes a file.
+    fn change(&mut self, name: &str, value: &str) -> Result<(), AllocError> {
+        match name {
             "put" => {
                 if let Some((pa, word)) = value.split_once(' ') {
                     set_word(&mut self.dump, hex(pa), hex(word));
@@ -135,14 +162,10 @@ impl Case {
                 }
             }
             "types_length" => self.types.truncate(small(value)),
+            "no_types" => self.has_types = false,
+            "no_map" => self.has_map = false,
             "row" => push_line(&mut self.map, value)?,
             "length" => self.dump.truncate(small(value)),
-            "fails" => self.fails = hex(value),
-            "out_limit" => self.out_limit = small(value),
-            "err_limit" => self.err_limit = small(value),
-            "status" => self.status = hex(value),
-            "out" => push_line(&mut self.out, value)?,
-            "err" => push_line(&mut self.err, value)?,
             _ => {}
         }
         Ok(())
@@ -152,8 +175,12 @@ impl Case {
 fn make_store(alloc: Global, case: &Case) -> Result<MemStore, NoMemory> {
     let mut store = MemStore::new(alloc);
     store.add("z.core", &case.dump)?;
-    store.add("z.btf", &case.types)?;
-    store.add("z.map", &case.map)?;
+    if case.has_types {
+        store.add("z.btf", &case.types)?;
+    }
+    if case.has_map {
+        store.add("z.map", &case.map)?;
+    }
     store.fail(case.fails)?;
     Ok(store)
 }
@@ -179,7 +206,7 @@ fn run_case(rt: &(impl Abort + AllocGlobal), lines: &str) -> Result<(), Fail> {
     let mut out = MemSink::new(alloc, case.out_limit)?;
     let mut err = MemSink::new(alloc, case.err_limit)?;
     let status = kaudit(alloc, &case.words, &mut store, &mut out, &mut err);
-    assert_eq!(rt; u64::from(status), case.status, "{lines}");
+    assert_eq!(rt; u64::from(u8::from(status)), case.status, "{lines}");
     assert_eq!(rt; out.bytes(), taken(&case.out, case.out_limit), "{lines}");
     assert_eq!(rt; err.bytes(), taken(&case.err, case.err_limit), "{lines}");
     Ok(())
@@ -211,6 +238,7 @@ fn each_rule_stops_at_each_level(rt: HostRuntime) -> Result<(), Fail> {
 #[test]
 fn the_first_fault_is_told(rt: HostRuntime) -> Result<(), Fail> {
     assert_eq!(rt; run_cases(&rt, refusals::REFUSALS)?, 38);
+    assert_eq!(rt; run_cases(&rt, refusals::UNOPENED)?, 6);
     assert_eq!(rt; run_cases(&rt, commands::COMMANDS)?, 18);
     Ok(())
 }
@@ -234,12 +262,13 @@ fn numbers_are_shown_with_their_words(rt: HostRuntime) -> Result<(), Fail> {
     Ok(())
 }
 
-// A command over a file of types and a map is refused by a line.
+// A command over a file of types and a map is refused by a line. The call with a number fails, if there is one.
 fn is_refused(
     rt: &(impl Abort + AllocGlobal),
     words: &str,
     types: &[u8],
     map: &[u8],
+    fails: u64,
     wanted: &[u8],
 ) -> Result<(), Fail> {
     let alloc = rt.alloc();
@@ -247,14 +276,13 @@ fn is_refused(
     store.add("z.core", &core_file(alloc)?)?;
     store.add("z.btf", types)?;
     store.add("z.map", map)?;
+    store.fail(fails)?;
     let mut line = Vec::new(alloc);
-    for word in words.split(' ') {
-        line.push(String::from_str(alloc, word)?)?;
-    }
+    push_words(alloc, &mut line, words)?;
     let mut out = MemSink::new(alloc, ENOUGH)?;
     let mut err = MemSink::new(alloc, ENOUGH)?;
     let status = kaudit(alloc, &line, &mut store, &mut out, &mut err);
-    assert_eq!(rt; u64::from(status), 2, "{words}");
+    assert_eq!(rt; u8::from(status), 2, "{words}");
     assert_eq!(rt; err.bytes(), wanted, "{words}");
     Ok(())
 }
@@ -265,11 +293,12 @@ fn files_above_64_mib_are_refused(rt: HostRuntime) -> Result<(), Fail> {
     let show = "show z.core z.btf z.map a_slab slab inuse";
     let types = btf_file(rt.alloc())?;
     let mut bytes = vec![in rt.alloc(); 0; 1 << 26]?;
-    is_refused(&rt, layout, &bytes, b"", b"refused btf B2 at 0\n")?;
-    is_refused(&rt, show, &types, &bytes, b"refused map S1 line 1\n")?;
+    is_refused(&rt, layout, &bytes, b"", 0, b"refused btf B2 at 0\n")?;
+    is_refused(&rt, show, &types, &bytes, 0, b"refused map S1 line 1\n")?;
     bytes.push(0)?;
-    is_refused(&rt, layout, &bytes, b"", b"refused btf F1\n")?;
-    is_refused(&rt, show, &types, &bytes, b"refused map F1\n")?;
+    // The read of the file would be the third call.
+    is_refused(&rt, layout, &bytes, b"", 3, b"refused btf F1\n")?;
+    is_refused(&rt, show, &types, &bytes, 0, b"refused map F1\n")?;
     Ok(())
 }
 

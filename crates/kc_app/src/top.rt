@@ -1,51 +1,26 @@
 // The program: a command line, its files, and where its text goes.
-ghost use Rattle.std.specs.Prelude.{◌≡◌, ◌+◌, ◌-◌, ◌^◌, ◌<◌, ◌≤◌, ◌⊎◌, ◌||◌, not, nat_eq, map, None, IfSome, IsTrue, OnOk, OnErr, []};
+ghost use Rattle.std.specs.Prelude.{◌≡◌, ◌-◌, ◌^◌, ◌<◌, ◌≤◌, ◌⊎◌, ◌||◌, nat_eq, map, None, IfSome, IsTrue, OnOk, OnErr, []};
 ghost use Rattle.std.specs.Bool.{OnTrue};
 ghost use Rattle.std.specs.Option.{ForSome};
 ghost use Rattle.std.specs.String.{string_bytes};
 ghost use Rattle.kc_outside.specs.declared.store.Slot.{Slot};
 ghost use Rattle.kc_outside.specs.Counts.{Rose};
 ghost use Rattle.kc_outside.specs.Texts.{with_piece};
-ghost use Rattle.kc_app.specs.Command.{command, name_in, slot_word};
-ghost use Rattle.kc_app.specs.Texts.{store_failed, memory_refused, sink_failed};
-ghost use Rattle.kc_app.specs.Output.{out as output, output_of, asked_made, asked_files, word_files};
-ghost use Rattle.kc_app.specs.Answer.{OnStore, asked, shown_by, HasTable, UnlessStore};
-ghost use Rattle.kc_app.specs.Made.{IsOf};
-ghost use Rattle.kc_app.specs.Ends.{AtStatus, ErrFailed, IsTold, TookOut, TookPrefix, is_answer, is_silent};
+ghost use Rattle.kc_app.specs.Asked.{word_in};
+ghost use Rattle.kc_app.specs.Commands.{command};
+ghost use Rattle.kc_app.specs.Ends.{ErrFailed, IsTold, TookPart, TookPrefix};
+ghost use Rattle.kc_app.specs.Failures.{store_failed, memory_refused, sink_failed};
+ghost use Rattle.kc_app.specs.Status.{At, is_answer, is_silent, is_sink_quiet, is_store_quiet, number};
+ghost use Rattle.kc_app.specs.declared.status.Status.TheVariants.{NoCommand, OutOfMemory, SinkFailed, StoreFailed};
 
-use crate::answer::{Answer, Halt};
-use crate::command::Command;
-use crate::layout::layout;
+use crate::answer::Answer;
+use crate::command::{USAGE, run};
 use crate::print::put_all;
-use crate::show::show;
-use crate::word::word;
+use crate::status::Status;
+use kc_input::{Halt, refusal_line};
 use kc_outside::{Failed, Sink, Store};
+use kc_word::NoMemory;
 use std::alloc::Global;
-
-// Runs a command.
-fn run<S: Store>(alloc: Global, request: Command<'_>, store: &mut S) -> Result<Answer, Halt>
-    requires table { HasTable request }
-    requires may { (slot : Slot) → ForSome (name_in (asked request) slot) (S.may store.old slot) }
-
-    ensures output { IsOf shown_by (λ files. asked_made (asked request.entry) (asked_files (asked request.entry) files)) (S.files store.old) result }
-    ensures files { S.files store.new ≡ S.files store.old }
-    ensures later { S.faults store.old ≤ S.faults store.new }
-    ensures quiet { UnlessStore result (S.faults store.new ≡ S.faults store.old) }
-    ensures cause { OnStore result (Rose (S.faults store.old) (S.faults store.new)) }
-{
-    match request {
-        Command::Word {
-            dump,
-            table,
-            address,
-        } => word(alloc, store, dump, table, address),
-        Command::Layout { btf, name } => layout(alloc, store, btf, name),
-        Command::Show(question) => show(alloc, store, &question),
-    }
-}
-
-const USAGE: &[u8] =
-    b"usage: kaudit word DUMP TABLE ADDRESS\nusage: kaudit layout BTF TYPE\nusage: kaudit show DUMP BTF MAP SYMBOL TYPE PATH\n";
 
 const STORE_FAILED: &[u8] = b"store failed\n";
 
@@ -88,48 +63,51 @@ fn put_out<O: Sink, E: Sink>(out: &mut O, err: &mut E, text: &[u8]) -> Result<()
     }
 }
 
-/// The program. It answers the status that it ends with: 0 clean or done, 1 broken, 2 a file is refused, 3
-/// the store failed, 4 a sink failed, 5 want of memory, 6 the words are no command. Its text is made whole
-/// before a byte of it is put.
+/// The program. It answers the status that it ends with. Its text is made whole before a byte of it is put.
 pub fn kaudit<S: Store, O: Sink, E: Sink>(
     alloc: Global,
     words: &[String],
     store: &mut S,
     out: &mut O,
     err: &mut E,
-) -> u8
-    requires { (slot : Slot) → ForSome (slot_word (map string_bytes words.now) slot) (S.may store.old slot) }
+) -> Status
+    requires { (slot : Slot) → ForSome (word_in (command (map string_bytes words.now)) slot) (S.may store.old slot) }
 
     // Where the files are told, an answer is the one that the output of the words and the files has.
-    ensures told { IfSome (S.files store.old) (λ files. OnTrue (is_answer result) (IsTold (output (map string_bytes words.now) (word_files (map string_bytes words.now) files)) result (O.taken out.old) (O.taken out.new) (E.taken err.old) (E.taken err.new))) }
+    ensures told { OnTrue (is_answer result)
+        (IsTold (map string_bytes words.now) (S.files store.old) result (O.taken out.old) (O.taken out.new) (E.taken err.old) (E.taken err.new)) }
 
     // Where nothing failed, there is an answer or want of memory.
-    ensures complete { (Rose (S.faults store.old) (S.faults store.new) → ⊥) → (Rose (O.faults out.old) (O.faults out.new) → ⊥) → (Rose (E.faults err.old) (E.faults err.new) → ⊥) → IsTrue (is_answer result || nat_eq result 5) }
+    ensures complete { (Rose (S.faults store.old) (S.faults store.new) → ⊥) → (Rose (O.faults out.old) (O.faults out.new) → ⊥)
+        → (Rose (E.faults err.old) (E.faults err.new) → ⊥) → IsTrue (is_answer result || nat_eq (number result) 5) }
 
     // Each status has its cause.
-    ensures known { result ≤ 6 }
-    ensures store_failed { AtStatus result 3 (Rose (S.faults store.old) (S.faults store.new)) }
-    ensures store_text { AtStatus result 3 (E.taken err.new ≡ with_piece (E.taken err.old) store_failed) }
-    ensures memory_text { AtStatus result 5 (E.taken err.new ≡ with_piece (E.taken err.old) memory_refused) }
-    ensures usage { AtStatus result 6 (command (map string_bytes words.now) ≡ None) }
-    ensures usage_only { command (map string_bytes words.now) ≡ None → IsTrue (nat_eq result 6 || nat_eq result 4) }
+    ensures store_failed { At result StoreFailed (Rose (S.faults store.old) (S.faults store.new)) }
+    ensures store_text { At result StoreFailed (E.taken err.new ≡ with_piece (E.taken err.old) store_failed) }
+    ensures memory_text { At result OutOfMemory (E.taken err.new ≡ with_piece (E.taken err.old) memory_refused) }
+    ensures usage { At result NoCommand (command (map string_bytes words.now) ≡ None) }
+    ensures usage_only { command (map string_bytes words.now) ≡ None → IsTrue (nat_eq (number result) 6 || nat_eq (number result) 4) }
     ensures usage_unasked { command (map string_bytes words.now) ≡ None → S.asked store.new ≡ S.asked store.old }
-    ensures sink_failed { AtStatus result 4 (Rose (O.faults out.old) (O.faults out.new) ⊎ Rose (E.faults err.old) (E.faults err.new)) }
+    ensures sink_failed { At result SinkFailed (Rose (O.faults out.old) (O.faults out.new) ⊎ Rose (E.faults err.old) (E.faults err.new)) }
 
     // Standard output stays empty on a refusal. The store failed only at status 3, or where that couldn't be
     // told, and a sink only at status 4.
     ensures silent { OnTrue (is_silent result) (O.asked out.new ≡ O.asked out.old) }
     ensures silent_text { OnTrue (is_silent result) (O.taken out.new ≡ O.taken out.old) }
-    ensures quiet_store { OnTrue (not (nat_eq result 3 || nat_eq result 4)) (S.faults store.new ≡ S.faults store.old) }
-    ensures quiet_out { OnTrue (not (nat_eq result 4)) (O.faults out.new ≡ O.faults out.old) }
-    ensures quiet_err { OnTrue (not (nat_eq result 4)) (E.faults err.new ≡ E.faults err.old) }
+    ensures quiet_store { OnTrue (is_store_quiet result) (S.faults store.new ≡ S.faults store.old) }
+    ensures quiet_out { OnTrue (is_sink_quiet result) (O.faults out.new ≡ O.faults out.old) }
+    ensures quiet_err { OnTrue (is_sink_quiet result) (E.faults err.new ≡ E.faults err.old) }
 
     // What the sinks took where one failed.
-    ensures out_part { AtStatus result 4 (O.faults out.old < O.faults out.new → IfSome (S.files store.old) (λ files. TookOut (output (map string_bytes words.now) (word_files (map string_bytes words.now) files)) (O.taken out.old) (O.taken out.new))) }
-    ensures err_part { AtStatus result 4 (O.faults out.old < O.faults out.new → TookPrefix (E.taken err.old) (E.taken err.new) sink_failed) }
-    ensures err_whole { AtStatus result 4 (E.faults err.old < 2 ^ 64 - 1 → E.faults err.new ≡ E.faults err.old → E.taken err.new ≡ with_piece (E.taken err.old) sink_failed) }
-    ensures out_nothing { AtStatus result 4 (O.faults out.old < 2 ^ 64 - 1 → O.faults out.new ≡ O.faults out.old → O.taken out.new ≡ O.taken out.old) }
-    ensures err_failed { AtStatus result 4 (O.faults out.old < 2 ^ 64 - 1 → O.faults out.new ≡ O.faults out.old → IfSome (S.files store.old) (λ files. ErrFailed (output (map string_bytes words.now) (word_files (map string_bytes words.now) files)) (Rose (S.faults store.old) (S.faults store.new)) (E.taken err.old) (E.taken err.new))) }
+    ensures out_part { At result SinkFailed (O.faults out.old < O.faults out.new
+        → TookPart (map string_bytes words.now) (S.files store.old) (O.taken out.old) (O.taken out.new)) }
+    ensures err_part { At result SinkFailed (O.faults out.old < O.faults out.new → TookPrefix (E.taken err.old) (E.taken err.new) sink_failed) }
+    ensures err_whole { At result SinkFailed (E.faults err.old < 2 ^ 64 - 1 → E.faults err.new ≡ E.faults err.old
+        → E.taken err.new ≡ with_piece (E.taken err.old) sink_failed) }
+    ensures out_nothing { At result SinkFailed (O.faults out.old < 2 ^ 64 - 1 → O.faults out.new ≡ O.faults out.old
+        → O.taken out.new ≡ O.taken out.old) }
+    ensures err_failed { At result SinkFailed (O.faults out.old < 2 ^ 64 - 1 → O.faults out.new ≡ O.faults out.old
+        → ErrFailed (map string_bytes words.now) (S.files store.old) (Rose (S.faults store.old) (S.faults store.new)) (E.taken err.old) (E.taken err.new)) }
 
     // Nothing changes a file, and counts don't fall.
     ensures files { S.files store.new ≡ S.files store.old }
@@ -137,32 +115,38 @@ pub fn kaudit<S: Store, O: Sink, E: Sink>(
     ensures out_later { O.faults out.old ≤ O.faults out.new }
     ensures err_later { E.faults err.old ≤ E.faults err.new }
 {
-    let Some(request) = Command::read(words) else {
+    let Some(outcome) = run(alloc, store, words) else {
         return match put_all(err, USAGE) {
-            Ok(()) => 6,
-            Err(Failed) => 4,
+            Ok(()) => Status::NoCommand,
+            Err(Failed) => Status::SinkFailed,
         };
     };
-    match run(alloc, request, store) {
+    match outcome {
         Ok(Answer::Done(text)) => match put_out(out, err, &text) {
-            Ok(()) => 0,
-            Err(Failed) => 4,
+            Ok(()) => Status::Done,
+            Err(Failed) => Status::SinkFailed,
         },
         Ok(Answer::Broken(text)) => match put_out(out, err, &text) {
-            Ok(()) => 1,
-            Err(Failed) => 4,
+            Ok(()) => Status::Broken,
+            Err(Failed) => Status::SinkFailed,
         },
-        Err(Halt::Refused(line)) => match put_all(err, &line) {
-            Ok(()) => 2,
-            Err(Failed) => 4,
+        Err(Halt::Refused(refusal)) => match refusal_line(alloc, refusal) {
+            Ok(line) => match put_all(err, &line) {
+                Ok(()) => Status::Refused,
+                Err(Failed) => Status::SinkFailed,
+            },
+            Err(NoMemory) => match put_all(err, MEMORY_REFUSED) {
+                Ok(()) => Status::OutOfMemory,
+                Err(Failed) => Status::SinkFailed,
+            },
         },
         Err(Halt::Store) => match put_all(err, STORE_FAILED) {
-            Ok(()) => 3,
-            Err(Failed) => 4,
+            Ok(()) => Status::StoreFailed,
+            Err(Failed) => Status::SinkFailed,
         },
         Err(Halt::Memory) => match put_all(err, MEMORY_REFUSED) {
-            Ok(()) => 5,
-            Err(Failed) => 4,
+            Ok(()) => Status::OutOfMemory,
+            Err(Failed) => Status::SinkFailed,
         },
     }
 }

@@ -1,60 +1,136 @@
 // The command `word`: one word of a dump with its places.
-ghost use Rattle.std.specs.Prelude.{◌≡◌, ◌<◌, ◌≤◌, IfOk, IfSome, option_map};
+ghost use Rattle.std.specs.Prelude.{◌≡◌, ◌<◌, ◌≤◌, ◌∷◌, [], map, IfOk, IfSome, option_and_then, option_map};
+ghost use Rattle.std.specs.Option.{ForSome};
+ghost use Rattle.std.specs.String.{string_bytes};
+ghost use Rattle.kc_word.specs.Hex.{hex_number};
+ghost use Rattle.kc_outside.specs.declared.store.Slot.{Slot};
 ghost use Rattle.kc_outside.specs.declared.store.Slot.TheVariants.{Dump};
 ghost use Rattle.kc_outside.specs.Counts.{Rose};
 ghost use Rattle.kc_outside.specs.Files.{content};
+ghost use Rattle.kc_memory.specs.Places.{place_of};
 ghost use Rattle.kc_memory.specs.Space.{AnswersAs, OnFault, UnlessFault};
 ghost use Rattle.kc_memory.specs.Translation.{vword};
 ghost use Rattle.kc_phys.specs.Stored.{AreInside};
-ghost use Rattle.kc_app.specs.Paging.{IsTable, paging_of};
-ghost use Rattle.kc_app.specs.Output.{image_of, noted, word_made};
-ghost use Rattle.kc_app.specs.Made.{Is, IsOf};
-ghost use Rattle.kc_app.specs.Answer.{IsAnswer, NotStore, OnStore, shown_by, UnlessStore};
+ghost use Rattle.kc_input.specs.Halts.{OnStore, UnlessStore};
+ghost use Rattle.kc_input.specs.Made.{Tells};
+ghost use Rattle.kc_input.specs.Paging.{IsTable};
+ghost use Rattle.kc_app.specs.Answer.{OnNone, OnStoreIn, PrintsOf, Runs, UnlessStoreIn};
+ghost use Rattle.kc_app.specs.Asked.{word_in};
+ghost use Rattle.kc_app.specs.Said.{IsWord};
+ghost use Rattle.kc_app.specs.Shown.{bare_lines};
+ghost use Rattle.kc_app.specs.Word.{as_table, image_of, paging_of, table_word, word_asks, word_made, word_view};
 
-use crate::answer::{Answer, Halt};
-use crate::dump::{read_dump, read_info, stopped};
-use crate::text::word_line;
+use crate::answer::Answer;
 use kc_elf::Core;
+use kc_input::{Halt, Refusal, paging_by, read_dump, read_info};
 use kc_mem::Memory;
 use kc_memory::{Space, Stop, VWord};
 use kc_outside::Store;
 use kc_phys::Phys;
-use kc_word::{PageCfg, Segment, Steps};
+use kc_text::{push, push_hex};
+use kc_word::{NoMemory, PageCfg, Segment, Steps, read_hex};
 use std::alloc::Global;
 use std::marker::Brand;
 use std::sync::ledger::{Blank, Ledger};
 
-/// The answer of `word`: the first fault of the dump, else the word at a virtual address, or why it can't
-/// be read. The page tables are those below `table`, or those that the dump's notes name.
-pub fn word<S: Store>(
-    alloc: Global,
-    store: &mut S,
-    dump: &str,
-    table: Option<u64>,
-    address: u64,
-) -> Result<Answer, Halt>
-    requires may { S.may store.old Dump dump.now }
-    requires table { IfSome table IsTable }
+/// What `word` asks: the word at a virtual address, by the page tables below a physical address, or below the
+/// one that the dump's notes name.
+#[derive(Clone, Copy)]
+pub struct Asks<'w> {
+    /// The name of the dump.
+    pub dump: &'w str,
+    /// The physical address of the top table.
+    pub table: Option<u64>,
+    /// The virtual address.
+    pub address: u64,
+}
 
-    ensures output { IsOf shown_by (λ files. word_made table address (files Dump dump.now)) (S.files store.old) result }
+// The physical address of a top table, if it can be one.
+fn as_table(table: u64) -> Option<u64>
+    ensures value { result ≡ as_table table }
+    ensures fits { IfSome result IsTable }
+{
+    if table % 4096 == 0 && table < 1 << 52 {
+        Some(table)
+    } else {
+        None
+    }
+}
+
+// The top table that a text writes in hex.
+fn read_table(text: &[u8]) -> Option<u64>
+    ensures value { result ≡ option_and_then as_table (hex_number text.now) }
+    ensures fits { IfSome result IsTable }
+{
+    as_table(read_hex(text)?)
+}
+
+// The top table that a word names: `-` is the one of the dump's notes.
+fn table_word(text: &str) -> Option<Option<u64>>
+    ensures value { result ≡ table_word text.now }
+    ensures fits { IfSome result (λ table. IfSome table IsTable) }
+{
+    if text == "-" {
+        Some(None)
+    } else {
+        Some(Some(read_table(text.as_bytes())?))
+    }
+}
+
+// What the words ask.
+fn read(words: &[String]) -> Option<Asks<'_>>
+    ensures asked { option_map word_view result ≡ word_asks (map string_bytes words.now) }
+    ensures table { IfSome result (λ asks. IfSome asks.table IsTable) }
+{
+    let [dump, table, address] = words else {
+        return None;
+    };
+    Some(Asks {
+        dump: dump.as_str(),
+        table: table_word(table.as_str())?,
+        address: read_hex(address.as_str().as_bytes())?,
+    })
+}
+
+/// Runs `word` on its words: the first fault of the dump, else the word at a virtual address, or why it can't
+/// be read. `None` where these aren't its words; the store isn't asked then.
+pub fn run<S: Store>(alloc: Global, store: &mut S, words: &[String]) -> Option<Result<Answer, Halt>>
+    requires { (slot : Slot) → ForSome (word_in (word_asks (map string_bytes words.now)) slot) (S.may store.old slot) }
+
+    ensures output { Runs (word_asks (map string_bytes words.now)) (S.files store.old) result }
+    ensures unasked { OnNone result (S.asked store.new ≡ S.asked store.old) }
+    ensures files { S.files store.new ≡ S.files store.old }
+    ensures later { S.faults store.old ≤ S.faults store.new }
+    ensures quiet { UnlessStoreIn result (S.faults store.new ≡ S.faults store.old) }
+    ensures cause { OnStoreIn result (Rose (S.faults store.old) (S.faults store.new)) }
+{
+    let asks = read(words)?;
+    Some(word(alloc, store, asks))
+}
+
+// The answer to what is asked.
+fn word<S: Store>(alloc: Global, store: &mut S, asks: Asks<'_>) -> Result<Answer, Halt>
+    requires may { S.may store.old Dump asks.dump.now }
+    requires table { IfSome asks.table IsTable }
+
+    ensures output { PrintsOf (λ files. word_made asks.entry.table asks.entry.address (files Dump asks.entry.dump.now)) (S.files store.old) result }
     ensures files { S.files store.new ≡ S.files store.old }
     ensures later { S.faults store.old ≤ S.faults store.new }
     ensures quiet { UnlessStore result (S.faults store.new ≡ S.faults store.old) }
     ensures cause { OnStore result (Rose (S.faults store.old) (S.faults store.new)) }
 {
-    let core = read_dump(alloc, store, dump)?;
-    let paging = find_paging(alloc, &core, table)?;
+    let core = read_dump(alloc, store, asks.dump)?;
+    let paging = find_paging(&core, asks.table)?;
     let segments = core.segments().to_vec(alloc)?;
-    let word = read_word(store, segments, paging, address);
+    let word = read_word(store, segments, paging, asks.address);
     answer(alloc, word)
 }
 
 // The page tables that are named, or else those of the notes.
-fn find_paging(alloc: Global, core: &Core, table: Option<u64>) -> Result<PageCfg, Halt>
+fn find_paging(core: &Core, table: Option<u64>) -> Result<PageCfg, Refusal>
     requires { IfSome table IsTable }
-    ensures made { Is (λ p. p) (noted (paging_of table core.now.notes)) result }
+    ensures made { Tells (λ p. p) (paging_of table core.now.notes) result }
     ensures table { IfOk result (λ p. IsTable p.table) }
-    ensures no_call { NotStore result }
 {
     if let Some(table) = table {
         return Ok(PageCfg {
@@ -63,21 +139,32 @@ fn find_paging(alloc: Global, core: &Core, table: Option<u64>) -> Result<PageCfg
             sme: 0,
         });
     }
-    let info = read_info(alloc, core)?;
-    Ok(PageCfg {
-        table: info.table,
-        five: info.five,
-        sme: info.sme,
-    })
+    Ok(paging_by(read_info(core)?))
+}
+
+// The line of a word.
+fn word_text(alloc: Global, word: &VWord) -> Result<Vec<u8>, NoMemory>
+    ensures { IfOk result (λ text. text.items ≡ bare_lines (place_of word.now ∷ [])) }
+{
+    let mut text = Vec::new(alloc);
+    push_hex(&mut text, word.va)?;
+    push(&mut text, b" ")?;
+    push_hex(&mut text, word.pa)?;
+    push(&mut text, b" ")?;
+    push_hex(&mut text, word.off)?;
+    push(&mut text, b" ")?;
+    push_hex(&mut text, word.value)?;
+    push(&mut text, b"\n")?;
+    Ok(text)
 }
 
 // The answer on a word that was read or not.
 fn answer(alloc: Global, word: Result<VWord, Stop>) -> Result<Answer, Halt>
-    ensures output { IsAnswer word result }
+    ensures output { IsWord word result }
 {
     match word {
-        Ok(word) => Ok(Answer::Done(word_line(alloc, &word)?)),
-        Err(stop) => stopped(alloc, stop),
+        Ok(word) => Ok(Answer::Done(word_text(alloc, &word)?)),
+        Err(stop) => Answer::stopped(alloc, stop),
     }
 }
 

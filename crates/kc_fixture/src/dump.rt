@@ -15,6 +15,11 @@ const SIZE: usize = 0x22000;
 
 const PART: usize = 0x1000;
 
+// The kinds of program headers.
+const PT_LOAD: u64 = 1;
+
+const PT_NOTE: u64 = 4;
+
 // The kernel's image and the direct map: both lead to the physical address that is added.
 const I: u64 = 0xffff_ffff_8000_0000;
 
@@ -82,11 +87,12 @@ fn put_header(file: &mut Vec<u8>, length: usize) {
         put_number(file, offset, number, width);
     }
     let padded = (length as u64).saturating_add(27) / 4 * 4;
-    put_program_header(file, 64, 4, 0x1000, 0, padded);
-    put_program_header(file, 120, 1, 0x2000, 0, 0x10000);
-    put_program_header(file, 176, 1, 0x12000, 0x10000, 0x10000);
+    put_program_header(file, 64, PT_NOTE, 0x1000, 0, padded);
+    put_program_header(file, 120, PT_LOAD, 0x2000, 0, 0x10000);
+    put_program_header(file, 176, PT_LOAD, 0x12000, 0x10000, 0x10000);
 }
 
+// Notes are in the file alone, so their size in memory is 0.
 fn put_program_header(
     file: &mut Vec<u8>,
     place: usize,
@@ -97,12 +103,13 @@ fn put_program_header(
 )
     requires { place < 4096 }
 {
+    let memory = if kind == PT_LOAD { size } else { 0 };
     for (field, number, width) in [
         (0, kind, 4),
         (8, offset, 8),
         (24, paddr, 8),
         (32, size, 8),
-        (40, size, 8),
+        (40, memory, 8),
     ] {
         put_number(file, place + field, number, width);
     }

@@ -1,104 +1,62 @@
 // Cases of words that are found.
 
 /// Words that are found, by every kind of page.
-pub const PAGES: &str = "word word
-word z.core
-word 1000
-word ffffffff8000b120
+pub const PAGES: &str = "words word z.core 1000 ffffffff8000b120
 out ffffffff8000b120 000000000000b120 000000000000d120 ffff888000011000
 
-word word
-word z.core
-word -
-word ffffffff8000b120
+words word z.core - ffffffff8000b120
 out ffffffff8000b120 000000000000b120 000000000000d120 ffff888000011000
 
-word word
-word z.core
-word 0x00001000
-word 0XFFFF
+words word z.core 0x00001000 0XFFFF
 status 6
-err usage: kaudit word DUMP TABLE ADDRESS
-err usage: kaudit layout BTF TYPE
-err usage: kaudit show DUMP BTF MAP SYMBOL TYPE PATH
+usage
 
-word word
-word z.core
-word 0x1000
-word 0xFFFFFFFF8000B120
+words word z.core 0x1000 0xFFFFFFFF8000B120
 out ffffffff8000b120 000000000000b120 000000000000d120 ffff888000011000
 
-word word
-word z.core
-word 1000
-word ffff88800000b120
+words word z.core 1000 ffff88800000b120
 out ffff88800000b120 000000000000b120 000000000000d120 ffff888000011000
 
-word word
-word z.core
-word 1000
-word ffffea00000003e8
+words word z.core 1000 ffffea00000003e8
 out ffffea00000003e8 00000000000083e8 000000000000a3e8 0000000000080005
 
-word word
-word z.core
-word 1000
-word ffff88c462311888
+words word z.core 1000 ffff88c462311888
 put 1888 1003
 out ffff88c462311888 0000000000001888 0000000000003888 0000000000001003
 
-word word
-word z.core
-word 1000
-word ffff88800000b120
+words word z.core 1000 ffff88800000b120
 put 9000 83
 out ffff88800000b120 000000000000b120 000000000000d120 ffff888000011000
 
-word word
-word z.core
-word 1000
-word ffff88800000b120
+words word z.core 1000 ffff88800000b120
 put 9000 1083
 out ffff88800000b120 000000000000b120 000000000000d120 ffff888000011000
 
-word word
-word z.core
-word 1000
-word ffff88800000b120
+words word z.core 1000 ffff88800000b120
 put a000 1083
 out ffff88800000b120 000000000000b120 000000000000d120 ffff888000011000
 
-word word
-word z.core
-word 1000
-word ffffffff8000b120
+words word z.core 1000 ffffffff8000b120
 put 4058 b083
 out ffffffff8000b120 000000000000b120 000000000000d120 ffff888000011000
 
-word word
-word z.core
-word 1000
-word ffffffff8000b120
+words word z.core 1000 ffffffff8000b120
 put 4058 fff000000000b003
 out ffffffff8000b120 000000000000b120 000000000000d120 ffff888000011000
 
-word word
-word z.core
-word -
-word ff1100000000b120
+words word z.core - ff1100000000b120
 note PAGESIZE=4096
 note NUMBER(phys_base)=0
 note SYMBOL(init_top_pgt)=ffffffff80012000
 note NUMBER(pgtable_l5_enabled)=1
+note KERNELOFFSET=0
+note NUMBER(sme_mask)=0
 put 12ff8 1003
 put 12888 13003
 put 13000 9003
 out ff1100000000b120 000000000000b120 000000000000d120 ffff888000011000
 
-word word
-word z.core
-word -
-word ffffffff8000b120
+words word z.core - ffffffff8000b120
 note PAGESIZE=4096
 note NUMBER(phys_base)=0
 note SYMBOL(init_top_pgt)=ffffffff80001000
@@ -108,30 +66,21 @@ note NUMBER(sme_mask)=140737488355328
 put 4058 80000000b003
 out ffffffff8000b120 000000000000b120 000000000000d120 ffff888000011000
 
-word word
-word z.core
-word -
-word ffffffff8000b120
+words word z.core - ffffffff8000b120
 note PAGESIZE=4096
 note NUMBER(phys_base)=0
 note SYMBOL(init_top_pgt)=ffffffff80001000
 note NUMBER(sme_mask)=140737488355328
 out ffffffff8000b120 000000000000b120 000000000000d120 ffff888000011000
 
-word word
-word z.core
-word -
-word ffffffff8000b120
+words word z.core - ffffffff8000b120
 note PAGESIZE=4096
 note NUMBER(phys_base)=-4096
 note SYMBOL(init_top_pgt)=ffffffff80002000
 out ffffffff8000b120 000000000000b120 000000000000d120 ffff888000011000";
 
 /// Words by the segments that hold them, or don't.
-pub const SEGMENTS: &str = "word word
-word z.core
-word -
-word ffff888000011000
+pub const SEGMENTS: &str = "words word z.core - ffff888000011000
 bytes 38 04 00
 bytes 78 01 00 00 00 00 00 00 00 00 18 00 00 00 00 00 00 00 00 00 00 00 00 00 00 00 10 01 00 00 00 00 00 0c 00 00 00 00 00 00 00 0c 00 00 00 00 00 00 00 00 00 00 00 00 00 00 00
 bytes b0 01 00 00 00 00 00 00 00 00 20 00 00 00 00 00 00 00 00 00 00 00 00 00 00 00 00 00 00 00 00 00 00 00 00 01 00 00 00 00 00 00 00 01 00 00 00 00 00 00 00 00 00 00 00 00 00
@@ -139,10 +88,7 @@ bytes e8 01 00 00 00 00 00 00 00 00 20 01 00 00 00 00 00 00 00 00 00 00 00 00 00
 bytes 1800 11 11 11 11 11 11 11 11
 out ffff888000011000 0000000000011000 0000000000001800 1111111111111111
 
-word word
-word z.core
-word -
-word ffff888000011008
+words word z.core - ffff888000011008
 bytes 38 04 00
 bytes 78 01 00 00 00 00 00 00 00 00 18 00 00 00 00 00 00 00 00 00 00 00 00 00 00 00 10 01 00 00 00 00 00 0c 00 00 00 00 00 00 00 0c 00 00 00 00 00 00 00 00 00 00 00 00 00 00 00
 bytes b0 01 00 00 00 00 00 00 00 00 20 00 00 00 00 00 00 00 00 00 00 00 00 00 00 00 00 00 00 00 00 00 00 00 00 01 00 00 00 00 00 00 00 01 00 00 00 00 00 00 00 00 00 00 00 00 00
@@ -150,18 +96,12 @@ bytes e8 01 00 00 00 00 00 00 00 00 20 01 00 00 00 00 00 00 00 00 00 00 00 00 00
 bytes 1800 11 11 11 11 11 11 11 11
 out ffff888000011008 0000000000011008 0000000000013008 ffffffff8000b120
 
-word word
-word z.core
-word 1000
-word ffffffff8000b120
+words word z.core 1000 ffffffff8000b120
 bytes 78 01 00 00 00 00 00 00 00 00 20 01 00 00 00 00 00 00 00 00 00 00 00 00 00 00 00 01 00 00 00 00 00 00 00 01 00 00 00 00 00 00 00 01 00 00 00 00 00 00 00 00 00 00 00 00 00
 bytes b0 01 00 00 00 00 00 00 00 00 20 00 00 00 00 00 00 00 00 00 00 00 00 00 00 00 00 00 00 00 00 00 00 00 00 01 00 00 00 00 00 00 00 01 00 00 00 00 00 00 00 00 00 00 00 00 00
 out ffffffff8000b120 000000000000b120 000000000000d120 ffff888000011000
 
-word word
-word z.core
-word 1000
-word ffffffff8000b120
+words word z.core 1000 ffffffff8000b120
 bytes 38 04 00
 bytes 78 01 00 00 00 00 00 00 00 00 20 00 00 00 00 00 00 00 00 00 00 00 00 00 00 00 00 00 00 00 00 00 00 24 b1 00 00 00 00 00 00 24 b1 00 00 00 00 00 00 00 00 00 00 00 00 00 00
 bytes b0 01 00 00 00 00 00 00 00 24 d1 00 00 00 00 00 00 00 00 00 00 00 00 00 00 24 b1 00 00 00 00 00 00 dc 4e 00 00 00 00 00 00 dc 4e 00 00 00 00 00 00 00 00 00 00 00 00 00 00
@@ -172,10 +112,7 @@ out rule M6
 out at ffffffff8000b120
 out stop 0 000000000000b120
 
-word word
-word z.core
-word 1000
-word ffffffff8000b120
+words word z.core 1000 ffffffff8000b120
 bytes 38 05 00
 bytes 78 01 00 00 00 00 00 00 00 00 20 00 00 00 00 00 00 00 00 00 00 00 00 00 00 00 00 00 00 00 00 00 00 1c b1 00 00 00 00 00 00 1c b1 00 00 00 00 00 00 00 00 00 00 00 00 00 00
 bytes b0 01 00 00 00 00 00 00 00 1c d1 00 00 00 00 00 00 00 00 00 00 00 00 00 00 1c b1 00 00 00 00 00 00 0d 00 00 00 00 00 00 00 0d 00 00 00 00 00 00 00 00 00 00 00 00 00 00 00
@@ -183,10 +120,7 @@ bytes e8 01 00 00 00 00 00 00 00 30 d1 00 00 00 00 00 00 00 00 00 00 00 00 00 00
 bytes 120 01 00 00 00 00 00 00 00 00 20 01 00 00 00 00 00 00 00 00 00 00 00 00 00 00 00 01 00 00 00 00 00 00 00 01 00 00 00 00 00 00 00 01 00 00 00 00 00 00 00 00 00 00 00 00 00
 out ffffffff8000b120 000000000000b120 000000000000d120 ffff888000011000
 
-word word
-word z.core
-word 1000
-word ffffffff8000b128
+words word z.core 1000 ffffffff8000b128
 bytes 38 05 00
 bytes 78 01 00 00 00 00 00 00 00 00 20 00 00 00 00 00 00 00 00 00 00 00 00 00 00 00 00 00 00 00 00 00 00 1c b1 00 00 00 00 00 00 1c b1 00 00 00 00 00 00 00 00 00 00 00 00 00 00
 bytes b0 01 00 00 00 00 00 00 00 1c d1 00 00 00 00 00 00 00 00 00 00 00 00 00 00 1c b1 00 00 00 00 00 00 0d 00 00 00 00 00 00 00 0d 00 00 00 00 00 00 00 00 00 00 00 00 00 00 00
@@ -198,10 +132,7 @@ out rule M6
 out at ffffffff8000b128
 out stop 0 000000000000b128
 
-word word
-word z.core
-word 1000
-word ffffffff8000b120
+words word z.core 1000 ffffffff8000b120
 bytes 78 01 00 00 00 00 00 00 00 00 20 00 00 00 00 00 00 00 00 00 00 00 00 00 00 00 00 00 00 00 00 00 00 20 b1 00 00 00 00 00 00 00 00 01 00 00 00 00 00 00 00 00 00 00 00 00 00
 status 1
 out broken
@@ -209,10 +140,7 @@ out rule M6
 out at ffffffff8000b120
 out stop 0 000000000000b120
 
-word word
-word z.core
-word 1000
-word ffffffff8000b120
+words word z.core 1000 ffffffff8000b120
 bytes 38 ff ff
 bytes 28 00 08
 bytes 82c 03 00 00 00

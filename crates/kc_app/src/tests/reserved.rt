@@ -1,10 +1,7 @@
 // Cases of reserved bits.
 
 /// Each reserved bit of a 1 GiB page and of a 2 MiB page.
-pub const RESERVED: &str = "word word
-word z.core
-word 1000
-word ffff88800000b120
+pub const RESERVED: &str = "words word z.core 1000 ffff88800000b120
 put 9000 2083
 status 1
 out broken
@@ -13,10 +10,7 @@ out at ffff88800000b120
 out stop 3 0000000000009000
 out place - 0000000000009000 000000000000b000 0000000000002083
 
-word word
-word z.core
-word 1000
-word ffff88800000b120
+words word z.core 1000 ffff88800000b120
 put 9000 4083
 status 1
 out broken
@@ -25,10 +19,7 @@ out at ffff88800000b120
 out stop 3 0000000000009000
 out place - 0000000000009000 000000000000b000 0000000000004083
 
-word word
-word z.core
-word 1000
-word ffff88800000b120
+words word z.core 1000 ffff88800000b120
 put 9000 8083
 status 1
 out broken
@@ -37,10 +28,7 @@ out at ffff88800000b120
 out stop 3 0000000000009000
 out place - 0000000000009000 000000000000b000 0000000000008083
 
-word word
-word z.core
-word 1000
-word ffff88800000b120
+words word z.core 1000 ffff88800000b120
 put 9000 10083
 status 1
 out broken
@@ -49,10 +37,7 @@ out at ffff88800000b120
 out stop 3 0000000000009000
 out place - 0000000000009000 000000000000b000 0000000000010083
 
-word word
-word z.core
-word 1000
-word ffff88800000b120
+words word z.core 1000 ffff88800000b120
 put 9000 20083
 status 1
 out broken
@@ -61,10 +46,7 @@ out at ffff88800000b120
 out stop 3 0000000000009000
 out place - 0000000000009000 000000000000b000 0000000000020083
 
-word word
-word z.core
-word 1000
-word ffff88800000b120
+words word z.core 1000 ffff88800000b120
 put 9000 40083
 status 1
 out broken
@@ -73,10 +55,7 @@ out at ffff88800000b120
 out stop 3 0000000000009000
 out place - 0000000000009000 000000000000b000 0000000000040083
 
-word word
-word z.core
-word 1000
-word ffff88800000b120
+words word z.core 1000 ffff88800000b120
 put 9000 80083
 status 1
 out broken
@@ -85,10 +64,7 @@ out at ffff88800000b120
 out stop 3 0000000000009000
 out place - 0000000000009000 000000000000b000 0000000000080083
 
-word word
-word z.core
-word 1000
-word ffff88800000b120
+words word z.core 1000 ffff88800000b120
 put 9000 100083
 status 1
 out broken
@@ -97,10 +73,7 @@ out at ffff88800000b120
 out stop 3 0000000000009000
 out place - 0000000000009000 000000000000b000 0000000000100083
 
-word word
-word z.core
-word 1000
-word ffff88800000b120
+words word z.core 1000 ffff88800000b120
 put 9000 200083
 status 1
 out broken
@@ -109,10 +82,7 @@ out at ffff88800000b120
 out stop 3 0000000000009000
 out place - 0000000000009000 000000000000b000 0000000000200083
 
-word word
-word z.core
-word 1000
-word ffff88800000b120
+words word z.core 1000 ffff88800000b120
 put 9000 400083
 status 1
 out broken
@@ -121,10 +91,7 @@ out at ffff88800000b120
 out stop 3 0000000000009000
 out place - 0000000000009000 000000000000b000 0000000000400083
 
-word word
-word z.core
-word 1000
-word ffff88800000b120
+words word z.core 1000 ffff88800000b120
 put 9000 800083
 status 1
 out broken
@@ -133,10 +100,7 @@ out at ffff88800000b120
 out stop 3 0000000000009000
 out place - 0000000000009000 000000000000b000 0000000000800083
 
-word word
-word z.core
-word 1000
-word ffff88800000b120
+words word z.core 1000 ffff88800000b120
 put 9000 1000083
 status 1
 out broken
@@ -145,10 +109,7 @@ out at ffff88800000b120
 out stop 3 0000000000009000
 out place - 0000000000009000 000000000000b000 0000000001000083
 
-word word
-word z.core
-word 1000
-word ffff88800000b120
+words word z.core 1000 ffff88800000b120
 put 9000 2000083
 status 1
 out broken
@@ -157,10 +118,7 @@ out at ffff88800000b120
 out stop 3 0000000000009000
 out place - 0000000000009000 000000000000b000 0000000002000083
 
-word word
-word z.core
-word 1000
-word ffff88800000b120
+words word z.core 1000 ffff88800000b120
 put 9000 4000083
 status 1
 out broken
@@ -169,10 +127,7 @@ out at ffff88800000b120
 out stop 3 0000000000009000
 out place - 0000000000009000 000000000000b000 0000000004000083
 
-word word
-word z.core
-word 1000
-word ffff88800000b120
+words word z.core 1000 ffff88800000b120
 put 9000 8000083
 status 1
 out broken
@@ -181,10 +136,7 @@ out at ffff88800000b120
 out stop 3 0000000000009000
 out place - 0000000000009000 000000000000b000 0000000008000083
 
-word word
-word z.core
-word 1000
-word ffff88800000b120
+words word z.core 1000 ffff88800000b120
 put 9000 10000083
 status 1
 out broken
@@ -193,10 +145,7 @@ out at ffff88800000b120
 out stop 3 0000000000009000
 out place - 0000000000009000 000000000000b000 0000000010000083
 
-word word
-word z.core
-word 1000
-word ffff88800000b120
+words word z.core 1000 ffff88800000b120
 put 9000 20000083
 status 1
 out broken
@@ -205,10 +154,7 @@ out at ffff88800000b120
 out stop 3 0000000000009000
 out place - 0000000000009000 000000000000b000 0000000020000083
 
-word word
-word z.core
-word 1000
-word ffff88800000b120
+words word z.core 1000 ffff88800000b120
 put a000 2083
 status 1
 out broken
@@ -217,10 +163,7 @@ out at ffff88800000b120
 out stop 2 000000000000a000
 out place - 000000000000a000 000000000000c000 0000000000002083
 
-word word
-word z.core
-word 1000
-word ffff88800000b120
+words word z.core 1000 ffff88800000b120
 put a000 4083
 status 1
 out broken
@@ -229,10 +172,7 @@ out at ffff88800000b120
 out stop 2 000000000000a000
 out place - 000000000000a000 000000000000c000 0000000000004083
 
-word word
-word z.core
-word 1000
-word ffff88800000b120
+words word z.core 1000 ffff88800000b120
 put a000 8083
 status 1
 out broken
@@ -241,10 +181,7 @@ out at ffff88800000b120
 out stop 2 000000000000a000
 out place - 000000000000a000 000000000000c000 0000000000008083
 
-word word
-word z.core
-word 1000
-word ffff88800000b120
+words word z.core 1000 ffff88800000b120
 put a000 10083
 status 1
 out broken
@@ -253,10 +190,7 @@ out at ffff88800000b120
 out stop 2 000000000000a000
 out place - 000000000000a000 000000000000c000 0000000000010083
 
-word word
-word z.core
-word 1000
-word ffff88800000b120
+words word z.core 1000 ffff88800000b120
 put a000 20083
 status 1
 out broken
@@ -265,10 +199,7 @@ out at ffff88800000b120
 out stop 2 000000000000a000
 out place - 000000000000a000 000000000000c000 0000000000020083
 
-word word
-word z.core
-word 1000
-word ffff88800000b120
+words word z.core 1000 ffff88800000b120
 put a000 40083
 status 1
 out broken
@@ -277,10 +208,7 @@ out at ffff88800000b120
 out stop 2 000000000000a000
 out place - 000000000000a000 000000000000c000 0000000000040083
 
-word word
-word z.core
-word 1000
-word ffff88800000b120
+words word z.core 1000 ffff88800000b120
 put a000 80083
 status 1
 out broken
@@ -289,10 +217,7 @@ out at ffff88800000b120
 out stop 2 000000000000a000
 out place - 000000000000a000 000000000000c000 0000000000080083
 
-word word
-word z.core
-word 1000
-word ffff88800000b120
+words word z.core 1000 ffff88800000b120
 put a000 100083
 status 1
 out broken

@@ -1,37 +1,25 @@
 // Cases of words where reading stops.
 
 /// Words that can't be read, by each rule at each level where it can come.
-pub const STOPS: &str = "word word
-word z.core
-word 1000
-word ffffffff8000b121
+pub const STOPS: &str = "words word z.core 1000 ffffffff8000b121
 status 1
 out broken
 out rule M1
 out at ffffffff8000b121
 
-word word
-word z.core
-word 1000
-word 800000000000
+words word z.core 1000 800000000000
 status 1
 out broken
 out rule M2
 out at 0000800000000000
 
-word word
-word z.core
-word 1000
-word ffff7ffffffffff8
+words word z.core 1000 ffff7ffffffffff8
 status 1
 out broken
 out rule M2
 out at ffff7ffffffffff8
 
-word word
-word z.core
-word 1000
-word 7ffffffffff8
+words word z.core 1000 7ffffffffff8
 status 1
 out broken
 out rule M4
@@ -39,10 +27,7 @@ out at 00007ffffffffff8
 out stop 4 00000000000017f8
 out place - 00000000000017f8 00000000000037f8 0000000000000000
 
-word word
-word z.core
-word 1000
-word ffff800000000000
+words word z.core 1000 ffff800000000000
 status 1
 out broken
 out rule M4
@@ -50,19 +35,13 @@ out at ffff800000000000
 out stop 4 0000000000001800
 out place - 0000000000001800 0000000000003800 0000000000000000
 
-word word
-word z.core
-word 1000
-word ff1100000000b120
+words word z.core 1000 ff1100000000b120
 status 1
 out broken
 out rule M2
 out at ff1100000000b120
 
-word word
-word z.core
-word 1000
-word ffffffff80030000
+words word z.core 1000 ffffffff80030000
 status 1
 out broken
 out rule M4
@@ -70,20 +49,14 @@ out at ffffffff80030000
 out stop 1 0000000000004180
 out place - 0000000000004180 0000000000006180 0000000000000000
 
-word word
-word z.core
-word 20000
-word 0
+words word z.core 20000 0
 status 1
 out broken
 out rule M3
 out at 0000000000000000
 out stop 4 0000000000020000
 
-word word
-word z.core
-word 1000
-word ffff88800000b120
+words word z.core 1000 ffff88800000b120
 put 1888 20003
 status 1
 out broken
@@ -91,10 +64,7 @@ out rule M3
 out at ffff88800000b120
 out stop 3 0000000000020000
 
-word word
-word z.core
-word 1000
-word ffff88800000b120
+words word z.core 1000 ffff88800000b120
 put 9000 20003
 status 1
 out broken
@@ -102,10 +72,7 @@ out rule M3
 out at ffff88800000b120
 out stop 2 0000000000020000
 
-word word
-word z.core
-word 1000
-word ffff88800000b120
+words word z.core 1000 ffff88800000b120
 put a000 20003
 status 1
 out broken
@@ -113,10 +80,7 @@ out rule M3
 out at ffff88800000b120
 out stop 1 0000000000020058
 
-word word
-word z.core
-word 1000
-word ffff88800000b120
+words word z.core 1000 ffff88800000b120
 put 1888 9002
 status 1
 out broken
@@ -125,10 +89,7 @@ out at ffff88800000b120
 out stop 4 0000000000001888
 out place - 0000000000001888 0000000000003888 0000000000009002
 
-word word
-word z.core
-word 1000
-word ffff88800000b120
+words word z.core 1000 ffff88800000b120
 put 9000 0
 status 1
 out broken
@@ -137,10 +98,7 @@ out at ffff88800000b120
 out stop 3 0000000000009000
 out place - 0000000000009000 000000000000b000 0000000000000000
 
-word word
-word z.core
-word 1000
-word ffff88800000b120
+words word z.core 1000 ffff88800000b120
 put a000 82
 status 1
 out broken
@@ -149,10 +107,7 @@ out at ffff88800000b120
 out stop 2 000000000000a000
 out place - 000000000000a000 000000000000c000 0000000000000082
 
-word word
-word z.core
-word 1000
-word ffff88800000b120
+words word z.core 1000 ffff88800000b120
 put 1888 9083
 status 1
 out broken
@@ -161,10 +116,7 @@ out at ffff88800000b120
 out stop 4 0000000000001888
 out place - 0000000000001888 0000000000003888 0000000000009083
 
-word word
-word z.core
-word 1000
-word ffff88800000b120
+words word z.core 1000 ffff88800000b120
 put 9000 2083
 status 1
 out broken
@@ -173,10 +125,7 @@ out at ffff88800000b120
 out stop 3 0000000000009000
 out place - 0000000000009000 000000000000b000 0000000000002083
 
-word word
-word z.core
-word 1000
-word ffff88800000b120
+words word z.core 1000 ffff88800000b120
 put 9000 20000083
 status 1
 out broken
@@ -185,10 +134,7 @@ out at ffff88800000b120
 out stop 3 0000000000009000
 out place - 0000000000009000 000000000000b000 0000000020000083
 
-word word
-word z.core
-word 1000
-word ffff88800000b120
+words word z.core 1000 ffff88800000b120
 put a000 2083
 status 1
 out broken
@@ -197,10 +143,7 @@ out at ffff88800000b120
 out stop 2 000000000000a000
 out place - 000000000000a000 000000000000c000 0000000000002083
 
-word word
-word z.core
-word 1000
-word ffff88800000b120
+words word z.core 1000 ffff88800000b120
 put a000 100083
 status 1
 out broken
@@ -209,10 +152,7 @@ out at ffff88800000b120
 out stop 2 000000000000a000
 out place - 000000000000a000 000000000000c000 0000000000100083
 
-word word
-word z.core
-word 1000
-word ffff88800000b120
+words word z.core 1000 ffff88800000b120
 put 9000 40000083
 status 1
 out broken
@@ -220,10 +160,7 @@ out rule M6
 out at ffff88800000b120
 out stop 0 000000004000b120
 
-word word
-word z.core
-word 1000
-word ffff88800000b120
+words word z.core 1000 ffff88800000b120
 put a000 200083
 status 1
 out broken
@@ -231,20 +168,14 @@ out rule M6
 out at ffff88800000b120
 out stop 0 000000000020b120
 
-word word
-word z.core
-word 1000
-word ffff888000020000
+words word z.core 1000 ffff888000020000
 status 1
 out broken
 out rule M6
 out at ffff888000020000
 out stop 0 0000000000020000
 
-word word
-word z.core
-word 1000
-word ffffffff8000b120
+words word z.core 1000 ffffffff8000b120
 put 4058 20003
 status 1
 out broken
@@ -252,10 +183,7 @@ out rule M6
 out at ffffffff8000b120
 out stop 0 0000000000020120
 
-word word
-word z.core
-word -
-word 100000000000000
+words word z.core - 100000000000000
 note PAGESIZE=4096
 note NUMBER(phys_base)=0
 note SYMBOL(init_top_pgt)=ffffffff80012000
@@ -265,10 +193,7 @@ out broken
 out rule M2
 out at 0100000000000000
 
-word word
-word z.core
-word -
-word fefffffffffffff8
+words word z.core - fefffffffffffff8
 note PAGESIZE=4096
 note NUMBER(phys_base)=0
 note SYMBOL(init_top_pgt)=ffffffff80012000
@@ -278,10 +203,7 @@ out broken
 out rule M2
 out at fefffffffffffff8
 
-word word
-word z.core
-word -
-word fffffffffffff8
+words word z.core - fffffffffffff8
 note PAGESIZE=4096
 note NUMBER(phys_base)=0
 note SYMBOL(init_top_pgt)=ffffffff80012000
@@ -293,10 +215,7 @@ out at 00fffffffffffff8
 out stop 5 00000000000127f8
 out place - 00000000000127f8 00000000000147f8 0000000000000000
 
-word word
-word z.core
-word -
-word ff00000000000000
+words word z.core - ff00000000000000
 note PAGESIZE=4096
 note NUMBER(phys_base)=0
 note SYMBOL(init_top_pgt)=ffffffff80012000
@@ -308,10 +227,7 @@ out at ff00000000000000
 out stop 5 0000000000012800
 out place - 0000000000012800 0000000000014800 0000000000000000
 
-word word
-word z.core
-word -
-word ff1100000000b120
+words word z.core - ff1100000000b120
 note PAGESIZE=4096
 note NUMBER(phys_base)=0
 note SYMBOL(init_top_pgt)=ffffffff80020000
@@ -322,10 +238,7 @@ out rule M3
 out at ff1100000000b120
 out stop 5 0000000000020888
 
-word word
-word z.core
-word -
-word ff1100000000b120
+words word z.core - ff1100000000b120
 note PAGESIZE=4096
 note NUMBER(phys_base)=0
 note SYMBOL(init_top_pgt)=ffffffff80012000
@@ -338,10 +251,7 @@ out at ff1100000000b120
 out stop 5 0000000000012888
 out place - 0000000000012888 0000000000014888 0000000000013002
 
-word word
-word z.core
-word -
-word ff1100000000b120
+words word z.core - ff1100000000b120
 note PAGESIZE=4096
 note NUMBER(phys_base)=0
 note SYMBOL(init_top_pgt)=ffffffff80012000
@@ -354,10 +264,7 @@ out at ff1100000000b120
 out stop 5 0000000000012888
 out place - 0000000000012888 0000000000014888 0000000000013083
 
-word word
-word z.core
-word -
-word ff1100000000b120
+words word z.core - ff1100000000b120
 note PAGESIZE=4096
 note NUMBER(phys_base)=0
 note SYMBOL(init_top_pgt)=ffffffff80012000
@@ -372,10 +279,7 @@ out at ff1100000000b120
 out stop 4 0000000000013000
 out place - 0000000000013000 0000000000015000 0000000000009002
 
-word word
-word z.core
-word -
-word ffffffff8000b120
+words word z.core - ffffffff8000b120
 note PAGESIZE=4096
 note NUMBER(phys_base)=0
 note SYMBOL(init_top_pgt)=ffffffff80001000
@@ -388,10 +292,7 @@ out at ffffffff8000b120
 out stop 1 0000000000004058
 out place - 0000000000004058 0000000000006058 000080000000b002
 
-word word
-word z.core
-word 1000
-word ffffffff8000b120
+words word z.core 1000 ffffffff8000b120
 put 4058 80000000b003
 status 1
 out broken

@@ -1,6 +1,6 @@
 use Rattle.std.proofs.Common.{◌≡◌, None, map, rules}
 use Rattle.std.specs.String.{string_bytes}
-use Rattle.kc_app.specs.Command.{command}
+use Rattle.kc_app.specs.Commands.{command}
 use Rattle.kc_app.proofs.Usage.{tells_usage}
 use Rattle.kc_app.proofs.top.kaudit.Goals as goal
 

@@ -1,7 +1,0 @@
-use Rattle.std.proofs.Common.{◌≡◌, ◌++◌, drop}
-use Rattle.kc_app.specs.LayoutTexts.{member_lines}
-use Rattle.kc_app.proofs.layout_text.push_members.Given as goal
-
--- what was added, and what is still to come, are the whole
-abbrev pub invariant-loop-line : goal.invariant-loop-line
-invariant-loop-line l = l.text.items ++ member_lines l.types.strings (drop l.line-index l.lines) ≡ l.fn.text.items ++ member_lines l.types.strings l.lines

@@ -1,0 +1,94 @@
+-- `word`: one word of a dump.
+use Rattle.std.specs.Prelude.{ℕ, ◌%◌, ◌^◌, ◌&&◌, false, if◌then◌else◌, nat_eq, nat_lt, List, [], ◌∷◌, codes, Option, Some, None, option_and_then, option_map, Result, Ok, Err}
+use Rattle.std.specs.Str.{bytes_eq}
+use Rattle.kc_word.specs.declared.plain.Segment.{Segment}
+use Rattle.kc_word.specs.declared.plain.PageCfg.{PageCfg}
+use Rattle.kc_word.specs.Hex.{hex_number}
+use Rattle.kc_outside.specs.declared.store.Slot.TheVariants.{Dump}
+use Rattle.kc_memory.specs.declared.words.VWord.{VWord}
+use Rattle.kc_memory.specs.Image.{Image}
+use Rattle.kc_memory.specs.Places.{place_of}
+use Rattle.kc_memory.specs.Stopped.{Stopped}
+use Rattle.kc_memory.specs.Translation.{vword}
+use Rattle.kc_notes.specs.Info.{info}
+use Rattle.kc_input.specs.declared.refusal.Refusal.TheVariants.{Notes}
+use Rattle.kc_input.specs.Inputs.{dump_parts}
+use Rattle.kc_input.specs.Made.{◌>>=◌, Made, checked, gives}
+use Rattle.kc_input.specs.Paging.{by_info}
+use Rattle.kc_app.specs.declared.word.Asks.{Asks}
+use Rattle.kc_app.specs.Asked.{Asked, Form}
+use Rattle.kc_app.specs.Shown.{Shown, Seen, Bare, broken}
+
+-- the address of a top table: a multiple of 4096 below 2^52
+abbrev pub as_table : ℕ → Option ℕ
+as_table t = if nat_eq (t % 4096) 0 && nat_lt t (2 ^ 52) then Some t else None
+
+-- the top table that a word names: `-` is the one of the dump's notes
+abbrev pub table_word : List ℕ → Option (Option ℕ)
+table_word text =
+    if bytes_eq text (codes "-") then Some None
+    else option_map (λ (t : ℕ). Some t) (option_and_then as_table (hex_number text))
+
+-- the memory of a dump with these bytes and segments
+abbrev pub image_of : List ℕ → List Segment → PageCfg → Image
+image_of bytes segments paging = record { physical = record { bytes = bytes; segments = segments }; paging = paging }
+
+-- the bytes of a file, where it is there
+abbrev pub bytes_of : Option (List ℕ) → List ℕ
+bytes_of None = []
+bytes_of (Some bytes) = bytes
+
+-- four levels below a table, with no mask
+abbrev pub by_table : ℕ → PageCfg
+by_table table = record { table = table; five = false; sme = 0 }
+
+-- by the table that is named, or else by the notes of the dump
+abbrev pub paging_of : Option ℕ → List (List ℕ) → Made PageCfg
+paging_of (Some table) notes = gives (by_table table)
+paging_of None notes = do
+  told ← checked Notes (info notes)
+  gives (by_info told)
+
+-- the memory that is read
+abbrev pub word_image : Option ℕ → Option (List ℕ) → Made Image
+word_image table dump = do
+  parts ← dump_parts dump
+  paging ← paging_of table parts.notes
+  gives (image_of (bytes_of dump) parts.segments paging)
+
+-- the answer on a word
+abbrev pub word_shown : Image → Result VWord Stopped → Shown
+word_shown image (Ok w) = Seen Bare image (place_of w ∷ [])
+word_shown image (Err s) = broken image s
+
+-- the word at an address
+abbrev pub word_made : Option ℕ → ℕ → Option (List ℕ) → Made Shown
+word_made table address dump = do
+  image ← word_image table dump
+  gives (word_shown image (vword image address))
+
+-- what `word` asks: the name of the dump, the physical address of the top table, or none where the dump's notes name
+-- it, and the virtual address
+abbrev pub word_asked : List ℕ → Option ℕ → ℕ → Asked
+word_asked dump table address = record {
+  named = record { slot = Dump; name = dump } ∷ [];
+  made = λ files. word_made table address (files Dump);
+}
+
+-- where both its numbers are there
+abbrev pub numbers_asked : List ℕ → Option (Option ℕ) → Option ℕ → Option Asked
+numbers_asked dump (Some table) (Some address) = Some (word_asked dump table address)
+numbers_asked dump (Some table) None = None
+numbers_asked dump None address = None
+
+-- the words: the name of the dump, the top table or `-`, and the virtual address
+abbrev pub word_asks : List (List ℕ) → Option Asked
+word_asks (dump ∷ table ∷ address ∷ []) = numbers_asked dump (table_word table) (hex_number address)
+word_asks _ = None
+
+abbrev pub word_form : Form
+word_form = record { name = codes "word"; words = codes "DUMP TABLE ADDRESS"; asks = word_asks }
+
+-- as the code keeps it
+abbrev pub word_view : Asks → Asked
+word_view a = word_asked a.dump.now a.table a.address

@@ -1,0 +1,44 @@
+-- What the files of a command hold, and what is looked up in them.
+use Rattle.std.specs.Prelude.{ℕ, List, Option}
+use Rattle.kc_outside.specs.declared.store.Slot.TheVariants as slot
+use Rattle.kc_elf.specs.Parts.{Parts}
+use Rattle.kc_elf.specs.CoreFile.{core}
+use Rattle.kc_btf.specs.Btf.{Types, btf}
+use Rattle.kc_layout.specs.Find.{find}
+use Rattle.kc_layout.specs.Ends.{NumberAt, field}
+use Rattle.kc_syms.specs.Addresses.{common_of}
+use Rattle.kc_syms.specs.Rows.{RowText, addresses, rows}
+use Rattle.kc_input.specs.declared.refusal.Refusal.TheVariants as refusal
+use Rattle.kc_input.specs.Made.{◌>>=◌, Made, bytes_in, checked, short_file, wanted}
+
+-- the segments and notes of a dump, or its first fault
+abbrev pub dump_parts : Option (List ℕ) → Made Parts
+dump_parts file = do
+  bytes ← bytes_in file
+  checked refusal.Core (core bytes)
+
+-- the types of a kernel, or the first fault of their file: the limit comes first
+abbrev pub types_in : Option (List ℕ) → Made Types
+types_in file = do
+  bytes ← short_file slot.Btf file
+  checked refusal.Types (btf bytes)
+
+-- the bytes of a map, unless it is above the limit
+abbrev pub map_in : Option (List ℕ) → Made (List ℕ)
+map_in file = short_file slot.Map file
+
+-- the rows of a map, or its first line that isn't one
+abbrev pub rows_in : List ℕ → Made (List RowText)
+rows_in map = checked refusal.MapLine (rows map)
+
+-- the address of a symbol, by the addresses that its rows list
+abbrev pub symbol_at : ℕ → List ℕ → Made ℕ
+symbol_at kaslr listed = checked refusal.Symbol (common_of kaslr listed)
+
+-- the struct or union of a name
+abbrev pub type_named : Types → List ℕ → Made ℕ
+type_named types name = wanted refusal.NoType (find types name)
+
+-- where the number lies that a path leads to, from a type
+abbrev pub number_at : Types → ℕ → List ℕ → Made NumberAt
+number_at types id path = checked refusal.Path (field types id path)

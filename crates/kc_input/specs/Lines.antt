@@ -1,0 +1,97 @@
+-- The line of a refusal.
+use Rattle.std.specs.Prelude.{ℕ, List, ◌++◌, codes, decimal}
+use Rattle.kc_outside.specs.declared.store.Slot.{Slot}
+use Rattle.kc_outside.specs.declared.store.Slot.TheVariants.{Dump, Btf, Map, Plan, Report, Module}
+use Rattle.kc_elf.specs.declared.fault.CoreFault.{CoreFault}
+use Rattle.kc_elf.specs.declared.fault.CoreFault.TheVariants.{E1, E2, E3, E4, E5, E6, E7, E8, E9, E10}
+use Rattle.kc_notes.specs.declared.fault.NoteFault.{NoteFault}
+use Rattle.kc_notes.specs.declared.fault.NoteFault.TheVariants.{V1, V2, V3, V4, V5, V6, V7}
+use Rattle.kc_notes.specs.declared.fault.NoteKey.{NoteKey}
+use Rattle.kc_notes.specs.declared.fault.NoteKey.TheVariants.{L5, Offset, Sme}
+use Rattle.kc_btf.specs.declared.stop.BRule.{BRule}
+use Rattle.kc_btf.specs.declared.stop.BRule.TheVariants.{B1, B2, B3, B4, B5, B6, B7, B8}
+use Rattle.kc_layout.specs.declared.fault.QRule.{QRule}
+use Rattle.kc_layout.specs.declared.fault.QRule.TheVariants.{Q2, Q3, Q4, Q5, Q6, Q7, Q8}
+use Rattle.kc_syms.specs.declared.fault.SymFault.{SymFault}
+use Rattle.kc_syms.specs.declared.fault.SymFault.TheVariants.{S2, S3}
+use Rattle.kc_text.specs.Text.{hex}
+use Rattle.kc_input.specs.declared.refusal.Refusal.{Refusal}
+use Rattle.kc_input.specs.declared.refusal.Refusal.TheVariants.{Core, Notes, TooLong, Types, MapLine, Symbol, NoType, Path}
+
+-- the code of a core file's fault, with the index of a program header
+abbrev pub core_code : CoreFault → List ℕ
+core_code E1 = codes "E1"
+core_code E2 = codes "E2"
+core_code E3 = codes "E3"
+core_code E4 = codes "E4"
+core_code E5 = codes "E5"
+core_code E6 = codes "E6"
+core_code E7 = codes "E7"
+core_code E8 = codes "E8"
+core_code (E9 index) = codes "E9 index " ++ decimal index
+core_code E10 = codes "E10"
+
+-- a key of VMCOREINFO
+abbrev pub key_text : NoteKey → List ℕ
+key_text L5 = codes "NUMBER(pgtable_l5_enabled)"
+key_text Offset = codes "KERNELOFFSET"
+key_text Sme = codes "NUMBER(sme_mask)"
+
+-- the code of a fault of the notes, with its part and place, or its key
+abbrev pub note_code : NoteFault → List ℕ
+note_code (V1 part at) = codes "V1 index " ++ decimal part ++ codes " at " ++ decimal at
+note_code V2 = codes "V2"
+note_code V3 = codes "V3"
+note_code V4 = codes "V4"
+note_code V5 = codes "V5"
+note_code (V6 key) = codes "V6 key " ++ key_text key
+note_code V7 = codes "V7"
+
+-- the code of a rule of the file of types
+abbrev pub btf_code : BRule → List ℕ
+btf_code B1 = codes "B1"
+btf_code B2 = codes "B2"
+btf_code B3 = codes "B3"
+btf_code B4 = codes "B4"
+btf_code B5 = codes "B5"
+btf_code B6 = codes "B6"
+btf_code B7 = codes "B7"
+btf_code B8 = codes "B8"
+
+-- the code of a rule of paths
+abbrev pub path_code : QRule → List ℕ
+path_code Q2 = codes "Q2"
+path_code Q3 = codes "Q3"
+path_code Q4 = codes "Q4"
+path_code Q5 = codes "Q5"
+path_code Q6 = codes "Q6"
+path_code Q7 = codes "Q7"
+path_code Q8 = codes "Q8"
+
+-- the code of a symbol's fault, with two of its addresses
+abbrev pub symbol_code : SymFault → List ℕ
+symbol_code S2 = codes "S2"
+symbol_code (S3 first other) = codes "S3 " ++ hex first ++ codes " " ++ hex other
+
+-- the name of a slot
+abbrev pub slot_name : Slot → List ℕ
+slot_name Dump = codes "dump"
+slot_name Btf = codes "btf"
+slot_name Map = codes "map"
+slot_name Plan = codes "plan"
+slot_name Report = codes "report"
+slot_name Module = codes "module"
+
+-- what is refused, and by which rule
+abbrev pub refusal_text : Refusal → List ℕ
+refusal_text (Core fault) = codes "dump " ++ core_code fault
+refusal_text (Notes fault) = codes "dump " ++ note_code fault
+refusal_text (TooLong slot) = slot_name slot ++ codes " F1"
+refusal_text (Types fault) = codes "btf " ++ btf_code fault.rule ++ codes " at " ++ decimal fault.at
+refusal_text (MapLine line) = codes "map S1 line " ++ decimal line
+refusal_text (Symbol fault) = codes "symbol " ++ symbol_code fault
+refusal_text NoType = codes "path Q1 step 0"
+refusal_text (Path fault) = codes "path " ++ path_code fault.rule ++ codes " step " ++ decimal fault.step
+
+abbrev pub refusal_line : Refusal → List ℕ
+refusal_line refusal = codes "refused " ++ refusal_text refusal ++ codes "\n"

@@ -1,0 +1,19 @@
+//! What the files of a command hold, or the first refusal: a dump and its notes, types and symbols.
+#![tactic(auto)]
+
+mod dump;
+mod file;
+mod find;
+mod halt;
+mod line;
+mod map;
+mod refusal;
+mod types;
+
+pub use dump::{paging_by, read_dump, read_info};
+pub use find::{find_field, find_named, find_symbol};
+pub use halt::Halt;
+pub use line::refusal_line;
+pub use map::{read_map, read_symbols};
+pub use refusal::Refusal;
+pub use types::read_types;

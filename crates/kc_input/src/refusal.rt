@@ -1,0 +1,71 @@
+// Why a file, or what is looked up in it, is refused.
+ghost use Rattle.std.specs.Prelude.{◌≡◌};
+ghost use Rattle.kc_input.specs.declared.refusal.Refusal.TheVariants.{Core, Notes, Types, Symbol, Path};
+
+use kc_btf::BtfFault;
+use kc_elf::CoreFault;
+use kc_layout::PathFault;
+use kc_notes::NoteFault;
+use kc_outside::Slot;
+use kc_syms::SymFault;
+
+/// The first fault of a command's files, or of what it looks up in them.
+#[derive(Clone, Copy, Debug, PartialEq, Eq)]
+pub enum Refusal {
+    /// The dump is no core file that can be read.
+    Core(CoreFault),
+    /// The dump's notes don't tell what is needed.
+    Notes(NoteFault),
+    /// The file in this slot is above its limit of bytes.
+    TooLong(Slot),
+    /// The file of types breaks a rule.
+    Types(BtfFault),
+    /// The map's line with this number, from 1, is no row. It is the first such line.
+    MapLine(u64),
+    /// The symbol has no address.
+    Symbol(SymFault),
+    /// No struct or union has the name.
+    NoType,
+    /// The path leads nowhere.
+    Path(PathFault),
+}
+
+impl From<CoreFault> for Refusal {
+    ghost from_gives = { λ fault refusal. refusal ≡ Core fault };
+
+    fn from(fault: CoreFault) -> Self {
+        Refusal::Core(fault)
+    }
+}
+
+impl From<NoteFault> for Refusal {
+    ghost from_gives = { λ fault refusal. refusal ≡ Notes fault };
+
+    fn from(fault: NoteFault) -> Self {
+        Refusal::Notes(fault)
+    }
+}
+
+impl From<BtfFault> for Refusal {
+    ghost from_gives = { λ fault refusal. refusal ≡ Types fault };
+
+    fn from(fault: BtfFault) -> Self {
+        Refusal::Types(fault)
+    }
+}
+
+impl From<SymFault> for Refusal {
+    ghost from_gives = { λ fault refusal. refusal ≡ Symbol fault };
+
+    fn from(fault: SymFault) -> Self {
+        Refusal::Symbol(fault)
+    }
+}
+
+impl From<PathFault> for Refusal {
+    ghost from_gives = { λ fault refusal. refusal ≡ Path fault };
+
+    fn from(fault: PathFault) -> Self {
+        Refusal::Path(fault)
+    }
+}
