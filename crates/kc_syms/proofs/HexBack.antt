@@ -1,11 +1,11 @@
 -- That 16 lower-case digits are those of the number that they write.
-use Rattle.std.proofs.Common.{◌≡◌, ℕ, zero, suc, ◌+◌, ◌-◌, ◌*◌, ◌/◌, ◌%◌, ◌^◌, ◌<◌, ◌≤◌, Bool, true, false, ◌&&◌, nat_le, List, [], ◌∷◌, ◌++◌, length, Some, refl, sym, ap, ◌∙◌, append_assoc, arith, if◌then◌else◌}
-use Rattle.std.proofs.Math.Nat.{div-add-mod, mul-le-mul_left, mul_assoc}
+use Rattle.std.proofs.Common.{◌≡◌, ℕ, zero, suc, ◌+◌, ◌-◌, ◌*◌, ◌/◌, ◌%◌, ◌^◌, ◌<◌, ◌≤◌, Bool, true, false, ◌&&◌, nat_le, List, [], ◌∷◌, ◌++◌, length, Some, refl, sym, ap, ◌∙◌, arith, if◌then◌else◌}
+use Rattle.std.proofs.Math.Nat.{mul-le-mul_left, mul_assoc}
 use Rattle.std.proofs.lemmas.Bool.Decides.{nat_tests}
-use Rattle.std.proofs.lemmas.List.{append-nil, length-append}
 use Rattle.std.proofs.lemmas.List.Folds.{list_all-append}
 use Rattle.std.specs.List.{list_all}
 use Rattle.kc_word.specs.Hex.{digit_value, digits_of, hex_digit, hex_digits, hex_from, hex_number}
+use Rattle.kc_word.proofs.HexLemmas.{hex_from-cons, pow_step}
 use Rattle.kc_syms.specs.Rows.{is_digit}
 
 -- both of two tests hold
@@ -25,13 +25,6 @@ worth_of c = if nat_le c 57 then c - 48 else (c - 87)
 worth : (c : ℕ) → is_digit c ≡ true → IsWorth c (worth_of c)
 unfolding worth_of
 worth c is = record { small = grind (arith, nat_tests); worth = grind (arith, nat_tests); digit = grind (arith, nat_tests) }
-
-hex_from-cons : (n c d : ℕ) (cs : List ℕ) → digit_value c ≡ Some d → hex_from n (c ∷ cs) ≡ hex_from (16 * n + d) cs
-unfolding hex_from
-hex_from-cons n c d cs is = rw is
-
-pow_step : (k : ℕ) → 16 ^ suc k ≡ 16 * 16 ^ k
-pow_step k = grind arith
 
 -- the digits of a number, the highest in front
 hex_digits-front : (k d v : ℕ) → d < 16 → v < 16 ^ k → hex_digits (suc k) (16 ^ k * d + v) ≡ hex_digit d ∷ hex_digits k v
@@ -110,37 +103,3 @@ digits_are zero n = refl
 digits_are (suc k) n =
     list_all-append is_digit (hex_digits k (n / 16)) (hex_digit (n % 16) ∷ [])
     ∙ rw (digits_are k (n / 16), digit_is (n % 16) (omega arith))
-
-pub length-hex_digits : (k n : ℕ) → length (hex_digits k n) ≡ k
-unfolding hex_digits
-length-hex_digits zero n = refl
-length-hex_digits (suc k) n = omega (arith, length-append (hex_digits k (n / 16)) (hex_digit (n % 16) ∷ []), length-hex_digits k (n / 16))
-
-worth_back : (d : ℕ) → d < 16 → digit_value (hex_digit d) ≡ Some d
-worth_back d small = grind (arith, nat_tests)
-
-shifted_low : (p m q r n : ℕ) → 16 * q + r ≡ n → 16 * (p * m + q) + r ≡ (16 * p) * m + n
-shifted_low p m q r n is = omega (arith, mul_assoc 16 p m)
-
--- the digits of n behind those of m
-hex_from-digits : (k m n : ℕ) (rest : List ℕ) → n < 16 ^ k → hex_from m (hex_digits k n ++ rest) ≡ hex_from (16 ^ k * m + n) rest
-unfolding hex_digits
-hex_from-digits zero m n rest small = ap (λ x. hex_from x rest) (omega arith)
-hex_from-digits (suc k) m n rest small =
-    let step = pow_step k in
-    let high : n / 16 < 16 ^ k = omega arith in
-    let low : n % 16 < 16 = omega arith in
-    ap (hex_from m) (append_assoc (hex_digits k (n / 16)) (hex_digit (n % 16) ∷ []) rest)
-    ∙ hex_from-digits k m (n / 16) (hex_digit (n % 16) ∷ rest) high
-    ∙ hex_from-cons (16 ^ k * m + n / 16) (hex_digit (n % 16)) (n % 16) rest (worth_back (n % 16) low)
-    ∙ ap (λ x. hex_from x rest) (rw step (shifted_low (16 ^ k) m (n / 16) (n % 16) n (div-add-mod n 16)))
-
--- a number's digits write it
-pub hex_number-digits : (n : ℕ) → n < 2 ^ 64 → hex_number (hex_digits 16 n) ≡ Some n
-unfolding hex_from
-hex_number-digits n small =
-    let text = hex_digits 16 n in
-    let no_prefix : digits_of text ≡ text = plain text (digits_are 16 n) in
-    let long : length text ≡ 16 = length-hex_digits 16 n in
-    let read : hex_from 0 text ≡ Some n = ap (hex_from 0) (sym (append-nil text)) ∙ hex_from-digits 16 0 n [] small ∙ ap (λ (x : ℕ). Some x) (omega arith) in
-    rw (no_prefix, long, read)

@@ -12,7 +12,8 @@ use Rattle.kc_syms.specs.declared.symbols.Symbols.{Symbols}
 use Rattle.kc_syms.specs.Answers.{IsAnswer, IsAnswerBySpelling, IsFirstBad}
 use Rattle.kc_syms.specs.Rows.{RowText, is_digit, is_kind, is_name_byte, lines, listed_in, name_behind, name_in, row_before, row_of, row_with, rows, rows_from}
 use Rattle.kc_syms.specs.Spelling.{IsKind, IsNameByte, SpellAll, Spells, SpellsNone}
-use Rattle.kc_syms.proofs.HexBack.{both, digits_are, hex_number-digits, length-hex_digits, written}
+use Rattle.kc_word.proofs.HexLemmas.{hex_number-digits, length-hex_digits}
+use Rattle.kc_syms.proofs.HexBack.{both, digits_are, written}
 
 -- a choice that gives something
 chosen : {A : Type 0} (b : Bool) (o : Option A) (x : A) → (if b then o else None) ≡ Some x → (b ≡ true) × (o ≡ Some x)

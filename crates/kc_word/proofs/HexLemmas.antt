@@ -7,7 +7,7 @@ use Rattle.std.proofs.lemmas.Bool.Decides.{nat_tests}
 use Rattle.kc_word.specs.Hex.{hex_digit, hex_digits, hex_from, digit_value, digits_of, hex_number}
 
 -- a digit is worth what it was printed for
-digit_back : (d : ℕ) → d < 16 → digit_value (hex_digit d) ≡ Some d
+pub digit_back : (d : ℕ) → d < 16 → digit_value (hex_digit d) ≡ Some d
 digit_back d small = grind (arith, nat_tests)
 
 pub length-hex_digits : (k n : ℕ) → length (hex_digits k n) ≡ k
@@ -27,7 +27,7 @@ pub hex_from-nil : (n : ℕ) → hex_from n [] ≡ Some n
 unfolding hex_from
 hex_from-nil n = refl
 
-pow_step : (k : ℕ) → 16 ^ suc k ≡ 16 * 16 ^ k
+pub pow_step : (k : ℕ) → 16 ^ suc k ≡ 16 * 16 ^ k
 pow_step k = grind arith
 
 shifted : (p m q r n : ℕ) → 16 * q + r ≡ n → 16 * (p * m + q) + r ≡ (16 * p) * m + n

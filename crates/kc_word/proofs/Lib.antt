@@ -1,2 +1,2 @@
 mod DecimalLemmas
-mod HexLemmas
+pub mod HexLemmas

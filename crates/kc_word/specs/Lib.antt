@@ -1,3 +1,4 @@
+pub mod Answers
 pub mod Decimal
 pub mod Hex
 pub mod Numbers
