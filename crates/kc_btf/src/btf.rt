@@ -33,7 +33,8 @@ impl Model for Btf {
 impl Btf {
     ghost use Rattle.std.specs.Prelude.{◌≡◌, ◌+◌, ◌<◌, ◌≤◌, length, bytes_eq, Some, option_map, option_and_then, All, IsTrue, IfOk};
     ghost use Rattle.std.specs.List.{flat_map};
-    ghost use Rattle.kc_btf.specs.Answers.{Gives};
+    ghost use Rattle.kc_word.specs.Answers.{GivesTold};
+    ghost use Rattle.kc_btf.specs.Answers.{told};
     ghost use Rattle.kc_btf.specs.Btf.{btf, RefersInside};
     ghost use Rattle.kc_btf.specs.Header.{type_section};
     ghost use Rattle.kc_btf.specs.Spelling.{spelled, HasForm};
@@ -46,7 +47,7 @@ impl Btf {
     /// with the first one; both answers that aren't a `Btf` drop the bytes. The records are gone through
     /// twice, and a table keeps the place of each in 4 bytes.
     pub fn read(alloc: Global, bytes: Vec<u8>) -> Result<Btf, BtfStop>
-        ensures exact { Gives (λ types. types) result (btf bytes.items) }
+        ensures exact { GivesTold told (λ types. types) result (btf bytes.items) }
         // The records, written out again, are the bytes of the types.
         ensures spelled { IfOk result (λ types. flat_map spelled types.records ≡ type_section bytes.items) }
         ensures form { IfOk result (λ types. All HasForm types.records) }

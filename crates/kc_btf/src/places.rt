@@ -1,7 +1,8 @@
 // The table of the records' places.
 ghost use Rattle.std.specs.Prelude.{◌≡◌, ◌+◌, ◌-◌, ◌*◌, ◌^◌, ◌<◌, ◌≤◌, length, map, All, IfOk};
 ghost use Rattle.kc_btf.specs.Records.{places, IsRecord};
-ghost use Rattle.kc_btf.specs.Answers.{Gives};
+ghost use Rattle.kc_word.specs.Answers.{GivesTold};
+ghost use Rattle.kc_btf.specs.Answers.{told};
 
 use crate::record::record_size;
 use crate::stop::BtfStop;
@@ -18,7 +19,7 @@ pub(crate) fn places(
     requires start { types ≤ end }
     requires inside { end ≤ length bytes.now }
     requires short { end - types < 2 ^ 32 }
-    ensures exact { Gives (λ table. map (λ place. types + place) table.items) result
+    ensures exact { GivesTold told (λ table. map (λ place. types + place) table.items) result
         (places (length bytes.now) bytes.now types end) }
     ensures found { IfOk result (λ table. All (λ place. IsRecord bytes.now (types + place)) table.items) }
     ensures few { IfOk result (λ table. 12 * length table.items ≤ end - types) }

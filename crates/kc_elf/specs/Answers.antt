@@ -1,20 +1,20 @@
 -- What an answer of the reader says.
 use Rattle.std.specs.Prelude.{◌≡◌, ℕ, List, Option, Some, None, Result, Ok, Err, ⊤}
+use Rattle.kc_word.specs.Answers.{GivesTold}
 use Rattle.kc_elf.specs.declared.fault.CoreFault.{CoreFault}
 use Rattle.kc_elf.specs.declared.fault.CoreStop.{CoreStop}
 use Rattle.kc_elf.specs.declared.fault.CoreStop.TheVariants.{Fault, ReadFault, NoMemory}
 
--- The answer is the meant one, or the store failed, or memory was wanting.
-abbrev pub IsAnswer : {X Y : Type 0} → (X → Y) → Result X CoreStop → Result Y CoreFault → Type 0
-IsAnswer view (Ok x) meant = meant ≡ Ok (view x)
-IsAnswer view (Err (Fault fault)) meant = meant ≡ Err fault
-IsAnswer view (Err ReadFault) meant = ⊤
-IsAnswer view (Err NoMemory) meant = ⊤
+-- the fault that an error tells: a failure of the store and want of memory tell none
+abbrev pub told : CoreStop → Option CoreFault
+told (Fault fault) = Some fault
+told ReadFault = None
+told NoMemory = None
 
 -- The answer is the one that the file's bytes mean, where they are told.
 abbrev pub Answers : {X Y : Type 0} → (X → Y) → Option (List ℕ) → Result X CoreStop → (List ℕ → Result Y CoreFault) → Type 0
 Answers view None result meant = ⊤
-Answers view (Some bytes) result meant = IsAnswer view result (meant bytes)
+Answers view (Some bytes) result meant = GivesTold told view result (meant bytes)
 
 -- what is said where the store failed
 abbrev pub OnReadFault : {X : Type 0} → Result X CoreStop → Type 0 → Type 0

@@ -5,7 +5,8 @@ ghost use Rattle.std.specs.Bool.{OnTrue};
 ghost use Rattle.kc_outside.specs.declared.store.Slot.{Slot};
 ghost use Rattle.kc_outside.specs.Counts.{Rose};
 ghost use Rattle.kc_outside.specs.Files.{content, OthersStay, HasPart};
-ghost use Rattle.kc_elf.specs.Answers.{Answers, IsAnswer, IsFaultless, OnReadFault, UnlessReadFault};
+ghost use Rattle.kc_word.specs.Answers.{GivesTold};
+ghost use Rattle.kc_elf.specs.Answers.{Answers, IsFaultless, OnReadFault, UnlessReadFault, told};
 ghost use Rattle.kc_elf.specs.CoreFile.{table_by, table_of, headers_of, split_of, parts_of, core_of, core};
 ghost use Rattle.kc_elf.specs.FileHeader.{header_count};
 
@@ -187,7 +188,7 @@ fn split(
 ) -> Result<(Vec<Segment>, Vec<Segment>), CoreStop>
     requires { length headers.now ≤ 65536 }
 
-    ensures exact { IsAnswer (λ both. (both.0.items, both.1.items)) result (split_of size headers.now) }
+    ensures exact { GivesTold told (λ both. (both.0.items, both.1.items)) result (split_of size headers.now) }
     ensures loads_inside { IfOk result (λ both. All (λ s. s.offset + s.filesz ≤ size) both.0.items) }
     ensures loads_below { IfOk result (λ both. All (λ s. s.paddr + max s.filesz s.memsz ≤ 2 ^ 64) both.0.items) }
     ensures notes_inside { IfOk result (λ both. All (λ s. s.offset + s.filesz ≤ size) both.1.items) }

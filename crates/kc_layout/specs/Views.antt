@@ -1,5 +1,4 @@
 -- What the code answers, as the definitions have it.
-use Rattle.std.specs.Prelude.{◌≡◌, Result, Ok, Err}
 use Rattle.kc_word.specs.declared.bits.Bits.{Bits}
 use Rattle.kc_layout.specs.declared.place.Located.{Located}
 use Rattle.kc_layout.specs.declared.place.Field.{Field}
@@ -8,11 +7,6 @@ use Rattle.kc_layout.specs.declared.place.End.{End as CodeEnd}
 use Rattle.kc_layout.specs.Places.{Place, End}
 use Rattle.kc_layout.specs.Ends.{ByteAt, BitsAt, NumberAt}
 use Rattle.kc_layout.specs.HopList.{hop_list}
-
--- what a call gave, seen by a view, is what the definition gives
-abbrev pub Gives : {X Y E : Type 0} → (X → Y) → Result X E → Result Y E → Type 0
-Gives view (Ok x) definition = definition ≡ Ok (view x)
-Gives view (Err e) definition = definition ≡ Err e
 
 abbrev pub place_view : CodePlace → Place
 place_view p = record { hops = hop_list p.hops; spot = p.spot }

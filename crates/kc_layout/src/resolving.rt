@@ -4,7 +4,8 @@ ghost use Rattle.kc_layout.specs.HopList.{hop_list};
 ghost use Rattle.kc_layout.specs.Places.{start_of, if_near, bare, behind, member_step, element_step, whole_byte, with_hop, follow, member_of, take_step, IsReached, end_of};
 ghost use Rattle.kc_layout.specs.Bare.{target_numbered};
 ghost use Rattle.kc_layout.specs.PathViews.{step_view};
-ghost use Rattle.kc_layout.specs.Views.{Gives, place_view, end_view, byte_view, bits_view, number_view};
+ghost use Rattle.kc_word.specs.Answers.{Gives};
+ghost use Rattle.kc_layout.specs.Views.{place_view, end_view, byte_view, bits_view, number_view};
 ghost use Rattle.kc_layout.specs.Ends.{located, number_numbered, bits_at, bits_of, number_at, field};
 
 use crate::bare::{MODIFIERS, array_of, compound_of, target_of, type_of, under};

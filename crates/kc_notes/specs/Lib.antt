@@ -1,4 +1,3 @@
-pub mod Gives
 pub mod Info
 pub mod Laws
 pub mod Notes

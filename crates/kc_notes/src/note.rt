@@ -3,7 +3,7 @@ ghost use Rattle.std.specs.Prelude.{◌≡◌, ◌+◌, ◌*◌, ◌/◌, ◌≤
 ghost use Rattle.kc_notes.specs.Notes.{note_at, note_by, note_end, note_text, is_vmcoreinfo, part_text, text_in};
 ghost use Rattle.kc_notes.specs.Steps.{IsInside, IsWithin};
 ghost use Rattle.std.specs.Option.{option_copied};
-ghost use Rattle.kc_notes.specs.Gives.{Gives};
+ghost use Rattle.kc_word.specs.Answers.{Gives};
 ghost use Rattle.std.specs.List.{before_first};
 
 use crate::fault::NoteFault;
