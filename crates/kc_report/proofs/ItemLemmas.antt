@@ -1,9 +1,15 @@
 -- One item more of a list.
-use Rattle.std.proofs.Common.{◌≡◌, ℕ, zero, suc, ◌+◌, List, [], ◌∷◌, ◌++◌, take, drop, slice_get, Some, Result, Ok, Err, OnOk, sym, ap, ◌∙◌, add-one, append_assoc}
+use Rattle.std.proofs.Common.{◌≡◌, ℕ, zero, suc, ◌+◌, List, [], ◌∷◌, ◌++◌, take, drop, slice_get, Some, Result, Ok, Err, OnOk, OnErr, sym, ap, ◌∙◌, subst, true, add-one, append_assoc}
 use Rattle.kc_word.specs.declared.memory.NoMemory.{NoMemory}
 use Rattle.kc_memory.specs.declared.words.Place.{Place}
 use Rattle.kc_text.specs.Compose.{texts}
+use Rattle.kc_text.specs.Readers.{is_name}
+use Rattle.kc_found.specs.declared.verdict.AuditCount.{AuditCount}
+use Rattle.kc_report.specs.Copies.{IsCounted, counted}
 use Rattle.kc_report.specs.Lines.{place_line, place_lines}
+use Rattle.kc_report.specs.Names.{are_names}
+use Rattle.kc_report.specs.Report.{AuditLine}
+use Rattle.std.proofs.lemmas.Bool.{and_from, and_parts}
 
 drop_next : {X : Type 0} (xs : List X) (i : ℕ) (x : X) → slice_get xs i ≡ Some x → drop i xs ≡ x ∷ drop (suc i) xs
 drop_next [] i x is = absurd (let none : ⊥ = cc in none)
@@ -37,3 +43,33 @@ pub three_pieces : (r : Result (Unit {0}) NoMemory) (text one two all first seco
 three_pieces (Err e) text one two all first second third a b c = tt
 three_pieces (Ok u) text one two all first second third a b c =
     c ∙ ap (λ l. l ++ third) (b ∙ ap (λ l. l ++ second) a ∙ append_assoc text first second) ∙ append_assoc text (first ++ second) third
+
+-- the names of audits
+pub names-push : (names : List (List ℕ)) (name : List ℕ) → are_names names ≡ true → is_name name ≡ true → are_names (names ++ name ∷ []) ≡ true
+names-push [] name good fits = and_from (is_name name) true fits (λ i. true)
+names-push (n ∷ ns) name good fits =
+    let parts = and_parts (is_name n) (are_names ns) good in
+    and_from (is_name n) (are_names (ns ++ name ∷ [])) parts.0 (names-push ns name parts.1 fits)
+
+pub names-get : (names : List (List ℕ)) (i : ℕ) (name : List ℕ) → are_names names ≡ true → slice_get names i ≡ Some name → is_name name ≡ true
+names-get [] i name good is = absurd (let none : ⊥ = cc in none)
+names-get (n ∷ ns) zero name good is = let same : n ≡ name = cc in let P : List ℕ → Type 0 = λ n. is_name n ≡ true in subst P same (and_parts (is_name n) (are_names ns) good).0
+names-get (n ∷ ns) (suc i) name good is = names-get ns i name (and_parts (is_name n) (are_names ns) good).1 is
+
+-- one audit more, and those that are left
+pub counted_item : (names : List (List ℕ)) (counts : List AuditCount) (i : ℕ) (line : AuditLine) (lines grown whole : List AuditLine) → IsCounted names counts i line
+    → grown ≡ lines ++ line ∷ [] → lines ++ counted (drop i names) (drop i counts) ≡ whole → grown ++ counted (drop (i + 1) names) (drop (i + 1) counts) ≡ whole
+counted_item names counts i line lines grown whole is grows before =
+    let name : drop i names ≡ is.name ∷ drop (i + 1) names = rw add-one (drop_next names i is.name is.named) in
+    let count : drop i counts ≡ is.count ∷ drop (i + 1) counts = rw add-one (drop_next counts i is.count is.counted) in
+    let both : counted (drop i names) (drop i counts) ≡ line ∷ counted (drop (i + 1) names) (drop (i + 1) counts) =
+    ap (λ l. counted l (drop i counts)) name ∙ ap (counted (is.name ∷ drop (i + 1) names)) count
+    ∙ ap (λ l. l ∷ counted (drop (i + 1) names) (drop (i + 1) counts)) (sym is.same) in
+    ap (λ l. l ++ counted (drop (i + 1) names) (drop (i + 1) counts)) grows
+    ∙ append_assoc lines (line ∷ []) (counted (drop (i + 1) names) (drop (i + 1) counts))
+    ∙ ap (λ l. lines ++ l) (sym both) ∙ before
+
+pub names-keep : (r : Result (Unit {0}) NoMemory) (names new : List (List ℕ)) (name : List ℕ) → OnOk r (new ≡ names ++ name ∷ []) → OnErr r (new ≡ names)
+    → are_names names ≡ true → is_name name ≡ true → are_names new ≡ true
+names-keep (Ok u) names new name added kept good fits = ap are_names added ∙ names-push names name good fits
+names-keep (Err e) names new name added kept good fits = ap are_names kept ∙ good

@@ -1,8 +1,10 @@
+pub mod Copies
 pub mod Faults
 pub mod Formats
 pub mod Heads
 pub mod IsReport
 pub mod Lines
+pub mod Names
 pub mod Reads
 pub mod Report
 pub mod ReportText

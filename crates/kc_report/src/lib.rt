@@ -4,6 +4,8 @@
 
 mod back;
 mod line;
+mod make;
+mod names;
 mod read;
 mod report;
 mod stops;
@@ -11,6 +13,8 @@ mod write;
 
 pub use back::read_report;
 pub use line::{broken_text, push_place, push_places, push_rule, push_stop, rule_code};
+pub use make::report_of;
+pub use names::PlanNames;
 pub use report::{BrokenText, CleanLine, CleanLines, Report};
 pub use stops::ReportStop;
 pub use write::text;

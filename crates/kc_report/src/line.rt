@@ -58,7 +58,7 @@ pub fn rule_code(rule: Rule) -> &'static [u8]
 }
 
 // Whether a physical word stopped the reading.
-fn tells_stop(rule: Rule) -> bool
+pub(crate) fn tells_stop(rule: Rule) -> bool
     ensures { result ≡ tells_stop rule }
 {
     match rule {

@@ -1,0 +1,109 @@
+// The report of a verdict.
+ghost use Rattle.std.specs.Prelude.{◌≡◌, ◌<◌, length, IfOk, IsTrue};
+ghost use Rattle.kc_report.specs.Copies.{IsCounted, IsOfPlan, broken_report, counted, report_of, told_stop};
+ghost use Rattle.kc_report.specs.Report.{is_stop_at, stop_levels};
+
+use crate::line::tells_stop;
+use crate::names::PlanNames;
+use crate::report::{BrokenText, CleanLine, CleanLines, Report};
+use kc_found::{Counts, Found, Items, Verdict};
+use kc_word::NoMemory;
+use std::alloc::Global;
+
+/// The report of a verdict on a plan with these names. It tells a stop for the rules M3 to M6 alone.
+///
+/// # Errors
+///
+/// Out of memory.
+pub fn report_of(
+    alloc: Global,
+    plan_names: &PlanNames,
+    verdict: &Verdict,
+) -> Result<Report, NoMemory>
+    requires { IsOfPlan plan_names.now verdict.now }
+    ensures { IfOk result (λ report. report ≡ report_of plan_names.now verdict.now) }
+{
+    match verdict {
+        Verdict::Clean(counts) => Ok(Report::Clean(counted(alloc, plan_names, counts)?)),
+        Verdict::Broken(found) => Ok(Report::Broken(broken_report(alloc, plan_names, found)?)),
+    }
+}
+
+// Copies a list.
+fn copied<T: Copy + Drop>(alloc: Global, items: &Items<T>) -> Result<Items<T>, NoMemory>
+    ensures { IfOk result (λ copy. copy ≡ items.now) }
+{
+    let mut copy = Items::new(alloc);
+    for i in 0..items.len() {
+        copy.push(*items.get(i))?;
+    }
+    Ok(copy)
+}
+
+// An audit with its counts.
+fn counted_line(
+    alloc: Global,
+    plan_names: &PlanNames,
+    counts: &Counts,
+    i: usize,
+) -> Result<CleanLine, NoMemory>
+    requires name { i < length plan_names.now }
+    requires count { i < length counts.now }
+    ensures { IfOk result (λ line. IsCounted plan_names.now counts.now i line) }
+{
+    let name = copied(alloc, plan_names.get(i))?;
+    let count = counts.get(i);
+    Ok(CleanLine {
+        name,
+        walks: count.walks,
+        elements: count.elements,
+    })
+}
+
+// Each audit with its counts.
+fn counted(alloc: Global, plan_names: &PlanNames, counts: &Counts) -> Result<CleanLines, NoMemory>
+    requires { length counts.now ≡ length plan_names.now }
+    ensures { IfOk result (λ lines. lines ≡ counted plan_names.now counts.now) }
+{
+    let mut lines = CleanLines::new(alloc);
+    for i in 0..counts.len() {
+        let line = counted_line(alloc, plan_names, counts, i)?;
+        lines.push(line)?;
+    }
+    Ok(lines)
+}
+
+// The level and the physical address of a stop, for M3 to M6 alone.
+fn told_stop(found: &Found) -> Option<(u8, u64)>
+    ensures value { result ≡ told_stop found.now.rule found.now.stop }
+    ensures fits { IsTrue (is_stop_at (stop_levels found.now.rule) result) }
+{
+    let miss = found.stop?;
+    if tells_stop(found.rule) {
+        Some((miss.level, miss.pa))
+    } else {
+        None
+    }
+}
+
+// The report of a violation.
+fn broken_report(
+    alloc: Global,
+    plan_names: &PlanNames,
+    found: &Found,
+) -> Result<BrokenText, NoMemory>
+    requires { found.now.audit < length plan_names.now }
+    ensures { IfOk result (λ broken. broken ≡ broken_report plan_names.now found.now) }
+{
+    let audit = copied(alloc, plan_names.get(found.audit as usize))?;
+    let places = copied(alloc, &found.places)?;
+    Ok(BrokenText {
+        audit,
+        start: found.start,
+        rule: found.rule,
+        at: found.at,
+        expected: found.expected,
+        stop: told_stop(found),
+        places,
+    })
+}
