@@ -6,6 +6,7 @@ pub use Rattle.kc_memory.specs.Laws
 pub use Rattle.kc_memory.specs.Places
 pub use Rattle.kc_memory.specs.Reads
 pub use Rattle.kc_memory.specs.Space
+pub use Rattle.kc_memory.specs.Stays
 pub use Rattle.kc_memory.specs.Stopped
 pub use Rattle.kc_memory.specs.Translation
 pub mod Chains

@@ -5,6 +5,7 @@ ghost use Rattle.kc_memory.specs.Image.{pword};
 ghost use Rattle.kc_memory.specs.Stopped.{is_stop};
 ghost use Rattle.kc_memory.specs.Reads.{StepsAre, word_reads};
 ghost use Rattle.kc_memory.specs.Space.{AnswersAs, OnFault, StopsAt, UnlessFault};
+ghost use Rattle.kc_memory.specs.Stays.{CountsFaults, FramesStay};
 ghost use Rattle.kc_memory.specs.Translation.{levels, vword, word_or_stop};
 ghost use Rattle.kc_mem.specs.Paged.{with_paging, refused, most_one, most_six};
 
@@ -134,12 +135,8 @@ fn read<F: Frames, L: Ledger>(
     ensures asked { IfOk result (λ w. w.va ≡ va) }
     ensures stopped { StopsAt result va }
     ensures steps { steps.new ≤ steps.old + (levels paging.now + 1) }
-    ensures image { F.image frames.new ≡ F.image frames.old }
-    ensures files { F.files frames.new ≡ F.files frames.old }
-    ensures through { F.through frames.new ≡ F.through frames.old }
-    ensures later { F.faults frames.old ≤ F.faults frames.new }
-    ensures quiet { UnlessFault result (F.faults frames.new ≡ F.faults frames.old) }
-    ensures cause { OnFault result (Rose (F.faults frames.old) (F.faults frames.new)) }
+    ensures stays { FramesStay F.image F.files F.through frames.old frames.new }
+    ensures cause { CountsFaults result (F.faults frames.old) (F.faults frames.new) }
 {
     if va % 8 != 0 {
         return Err(stop_by(va, Rule::M1, 0));
@@ -163,12 +160,8 @@ fn read_at<F: Frames, L: Ledger>(
     ensures asked { IfOk result (λ w. w.va ≡ va) }
     ensures stopped { StopsAt result va }
     ensures steps { steps.new ≡ steps.old + 1 }
-    ensures image { F.image frames.new ≡ F.image frames.old }
-    ensures files { F.files frames.new ≡ F.files frames.old }
-    ensures through { F.through frames.new ≡ F.through frames.old }
-    ensures later { F.faults frames.old ≤ F.faults frames.new }
-    ensures quiet { UnlessFault result (F.faults frames.new ≡ F.faults frames.old) }
-    ensures cause { OnFault result (Rose (F.faults frames.old) (F.faults frames.new)) }
+    ensures stays { FramesStay F.image F.files F.through frames.old frames.new }
+    ensures cause { CountsFaults result (F.faults frames.old) (F.faults frames.new) }
 {
     match frames.word(pa, steps) {
         Ok(word) => Ok(VWord {

@@ -1,8 +1,9 @@
 -- What the answer to a physical word says.
-use Rattle.std.specs.Prelude.{◌≡◌, ℕ, Option, Some, None, Result, Ok, Err, ⊤}
+use Rattle.std.specs.Prelude.{◌≡◌, ℕ, ◌≤◌, Option, Some, None, Result, Ok, Err, ⊤}
 use Rattle.kc_memory.specs.declared.frames.FrameStop.{FrameStop}
 use Rattle.kc_memory.specs.declared.frames.FrameStop.TheVariants.{Absent, Fault}
 use Rattle.kc_memory.specs.declared.words.PWord.{PWord}
+use Rattle.kc_outside.specs.Counts.{Rose}
 use Rattle.kc_memory.specs.Image.{Physical, pword}
 
 -- short of a fault, an answer is this word, or that there is none
@@ -15,6 +16,12 @@ IsWord word (Err Fault) = ⊤
 abbrev pub ReadsWord : Option Physical → ℕ → Result PWord FrameStop → Type 0
 ReadsWord None pa r = ⊤
 ReadsWord (Some physical) pa r = IsWord (pword physical pa) r
+
+-- the count of failures rose where reading failed, and else it is as it was
+abbrev pub CountsFaults : Result PWord FrameStop → ℕ → ℕ → Type 0
+CountsFaults (Ok w) before after = after ≡ before
+CountsFaults (Err Absent) before after = after ≡ before
+CountsFaults (Err Fault) before after = (before ≤ after) × Rose before after
 
 abbrev pub OnFault : Result PWord FrameStop → Type 0 → Type 0
 OnFault (Ok w) P = ⊤

@@ -6,5 +6,6 @@ pub mod Laws
 pub mod Places
 pub mod Reads
 pub mod Space
+pub mod Stays
 pub mod Stopped
 pub mod Translation

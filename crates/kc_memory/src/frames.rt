@@ -1,9 +1,9 @@
 // Physical memory as a trait.
-ghost use Rattle.std.specs.Prelude.{◌≡◌, ℕ, ◌+◌, ◌%◌, ◌≤◌, List, Option};
-ghost use Rattle.kc_outside.specs.Counts.{Rose};
+ghost use Rattle.std.specs.Prelude.{◌≡◌, ℕ, ◌+◌, ◌%◌, List, Option};
 ghost use Rattle.kc_outside.specs.Files.{Files};
 ghost use Rattle.kc_memory.specs.Image.{Physical};
-ghost use Rattle.kc_memory.specs.Frames.{ReadsWord, OnFault, UnlessFault};
+ghost use Rattle.kc_memory.specs.Frames.{CountsFaults, ReadsWord};
+ghost use Rattle.kc_memory.specs.Stays.{FramesStay};
 
 use crate::words::PWord;
 use kc_word::Steps;
@@ -43,10 +43,6 @@ pub trait Frames {
         ensures word { ReadsWord (image self.old) pa result }
         ensures steps { steps.new ≡ steps.old + 1 }
 
-        ensures image { image self.new ≡ image self.old }
-        ensures files { files self.new ≡ files self.old }
-        ensures through { through self.new ≡ through self.old }
-        ensures later { faults self.old ≤ faults self.new }
-        ensures quiet { UnlessFault result (faults self.new ≡ faults self.old) }
-        ensures cause { OnFault result (Rose (faults self.old) (faults self.new)) };
+        ensures stays { FramesStay image files through self.old self.new }
+        ensures cause { CountsFaults result (faults self.old) (faults self.new) };
 }

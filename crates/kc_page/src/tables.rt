@@ -1,10 +1,10 @@
 // The walk (Intel SDM volume 3A, chapter "Paging": four-level and five-level paging).
 ghost use Rattle.std.specs.Prelude.{◌≡◌, ◌+◌, ◌%◌, ◌^◌, ◌<◌, ◌≤◌, None, Err, IfOk};
 ghost use Rattle.std.specs.Bool.{OnFalse};
-ghost use Rattle.kc_outside.specs.Counts.{Rose};
 ghost use Rattle.kc_memory.specs.declared.rule.Rule.TheVariants.{M2};
 ghost use Rattle.kc_memory.specs.Reads.{StepsAre, entries_read, walk_reads};
-ghost use Rattle.kc_memory.specs.Space.{AnswersAs, OnFault, StopsAt, UnlessFault};
+ghost use Rattle.kc_memory.specs.Space.{AnswersAs, StopsAt};
+ghost use Rattle.kc_memory.specs.Stays.{CountsFaults, FramesStay};
 ghost use Rattle.kc_memory.specs.Translation.{entered, is_canonical, levels, translated, xlate};
 ghost use Rattle.kc_page.specs.Step.{IsWalked, Keeps, StepsAs};
 
@@ -31,12 +31,8 @@ fn enter<F: Frames, L: Ledger>(
     ensures keeps { IfOk result (Keeps va) }
     ensures stopped { StopsAt result va }
     ensures steps { steps.new ≡ steps.old + 1 }
-    ensures image { F.image frames.new ≡ F.image frames.old }
-    ensures files { F.files frames.new ≡ F.files frames.old }
-    ensures through { F.through frames.new ≡ F.through frames.old }
-    ensures later { F.faults frames.old ≤ F.faults frames.new }
-    ensures quiet { UnlessFault result (F.faults frames.new ≡ F.faults frames.old) }
-    ensures cause { OnFault result (Rose (F.faults frames.old) (F.faults frames.new)) }
+    ensures stays { FramesStay F.image F.files F.through frames.old frames.new }
+    ensures cause { CountsFaults result (F.faults frames.old) (F.faults frames.new) }
 {
     let pa = table + 8 * index_at(level, va);
     match frames.word(pa, steps) {
@@ -71,12 +67,8 @@ fn descend<F: Frames, L: Ledger>(
     ensures small { IfOk result (λ pa. pa < 2 ^ 52) }
     ensures reads { StepsAre (λ physical. entries_read physical sme va level table) (F.image frames.old) result steps.old steps.new }
     ensures steps { steps.new ≤ steps.old + level }
-    ensures image { F.image frames.new ≡ F.image frames.old }
-    ensures files { F.files frames.new ≡ F.files frames.old }
-    ensures through { F.through frames.new ≡ F.through frames.old }
-    ensures later { F.faults frames.old ≤ F.faults frames.new }
-    ensures quiet { UnlessFault result (F.faults frames.new ≡ F.faults frames.old) }
-    ensures cause { OnFault result (Rose (F.faults frames.old) (F.faults frames.new)) }
+    ensures stays { FramesStay F.image F.files F.through frames.old frames.new }
+    ensures cause { CountsFaults result (F.faults frames.old) (F.faults frames.new) }
 {
     if level == 0 {
         return Ok(table + va % 4096);
@@ -123,12 +115,8 @@ pub fn walk<F: Frames, L: Ledger>(
     // It looks at the entries on the way, and at no other word.
     ensures reads { StepsAre (λ physical. walk_reads (record { physical = physical; paging = paging.now }) va) (F.image frames.old) result steps.old steps.new }
     ensures steps { steps.new ≤ steps.old + levels paging.now }
-    ensures image { F.image frames.new ≡ F.image frames.old }
-    ensures files { F.files frames.new ≡ F.files frames.old }
-    ensures through { F.through frames.new ≡ F.through frames.old }
-    ensures later { F.faults frames.old ≤ F.faults frames.new }
-    ensures quiet { UnlessFault result (F.faults frames.new ≡ F.faults frames.old) }
-    ensures cause { OnFault result (Rose (F.faults frames.old) (F.faults frames.new)) }
+    ensures stays { FramesStay F.image F.files F.through frames.old frames.new }
+    ensures cause { CountsFaults result (F.faults frames.old) (F.faults frames.new) }
 {
     if !is_canonical(paging, va) {
         return Err(Stop::Miss(Miss {

@@ -5,7 +5,8 @@ ghost use Rattle.std.specs.Option.{ForSome};
 ghost use Rattle.kc_outside.specs.declared.store.Slot.TheVariants.{Dump};
 ghost use Rattle.kc_outside.specs.Counts.{Rose};
 ghost use Rattle.kc_outside.specs.Files.{content};
-ghost use Rattle.kc_memory.specs.Frames.{OnFault, ReadsWord, UnlessFault};
+ghost use Rattle.kc_memory.specs.Frames.{CountsFaults, OnFault, ReadsWord, UnlessFault};
+ghost use Rattle.kc_memory.specs.Stays.{FramesStay};
 ghost use Rattle.kc_memory.specs.Image.{holder, offset_in};
 ghost use Rattle.kc_phys.specs.Stored.{AreInside, IsPart, StandsAt, stored};
 
@@ -78,12 +79,8 @@ impl<'s, S: Store> Frames for Phys<'s, S> {
         ensures word { ReadsWord (stored self.old.segments.items (content (S.files self.old.store.now) Dump (S.opened self.old.store.now Dump))) pa result }
         ensures steps { steps.new ≡ steps.old + 1 }
 
-        ensures image { stored self.new.segments.items (content (S.files self.new.store.now) Dump (S.opened self.new.store.now Dump)) ≡ stored self.old.segments.items (content (S.files self.old.store.now) Dump (S.opened self.old.store.now Dump)) }
-        ensures files { S.files self.new.store.now ≡ S.files self.old.store.now }
-        ensures through { self.new.store.ghost_name ∷ [] ≡ self.old.store.ghost_name ∷ [] }
-        ensures later { S.faults self.old.store.now ≤ S.faults self.new.store.now }
-        ensures quiet { UnlessFault result (S.faults self.new.store.now ≡ S.faults self.old.store.now) }
-        ensures cause { OnFault result (Rose (S.faults self.old.store.now) (S.faults self.new.store.now)) }
+        ensures stays { FramesStay (λ p. stored p.segments.items (content (S.files p.store.now) Dump (S.opened p.store.now Dump))) (λ p. S.files p.store.now) (λ p. p.store.ghost_name ∷ []) self.old self.new }
+        ensures cause { CountsFaults result (S.faults self.old.store.now) (S.faults self.new.store.now) }
 
         // What these frames add, of every store: a word that no segment holds is absent, and the store isn't
         // asked. Another is never absent, and stands where its segment says.

@@ -9,7 +9,7 @@ returns-then-level-eq0-clause-translated g t c =
 pub returns-in-Ok-Table-clause-translated : goal.returns-in-Ok-Table-clause-translated
 returns-in-Ok-Table-clause-translated g t c =
     let enters = rw c.in-Ok-Table.field-0-is at c.in-Ok-Table.ensures.entered in
-    let below = rw c.in-Ok-Table.ensures.image at c.descend.ensures.translated in
+    let below = rw c.in-Ok-Table.ensures.stays.same_image at c.descend.ensures.translated in
     descent_goes (g.F.Frames.image c.args.frames.now) c.args.sme c.args.va c.args.level c.args.table c.in-Ok-Table.next c.descend.result c.if-level-eq0.false enters below
 
 pub returns-in-Ok-Large-clause-translated : goal.returns-in-Ok-Large-clause-translated
@@ -28,7 +28,7 @@ returns-then-level-eq0-clause-reads g t c =
 pub returns-in-Ok-Table-clause-reads : goal.returns-in-Ok-Table-clause-reads
 returns-in-Ok-Table-clause-reads g t c =
     let enters = rw c.in-Ok-Table.field-0-is at c.in-Ok-Table.ensures.entered in
-    let below = rw c.in-Ok-Table.ensures.image at c.descend.ensures.reads in
+    let below = rw c.in-Ok-Table.ensures.stays.same_image at c.descend.ensures.reads in
     reads_go (g.F.Frames.image c.args.frames.now) c.args.sme c.args.va c.args.level c.args.table c.in-Ok-Table.next c.args.steps.now c.enter.new.steps c.descend.new.steps c.descend.result c.if-level-eq0.false enters c.in-Ok-Table.ensures.steps below
 
 pub returns-in-Ok-Large-clause-reads : goal.returns-in-Ok-Large-clause-reads

@@ -1,0 +1,19 @@
+-- What a call on a memory leaves as it was, and what its count of failures says.
+use Rattle.std.specs.Prelude.{◌≡◌, ℕ, ◌≤◌, List, Option, Result, Ok, Err}
+use Rattle.kc_outside.specs.Counts.{Rose}
+use Rattle.kc_outside.specs.Files.{Files}
+use Rattle.kc_memory.specs.declared.space.Stop.{Stop}
+use Rattle.kc_memory.specs.declared.space.Stop.TheVariants.{Miss, Fault}
+use Rattle.kc_memory.specs.Image.{Physical}
+
+-- physical memory is that of the same dump, in the same files, and read through the same borrows
+pub record FramesStay {M : Type 0} (image : M → Option Physical) (files : M → Option Files) (through : M → List ℕ) (old new : M) : Type 0 where
+  pub same_image : image new ≡ image old
+  pub same_files : files new ≡ files old
+  pub same_through : through new ≡ through old
+
+-- the count of failures rose where reading failed, and else it is as it was
+abbrev pub CountsFaults : {A : Type 0} → Result A Stop → ℕ → ℕ → Type 0
+CountsFaults (Ok a) before after = after ≡ before
+CountsFaults (Err (Miss s)) before after = after ≡ before
+CountsFaults (Err Fault) before after = (before ≤ after) × Rose before after
