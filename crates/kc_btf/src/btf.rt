@@ -43,9 +43,13 @@ impl Btf {
     ghost use Rattle.kc_btf.specs.Role.{rest_role, LiesInside};
     ghost use Rattle.kc_btf.specs.Readers.{name_at, record_numbered, type_numbered, members_of, array_of, int_of};
 
-    /// Reads a file, the raw bytes of a kernel's section `.BTF`. A file that breaks a rule is refused
-    /// with the first one; both answers that aren't a `Btf` drop the bytes. The records are gone through
-    /// twice, and a table keeps the place of each in 4 bytes.
+    /// Reads a file, the raw bytes of a kernel's section `.BTF`. The records are gone through twice, and a
+    /// table keeps the place of each in 4 bytes.
+    ///
+    /// # Errors
+    ///
+    /// `Fault` with the first rule that the file breaks, and where; `NoMemory` where there is none for the
+    /// table. Both drop the bytes.
     pub fn read(alloc: Global, bytes: Vec<u8>) -> Result<Btf, BtfStop>
         ensures exact { GivesTold told (λ types. types) result (btf bytes.items) }
         // The records, written out again, are the bytes of the types.

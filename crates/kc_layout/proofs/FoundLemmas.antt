@@ -15,8 +15,7 @@ use Rattle.kc_btf.specs.Readers.{name_at, type_numbered, type_ref}
 use Rattle.kc_layout.specs.declared.find.Wanted.{Wanted}
 use Rattle.kc_layout.specs.declared.find.Wanted.TheVariants.{Compound, Alias}
 use Rattle.kc_layout.specs.Find.{find, least, is_named, is_wanted, is_typedef, leads_to_compound, Serves, Bears, IsFound, FindsType}
-use Rattle.kc_layout.specs.Bare.{modified, refers_if, under}
-use Rattle.kc_layout.specs.Bare.{compound_numbered, if_compound}
+use Rattle.kc_layout.specs.Bare.{modified, refers_if, under, compound_numbered, if_compound}
 use Rattle.kc_layout.proofs.FindLemmas.{nothing, named-at}
 use Rattle.kc_layout.proofs.PathLemmas.{position_or_len-None}
 use Rattle.kc_layout.proofs.LayerLemmas.{under-here, under-next}

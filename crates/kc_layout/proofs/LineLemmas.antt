@@ -13,9 +13,7 @@ use Rattle.kc_btf.specs.Records.{Record}
 use Rattle.kc_btf.specs.Readers.{name_at, record_numbered, type_ref}
 use Rattle.kc_layout.specs.declared.listing.Line.{Line}
 use Rattle.kc_layout.specs.Listing.{Listed, behind, and_list, anonymous, line_at, listed, listed_all, lists, listing, IsLine}
-use Rattle.kc_layout.specs.Bare.{compound_under}
-use Rattle.kc_layout.specs.Bare.{under}
-use Rattle.kc_layout.specs.Bare.{compound_numbered, if_compound, members_numbered}
+use Rattle.kc_layout.specs.Bare.{compound_under, under, compound_numbered, if_compound, members_numbered}
 use Rattle.kc_layout.specs.Search.Lies.{own, inner}
 
 -- what was listed are lines of members

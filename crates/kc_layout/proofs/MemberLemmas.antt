@@ -11,8 +11,7 @@ use Rattle.kc_btf.specs.Readers.{name_at}
 use Rattle.kc_layout.specs.declared.member.Search.{Search}
 use Rattle.kc_layout.specs.declared.place.Spot.{Spot}
 use Rattle.kc_layout.specs.declared.member.Search.TheVariants.{Found, Absent, Beyond}
-use Rattle.kc_layout.specs.Bare.{under}
-use Rattle.kc_layout.specs.Bare.{members_numbered, compound_numbered}
+use Rattle.kc_layout.specs.Bare.{under, members_numbered, compound_numbered}
 use Rattle.kc_layout.specs.Search.{among, search, lent, lent_by, and_on, spot_of, FindsMember, IsMember, Lies}
 use Rattle.kc_layout.specs.Search.Lies.{own, inner}
 

@@ -11,8 +11,7 @@ use Rattle.kc_btf.specs.declared.types.TypeRef.{TypeRef}
 use Rattle.kc_btf.specs.Readers.{name_at, type_numbered}
 use Rattle.kc_layout.specs.declared.find.Wanted.{Wanted}
 use Rattle.kc_layout.specs.declared.find.Wanted.TheVariants.{Compound, Alias}
-use Rattle.kc_layout.specs.Bare.{under}
-use Rattle.kc_layout.specs.Bare.{compound_numbered}
+use Rattle.kc_layout.specs.Bare.{under, compound_numbered}
 
 -- whether the type under at most `most` modifiers is a struct or union
 abbrev pub leads_to_compound : ℕ → Types → ℕ → Bool

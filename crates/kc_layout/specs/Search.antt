@@ -7,8 +7,7 @@ use Rattle.kc_btf.specs.Readers.{name_at}
 use Rattle.kc_layout.specs.declared.place.Spot.{Spot}
 use Rattle.kc_layout.specs.declared.member.Search.{Search}
 use Rattle.kc_layout.specs.declared.member.Search.TheVariants.{Found, Absent, Beyond}
-use Rattle.kc_layout.specs.Bare.{under}
-use Rattle.kc_layout.specs.Bare.{compound_numbered, members_numbered}
+use Rattle.kc_layout.specs.Bare.{under, compound_numbered, members_numbered}
 
 -- where a member of a struct lies that begins at a bit
 abbrev pub spot_of : ℕ → Member → Spot

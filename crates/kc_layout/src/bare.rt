@@ -102,7 +102,7 @@ pub(crate) fn under(btf: &Btf, id: u32, most: u8) -> Option<u32>
     }
 }
 
-/// What a type is an array of under its modifiers, of which at most 32 are followed. `None` where it is none.
+/// What a type is an array of under its modifiers, of which at most 32 are followed. `None` where it isn't one.
 pub fn array_under(btf: &Btf, id: u32) -> Option<ArrayOf>
     requires { id ≤ length btf.now.records }
     ensures exact { result ≡ array_under btf.now id }

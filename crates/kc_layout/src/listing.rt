@@ -78,7 +78,10 @@ fn anonymous(btf: &Btf, member: Member) -> Option<TypeRef>
 
 /// The members of a struct or union as lines, in their order and depth first, with their bits. A struct or
 /// union without a name, under at most 32 modifiers, is no line: its members are. `None` where more than
-/// 65,536 members, those without a name included, or more than 32 levels without a name would be looked at;
+/// 65,536 members, those without a name included, or more than 32 levels without a name would be looked at.
+///
+/// # Errors
+///
 /// `NoMemory` where there is none for the lines.
 pub fn list_members(alloc: Global, btf: &Btf, t: TypeRef) -> Result<Option<Vec<Line>>, NoMemory>
     requires ours { type_numbered btf.now t.id ≡ Some t }

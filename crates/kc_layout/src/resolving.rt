@@ -216,8 +216,12 @@ pub(crate) fn walk(btf: &Btf, id: u32, path: &[u8]) -> Result<End, PathFault>
 }
 
 /// The byte that a path leads to from a type's first. A path is empty, or a name and then any of `.name`,
-/// `[decimal]` and `->name`; it is refused with the first step that breaks a rule. The last type is told as
-/// it stands, with its modifiers.
+/// `[decimal]` and `->name`. The last type is told as it stands, with its modifiers.
+///
+/// # Errors
+///
+/// `Q8` where the text isn't a path, and else the first step that breaks a rule, with the rule; at the last
+/// step `Q6` too, where no whole byte begins there or it is a bit-field.
 pub fn locate(btf: &Btf, id: u32, path: &[u8]) -> Result<Located, PathFault>
     requires { id ≤ length btf.now.records }
     ensures exact { Gives byte_view result (located btf.now id path.now) }
@@ -239,8 +243,12 @@ pub fn locate(btf: &Btf, id: u32, path: &[u8]) -> Result<Located, PathFault>
 }
 
 /// The number that a path leads to from a type's first bit: a whole number or an enum, or a pointer, of 1 to
-/// 64 bits. The path is refused as `locate` refuses it. A bit-field has its own width; a whole number that
-/// is none lies in its type as the type says.
+/// 64 bits. A bit-field has its own width; a whole number that isn't one lies in its type as the type says.
+///
+/// # Errors
+///
+/// As `locate`; at the last step `Q5` where its type has more than 32 modifiers or its first bit is 2^36 or
+/// above, and `Q6` where no such number lies there.
 pub fn resolve(btf: &Btf, id: u32, path: &[u8]) -> Result<Field, PathFault>
     requires { id ≤ length btf.now.records }
     ensures exact { Gives number_view result (field btf.now id path.now) }
