@@ -5,3 +5,4 @@ pub mod Headers
 pub mod Laws
 pub mod Parts
 pub mod Spelling
+pub mod Stays

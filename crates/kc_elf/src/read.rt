@@ -7,6 +7,7 @@ ghost use Rattle.kc_outside.specs.Counts.{Rose};
 ghost use Rattle.kc_outside.specs.Files.{content, OthersStay, HasPart};
 ghost use Rattle.kc_word.specs.Answers.{GivesTold};
 ghost use Rattle.kc_elf.specs.Answers.{Answers, IsFaultless, OnReadFault, UnlessReadFault, told};
+ghost use Rattle.kc_elf.specs.Stays.{CountsFaults, StoreStays};
 ghost use Rattle.kc_elf.specs.CoreFile.{table_by, table_of, headers_of, split_of, parts_of, core_of, core};
 ghost use Rattle.kc_elf.specs.FileHeader.{header_count};
 
@@ -36,15 +37,8 @@ fn read_count<S: Store>(
 
     ensures told { Answers (λ n. n) (content (S.files store.old) slot (S.opened store.old slot)) result (header_count header.now size) }
 
-    ensures opened { S.opened store.new ≡ S.opened store.old }
-    ensures sizes { S.sizes store.new ≡ S.sizes store.old }
-    ensures files { S.files store.new ≡ S.files store.old }
-    ensures may { (s : Slot) (n : List ℕ) → S.may store.old s n → S.may store.new s n }
-    ensures may_no_more { (s : Slot) (n : List ℕ) → S.may store.new s n → S.may store.old s n }
-    ensures later { S.faults store.old ≤ S.faults store.new }
-    ensures quiet { UnlessReadFault result (S.faults store.new ≡ S.faults store.old) }
-    ensures cause { OnReadFault result (Rose (S.faults store.old) (S.faults store.new)) }
-    ensures asked_later { S.asked store.old ≤ S.asked store.new }
+    ensures stays { StoreStays S.opened S.sizes S.files S.may S.asked store.old store.new }
+    ensures counts { CountsFaults result (S.faults store.old) (S.faults store.new) }
 {
     let count = LittleEndian::read_u16(&header[56..]);
     if count != u16::MAX {
@@ -74,15 +68,8 @@ fn place_table<S: Store>(
     ensures inside { IfOk result (λ table. table.offset + 56 * table.count ≤ size) }
     ensures few { IfOk result (λ table. table.count ≤ 65536) }
 
-    ensures opened { S.opened store.new ≡ S.opened store.old }
-    ensures sizes { S.sizes store.new ≡ S.sizes store.old }
-    ensures files { S.files store.new ≡ S.files store.old }
-    ensures may { (s : Slot) (n : List ℕ) → S.may store.old s n → S.may store.new s n }
-    ensures may_no_more { (s : Slot) (n : List ℕ) → S.may store.new s n → S.may store.old s n }
-    ensures later { S.faults store.old ≤ S.faults store.new }
-    ensures quiet { UnlessReadFault result (S.faults store.new ≡ S.faults store.old) }
-    ensures cause { OnReadFault result (Rose (S.faults store.old) (S.faults store.new)) }
-    ensures asked_later { S.asked store.old ≤ S.asked store.new }
+    ensures stays { StoreStays S.opened S.sizes S.files S.may S.asked store.old store.new }
+    ensures counts { CountsFaults result (S.faults store.old) (S.faults store.new) }
 {
     let count = read_count(store, slot, header, size)?;
     Ok(table_at(LittleEndian::read_u64(&header[32..]), count, size)?)
@@ -97,15 +84,8 @@ fn find_table<S: Store>(store: &mut S, slot: Slot, size: u64) -> Result<Table, C
     ensures inside { IfOk result (λ table. table.offset + 56 * table.count ≤ size) }
     ensures few { IfOk result (λ table. table.count ≤ 65536) }
 
-    ensures opened { S.opened store.new ≡ S.opened store.old }
-    ensures sizes { S.sizes store.new ≡ S.sizes store.old }
-    ensures files { S.files store.new ≡ S.files store.old }
-    ensures may { (s : Slot) (n : List ℕ) → S.may store.old s n → S.may store.new s n }
-    ensures may_no_more { (s : Slot) (n : List ℕ) → S.may store.new s n → S.may store.old s n }
-    ensures later { S.faults store.old ≤ S.faults store.new }
-    ensures quiet { UnlessReadFault result (S.faults store.new ≡ S.faults store.old) }
-    ensures cause { OnReadFault result (Rose (S.faults store.old) (S.faults store.new)) }
-    ensures asked_later { S.asked store.old ≤ S.asked store.new }
+    ensures stays { StoreStays S.opened S.sizes S.files S.may S.asked store.old store.new }
+    ensures counts { CountsFaults result (S.faults store.old) (S.faults store.new) }
 {
     if size < FILE_HEADER_BYTES {
         return Err(CoreStop::Fault(CoreFault::E1));
@@ -134,15 +114,8 @@ fn read_part<S: Store>(
     ensures long { IfOk result (λ bytes. vec_len bytes ≡ count) }
     ensures faultless { IsFaultless result }
 
-    ensures opened { S.opened store.new ≡ S.opened store.old }
-    ensures sizes { S.sizes store.new ≡ S.sizes store.old }
-    ensures files { S.files store.new ≡ S.files store.old }
-    ensures may { (s : Slot) (n : List ℕ) → S.may store.old s n → S.may store.new s n }
-    ensures may_no_more { (s : Slot) (n : List ℕ) → S.may store.new s n → S.may store.old s n }
-    ensures later { S.faults store.old ≤ S.faults store.new }
-    ensures quiet { UnlessReadFault result (S.faults store.new ≡ S.faults store.old) }
-    ensures cause { OnReadFault result (Rose (S.faults store.old) (S.faults store.new)) }
-    ensures asked_later { S.asked store.old ≤ S.asked store.new }
+    ensures stays { StoreStays S.opened S.sizes S.files S.may S.asked store.old store.new }
+    ensures counts { CountsFaults result (S.faults store.old) (S.faults store.new) }
 {
     let mut bytes = vec![in alloc; 0; count as usize]?;
     store.read_at(slot, offset, &mut bytes)?;
@@ -164,15 +137,8 @@ fn read_table<S: Store>(
     ensures count { IfOk result (λ headers. vec_len headers ≡ table.count) }
     ensures faultless { IsFaultless result }
 
-    ensures opened { S.opened store.new ≡ S.opened store.old }
-    ensures sizes { S.sizes store.new ≡ S.sizes store.old }
-    ensures files { S.files store.new ≡ S.files store.old }
-    ensures may { (s : Slot) (n : List ℕ) → S.may store.old s n → S.may store.new s n }
-    ensures may_no_more { (s : Slot) (n : List ℕ) → S.may store.new s n → S.may store.old s n }
-    ensures later { S.faults store.old ≤ S.faults store.new }
-    ensures quiet { UnlessReadFault result (S.faults store.new ≡ S.faults store.old) }
-    ensures cause { OnReadFault result (Rose (S.faults store.old) (S.faults store.new)) }
-    ensures asked_later { S.asked store.old ≤ S.asked store.new }
+    ensures stays { StoreStays S.opened S.sizes S.files S.may S.asked store.old store.new }
+    ensures counts { CountsFaults result (S.faults store.old) (S.faults store.new) }
 {
     let count = HEADER_BYTES as u64 * u64::from(table.count);
     let bytes = read_part(alloc, store, slot, table.offset, count, size)?;
@@ -221,15 +187,8 @@ fn read_parts<S: Store>(
     ensures count { IfOk result (λ parts. vec_len parts ≡ length segments.now) }
     ensures faultless { IsFaultless result }
 
-    ensures opened { S.opened store.new ≡ S.opened store.old }
-    ensures sizes { S.sizes store.new ≡ S.sizes store.old }
-    ensures files { S.files store.new ≡ S.files store.old }
-    ensures may { (s : Slot) (n : List ℕ) → S.may store.old s n → S.may store.new s n }
-    ensures may_no_more { (s : Slot) (n : List ℕ) → S.may store.new s n → S.may store.old s n }
-    ensures later { S.faults store.old ≤ S.faults store.new }
-    ensures quiet { UnlessReadFault result (S.faults store.new ≡ S.faults store.old) }
-    ensures cause { OnReadFault result (Rose (S.faults store.old) (S.faults store.new)) }
-    ensures asked_later { S.asked store.old ≤ S.asked store.new }
+    ensures stays { StoreStays S.opened S.sizes S.files S.may S.asked store.old store.new }
+    ensures counts { CountsFaults result (S.faults store.old) (S.faults store.new) }
 {
     let mut parts = Vec::new(alloc);
     for segment in segments {
@@ -252,15 +211,8 @@ fn read_sized<S: Store>(
     ensures inside { IfOk result (λ parts. All (λ s. s.offset + s.filesz ≤ size) parts.segments) }
     ensures below { IfOk result (λ parts. All (λ s. s.paddr + max s.filesz s.memsz ≤ 2 ^ 64) parts.segments) }
 
-    ensures opened { S.opened store.new ≡ S.opened store.old }
-    ensures sizes { S.sizes store.new ≡ S.sizes store.old }
-    ensures files { S.files store.new ≡ S.files store.old }
-    ensures may { (s : Slot) (n : List ℕ) → S.may store.old s n → S.may store.new s n }
-    ensures may_no_more { (s : Slot) (n : List ℕ) → S.may store.new s n → S.may store.old s n }
-    ensures later { S.faults store.old ≤ S.faults store.new }
-    ensures quiet { UnlessReadFault result (S.faults store.new ≡ S.faults store.old) }
-    ensures cause { OnReadFault result (Rose (S.faults store.old) (S.faults store.new)) }
-    ensures asked_later { S.asked store.old ≤ S.asked store.new }
+    ensures stays { StoreStays S.opened S.sizes S.files S.may S.asked store.old store.new }
+    ensures counts { CountsFaults result (S.faults store.old) (S.faults store.new) }
 {
     let table = find_table(store, slot, size)?;
     let headers = read_table(alloc, store, slot, table, size)?;
