@@ -1,0 +1,128 @@
+-- An audit of a plan as it is written, or the first fault of its table.
+use Rattle.std.specs.Prelude.{ℕ, List, [], ◌∷◌, ◌++◌, Bool, true, false, not, ◌&&◌, ◌||◌, nat_le, length, Option, Some, None, option_and_then, Result, Ok}
+use Rattle.std.specs.List.{list_all}
+use Rattle.std.specs.Option.{option_map_or}
+use Rattle.std.specs.Str.{bytes_eq}
+use Rattle.toml.specs.Data.{Data, Members, no_members, member, as_str, as_array}
+use Rattle.kc_plan.specs.declared.fault.PRule.{PRule}
+use Rattle.kc_plan.specs.declared.fault.PRule.TheVariants.{P3, P4, P5, P13}
+use Rattle.kc_plan.specs.declared.fault.PlanFault.{PlanFault}
+use Rattle.kc_plan.specs.declared.fault.PlanKey.{PlanKey}
+use Rattle.kc_plan.specs.declared.fault.PlanKey.TheVariants.{Name, Kind, Root, RootType, RootPath, From, Optional, Element, Link, Key, Unique, Cached, Check, Each, Other}
+use Rattle.kc_plan.specs.declared.keys.Sort.{Sort}
+use Rattle.kc_plan.specs.declared.keys.Needs.{Needs}
+use Rattle.kc_plan.specs.declared.keys.Need.TheVariants.{Allowed}
+use Rattle.kc_plan.specs.Keys.{audit_keys, is_one_of, needs_of, sort_of}
+use Rattle.kc_plan.specs.Values.{◌>>=◌, all_read, at, flag_for, has, refuse_if, required, text_for, value_at, value_of}
+
+-- where an audit begins, as it is written
+pub record StartText : Type 0 where
+  pub root : Option (List ℕ)
+  pub root_type : Option (List ℕ)
+  pub root_path : Option (List ℕ)
+  pub from : Option (List ℕ)
+  pub optional : Bool
+
+-- what an audit walks, as it is written
+pub record PartText : Type 0 where
+  pub element : Option (List ℕ)
+  pub link : Option (List ℕ)
+  pub each : List (List ℕ)
+
+-- an audit, as it is written
+pub record AuditText : Type 0 where
+  pub name : List ℕ
+  pub sort : Sort
+  pub start : StartText
+  pub parts : PartText
+
+-- each key of a table is one of these
+abbrev pub all_keys : (List ℕ → Bool) → Members → Bool
+all_keys p no_members = true
+all_keys p (member key found rest) = p key && all_keys p rest
+
+-- a letter, a digit, _ or -
+abbrev pub is_name_byte : ℕ → Bool
+is_name_byte c =
+    (nat_le 65 c && nat_le c 90) || ((nat_le 97 c && nat_le c 122) || ((nat_le 48 c && nat_le c 57) || (nat_le 95 c && nat_le c 95 || nat_le 45 c && nat_le c 45)))
+
+-- a name is 1 to 64 of them
+abbrev pub is_name : List ℕ → Bool
+is_name text = nat_le 1 (length text) && (nat_le (length text) 64 && list_all is_name_byte text)
+
+-- one of the audits has this name
+abbrev pub is_among : List ℕ → List AuditText → Bool
+is_among name [] = false
+is_among name (audit ∷ audits) = bytes_eq audit.name name || is_among name audits
+
+-- the kind of an audit
+unfoldable pub kind_for : Option ℕ → Members → Result Sort PlanFault
+kind_for n table = do
+  text ← at n Kind (required as_str (value_at Kind table))
+  at n Kind (sort_of text)
+
+-- its name, which no earlier audit has
+unfoldable pub name_for : List AuditText → Option ℕ → Members → Result (List ℕ) PlanFault
+name_for earlier n table = do
+  name ← at n Name (required as_str (value_at Name table))
+  formed ← at n Name (refuse_if (not (is_name name)) P4)
+  fresh ← at n Name (refuse_if (is_among name earlier) P5)
+  Ok name
+
+-- Where it begins: at a symbol, or at a symbol's type and a path in it, or at a path from the element of
+-- the audit above.
+unfoldable pub start_for : Option ℕ → Members → Result StartText PlanFault
+start_for n table = do
+  root ← text_for n Allowed Root table
+  begins ← at n Root (refuse_if (not (has Root table || has From table)) P3)
+  root_type ← text_for n Allowed RootType table
+  typed ← at n RootType (refuse_if ((has RootPath table && not (has RootType table)) || (has RootType table && not (has Root table))) P3)
+  root_path ← text_for n Allowed RootPath table
+  led ← at n RootPath (refuse_if ((has RootType table && not (has RootPath table)) || (has RootPath table && not (has Root table))) P3)
+  from ← text_for n Allowed From table
+  once ← at n From (refuse_if (has Root table && has From table) P3)
+  optional ← flag_for n Allowed Optional table
+  nested ← at n Optional (refuse_if (has Optional table && not (has From table)) P3)
+  Ok (record { root = root; root_type = root_type; root_path = root_path; from = from; optional = option_map_or (λ flag. flag) optional false })
+
+-- the names that a key lists
+abbrev pub names : Data → Option (List (List ℕ))
+names found = option_and_then (all_read as_str) (as_array found)
+
+-- none where the key isn't there
+abbrev pub listed : Option Data → Result (List (List ℕ)) PRule
+listed None = Ok []
+listed (Some found) = value_of names found
+
+abbrev pub names_for : Option ℕ → PlanKey → Members → Result (List (List ℕ)) PlanFault
+names_for n key table = at n key (listed (value_at key table))
+
+-- what it walks, where its kind asks this of its keys. Checks can't be audited yet.
+unfoldable pub parts_for : Option ℕ → Needs → Members → Result PartText PlanFault
+parts_for n needs table = do
+  element ← text_for n needs.element Element table
+  link ← text_for n needs.link Link table
+  key ← text_for n needs.tree Key table
+  keyed ← at n Key (refuse_if (has Unique table && not (has Key table)) P3)
+  unique ← flag_for n needs.tree Unique table
+  cached ← flag_for n needs.tree Cached table
+  unchecked ← at n Check (refuse_if (has Check table) P13)
+  each ← names_for n Each table
+  Ok (record { element = element; link = link; each = each })
+
+-- the audit of a table, behind these
+unfoldable pub audit_for : List AuditText → Option ℕ → Members → Result AuditText PlanFault
+audit_for earlier n table = do
+  sort ← kind_for n table
+  known ← at n Other (refuse_if (not (all_keys (is_one_of audit_keys) table)) P3)
+  name ← name_for earlier n table
+  start ← start_for n table
+  parts ← parts_for n (needs_of sort) table
+  Ok (record { name = name; sort = sort; start = start; parts = parts })
+
+-- the audits of tables, behind these
+abbrev pub audits_for : List AuditText → List Members → Result (List AuditText) PlanFault
+audits_for earlier [] = Ok earlier
+audits_for earlier (table ∷ tables) = do
+  audit ← audit_for earlier (Some (length earlier)) table
+  audits_for (earlier ++ audit ∷ []) tables

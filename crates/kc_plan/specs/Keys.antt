@@ -1,0 +1,63 @@
+-- The keys of a plan, and which of them an audit of a kind has.
+use Rattle.std.specs.Prelude.{ℕ, List, [], ◌∷◌, Bool, ◌||◌, codes, Result, Ok, Err, if◌then◌else◌}
+use Rattle.std.specs.List.{list_any}
+use Rattle.std.specs.Str.{bytes_eq}
+use Rattle.kc_plan.specs.declared.fault.PRule.{PRule}
+use Rattle.kc_plan.specs.declared.fault.PRule.TheVariants.{P4, P13}
+use Rattle.kc_plan.specs.declared.fault.PlanKey.{PlanKey}
+use Rattle.kc_plan.specs.declared.fault.PlanKey.TheVariants as key
+use Rattle.kc_plan.specs.declared.keys.Needs.{Needs}
+use Rattle.kc_plan.specs.declared.keys.Need.TheVariants.{Required, Barred}
+use Rattle.kc_plan.specs.declared.keys.Sort.{Sort}
+use Rattle.kc_plan.specs.declared.keys.Sort.TheVariants.{Ring, Hlist}
+
+-- how a key is spelled. No key is asked for as Other.
+abbrev pub spelled : PlanKey → List ℕ
+spelled key.Version = codes "version"
+spelled key.Audit = codes "audit"
+spelled key.Name = codes "name"
+spelled key.Kind = codes "kind"
+spelled key.Root = codes "root"
+spelled key.RootType = codes "root_type"
+spelled key.RootPath = codes "root_path"
+spelled key.From = codes "from"
+spelled key.Optional = codes "optional"
+spelled key.Element = codes "element"
+spelled key.Link = codes "link"
+spelled key.Key = codes "key"
+spelled key.Unique = codes "unique"
+spelled key.Cached = codes "cached"
+spelled key.Check = codes "check"
+spelled key.Each = codes "each"
+spelled key.Other = []
+
+-- a text spells one of these keys
+abbrev pub is_one_of : List PlanKey → List ℕ → Bool
+is_one_of keys text = list_any (λ one. bytes_eq text (spelled one)) keys
+
+-- the keys of a plan
+abbrev pub top_keys : List PlanKey
+top_keys = key.Version ∷ key.Audit ∷ []
+
+-- the keys of an audit
+abbrev pub audit_keys : List PlanKey
+audit_keys =
+    key.Name ∷ key.Kind ∷ key.Root ∷ key.RootType ∷ key.RootPath ∷ key.From ∷ key.Optional
+    ∷ key.Element ∷ key.Link ∷ key.Key ∷ key.Unique ∷ key.Cached ∷ key.Check ∷ key.Each ∷ []
+
+-- a kind that can't be audited yet
+abbrev pub is_later : List ℕ → Bool
+is_later text =
+    bytes_eq text (codes "rbtree") || (bytes_eq text (codes "xarray") || (bytes_eq text (codes "slub") || bytes_eq text (codes "tasks")))
+
+-- the kind with a name
+abbrev pub sort_of : List ℕ → Result Sort PRule
+sort_of text =
+    if bytes_eq text (codes "ring") then Ok Ring
+    else (if bytes_eq text (codes "hlist") then Ok Hlist
+    else (if is_later text then Err P13 else Err P4))
+
+-- what a kind asks of the keys that aren't for all kinds: one line for each kind
+abbrev pub needs_of : Sort → Needs
+needs_of Ring = record { element = Required; link = Required; tree = Barred }
+needs_of Hlist = record { element = Required; link = Required; tree = Barred }

@@ -1,0 +1,10 @@
+pub mod Answers
+pub mod Audits
+pub mod Inside
+pub mod Keys
+pub mod Links
+pub mod Plans
+pub mod Shapes
+pub mod Steps
+pub mod Values
+pub mod Views

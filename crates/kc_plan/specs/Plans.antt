@@ -1,0 +1,160 @@
+-- The plan of bytes over a kernel's types and symbols, or its first fault.
+use Rattle.std.specs.Prelude.{ℕ, List, [], ◌∷◌, ◌++◌, length, Bool, false, ◌==◌, Option, Some, None, unwrap_or, option_and_then, slice_get, Result, Ok, Err, if◌then◌else◌}
+use Rattle.std.specs.Option.{ok_or}
+use Rattle.kc_btf.specs.declared.types.TypeRef.{TypeRef}
+use Rattle.kc_btf.specs.Btf.{Types}
+use Rattle.kc_layout.specs.declared.fault.PathFault.{PathFault}
+use Rattle.kc_layout.specs.Bare.{compound_under}
+use Rattle.kc_layout.specs.Ends.{ByteAt, located}
+use Rattle.kc_layout.specs.Find.{find}
+use Rattle.kc_syms.specs.declared.fault.SymFault.{SymFault}
+use Rattle.kc_syms.specs.Addresses.{common_of}
+use Rattle.kc_plan.specs.declared.fault.PRule.{PRule}
+use Rattle.kc_plan.specs.declared.fault.PRule.TheVariants.{P9, P10, P11}
+use Rattle.kc_plan.specs.declared.fault.PlanFault.{PlanFault}
+use Rattle.kc_plan.specs.declared.fault.PlanKey.TheVariants as key
+use Rattle.kc_plan.specs.declared.item.Link.{Link}
+use Rattle.kc_plan.specs.declared.kind.Kind.{Kind}
+use Rattle.kc_plan.specs.declared.shape.Row.{Row}
+use Rattle.kc_plan.specs.Audits.{AuditText, StartText}
+use Rattle.kc_plan.specs.Links.{above_of, links_for}
+use Rattle.kc_plan.specs.Shapes.{row}
+use Rattle.kc_plan.specs.Steps.{document, parsed, written_for}
+use Rattle.kc_plan.specs.Values.{◌>>=◌, at}
+
+-- Where an audit begins: at a path from a type that lies at a symbol's address, or at a path from the
+-- element of the audit above. The latter is passed over at a null pointer where it is optional.
+pub data StartAt : Type 0 where
+  RootAt : (symbol : ℕ) (ty : ℕ) (to : ByteAt) → StartAt
+  FromAt : (to : ByteAt) (optional : Bool) → StartAt
+
+-- An audit: its name, its kind with the places of its words, where it begins, the type of its elements, the
+-- byte of the node in an element, and the numbers of the audits that are made at each element.
+pub record AuditAt : Type 0 where
+  pub name : List ℕ
+  pub kind : Kind
+  pub start : StartAt
+  pub element : Option ℕ
+  pub link : ℕ
+  pub each : List ℕ
+
+-- what an audit is read against: the types, the addresses that the map lists for a name, and how far KASLR
+-- moved the kernel
+pub record Kernel : Type 0 where
+  pub types : Types
+  pub symbols : List ℕ → List ℕ
+  pub kaslr : ℕ
+
+-- a type is this struct under its modifiers
+abbrev pub is_that : Option TypeRef → ℕ → Bool
+is_that None wanted = false
+is_that (Some t) wanted = t.id == wanted
+
+abbrev pub is_struct : Types → ℕ → Option ℕ → Bool
+is_struct types ty None = false
+is_struct types ty (Some wanted) = is_that (compound_under types ty) wanted
+
+-- where a path led, where that is this struct
+abbrev pub struct_at : Types → Option ℕ → Result ByteAt PathFault → Result ByteAt PRule
+struct_at types wanted (Err fault) = Err P10
+struct_at types wanted (Ok place) = if is_struct types place.ty wanted then Ok place else Err P10
+
+-- the type with a name
+abbrev pub type_named : Types → List ℕ → Result ℕ PRule
+type_named types name = ok_or (find types name) P10
+
+-- the address of a symbol
+abbrev pub addressed : Result ℕ SymFault → Result ℕ PRule
+addressed (Ok address) = Ok address
+addressed (Err fault) = Err P9
+
+-- the first byte of a type
+abbrev pub first_byte : ℕ → ByteAt
+first_byte ty = record { hops = []; byte = 0; ty = ty }
+
+-- where a root audit begins. Without a type the symbol is the head itself; where its struct is missing, P11
+-- is told later.
+abbrev pub root_at : Types → Row → ℕ → ℕ → Option (List ℕ) → List ℕ → Result StartAt PlanFault
+root_at types needs n address None path = Ok (RootAt address (unwrap_or needs.head 0) (first_byte (unwrap_or needs.head 0)))
+root_at types needs n address (Some name) path = do
+  ty ← at (Some n) key.RootType (type_named types name)
+  to ← at (Some n) key.RootPath (struct_at types needs.head (located types ty path))
+  Ok (RootAt address ty to)
+
+-- where a path leads from the element of the audit above
+abbrev pub from_at : Types → Row → Option ℕ → List ℕ → Result ByteAt PRule
+from_at types needs None path = Err P10
+from_at types needs (Some element) path = struct_at types needs.head (located types element path)
+
+-- where an audit begins, where the element of the audit above has this type
+abbrev pub begun : Kernel → Row → ℕ → Option ℕ → StartText → Option (List ℕ) → Result StartAt PlanFault
+begun kernel needs n above start None = do
+  to ← at (Some n) key.From (from_at kernel.types needs above (unwrap_or start.from []))
+  Ok (FromAt to start.optional)
+begun kernel needs n above start (Some root) = do
+  address ← at (Some n) key.Root (addressed (common_of kernel.kaslr (kernel.symbols root)))
+  root_at kernel.types needs n address start.root_type (unwrap_or start.root_path [])
+
+-- the type of the elements
+abbrev pub element_at : Types → Option (List ℕ) → Result (Option ℕ) PRule
+element_at types None = Ok None
+element_at types (Some name) = do
+  ty ← type_named types name
+  Ok (Some ty)
+
+-- a node that stands in the element itself
+abbrev pub inside : ByteAt → List ℕ → Result ℕ PRule
+inside place [] = Ok place.byte
+inside place (hop ∷ hops) = Err P10
+
+-- the byte of the node in an element
+abbrev pub link_for : Types → Row → ℕ → Option ℕ → Option (List ℕ) → Result ℕ PlanFault
+link_for types needs n element None = Ok 0
+link_for types needs n None (Some path) = at (Some n) key.Link (Err P10)
+link_for types needs n (Some element) (Some path) = do
+  place ← at (Some n) key.Link (struct_at types needs.node (located types element path))
+  at (Some n) key.Link (inside place place.hops)
+
+-- the audits that an audit names
+abbrev pub children : List Link → ℕ → List ℕ
+children [] n = []
+children (link ∷ links) n = if link.above == n then link.below ∷ children links n else children links n
+
+-- the type of an audit's elements
+abbrev pub element_of : List AuditAt → ℕ → Option ℕ
+element_of audits n = option_and_then (λ (audit : AuditAt). audit.element) (slice_get audits n)
+
+-- the type of the elements of the audit that names this one, which is among those before it
+abbrev pub element_above : List Link → List AuditAt → ℕ → Option ℕ
+element_above links before n = option_and_then (element_of before) (above_of links n)
+
+-- the audit with a number, behind these
+unfoldable pub planned : Kernel → List Link → List AuditAt → ℕ → AuditText → Result AuditAt PlanFault
+planned kernel links before n audit = do
+  start ← begun kernel (row kernel.types audit.sort) n (element_above links before n) audit.start audit.start.root
+  element ← at (Some n) key.Element (element_at kernel.types audit.parts.element)
+  link ← link_for kernel.types (row kernel.types audit.sort) n element audit.parts.link
+  kind ← at (Some n) key.Kind (ok_or (row kernel.types audit.sort).kind P11)
+  Ok (record { name = audit.name; kind = kind; start = start; element = element; link = link; each = children links n })
+
+-- the audits, behind these
+abbrev pub all_planned : Kernel → List Link → List AuditAt → List AuditText → Result (List AuditAt) PlanFault
+all_planned kernel links before [] = Ok before
+all_planned kernel links before (audit ∷ audits) = do
+  one ← planned kernel links before (length before) audit
+  all_planned kernel links (before ++ one ∷ []) audits
+
+-- the plan of audits as they are written
+unfoldable pub plan_of : Kernel → List AuditText → Result (List AuditAt) PlanFault
+plan_of kernel audits = do
+  links ← links_for audits
+  all_planned kernel links [] audits
+
+-- The plan of a file's bytes, or its first fault: of the document, then of its audits one by one as they are
+-- written, then of the names by which they name each other, then of what they need in the kernel's types and
+-- symbols, audit by audit.
+unfoldable pub plan : Kernel → List ℕ → Result (List AuditAt) PlanFault
+plan kernel bytes = do
+  table ← parsed (document bytes)
+  audits ← written_for table
+  plan_of kernel audits

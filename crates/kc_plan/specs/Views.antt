@@ -1,0 +1,81 @@
+-- What contracts see of an audit as it is written.
+use Rattle.std.specs.Prelude.{ℕ, List, map, String}
+use Rattle.std.specs.BTreeMap.{BTreeMap}
+use Rattle.std.specs.Option.{option_copied}
+use Rattle.std.specs.Borrow.{Bor}
+use Rattle.std.specs.Global.{Global, Vec}
+use Rattle.toml.specs.Data.{Members}
+use Rattle.toml.specs.View.{table_view}
+use Rattle.toml.specs.declared.value.Value.{Value}
+use Rattle.kc_layout.specs.Views.{byte_view}
+use Rattle.kc_syms.specs.Symbols.{symbol}
+use Rattle.kc_plan.specs.declared.begin.Known.{Known}
+use Rattle.kc_btf.specs.Btf.{Types}
+use Rattle.kc_notes.specs.declared.info.Info.{Info}
+use Rattle.kc_syms.specs.declared.symbols.Symbols.{Symbols}
+use Rattle.kc_plan.specs.declared.plan.Audit.{Audit}
+use Rattle.kc_plan.specs.declared.plan.Plan.{Plan}
+use Rattle.kc_plan.specs.declared.plan.Start.{Start}
+use Rattle.kc_plan.specs.declared.plan.Start.TheVariants.{Root, From}
+use Rattle.kc_plan.specs.Plans.{AuditAt, Kernel, StartAt}
+use Rattle.kc_plan.specs.Plans.StartAt.{RootAt, FromAt}
+use Rattle.kc_plan.specs.declared.item.AuditWords.{AuditWords}
+use Rattle.kc_plan.specs.declared.item.Link.{Link}
+use Rattle.kc_plan.specs.declared.item.PartWords.{PartWords}
+use Rattle.kc_plan.specs.declared.item.StartWords.{StartWords}
+use Rattle.kc_plan.specs.Audits.{AuditText, PartText, StartText}
+
+abbrev pub text : Bor (List ℕ) → List ℕ
+text word = word.now
+
+abbrev pub texts : Vec (Bor (List ℕ)) → List (List ℕ)
+texts words = map text words.items
+
+abbrev pub TableRef : Type 0
+TableRef = Bor (BTreeMap (String Global) Value)
+
+abbrev pub tables_in : List TableRef → List Members
+tables_in tables = map (λ table. table_view table.now) tables
+
+abbrev pub tables_seen : Vec TableRef → List Members
+tables_seen tables = tables_in tables.items
+
+abbrev pub start_text : StartWords → StartText
+start_text start = record {
+  root = option_copied start.root;
+  root_type = option_copied start.root_type;
+  root_path = option_copied start.root_path;
+  from = option_copied start.from;
+  optional = start.optional;
+}
+
+abbrev pub part_text : PartWords → PartText
+part_text parts = record { element = option_copied parts.element; link = option_copied parts.link; each = texts parts.each }
+
+abbrev pub audit_text : AuditWords → AuditText
+audit_text audit = record { name = audit.name.now; sort = audit.sort; start = start_text audit.start; parts = part_text audit.parts }
+
+abbrev pub audit_texts : Vec AuditWords → List AuditText
+audit_texts audits = map audit_text audits.items
+
+abbrev pub links_in : Vec Link → List Link
+links_in links = links.items
+
+abbrev pub kernel : Known → Kernel
+kernel known = record { types = known.btf.now; symbols = symbol known.symbols.now; kaslr = known.kaslr }
+
+abbrev pub start_seen : Start → StartAt
+start_seen (Root address ty to) = RootAt address ty (byte_view to)
+start_seen (From to optional) = FromAt (byte_view to) optional
+
+abbrev pub audit_seen : Audit → AuditAt
+audit_seen audit = record { name = audit.name; kind = audit.kind; start = start_seen audit.start; element = audit.element; link = audit.link; each = audit.each }
+
+abbrev pub audits_seen : List Audit → List AuditAt
+audits_seen audits = map audit_seen audits
+
+abbrev pub plan_seen : Plan → List AuditAt
+plan_seen plan = audits_seen plan.audits
+
+abbrev pub kernel_of : Types → Symbols → Info → Kernel
+kernel_of types symbols info = record { types = types; symbols = symbol symbols; kaslr = info.kaslr }

@@ -1,0 +1,150 @@
+// The audits of a plan, as they are written.
+ghost use Rattle.std.specs.Prelude.{◌≡◌, ◌≤◌, [], map, length, IfOk};
+ghost use Rattle.std.specs.List.{list_all};
+ghost use Rattle.toml.specs.View.{table_view};
+ghost use Rattle.kc_plan.specs.Answers.{Gives};
+ghost use Rattle.kc_plan.specs.Audits.{is_name_byte, is_name, is_among, kind_for, name_for, parts_for, audit_for, audits_for};
+ghost use Rattle.kc_plan.specs.Views.{text, part_text, audit_text, audit_texts, tables_in};
+
+use crate::fault::{PRule, PlanKey, PlanStop};
+use crate::item::{AuditWords, PartWords};
+use crate::keys::{AUDIT_KEYS, Need, Needs, Sort, needs_of, sort_of};
+use crate::start::start_of;
+use crate::value::{
+    flag_at, has, has_only, names_at, put, refuse_if, required_text, stop, text_at,
+};
+use std::alloc::Global;
+use toml::Table;
+
+fn is_name_byte(c: u8) -> bool
+    ensures { result ≡ is_name_byte c }
+{
+    matches!(c, b'A'..=b'Z' | b'a'..=b'z' | b'0'..=b'9' | b'_' | b'-')
+}
+
+fn are_name_bytes(text: &str) -> bool
+    ensures { result ≡ list_all is_name_byte text.now }
+{
+    text.as_bytes().iter().all(|c| is_name_byte(*c))
+}
+
+// A name of an audit.
+fn is_name(text: &str) -> bool
+    ensures { result ≡ is_name text.now }
+{
+    1 <= text.len() && text.len() <= 64 && are_name_bytes(text)
+}
+
+// One of the audits has this name.
+fn is_among(name: &str, audits: &[AuditWords<'_>]) -> bool
+    ensures { result ≡ is_among name.now (map audit_text audits.now) }
+{
+    match audits {
+        [] => false,
+        [first, rest @ ..] => first.name == name || is_among(name, rest),
+    }
+}
+
+// The kind of an audit.
+#[tactic(auto, unfolding(crate::specs::Audits::kind_for))]
+fn kind_of(table: &Table, audit: Option<u32>) -> Result<Sort, PlanStop>
+    ensures { Gives (λ sort. sort) result (kind_for audit (table_view table.now)) }
+{
+    let text = required_text(table, audit, PlanKey::Kind)?;
+    match sort_of(text) {
+        Ok(sort) => Ok(sort),
+        Err(rule) => Err(stop(rule, audit, PlanKey::Kind)),
+    }
+}
+
+// The name of an audit behind others.
+#[tactic(auto, unfolding(crate::specs::Audits::name_for))]
+fn name_of<'t>(
+    table: &'t Table,
+    audit: Option<u32>,
+    earlier: &[AuditWords<'_>],
+) -> Result<&'t str, PlanStop>
+    ensures { Gives text result (name_for (map audit_text earlier.now) audit (table_view table.now)) }
+{
+    let name = required_text(table, audit, PlanKey::Name)?;
+    refuse_if(!is_name(name), PRule::P4, audit, PlanKey::Name)?;
+    refuse_if(is_among(name, earlier), PRule::P5, audit, PlanKey::Name)?;
+    Ok(name)
+}
+
+// What an audit walks, where its kind asks this of its keys. Checks can't be audited yet.
+#[tactic(auto, unfolding(crate::specs::Audits::parts_for))]
+fn parts_of<'t>(
+    alloc: Global,
+    table: &'t Table,
+    audit: Option<u32>,
+    needs: Needs,
+) -> Result<PartWords<'t>, PlanStop>
+    ensures { Gives part_text result (parts_for audit needs (table_view table.now)) }
+{
+    let element = text_at(table, audit, needs.element, PlanKey::Element)?;
+    let link = text_at(table, audit, needs.link, PlanKey::Link)?;
+    let _ = text_at(table, audit, needs.tree, PlanKey::Key)?;
+    let keyless = has(table, PlanKey::Unique) && !has(table, PlanKey::Key);
+    refuse_if(keyless, PRule::P3, audit, PlanKey::Key)?;
+    let _ = flag_at(table, audit, needs.tree, PlanKey::Unique)?;
+    let _ = flag_at(table, audit, needs.tree, PlanKey::Cached)?;
+    refuse_if(
+        has(table, PlanKey::Check),
+        PRule::P13,
+        audit,
+        PlanKey::Check,
+    )?;
+    let each = names_at(alloc, table, audit, PlanKey::Each)?;
+    Ok(PartWords {
+        element,
+        link,
+        each,
+    })
+}
+
+// The audit of a table behind others.
+#[tactic(auto, unfolding(crate::specs::Audits::audit_for))]
+fn audit_of<'t>(
+    alloc: Global,
+    table: &'t Table,
+    audit: Option<u32>,
+    earlier: &[AuditWords<'_>],
+) -> Result<AuditWords<'t>, PlanStop>
+    ensures { Gives audit_text result (audit_for (map audit_text earlier.now) audit (table_view table.now)) }
+{
+    let sort = kind_of(table, audit)?;
+    refuse_if(
+        !has_only(table, &AUDIT_KEYS),
+        PRule::P3,
+        audit,
+        PlanKey::Other,
+    )?;
+    let name = name_of(table, audit, earlier)?;
+    let start = start_of(table, audit)?;
+    let parts = parts_of(alloc, table, audit, needs_of(sort))?;
+    Ok(AuditWords {
+        name,
+        sort,
+        start,
+        parts,
+    })
+}
+
+// The audits of tables.
+pub(crate) fn audits_of<'t>(
+    alloc: Global,
+    tables: &[&'t Table],
+) -> Result<Vec<AuditWords<'t>>, PlanStop>
+    requires { length tables.now ≤ 256 }
+    ensures exact { Gives audit_texts result (audits_for [] (tables_in tables.now)) }
+    ensures few { IfOk result (λ audits. length audits.items ≤ 256) }
+{
+    let mut audits = Vec::new(alloc);
+    for table in tables {
+        let number = audits.len() as u32;
+        let audit = audit_of(alloc, table, Some(number), &audits)?;
+        put(&mut audits, audit)?;
+    }
+    Ok(audits)
+}

@@ -1,0 +1,218 @@
+// The parts of an audit, looked up in a kernel's types and symbols.
+ghost use Rattle.std.specs.Prelude.{◌≡◌, ◌≤◌, [], length, Some, unwrap_or, IfOk, IfSome};
+ghost use Rattle.std.specs.Option.{option_copied};
+ghost use Rattle.kc_layout.specs.Ends.{located};
+ghost use Rattle.kc_layout.specs.Views.{byte_view};
+ghost use Rattle.kc_plan.specs.declared.fault.PlanKey.TheVariants as key;
+ghost use Rattle.kc_plan.specs.Answers.{Gives};
+ghost use Rattle.kc_plan.specs.Plans.{is_struct, is_that, struct_at, type_named, addressed, root_at, from_at, begun, element_at, link_for, first_byte};
+ghost use Rattle.kc_plan.specs.Inside.{StartsInside};
+ghost use Rattle.kc_plan.specs.Values.{at};
+ghost use Rattle.kc_plan.specs.Views.{kernel, start_seen, start_text};
+ghost use Rattle.kc_syms.specs.Addresses.{common_of};
+ghost use Rattle.kc_syms.specs.Symbols.{symbol};
+
+use crate::fault::{PRule, PlanKey, PlanStop};
+use crate::item::StartWords;
+use crate::plan::Start;
+use crate::shape::Row;
+use crate::value::stop;
+use kc_btf::Btf;
+use kc_layout::{Hops, Located, compound_under, find_type, locate};
+use kc_syms::Symbols;
+
+// What an audit is read against: the types, the symbols, and how far KASLR moved the kernel, in bytes.
+#[derive(Clone, Copy)]
+pub(crate) struct Known<'k> {
+    pub btf: &'k Btf,
+    pub symbols: &'k Symbols<'k>,
+    pub kaslr: u64,
+}
+
+// Whether a type is this struct under its modifiers.
+fn is_struct(btf: &Btf, ty: u32, wanted: Option<u32>) -> bool
+    requires { ty ≤ length btf.now.records }
+    ensures { result ≡ is_struct btf.now ty wanted }
+{
+    let Some(wanted) = wanted else {
+        return false;
+    };
+    match compound_under(btf, ty) {
+        Some(found) => found.id == wanted,
+        None => false,
+    }
+}
+
+// Where a path from a type leads, where that is this struct; else this stop.
+fn struct_at(
+    btf: &Btf,
+    wanted: Option<u32>,
+    id: u32,
+    path: &str,
+    audit: u32,
+    key: PlanKey,
+) -> Result<Located, PlanStop>
+    requires { id ≤ length btf.now.records }
+    ensures exact { Gives byte_view result (at (Some audit) key (struct_at btf.now wanted (located btf.now id path.now))) }
+    ensures there { IfOk result (λ place. place.ty ≤ length btf.now.records) }
+{
+    let Ok(place) = locate(btf, id, path.as_bytes()) else {
+        return Err(stop(PRule::P10, Some(audit), key));
+    };
+    if is_struct(btf, place.ty, wanted) {
+        Ok(place)
+    } else {
+        Err(stop(PRule::P10, Some(audit), key))
+    }
+}
+
+// The type with a name.
+fn type_named(btf: &Btf, name: &str, audit: u32, key: PlanKey) -> Result<u32, PlanStop>
+    ensures exact { Gives (λ ty. ty) result (at (Some audit) key (type_named btf.now name.now)) }
+    ensures there { IfOk result (λ ty. ty ≤ length btf.now.records) }
+{
+    match find_type(btf, name.as_bytes()) {
+        Some(ty) => Ok(ty),
+        None => Err(stop(PRule::P10, Some(audit), key)),
+    }
+}
+
+// The address of a symbol.
+fn address_of(symbols: &Symbols<'_>, kaslr: u64, name: &str, audit: u32) -> Result<u64, PlanStop>
+    ensures { Gives (λ address. address) result (at (Some audit) key.Root (addressed (common_of kaslr (symbol symbols.now name.now)))) }
+{
+    match symbols.address(name.as_bytes(), kaslr) {
+        Ok(address) => Ok(address),
+        Err(_) => Err(stop(PRule::P9, Some(audit), PlanKey::Root)),
+    }
+}
+
+// The first byte of a type.
+fn first_byte(ty: u32) -> Located
+    ensures exact { byte_view result ≡ first_byte ty }
+    ensures same { result.ty ≡ ty }
+{
+    Located {
+        hops: Hops {
+            count: 0,
+            a: 0,
+            b: 0,
+            c: 0,
+            d: 0,
+        },
+        byte: 0,
+        ty,
+    }
+}
+
+// Where a root audit begins, whose symbol is at an address.
+fn root_at(
+    btf: &Btf,
+    needs: &Row,
+    audit: u32,
+    address: u64,
+    start: StartWords<'_>,
+) -> Result<Start, PlanStop>
+    requires { IfSome needs.now.head (λ id. id ≤ length btf.now.records) }
+    ensures exact { Gives start_seen result (root_at btf.now needs.now audit address (option_copied start.entry.root_type) (unwrap_or (option_copied start.entry.root_path) [])) }
+    ensures there { IfOk result (StartsInside (length btf.now.records)) }
+{
+    let Some(name) = start.root_type else {
+        let ty = needs.head.unwrap_or(0);
+        return Ok(Start::Root {
+            symbol: address,
+            ty,
+            to: first_byte(ty),
+        });
+    };
+    let ty = type_named(btf, name, audit, PlanKey::RootType)?;
+    let path = start.root_path.unwrap_or("");
+    let to = struct_at(btf, needs.head, ty, path, audit, PlanKey::RootPath)?;
+    Ok(Start::Root {
+        symbol: address,
+        ty,
+        to,
+    })
+}
+
+// Where a path leads from the element of the audit above.
+fn from_at(
+    btf: &Btf,
+    needs: &Row,
+    audit: u32,
+    above: Option<u32>,
+    path: &str,
+) -> Result<Located, PlanStop>
+    requires { IfSome above (λ id. id ≤ length btf.now.records) }
+    ensures exact { Gives byte_view result (at (Some audit) key.From (from_at btf.now needs.now above path.now)) }
+    ensures there { IfOk result (λ place. place.ty ≤ length btf.now.records) }
+{
+    match above {
+        Some(element) => struct_at(btf, needs.head, element, path, audit, PlanKey::From),
+        None => Err(stop(PRule::P10, Some(audit), PlanKey::From)),
+    }
+}
+
+// Where an audit begins, where the element of the audit above has this type.
+pub(crate) fn begun(
+    known: &Known<'_>,
+    needs: &Row,
+    audit: u32,
+    above: Option<u32>,
+    start: StartWords<'_>,
+) -> Result<Start, PlanStop>
+    requires head { IfSome needs.now.head (λ id. id ≤ length known.now.btf.now.records) }
+    requires above { IfSome above (λ id. id ≤ length known.now.btf.now.records) }
+    ensures exact { Gives start_seen result (begun (kernel known.now) needs.now audit above (start_text start.entry) (option_copied start.entry.root)) }
+    ensures there { IfOk result (StartsInside (length known.now.btf.now.records)) }
+{
+    let Some(root) = start.root else {
+        let path = start.from.unwrap_or("");
+        let to = from_at(known.btf, needs, audit, above, path)?;
+        return Ok(Start::From {
+            to,
+            optional: start.optional,
+        });
+    };
+    let address = address_of(known.symbols, known.kaslr, root, audit)?;
+    root_at(known.btf, needs, audit, address, start)
+}
+
+// The type of the elements.
+pub(crate) fn element_at(btf: &Btf, audit: u32, name: Option<&str>) -> Result<Option<u32>, PlanStop>
+    ensures exact { Gives (λ ty. ty) result (at (Some audit) key.Element (element_at btf.now (option_copied name.entry))) }
+    ensures there { IfOk result (λ ty. IfSome ty (λ id. id ≤ length btf.now.records)) }
+{
+    match name {
+        Some(name) => {
+            let ty = type_named(btf, name, audit, PlanKey::Element)?;
+            Ok(Some(ty))
+        }
+        None => Ok(None),
+    }
+}
+
+// The byte of the node in an element.
+pub(crate) fn link_at(
+    btf: &Btf,
+    needs: &Row,
+    audit: u32,
+    element: Option<u32>,
+    path: Option<&str>,
+) -> Result<u64, PlanStop>
+    requires { IfSome element (λ id. id ≤ length btf.now.records) }
+    ensures { Gives (λ byte. byte) result (link_for btf.now needs.now audit element (option_copied path.entry)) }
+{
+    let Some(path) = path else {
+        return Ok(0);
+    };
+    let Some(element) = element else {
+        return Err(stop(PRule::P10, Some(audit), PlanKey::Link));
+    };
+    let place = struct_at(btf, needs.node, element, path, audit, PlanKey::Link)?;
+    if place.hops.count == 0 {
+        Ok(place.byte)
+    } else {
+        Err(stop(PRule::P10, Some(audit), PlanKey::Link))
+    }
+}

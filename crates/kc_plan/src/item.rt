@@ -1,0 +1,36 @@
+// An audit as a plan writes it, in words of the plan's document.
+use crate::keys::Sort;
+
+// Where an audit begins.
+#[derive(Clone, Copy, Debug, PartialEq, Eq)]
+pub(crate) struct StartWords<'t> {
+    pub root: Option<&'t str>,
+    pub root_type: Option<&'t str>,
+    pub root_path: Option<&'t str>,
+    pub from: Option<&'t str>,
+    pub optional: bool,
+}
+
+// What an audit walks.
+#[derive(Drop)]
+pub(crate) struct PartWords<'t> {
+    pub element: Option<&'t str>,
+    pub link: Option<&'t str>,
+    pub each: Vec<&'t str>,
+}
+
+// An audit.
+#[derive(Drop)]
+pub(crate) struct AuditWords<'t> {
+    pub name: &'t str,
+    pub sort: Sort,
+    pub start: StartWords<'t>,
+    pub parts: PartWords<'t>,
+}
+
+// An audit that names another in `each`, both by their numbers in the plan.
+#[derive(Clone, Copy, Debug, PartialEq, Eq)]
+pub(crate) struct Link {
+    pub above: u32,
+    pub below: u32,
+}

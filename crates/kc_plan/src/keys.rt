@@ -1,0 +1,118 @@
+// The keys of a plan, and which of them an audit of a kind has.
+ghost use Rattle.std.specs.Prelude.{◌≡◌};
+ghost use Rattle.kc_plan.specs.Keys.{spelled, sort_of, is_later, needs_of};
+
+use crate::fault::{PRule, PlanKey};
+
+// What a kind of audit asks of a key.
+#[derive(Clone, Copy, Debug, PartialEq, Eq)]
+pub(crate) enum Need {
+    // It must be there.
+    Required,
+    // It may be there.
+    Allowed,
+    // It isn't for this kind.
+    Barred,
+}
+
+// The kinds of audits.
+#[derive(Clone, Copy, Debug, PartialEq, Eq)]
+pub(crate) enum Sort {
+    Ring,
+    Hlist,
+}
+
+// What a kind asks of the keys that aren't for all kinds.
+#[derive(Clone, Copy, Debug, PartialEq, Eq)]
+pub(crate) struct Needs {
+    pub element: Need,
+    pub link: Need,
+    // `key`, `unique` and `cached`
+    pub tree: Need,
+}
+
+// How a key is spelled. No key is asked for as `Other`.
+pub(crate) fn spelling(key: PlanKey) -> &'static str
+    ensures { result.now ≡ spelled key }
+{
+    match key {
+        PlanKey::Version => "version",
+        PlanKey::Audit => "audit",
+        PlanKey::Name => "name",
+        PlanKey::Kind => "kind",
+        PlanKey::Root => "root",
+        PlanKey::RootType => "root_type",
+        PlanKey::RootPath => "root_path",
+        PlanKey::From => "from",
+        PlanKey::Optional => "optional",
+        PlanKey::Element => "element",
+        PlanKey::Link => "link",
+        PlanKey::Key => "key",
+        PlanKey::Unique => "unique",
+        PlanKey::Cached => "cached",
+        PlanKey::Check => "check",
+        PlanKey::Each => "each",
+        PlanKey::Other => "",
+    }
+}
+
+// The keys of a plan.
+pub(crate) const TOP_KEYS: [PlanKey; 2] = [PlanKey::Version, PlanKey::Audit];
+
+// The keys of an audit.
+pub(crate) const AUDIT_KEYS: [PlanKey; 14] = [
+    PlanKey::Name,
+    PlanKey::Kind,
+    PlanKey::Root,
+    PlanKey::RootType,
+    PlanKey::RootPath,
+    PlanKey::From,
+    PlanKey::Optional,
+    PlanKey::Element,
+    PlanKey::Link,
+    PlanKey::Key,
+    PlanKey::Unique,
+    PlanKey::Cached,
+    PlanKey::Check,
+    PlanKey::Each,
+];
+
+// A kind that can't be audited yet.
+fn is_later(text: &str) -> bool
+    ensures { result ≡ is_later text.now }
+{
+    text == "rbtree" || text == "xarray" || text == "slub" || text == "tasks"
+}
+
+// The kind with a name.
+pub(crate) fn sort_of(text: &str) -> Result<Sort, PRule>
+    ensures { result ≡ sort_of text.now }
+{
+    if text == "ring" {
+        Ok(Sort::Ring)
+    } else if text == "hlist" {
+        Ok(Sort::Hlist)
+    } else if is_later(text) {
+        Err(PRule::P13)
+    } else {
+        Err(PRule::P4)
+    }
+}
+
+// What a kind asks of the keys.
+pub(crate) fn needs_of(sort: Sort) -> Needs
+    ensures { result ≡ needs_of sort }
+{
+    match sort {
+        Sort::Ring => Needs {
+            element: Need::Required,
+            link: Need::Required,
+            tree: Need::Barred,
+        },
+        Sort::Hlist => Needs {
+            element: Need::Required,
+            link: Need::Required,
+            tree: Need::Barred,
+        },
+    }
+}

@@ -1,0 +1,11 @@
+// The kinds of audits.
+use kc_found::{HShape, ListShape};
+
+/// The kind of an audit, with the places of the words that it reads.
+#[derive(Clone, Copy, Debug, PartialEq, Eq)]
+pub enum Kind {
+    /// A ring (`struct list_head`).
+    Ring(ListShape),
+    /// A hash chain (`struct hlist_head`, `struct hlist_node`).
+    Hlist(HShape),
+}

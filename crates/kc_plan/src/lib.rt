@@ -1,0 +1,21 @@
+//! The plan of an audit: which structures of a kernel are walked, as a user writes it down in TOML.
+#![tactic(auto)]
+
+mod audit;
+mod begin;
+mod document;
+mod fault;
+mod item;
+mod keys;
+mod kind;
+mod link;
+mod plan;
+mod read;
+mod shape;
+mod start;
+mod value;
+
+pub use fault::{PRule, PlanFault, PlanKey, PlanStop};
+pub use kind::Kind;
+pub use plan::{Audit, AuditList, Numbers, Plan, Start};
+pub use read::read_plan;

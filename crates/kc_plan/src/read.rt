@@ -1,0 +1,191 @@
+// A plan, read whole.
+ghost use Rattle.std.specs.Prelude.{◌≡◌, ◌≤◌, [], length, map, IfOk, IfSome};
+ghost use Rattle.kc_plan.specs.Answers.{Gives};
+ghost use Rattle.kc_plan.specs.Inside.{IsInside, AreInside};
+ghost use Rattle.kc_plan.specs.Plans.{children, element_of, element_above, planned, all_planned, plan_of, plan};
+ghost use Rattle.kc_plan.specs.Shapes.{row, AreRows};
+ghost use Rattle.kc_plan.specs.Views.{kernel, kernel_of, audit_text, audit_seen, audits_seen, plan_seen};
+
+use crate::begin::{Known, begun, element_at, link_at};
+use crate::document::{audits_in, document_of};
+use crate::fault::{PRule, PlanKey, PlanStop};
+use crate::item::{AuditWords, Link};
+use crate::keys::Sort;
+use crate::link::{above_of, links_of};
+use crate::plan::{Audit, AuditList, Numbers, Plan};
+use crate::shape::{Row, Rows, rows_of};
+use crate::value::stop;
+use kc_btf::Btf;
+use kc_found::{Items, Name};
+use kc_notes::Info;
+use kc_syms::Symbols;
+use kc_word::NoMemory;
+use std::alloc::Global;
+
+// The row of a kind.
+fn row_of(btf: &Btf, rows: &Rows, sort: Sort) -> Row
+    requires { AreRows btf.now rows.now }
+    ensures exact { result ≡ row btf.now sort }
+    ensures there { IfSome result.head (λ id. id ≤ length btf.now.records) }
+{
+    match sort {
+        Sort::Ring => rows.ring,
+        Sort::Hlist => rows.hlist,
+    }
+}
+
+// The bytes of a name.
+fn name_of(alloc: Global, text: &str) -> Result<Name, NoMemory>
+    ensures { IfOk result (λ name. name ≡ text.now) }
+{
+    let mut name = Items::new(alloc);
+    for byte in text.as_bytes() {
+        name.push(*byte)?;
+    }
+    Ok(name)
+}
+
+// The audits that an audit names.
+fn children(alloc: Global, links: &[Link], number: u32) -> Result<Numbers, NoMemory>
+    ensures { IfOk result (λ numbers. numbers ≡ children links.now number) }
+{
+    let mut numbers = Items::new(alloc);
+    for link in links {
+        if link.above == number {
+            numbers.push(link.below)?;
+        }
+    }
+    Ok(numbers)
+}
+
+// The type of an audit's elements.
+fn element_of(btf: &Btf, audits: &AuditList, number: u32) -> Option<u32>
+    requires { AreInside (length btf.now.records) audits.now }
+    ensures exact { result ≡ element_of (audits_seen audits.now) number }
+    ensures there { IfSome result (λ id. id ≤ length btf.now.records) }
+{
+    if number as usize >= audits.len() {
+        return None;
+    }
+    audits.get(number as usize).element
+}
+
+// The type of the elements of the audit that names this one.
+fn element_above(btf: &Btf, links: &[Link], before: &AuditList, number: u32) -> Option<u32>
+    requires { AreInside (length btf.now.records) before.now }
+    ensures exact { result ≡ element_above links.now (audits_seen before.now) number }
+    ensures there { IfSome result (λ id. id ≤ length btf.now.records) }
+{
+    element_of(btf, before, above_of(links, number)?)
+}
+
+// The audit with a number, behind these.
+#[tactic(auto, unfolding(crate::specs::Plans::planned))]
+fn planned(
+    alloc: Global,
+    known: &Known<'_>,
+    rows: &Rows,
+    links: &[Link],
+    before: &AuditList,
+    number: u32,
+    audit: &AuditWords<'_>,
+) -> Result<Audit, PlanStop>
+    requires rows { AreRows known.now.btf.now rows.now }
+    requires before { AreInside (length known.now.btf.now.records) before.now }
+    ensures exact { Gives audit_seen result (planned (kernel known.now) links.now (audits_seen before.now) number (audit_text audit.now)) }
+    ensures inside { IfOk result (IsInside (length known.now.btf.now.records)) }
+{
+    let needs = row_of(known.btf, rows, audit.sort);
+    let above = element_above(known.btf, links, before, number);
+    let start = begun(known, &needs, number, above, audit.start)?;
+    let element = element_at(known.btf, number, audit.parts.element)?;
+    let link = link_at(known.btf, &needs, number, element, audit.parts.link)?;
+    let Some(kind) = needs.kind else {
+        return Err(stop(PRule::P11, Some(number), PlanKey::Kind));
+    };
+    let name = name_of(alloc, audit.name)?;
+    let each = children(alloc, links, number)?;
+    Ok(Audit {
+        name,
+        kind,
+        start,
+        element,
+        link,
+        each,
+    })
+}
+
+// The audits of a plan.
+fn all_planned(
+    alloc: Global,
+    known: &Known<'_>,
+    rows: &Rows,
+    links: &[Link],
+    audits: &[AuditWords<'_>],
+) -> Result<AuditList, PlanStop>
+    requires rows { AreRows known.now.btf.now rows.now }
+    requires few { length audits.now ≤ 256 }
+    ensures exact { Gives audits_seen result (all_planned (kernel known.now) links.now [] (map audit_text audits.now)) }
+    ensures inside { IfOk result (AreInside (length known.now.btf.now.records)) }
+{
+    let mut planned_so_far = Items::new(alloc);
+    for audit in audits {
+        let number = planned_so_far.len() as u32;
+        let one = planned(alloc, known, rows, links, &planned_so_far, number, audit)?;
+        planned_so_far.push(one)?;
+    }
+    Ok(planned_so_far)
+}
+
+// The plan of audits as they are written.
+#[tactic(auto, unfolding(crate::specs::Plans::plan_of))]
+fn plan_of(
+    alloc: Global,
+    known: &Known<'_>,
+    audits: &[AuditWords<'_>],
+) -> Result<AuditList, PlanStop>
+    requires few { length audits.now ≤ 256 }
+    ensures exact { Gives audits_seen result (plan_of (kernel known.now) (map audit_text audits.now)) }
+    ensures inside { IfOk result (AreInside (length known.now.btf.now.records)) }
+{
+    let links = links_of(alloc, audits)?;
+    let rows = rows_of(known.btf);
+    all_planned(alloc, known, &rows, &links, audits)
+}
+
+/// The plan that a file's bytes are, in TOML, over the types and symbols of a kernel. `info.kaslr` is how far
+/// the kernel was moved; no other part of `info` bears on a plan.
+///
+/// The plan has `version = 1` and `audit`, an array of tables. Each has a `name` and a `kind` (`ring` or
+/// `hlist`), and begins at the symbol `root`, with a `root_type` and a `root_path` where the symbol isn't the
+/// head itself, or at a path `from` the element of the one audit that names it in `each`, passed over at a
+/// null pointer where it is `optional`. `element` is the type of the elements, and `link` the path in them to
+/// the node. Audits count from 0.
+///
+/// # Errors
+///
+/// The first fault, with the audit and the key. `P1` comes first, then the faults of the document, then for
+/// one audit after the other those of its table, then for one audit after the other those of `each` and
+/// `from`, and then for one audit after the other those of its symbol, its types and its paths. `NoMemory`
+/// where no memory was left.
+#[tactic(auto, unfolding(crate::specs::Plans::plan))]
+pub fn read_plan(
+    alloc: Global,
+    bytes: &[u8],
+    btf: &Btf,
+    syms: &Symbols<'_>,
+    info: &Info,
+) -> Result<Plan, PlanStop>
+    ensures exact { Gives plan_seen result (plan (kernel_of btf.now syms.now info.now) bytes.now) }
+    ensures inside { IfOk result (λ plan. AreInside (length btf.now.records) plan.audits) }
+{
+    let table = document_of(alloc, bytes)?;
+    let written = audits_in(alloc, &table)?;
+    let known = Known {
+        btf,
+        symbols: syms,
+        kaslr: info.kaslr,
+    };
+    let audits = plan_of(alloc, &known, &written)?;
+    Ok(Plan { audits })
+}
