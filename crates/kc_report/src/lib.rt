@@ -18,3 +18,6 @@ pub use names::PlanNames;
 pub use report::{BrokenText, CleanLine, CleanLines, Report};
 pub use stops::ReportStop;
 pub use write::text;
+
+#[cfg(test)]
+mod tests;
