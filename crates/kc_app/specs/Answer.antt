@@ -1,5 +1,6 @@
 -- What the code's answers are.
 use Rattle.std.specs.Prelude.{◌≡◌, ⊤, ℕ, List, [], Option, Some, None, IfSome, option_map, Result, Ok, Err}
+use Rattle.kc_outside.specs.declared.store.Slot.{Slot}
 use Rattle.kc_outside.specs.Files.{Files}
 use Rattle.kc_memory.specs.declared.space.Stop.{Stop}
 use Rattle.kc_memory.specs.declared.space.Stop.TheVariants.{Miss, Fault}
@@ -8,10 +9,11 @@ use Rattle.kc_memory.specs.Places.{entry_places}
 use Rattle.kc_input.specs.declared.halt.Halt.{Halt}
 use Rattle.kc_input.specs.declared.halt.Halt.TheVariants.{Refused, Store, Memory}
 use Rattle.kc_input.specs.Made.{Halts, Made}
+use Rattle.kc_input.specs.Slots.{refused_slot}
 use Rattle.kc_app.specs.declared.answer.Answer.{Answer}
 use Rattle.kc_app.specs.declared.answer.Answer.TheVariants.{Done, Broken}
 use Rattle.kc_app.specs.declared.status.Status.TheVariants as status
-use Rattle.kc_app.specs.Asked.{Asked, asked_files}
+use Rattle.kc_app.specs.Asked.{AllStay, Asked, Named, asked_files, behind}
 use Rattle.kc_app.specs.Output.{ending, written}
 use Rattle.kc_app.specs.Shown.{Said, Stop as StopSaid, Shown, Written, said_status, seen_text}
 
@@ -35,10 +37,30 @@ abbrev pub PrintsOfBytes : (List ℕ → Made Shown) → Option (List ℕ) → R
 PrintsOfBytes made None r = ⊤
 PrintsOfBytes made (Some bytes) r = Prints (made bytes) r
 
+-- where a file is refused, the files after it aren't opened: their slots are as before
+abbrev pub StayBehind : {A : Type 0} → List Named → Result A Halt → (Slot → Option (List ℕ)) → (Slot → Option (List ℕ)) → Type 0
+StayBehind named (Ok a) old new = ⊤
+StayBehind named (Err (Refused refusal)) old new = AllStay (behind (refused_slot refusal) named) old new
+StayBehind named (Err Store) old new = ⊤
+StayBehind named (Err Memory) old new = ⊤
+
+-- a refusal is about the last file, or about none
+abbrev pub RefusesLast : {A : Type 0} → List Named → Result A Halt → Type 0
+RefusesLast named (Ok a) = ⊤
+RefusesLast named (Err (Refused refusal)) = behind (refused_slot refusal) named ≡ []
+RefusesLast named (Err Store) = ⊤
+RefusesLast named (Err Memory) = ⊤
+
 -- the code answers what the words ask for, or that they aren't a command
-abbrev pub Runs : Option Asked → Option Files → Option (Result Answer Halt) → Type 0
-Runs asks files None = asks ≡ None
-Runs asks files (Some r) = (asked : Asked) × (asks ≡ Some asked) × PrintsOf (λ f. asked.made (asked_files asked f)) files r
+pub record Answers (asks : Option Asked) (files : Option Files) (r : Result Answer Halt) (old new : Slot → Option (List ℕ)) : Type 0 where
+  pub asked : Asked
+  pub is : asks ≡ Some asked
+  pub prints : PrintsOf (λ f. asked.made (asked_files asked f)) files r
+  pub unopened : StayBehind asked.named r old new
+
+abbrev pub Runs : Option Asked → Option Files → Option (Result Answer Halt) → (Slot → Option (List ℕ)) → (Slot → Option (List ℕ)) → Type 0
+Runs asks files None old new = asks ≡ None
+Runs asks files (Some r) old new = Answers asks files r old new
 
 -- what is said of words of a dump is written, unless no memory was left
 abbrev pub Writes : Said → List Place → Result Answer Halt → Type 0

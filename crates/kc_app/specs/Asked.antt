@@ -1,5 +1,5 @@
 -- What a command line asks for.
-use Rattle.std.specs.Prelude.{ℕ, nat_eq, List, [], ◌∷◌, find, map, Option, Some, option_and_then, option_map}
+use Rattle.std.specs.Prelude.{◌≡◌, ⊤, ℕ, nat_eq, if◌then◌else◌, List, [], ◌∷◌, find, Option, Some, None, option_and_then, option_map}
 use Rattle.kc_outside.specs.declared.store.Slot.{Slot}
 use Rattle.kc_outside.specs.Files.{Files, slot_number}
 use Rattle.kc_input.specs.Made.{Made}
@@ -32,3 +32,17 @@ pub record Form : Type 0 where
   pub name : List ℕ
   pub words : List ℕ
   pub asks : List (List ℕ) → Option Asked
+
+-- the files after the one in a slot
+abbrev pub behind_slot : Slot → List Named → List Named
+behind_slot slot [] = []
+behind_slot slot (n ∷ ns) = if nat_eq (slot_number n.slot) (slot_number slot) then ns else behind_slot slot ns
+
+abbrev pub behind : Option Slot → List Named → List Named
+behind None named = []
+behind (Some slot) named = behind_slot slot named
+
+-- the slots of these files are as before
+abbrev pub AllStay : {X : Type 0} → List Named → (Slot → X) → (Slot → X) → Type 0
+AllStay [] old new = ⊤
+AllStay (n ∷ ns) old new = (new n.slot ≡ old n.slot) × AllStay ns old new

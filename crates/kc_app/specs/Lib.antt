@@ -9,7 +9,10 @@ pub mod Said
 pub mod Show
 pub mod Shown
 pub mod Status
+pub mod Unopened
 pub mod Word
 pub use Rattle.kc_input.specs.Halts
 pub use Rattle.kc_input.specs.Inputs
+pub use Rattle.kc_input.specs.Lines
 pub use Rattle.kc_input.specs.Made
+pub use Rattle.kc_input.specs.Slots

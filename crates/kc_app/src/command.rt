@@ -9,7 +9,6 @@ ghost use Rattle.kc_app.specs.Asked.{word_in};
 ghost use Rattle.kc_app.specs.Commands.{command};
 
 use crate::answer::Answer;
-use crate::{layout, show, word};
 use kc_input::Halt;
 use kc_outside::Store;
 use std::alloc::Global;
@@ -23,7 +22,7 @@ pub const USAGE: &[u8] =
 pub fn run<S: Store>(alloc: Global, store: &mut S, words: &[String]) -> Option<Result<Answer, Halt>>
     requires { (slot : Slot) → ForSome (word_in (command (map string_bytes words.now)) slot) (S.may store.old slot) }
 
-    ensures output { Runs (command (map string_bytes words.now)) (S.files store.old) result }
+    ensures output { Runs (command (map string_bytes words.now)) (S.files store.old) result (S.opened store.old) (S.opened store.new) }
     ensures unasked { OnNone result (S.asked store.new ≡ S.asked store.old) }
     ensures files { S.files store.new ≡ S.files store.old }
     ensures later { S.faults store.old ≤ S.faults store.new }
@@ -34,9 +33,9 @@ pub fn run<S: Store>(alloc: Global, store: &mut S, words: &[String]) -> Option<R
         return None;
     };
     match name.as_str() {
-        "word" => word::run(alloc, store, words),
-        "layout" => layout::run(alloc, store, words),
-        "show" => show::run(alloc, store, words),
+        "word" => crate::word::run(alloc, store, words),
+        "layout" => crate::layout::run(alloc, store, words),
+        "show" => crate::show::run(alloc, store, words),
         _ => None,
     }
 }

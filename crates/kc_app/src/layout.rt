@@ -1,5 +1,5 @@
 // The command `layout`: the members of a struct or union.
-ghost use Rattle.std.specs.Prelude.{◌≡◌, ◌<◌, ◌≤◌, ◌++◌, length, map, Some, IfOk, IfSome, IsTrue, OnOk, option_and_then, option_map};
+ghost use Rattle.std.specs.Prelude.{◌≡◌, ◌<◌, ◌≤◌, ◌++◌, length, map, None, Some, IfOk, IfSome, IsTrue, OnOk, option_and_then, option_map};
 ghost use Rattle.std.specs.Option.{ForSome};
 ghost use Rattle.std.specs.String.{string_bytes};
 ghost use Rattle.kc_btf.specs.Kind.{is_compound};
@@ -10,7 +10,8 @@ ghost use Rattle.kc_layout.specs.Listing.{AreNamed};
 ghost use Rattle.kc_outside.specs.declared.store.Slot.{Slot};
 ghost use Rattle.kc_outside.specs.Counts.{Rose};
 ghost use Rattle.kc_input.specs.Halts.{NotStore, OnStore, UnlessStore};
-ghost use Rattle.kc_app.specs.Answer.{OnNone, OnStoreIn, Prints, PrintsOf, Runs, UnlessStoreIn};
+ghost use Rattle.kc_input.specs.Slots.{RefusesAbout};
+ghost use Rattle.kc_app.specs.Answer.{OnNone, OnStoreIn, Prints, PrintsOf, Runs, StayBehind, UnlessStoreIn};
 ghost use Rattle.kc_app.specs.Asked.{word_in};
 ghost use Rattle.kc_app.specs.Layout.{layout_asks, layout_made, layout_of, layout_view};
 ghost use Rattle.kc_app.specs.Shown.{compound_line, compound_word, member_line, member_lines, width_text};
@@ -51,7 +52,7 @@ fn read(words: &[String]) -> Option<Asks<'_>>
 pub fn run<S: Store>(alloc: Global, store: &mut S, words: &[String]) -> Option<Result<Answer, Halt>>
     requires { (slot : Slot) → ForSome (word_in (layout_asks (map string_bytes words.now)) slot) (S.may store.old slot) }
 
-    ensures output { Runs (layout_asks (map string_bytes words.now)) (S.files store.old) result }
+    ensures output { Runs (layout_asks (map string_bytes words.now)) (S.files store.old) result (S.opened store.old) (S.opened store.new) }
     ensures unasked { OnNone result (S.asked store.new ≡ S.asked store.old) }
     ensures files { S.files store.new ≡ S.files store.old }
     ensures later { S.faults store.old ≤ S.faults store.new }
@@ -67,6 +68,7 @@ fn layout<S: Store>(alloc: Global, store: &mut S, asks: Asks<'_>) -> Result<Answ
     requires may { S.may store.old Slot.Btf asks.btf.now }
 
     ensures output { PrintsOf (λ files. layout_made asks.entry.name.now (files Slot.Btf asks.entry.btf.now)) (S.files store.old) result }
+    ensures unopened { StayBehind (layout_view asks.entry).named result (S.opened store.old) (S.opened store.new) }
     ensures files { S.files store.new ≡ S.files store.old }
     ensures later { S.faults store.old ≤ S.faults store.new }
     ensures quiet { UnlessStore result (S.faults store.new ≡ S.faults store.old) }
@@ -88,6 +90,7 @@ fn named_compound(types: &Btf, name: &[u8]) -> Option<TypeRef>
 // The layout of the struct or union of a name.
 fn lay_out(alloc: Global, types: &Btf, name: &[u8]) -> Result<Answer, Halt>
     ensures output { Prints (layout_of types.now name.now) result }
+    ensures refused { RefusesAbout None result }
     ensures no_call { NotStore result }
 {
     let t = named_compound(types, name).ok_or(Refusal::NoType)?;

@@ -13,14 +13,14 @@ ghost use Rattle.kc_layout.specs.HopList.{hop_list};
 ghost use Rattle.kc_layout.specs.Views.{bits_view, number_view};
 ghost use Rattle.kc_phys.specs.Stored.{AreInside};
 ghost use Rattle.kc_view.specs.Pointers.{value_at};
-ghost use Rattle.kc_input.specs.Halts.{NotStore, OnStore, UnlessStore};
-ghost use Rattle.kc_input.specs.Made.{gives, Is, IsOf};
+ghost use Rattle.kc_input.specs.Halts.{NotRefused, OnStore, UnlessStore};
+ghost use Rattle.kc_input.specs.Made.{gives, IsOf};
 ghost use Rattle.kc_input.specs.Paging.{IsTable, by_info};
 ghost use Rattle.kc_report.specs.Lines.{place_lines};
-ghost use Rattle.kc_app.specs.Answer.{OnNone, OnStoreIn, PrintsOf, PrintsOfBytes, Runs, UnlessStoreIn};
+ghost use Rattle.kc_app.specs.Answer.{OnNone, OnStoreIn, PrintsOf, PrintsOfBytes, RefusesLast, Runs, StayBehind, UnlessStoreIn};
 ghost use Rattle.kc_app.specs.Asked.{word_in};
 ghost use Rattle.kc_app.specs.Said.{IsNumber};
-ghost use Rattle.kc_app.specs.Show.{number_read, number_shown, show_asks, show_made, show_view, symbol_in, target_in, target_view, worded};
+ghost use Rattle.kc_app.specs.Show.{number_read, number_shown, show_asked, show_asks, show_made, show_view, target_in, target_view, worded};
 ghost use Rattle.kc_app.specs.Word.{image_of};
 
 use crate::answer::Answer;
@@ -95,7 +95,7 @@ fn read(words: &[String]) -> Option<Asks<'_>>
 pub fn run<S: Store>(alloc: Global, store: &mut S, words: &[String]) -> Option<Result<Answer, Halt>>
     requires { (slot : Slot) → ForSome (word_in (show_asks (map string_bytes words.now)) slot) (S.may store.old slot) }
 
-    ensures output { Runs (show_asks (map string_bytes words.now)) (S.files store.old) result }
+    ensures output { Runs (show_asks (map string_bytes words.now)) (S.files store.old) result (S.opened store.old) (S.opened store.new) }
     ensures unasked { OnNone result (S.asked store.new ≡ S.asked store.old) }
     ensures files { S.files store.new ≡ S.files store.old }
     ensures later { S.faults store.old ≤ S.faults store.new }
@@ -113,6 +113,7 @@ fn show<S: Store>(alloc: Global, store: &mut S, asks: &Asks<'_>) -> Result<Answe
     requires map { S.may store.old Map asks.now.map.now }
 
     ensures output { PrintsOf (λ files. show_made (worded asks.now) (files Dump asks.now.dump.now) (files Slot.Btf asks.now.btf.now) (files Map asks.now.map.now)) (S.files store.old) result }
+    ensures unopened { StayBehind (show_asked (worded asks.now)).named result (S.opened store.old) (S.opened store.new) }
     ensures files { S.files store.new ≡ S.files store.old }
     ensures later { S.faults store.old ≤ S.faults store.new }
     ensures quiet { UnlessStore result (S.faults store.new ≡ S.faults store.old) }
@@ -136,6 +137,7 @@ fn find_target<S: Store>(
     requires may { S.may store.old Map asks.now.map.now }
 
     ensures told { IsOf target_view (λ files. target_in (worded asks.now) types.now kaslr (files Map asks.now.map.now)) (S.files store.old) result }
+    ensures last { RefusesLast (show_asked (worded asks.now)).named result }
     ensures ty { IfOk result (λ target. target.ty ≤ length types.now.records) }
     ensures there { IfOk result (λ target. target.field.ty ≤ length types.now.records) }
 
@@ -147,19 +149,11 @@ fn find_target<S: Store>(
     ensures cause { OnStore result (Rose (S.faults store.old) (S.faults store.new)) }
 {
     let map = read_map(alloc, store, asks.map)?;
-    let at = symbol_at(alloc, &map, asks.symbol.as_bytes(), kaslr)?;
+    let symbols = read_symbols(alloc, &map)?;
+    let at = find_symbol(&symbols, asks.symbol.as_bytes(), kaslr)?;
     let ty = find_named(types, asks.name.as_bytes())?;
     let field = find_field(types, ty, asks.path.as_bytes())?;
     Ok(Target { at, ty, field })
-}
-
-// The address of a symbol, by a map with these bytes.
-fn symbol_at(alloc: Global, map: &[u8], name: &[u8], kaslr: u64) -> Result<u64, Halt>
-    ensures made { Is (λ at. at) (symbol_in name.now kaslr map.now) result }
-    ensures no_call { NotStore result }
-{
-    let symbols = read_symbols(alloc, map)?;
-    Ok(find_symbol(&symbols, name, kaslr)?)
 }
 
 // The answer where all is found that is asked for, on a core that was read.
@@ -176,6 +170,7 @@ fn look_up<S: Store>(
     requires inside { AreInside (S.sizes store.old Dump) core.now.segments }
 
     ensures output { PrintsOfBytes (λ bytes. let image = image_of bytes core.now.segments (by_info info) in gives (number_shown image (number_read image (target_view target.now)))) (content (S.files store.old) Dump (S.opened store.old Dump)) result }
+    ensures not_refused { NotRefused result }
     ensures files { S.files store.new ≡ S.files store.old }
     ensures later { S.faults store.old ≤ S.faults store.new }
     ensures quiet { UnlessStore result (S.faults store.new ≡ S.faults store.old) }
@@ -212,6 +207,7 @@ fn number_text(alloc: Global, number: Scalar) -> Result<Vec<u8>, NoMemory>
 // The answer on a number that was read or not.
 fn answer(alloc: Global, number: Result<Scalar, Stop>) -> Result<Answer, Halt>
     ensures output { IsNumber number result }
+    ensures not_refused { NotRefused result }
 {
     match number {
         Ok(number) => Ok(Answer::Done(number_text(alloc, number)?)),

@@ -10,8 +10,9 @@ ghost use Rattle.kc_app.specs.Asked.{word_in};
 ghost use Rattle.kc_app.specs.Commands.{command};
 ghost use Rattle.kc_app.specs.Ends.{ErrFailed, IsTold, TookPart, TookPrefix};
 ghost use Rattle.kc_app.specs.Failures.{store_failed, memory_refused, sink_failed};
+ghost use Rattle.kc_app.specs.Unopened.{AskedStay};
 ghost use Rattle.kc_app.specs.Status.{At, is_answer, is_silent, is_sink_quiet, is_store_quiet, number};
-ghost use Rattle.kc_app.specs.declared.status.Status.TheVariants.{NoCommand, OutOfMemory, SinkFailed, StoreFailed};
+ghost use Rattle.kc_app.specs.declared.status.Status.TheVariants.{NoCommand, OutOfMemory, Refused, SinkFailed, StoreFailed};
 
 use crate::answer::Answer;
 use crate::command::{USAGE, run};
@@ -97,6 +98,9 @@ pub fn kaudit<S: Store, O: Sink, E: Sink>(
     ensures quiet_store { OnTrue (is_store_quiet result) (S.faults store.new ≡ S.faults store.old) }
     ensures quiet_out { OnTrue (is_sink_quiet result) (O.faults out.new ≡ O.faults out.old) }
     ensures quiet_err { OnTrue (is_sink_quiet result) (E.faults err.new ≡ E.faults err.old) }
+
+    // Where a file is refused, the files after it aren't opened: their slots are as before.
+    ensures unopened { At result Refused (AskedStay (command (map string_bytes words.now)) (S.files store.old) (S.opened store.old) (S.opened store.new)) }
 
     // What the sinks took where one failed.
     ensures out_part { At result SinkFailed (O.faults out.old < O.faults out.new

@@ -1,5 +1,5 @@
 // The command `word`: one word of a dump with its places.
-ghost use Rattle.std.specs.Prelude.{◌≡◌, ◌<◌, ◌≤◌, ◌∷◌, [], map, IfOk, IfSome, option_and_then, option_map};
+ghost use Rattle.std.specs.Prelude.{◌≡◌, ◌<◌, ◌≤◌, ◌∷◌, [], map, Some, IfOk, IfSome, option_and_then, option_map};
 ghost use Rattle.std.specs.Option.{ForSome};
 ghost use Rattle.std.specs.String.{string_bytes};
 ghost use Rattle.kc_word.specs.Hex.{hex_number};
@@ -11,10 +11,11 @@ ghost use Rattle.kc_memory.specs.Places.{place_of};
 ghost use Rattle.kc_memory.specs.Space.{AnswersAs, OnFault, UnlessFault};
 ghost use Rattle.kc_memory.specs.Translation.{vword};
 ghost use Rattle.kc_phys.specs.Stored.{AreInside};
-ghost use Rattle.kc_input.specs.Halts.{OnStore, UnlessStore};
+ghost use Rattle.kc_input.specs.Halts.{NotRefused, OnStore, UnlessStore};
 ghost use Rattle.kc_input.specs.Made.{Tells};
+ghost use Rattle.kc_input.specs.Slots.{IsAbout};
 ghost use Rattle.kc_input.specs.Paging.{IsTable};
-ghost use Rattle.kc_app.specs.Answer.{OnNone, OnStoreIn, PrintsOf, Runs, UnlessStoreIn};
+ghost use Rattle.kc_app.specs.Answer.{OnNone, OnStoreIn, PrintsOf, Runs, StayBehind, UnlessStoreIn};
 ghost use Rattle.kc_app.specs.Asked.{word_in};
 ghost use Rattle.kc_app.specs.Said.{IsWord};
 ghost use Rattle.kc_app.specs.Shown.{bare_lines};
@@ -97,7 +98,7 @@ fn read(words: &[String]) -> Option<Asks<'_>>
 pub fn run<S: Store>(alloc: Global, store: &mut S, words: &[String]) -> Option<Result<Answer, Halt>>
     requires { (slot : Slot) → ForSome (word_in (word_asks (map string_bytes words.now)) slot) (S.may store.old slot) }
 
-    ensures output { Runs (word_asks (map string_bytes words.now)) (S.files store.old) result }
+    ensures output { Runs (word_asks (map string_bytes words.now)) (S.files store.old) result (S.opened store.old) (S.opened store.new) }
     ensures unasked { OnNone result (S.asked store.new ≡ S.asked store.old) }
     ensures files { S.files store.new ≡ S.files store.old }
     ensures later { S.faults store.old ≤ S.faults store.new }
@@ -114,6 +115,7 @@ fn word<S: Store>(alloc: Global, store: &mut S, asks: Asks<'_>) -> Result<Answer
     requires table { IfSome asks.table IsTable }
 
     ensures output { PrintsOf (λ files. word_made asks.entry.table asks.entry.address (files Dump asks.entry.dump.now)) (S.files store.old) result }
+    ensures unopened { StayBehind (word_view asks.entry).named result (S.opened store.old) (S.opened store.new) }
     ensures files { S.files store.new ≡ S.files store.old }
     ensures later { S.faults store.old ≤ S.faults store.new }
     ensures quiet { UnlessStore result (S.faults store.new ≡ S.faults store.old) }
@@ -130,6 +132,7 @@ fn word<S: Store>(alloc: Global, store: &mut S, asks: Asks<'_>) -> Result<Answer
 fn find_paging(core: &Core, table: Option<u64>) -> Result<PageCfg, Refusal>
     requires { IfSome table IsTable }
     ensures made { Tells (λ p. p) (paging_of table core.now.notes) result }
+    ensures refused { IsAbout (Some Dump) result }
     ensures table { IfOk result (λ p. IsTable p.table) }
 {
     if let Some(table) = table {
@@ -161,6 +164,7 @@ fn word_text(alloc: Global, word: &VWord) -> Result<Vec<u8>, NoMemory>
 // The answer on a word that was read or not.
 fn answer(alloc: Global, word: Result<VWord, Stop>) -> Result<Answer, Halt>
     ensures output { IsWord word result }
+    ensures not_refused { NotRefused result }
 {
     match word {
         Ok(word) => Ok(Answer::Done(word_text(alloc, &word)?)),

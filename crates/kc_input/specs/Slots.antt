@@ -18,9 +18,17 @@ refused_slot (Symbol fault) = None
 refused_slot NoType = None
 refused_slot (Path fault) = None
 
--- a refusal is about this file
+-- a refusal is about this file, or about none
+abbrev pub IsAbout : {A : Type 0} → Option Slot → Result A Refusal → Type 0
+IsAbout slot (Ok a) = ⊤
+IsAbout slot (Err refusal) = refused_slot refusal ≡ slot
+
+-- the same of a step that may fail in other ways
+abbrev pub RefusesAbout : {A : Type 0} → Option Slot → Result A Halt → Type 0
+RefusesAbout slot (Ok a) = ⊤
+RefusesAbout slot (Err (Refused refusal)) = refused_slot refusal ≡ slot
+RefusesAbout slot (Err Store) = ⊤
+RefusesAbout slot (Err Memory) = ⊤
+
 abbrev pub RefusesIn : {A : Type 0} → Slot → Result A Halt → Type 0
-RefusesIn slot (Ok a) = ⊤
-RefusesIn slot (Err (Refused refusal)) = refused_slot refusal ≡ Some slot
-RefusesIn slot (Err Store) = ⊤
-RefusesIn slot (Err Memory) = ⊤
+RefusesIn slot r = RefusesAbout (Some slot) r

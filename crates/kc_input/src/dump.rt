@@ -1,5 +1,5 @@
 // A dump and its notes.
-ghost use Rattle.std.specs.Prelude.{◌≡◌, ◌+◌, ◌≤◌, ◌^◌, ℕ, List, max, IfOk, OnOk};
+ghost use Rattle.std.specs.Prelude.{◌≡◌, ◌+◌, ◌≤◌, ◌^◌, ℕ, List, Some, max, IfOk, OnOk};
 ghost use Rattle.std.specs.List.{All};
 ghost use Rattle.kc_outside.specs.declared.store.Slot.{Slot};
 ghost use Rattle.kc_outside.specs.declared.store.Slot.TheVariants.{Dump};
@@ -10,7 +10,7 @@ ghost use Rattle.kc_notes.specs.Info.{info};
 ghost use Rattle.kc_input.specs.declared.refusal.Refusal.TheVariants.{Notes};
 ghost use Rattle.kc_input.specs.Paging.{IsTable, by_info};
 ghost use Rattle.kc_input.specs.Inputs.{dump_parts};
-ghost use Rattle.kc_input.specs.Slots.{RefusesIn};
+ghost use Rattle.kc_input.specs.Slots.{IsAbout, RefusesIn};
 ghost use Rattle.kc_input.specs.Made.{checked, IsOf, Tells};
 ghost use Rattle.kc_input.specs.Halts.{OnStore, UnlessStore};
 
@@ -56,6 +56,7 @@ pub fn read_dump<S: Store>(alloc: Global, store: &mut S, name: &str) -> Result<C
 /// The first fault V1 to V7 of the notes.
 pub fn read_info(core: &Core) -> Result<Info, Refusal>
     ensures made { Tells (λ i. i) (checked Notes (info core.now.notes)) result }
+    ensures refused { IsAbout (Some Dump) result }
     ensures table { IfOk result (λ i. IsTable i.table) }
 {
     Ok(kernel_info(vmcoreinfo(core)?)?)
