@@ -1,5 +1,5 @@
 -- One item more of a list.
-use Rattle.std.proofs.Common.{◌≡◌, ℕ, zero, suc, ◌+◌, List, [], ◌∷◌, ◌++◌, take, drop, slice_get, Some, Result, Ok, Err, OnOk, OnErr, sym, ap, ◌∙◌, subst, true, add-one, append_assoc}
+use Rattle.std.proofs.Common.{◌≡◌, ℕ, zero, suc, ◌+◌, List, [], ◌∷◌, ◌++◌, take, drop, slice_get, All, IsTrue, ◌<◌, ◌^◌, Some, Result, Ok, Err, OnOk, OnErr, sym, ap, ◌∙◌, subst, true, add-one, append_assoc}
 use Rattle.kc_word.specs.declared.memory.NoMemory.{NoMemory}
 use Rattle.kc_memory.specs.declared.words.Place.{Place}
 use Rattle.kc_text.specs.Compose.{texts}
@@ -8,8 +8,9 @@ use Rattle.kc_found.specs.declared.verdict.AuditCount.{AuditCount}
 use Rattle.kc_report.specs.Copies.{IsCounted, counted}
 use Rattle.kc_report.specs.Lines.{place_line, place_lines}
 use Rattle.kc_report.specs.Names.{are_names}
-use Rattle.kc_report.specs.Report.{AuditLine}
+use Rattle.kc_report.specs.Report.{AuditLine, BrokenLines, IsBroken, IsNumber, IsShown, IsStopNumber, is_stop_at, stop_levels}
 use Rattle.std.proofs.lemmas.Bool.{and_from, and_parts}
+use Rattle.std.proofs.lemmas.List.Elements.{All-push}
 
 drop_next : {X : Type 0} (xs : List X) (i : ℕ) (x : X) → slice_get xs i ≡ Some x → drop i xs ≡ x ∷ drop (suc i) xs
 drop_next [] i x is = absurd (let none : ⊥ = cc in none)
@@ -23,6 +24,10 @@ take_next (y ∷ ys) (suc i) x is = ap (λ l. y ∷ l) (take_next ys i x is)
 
 pub take_item : {X : Type 0} (xs : List X) (i : ℕ) (x : X) → slice_get xs i ≡ Some x → take (i + 1) xs ≡ take i xs ++ x ∷ []
 take_item xs i x is = rw add-one (take_next xs i x is)
+
+-- one item more that has what all before it have
+pub all_item : {X : Type 0} (P : X → Type 0) (xs : List X) (i : ℕ) (x : X) → slice_get xs i ≡ Some x → All P (take i xs) → P x → All P (take (i + 1) xs)
+all_item P xs i x is before here = subst (All P) (sym (take_item xs i x is)) (All-push P (take i xs) x before here)
 
 -- a text that grows by an item's, in front of those of the items that are left
 pub texts_item : {X : Type 0} (spell : X → List ℕ) (xs : List X) (i : ℕ) (x : X) (text grown whole : List ℕ) → slice_get xs i ≡ Some x → grown ≡ text ++ spell x
@@ -73,3 +78,10 @@ pub names-keep : (r : Result (Unit {0}) NoMemory) (names new : List (List ℕ)) 
     → are_names names ≡ true → is_name name ≡ true → are_names new ≡ true
 names-keep (Ok u) names new name added kept good fits = ap are_names added ∙ names-push names name good fits
 names-keep (Err e) names new name added kept good fits = ap are_names kept ∙ good
+
+-- what a report of a violation keeps, of its parts
+pub keeps_all : (r : Result (Unit {0}) NoMemory) (b : BrokenLines) → IsTrue (is_name b.audit) → b.start < 2 ^ 64 → b.at < 2 ^ 64 → OnOk r (IsNumber b.expected)
+    → OnOk r (IsTrue (is_stop_at (stop_levels b.rule) b.stop)) → OnOk r (IsStopNumber b.stop) → OnOk r (All IsShown b.places) → OnOk r (IsBroken b)
+keeps_all (Err e) b name start at expected stop number places = tt
+keeps_all (Ok u) b name start at expected stop number places =
+    record { audit = name; start = start; at = at; expected = expected; stop = stop; stop_number = number; places = places }

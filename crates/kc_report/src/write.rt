@@ -1,14 +1,17 @@
 // Reports as text.
-ghost use Rattle.std.specs.Prelude.{◌≡◌, ◌≤◌, ◌++◌, codes, IfOk, OnOk, IfSome};
+ghost use Rattle.std.specs.Prelude.{◌≡◌, ◌≤◌, ◌<◌, ◌^◌, ◌++◌, All, codes, IfOk, OnOk, IfSome, IsTrue};
 ghost use Rattle.kc_text.specs.Compose.{texts};
+ghost use Rattle.kc_text.specs.Readers.{is_name};
 ghost use Rattle.kc_text.specs.Text.{hex};
-ghost use Rattle.kc_report.specs.IsReport.{report_text};
-ghost use Rattle.kc_report.specs.Lines.{place_lines, rule_at};
+ghost use Rattle.kc_report.specs.IsReport.{IsReport};
+ghost use Rattle.kc_report.specs.Report.{IsBroken, IsLine, IsNumber, IsShown, IsStopNumber, is_stop_at, stop_levels};
+ghost use Rattle.kc_report.specs.Lines.{place_line, place_lines, rule_at};
 ghost use Rattle.kc_report.specs.ReportText.{audit_line, broken_lines, clean_text, end_lines, expected_text, start_lines, stop_lines};
 
 use crate::line::{push_place, push_rule_at, push_stop_text};
 use crate::report::{BrokenText, CleanLine, CleanLines, Report};
 use kc_found::{Name, Places};
+use kc_memory::Place;
 use kc_text::{push, push_decimal, push_hex};
 use kc_word::NoMemory;
 use std::alloc::Global;
@@ -19,7 +22,7 @@ use std::alloc::Global;
 ///
 /// Out of memory.
 pub fn text(alloc: Global, report: &Report) -> Result<Vec<u8>, NoMemory>
-    ensures { IfOk result (λ text. text.items ≡ report_text report.now) }
+    ensures { IfOk result (λ text. IsReport text.items report.now) }
 {
     let mut text = Vec::new(alloc);
     match report {
@@ -41,7 +44,8 @@ fn push_bytes(text: &mut Vec<u8>, name: &Name) -> Result<(), NoMemory>
 
 // Adds the line of an audit that found nothing.
 fn push_line(text: &mut Vec<u8>, line: &CleanLine) -> Result<(), NoMemory>
-    ensures { OnOk result (text.new.items ≡ text.old.items ++ audit_line line.now) }
+    ensures added { OnOk result (text.new.items ≡ text.old.items ++ audit_line line.now) }
+    ensures keeps { OnOk result (IsLine line.now) }
 {
     push(text, b"audit ")?;
     push_bytes(text, &line.name)?;
@@ -54,7 +58,8 @@ fn push_line(text: &mut Vec<u8>, line: &CleanLine) -> Result<(), NoMemory>
 
 // Adds the lines of these audits.
 fn push_lines(text: &mut Vec<u8>, lines: &CleanLines) -> Result<(), NoMemory>
-    ensures { OnOk result (text.new.items ≡ text.old.items ++ texts audit_line lines.now) }
+    ensures added { OnOk result (text.new.items ≡ text.old.items ++ texts audit_line lines.now) }
+    ensures keeps { OnOk result (All IsLine lines.now) }
 {
     for i in 0..lines.len() {
         push_line(text, lines.get(i))?;
@@ -64,7 +69,8 @@ fn push_lines(text: &mut Vec<u8>, lines: &CleanLines) -> Result<(), NoMemory>
 
 // Adds a clean report.
 fn push_clean(text: &mut Vec<u8>, lines: &CleanLines) -> Result<(), NoMemory>
-    ensures { OnOk result (text.new.items ≡ text.old.items ++ clean_text lines.now) }
+    ensures added { OnOk result (text.new.items ≡ text.old.items ++ clean_text lines.now) }
+    ensures keeps { OnOk result (All IsLine lines.now) }
 {
     push(text, b"clean\n")?;
     push_lines(text, lines)
@@ -72,7 +78,8 @@ fn push_clean(text: &mut Vec<u8>, lines: &CleanLines) -> Result<(), NoMemory>
 
 // Adds a number that should stand somewhere, or that there is none.
 fn push_expected(text: &mut Vec<u8>, expected: Option<u64>) -> Result<(), NoMemory>
-    ensures { OnOk result (text.new.items ≡ text.old.items ++ expected_text expected) }
+    ensures added { OnOk result (text.new.items ≡ text.old.items ++ expected_text expected) }
+    ensures number { OnOk result (IsNumber expected) }
 {
     match expected {
         Some(n) => push_hex(text, n),
@@ -83,7 +90,8 @@ fn push_expected(text: &mut Vec<u8>, expected: Option<u64>) -> Result<(), NoMemo
 // Adds the line of a stop, if there is one.
 fn push_stop_lines(text: &mut Vec<u8>, stop: Option<(u8, u64)>) -> Result<(), NoMemory>
     requires { IfSome stop (λ s. s.0 ≤ 5) }
-    ensures { OnOk result (text.new.items ≡ text.old.items ++ stop_lines stop) }
+    ensures added { OnOk result (text.new.items ≡ text.old.items ++ stop_lines stop) }
+    ensures number { OnOk result (IsStopNumber stop) }
 {
     match stop {
         Some((level, pa)) => push_stop_text(text, level, pa),
@@ -91,12 +99,21 @@ fn push_stop_lines(text: &mut Vec<u8>, stop: Option<(u8, u64)>) -> Result<(), No
     }
 }
 
+// Adds the line of a word.
+fn push_shown(text: &mut Vec<u8>, place: Place) -> Result<(), NoMemory>
+    ensures added { OnOk result (text.new.items ≡ text.old.items ++ place_line place) }
+    ensures shown { OnOk result (IsShown place) }
+{
+    push_place(text, place)
+}
+
 // Adds the lines of these words.
 fn push_list(text: &mut Vec<u8>, places: &Places) -> Result<(), NoMemory>
-    ensures { OnOk result (text.new.items ≡ text.old.items ++ place_lines places.now) }
+    ensures added { OnOk result (text.new.items ≡ text.old.items ++ place_lines places.now) }
+    ensures shown { OnOk result (All IsShown places.now) }
 {
     for i in 0..places.len() {
-        push_place(text, *places.get(i))?;
+        push_shown(text, *places.get(i))?;
     }
     Ok(())
 }
@@ -112,7 +129,9 @@ fn push_address_line(text: &mut Vec<u8>, start: u64) -> Result<(), NoMemory>
 
 // Adds the audit of a violation, and where its walk starts.
 fn push_start(text: &mut Vec<u8>, broken: &BrokenText) -> Result<(), NoMemory>
-    ensures { OnOk result (text.new.items ≡ text.old.items ++ start_lines broken.now) }
+    ensures added { OnOk result (text.new.items ≡ text.old.items ++ start_lines broken.now) }
+    ensures name { OnOk result (IsTrue (is_name broken.now.audit)) }
+    ensures start { OnOk result (broken.now.start < 2 ^ 64) }
 {
     push(text, b"broken\naudit ")?;
     push_bytes(text, &broken.audit)?;
@@ -121,14 +140,19 @@ fn push_start(text: &mut Vec<u8>, broken: &BrokenText) -> Result<(), NoMemory>
 
 // Adds the rule and the address that the violation is about.
 fn push_rule_of(text: &mut Vec<u8>, broken: &BrokenText) -> Result<(), NoMemory>
-    ensures { OnOk result (text.new.items ≡ text.old.items ++ rule_at broken.now.rule broken.now.at) }
+    ensures added { OnOk result (text.new.items ≡ text.old.items ++ rule_at broken.now.rule broken.now.at) }
+    ensures at { OnOk result (broken.now.at < 2 ^ 64) }
 {
     push_rule_at(text, broken.rule, broken.at)
 }
 
 // Adds what should stand there, where reading stopped, and the words that show it.
 fn push_end(text: &mut Vec<u8>, broken: &BrokenText) -> Result<(), NoMemory>
-    ensures { OnOk result (text.new.items ≡ text.old.items ++ end_lines broken.now) }
+    ensures added { OnOk result (text.new.items ≡ text.old.items ++ end_lines broken.now) }
+    ensures expected { OnOk result (IsNumber broken.now.expected) }
+    ensures stop { OnOk result (IsTrue (is_stop_at (stop_levels broken.now.rule) broken.now.stop)) }
+    ensures number { OnOk result (IsStopNumber broken.now.stop) }
+    ensures places { OnOk result (All IsShown broken.now.places) }
 {
     push(text, b"expected ")?;
     push_expected(text, broken.expected)?;
@@ -139,7 +163,8 @@ fn push_end(text: &mut Vec<u8>, broken: &BrokenText) -> Result<(), NoMemory>
 
 // Adds a report of a violation.
 fn push_broken(text: &mut Vec<u8>, broken: &BrokenText) -> Result<(), NoMemory>
-    ensures { OnOk result (text.new.items ≡ text.old.items ++ broken_lines broken.now) }
+    ensures added { OnOk result (text.new.items ≡ text.old.items ++ broken_lines broken.now) }
+    ensures keeps { OnOk result (IsBroken broken.now) }
 {
     push_start(text, broken)?;
     push_rule_of(text, broken)?;
