@@ -19,3 +19,6 @@ pub use fault::{PRule, PlanFault, PlanKey, PlanStop};
 pub use kind::Kind;
 pub use plan::{Audit, AuditList, Numbers, Plan, Start};
 pub use read::read_plan;
+
+#[cfg(test)]
+mod tests;
