@@ -80,6 +80,22 @@ report_is bytes report read =
     let t = either-report-law.takes bytes [] (kind_of report) read in
     subst (IsReport bytes) (back_again report) (from_text (kind_of report) bytes t.0 (t.2 ∙ append-nil (report_format.spell (kind_of report))))
 
+-- the report that reading gives, if it gives one
+abbrev read_of : Result ((List AuditLine ⊎ BrokenLines) × List ℕ) (List ℕ) → Report
+read_of (Ok r) = report_from r.0
+read_of (Err rest) = Clean []
+
+reads_back : (bytes : List ℕ) (report : Report) → IsReport bytes report → report_format.read bytes ≡ Ok (kind_of report, [])
+reads_back bytes report is =
+    let t = to_text report bytes is in
+    ap report_format.read (t.1 ∙ sym (append-nil (report_format.spell (kind_of report)))) ∙ either-report-law.again (kind_of report) [] t.0 refl
+
+-- no two reports have one text
+pub only_one : (bytes : List ℕ) (one other : Report) → IsReport bytes one → IsReport bytes other → one ≡ other
+only_one bytes one other is it =
+    let same = ap read_of (sym (reads_back bytes one is) ∙ reads_back bytes other it) in
+    sym (back_again one) ∙ (same ∙ back_again other)
+
 pub rest_within : (bytes rest : List ℕ) → report_format.read bytes ≡ Err rest → length rest ≤ length bytes
 rest_within bytes rest read =
     let s = either-report-law.stops bytes rest read in

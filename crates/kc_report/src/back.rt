@@ -2,6 +2,7 @@
 ghost use Rattle.std.specs.Prelude.{◌≡◌, ◌∷◌, [], ◌++◌, IfOk, IfErr, OnOk, IsTrue};
 ghost use Rattle.kc_text.specs.Compose.{either, lines};
 ghost use Rattle.kc_text.specs.Readers.{is_name};
+ghost use Rattle.kc_report.specs.declared.report.Report.{Report};
 ghost use Rattle.kc_report.specs.Faults.{IsRefused};
 ghost use Rattle.kc_report.specs.Formats.{broken_format, clean_format, line_format, place_format};
 ghost use Rattle.kc_report.specs.Heads.{IsHead, head_broken};
@@ -16,7 +17,7 @@ use kc_text::{read_literal, shorter};
 use kc_word::NoMemory;
 use std::alloc::Global;
 
-/// The report whose text these bytes are.
+/// The report whose text these bytes are. No other report has that text.
 ///
 /// # Errors
 ///
@@ -24,6 +25,7 @@ use std::alloc::Global;
 /// report's text; or out of memory.
 pub fn read_report(alloc: Global, bytes: &[u8]) -> Result<Report, ReportStop>
     ensures report { IfOk result (λ report. IsReport bytes.now report) }
+    ensures only { IfOk result (λ report. (other : Report) → IsReport bytes.now other → other ≡ report) }
     ensures refused { IfErr result (λ stop. IsRefused stop bytes.now) }
 {
     match read_either(alloc, bytes) {

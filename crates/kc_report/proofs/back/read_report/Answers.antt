@@ -1,4 +1,4 @@
-use Rattle.kc_report.proofs.BackLemmas.{report_is, rest_within, refused_is, stopped_at}
+use Rattle.kc_report.proofs.BackLemmas.{only_one, report_is, rest_within, refused_is, stopped_at}
 use Rattle.kc_report.proofs.back.read_report.Goals as goal
 
 pub overflow_sub-result : goal.overflow_sub-result
@@ -8,6 +8,11 @@ overflow_sub-result c =
 
 pub returns-in-Ok-clause-report : goal.returns-in-Ok-clause-report
 returns-in-Ok-clause-report c = report_is c.args.bytes.now c.in-Ok.report c.in-Ok.ensures
+
+pub returns-in-Ok-clause-only : goal.returns-in-Ok-clause-only
+returns-in-Ok-clause-only c other is =
+    let bytes = c.args.bytes.now in
+    only_one bytes other c.in-Ok.report is (report_is bytes c.in-Ok.report c.in-Ok.ensures)
 
 pub returns-in-Err-At-clause-refused : goal.returns-in-Err-At-clause-refused
 returns-in-Err-At-clause-refused c =
