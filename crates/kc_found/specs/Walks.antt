@@ -1,5 +1,6 @@
 -- What the answer of a walk says.
 use Rattle.std.specs.Prelude.{◌≡◌, ℕ, ◌+◌, ◌*◌, ◌≤◌, List, IfSome, Option, Some, None, Result, Ok, Err, ⊤}
+use Rattle.kc_outside.specs.Counts.{Rose}
 use Rattle.kc_memory.specs.declared.space.Stop.{Stop}
 use Rattle.kc_memory.specs.declared.space.Stop.TheVariants as stops
 use Rattle.kc_memory.specs.declared.words.VWord.{VWord}
@@ -45,6 +46,13 @@ UnlessWalkFault (Ok x) P = P
 UnlessWalkFault (Err (ends.Broken f)) P = P
 UnlessWalkFault (Err ends.Fault) P = ⊤
 UnlessWalkFault (Err ends.NoMemory) P = P
+
+-- the count of failures rose where reading failed, and else it is as it was
+abbrev pub CountsWalkFaults : {A : Type 0} → Result A WalkStop → ℕ → ℕ → Type 0
+CountsWalkFaults (Ok x) before after = after ≡ before
+CountsWalkFaults (Err (ends.Broken f)) before after = after ≡ before
+CountsWalkFaults (Err ends.Fault) before after = (before ≤ after) × Rose before after
+CountsWalkFaults (Err ends.NoMemory) before after = after ≡ before
 
 abbrev pub OnBroken : {A : Type 0} → Result A WalkStop → Type 0 → Type 0
 OnBroken (Ok x) P = ⊤

@@ -4,13 +4,21 @@ use Rattle.kc_outside.specs.Counts.{Rose}
 use Rattle.kc_outside.specs.Files.{Files}
 use Rattle.kc_memory.specs.declared.space.Stop.{Stop}
 use Rattle.kc_memory.specs.declared.space.Stop.TheVariants.{Miss, Fault}
-use Rattle.kc_memory.specs.Image.{Physical}
+use Rattle.kc_memory.specs.Image.{Image, Physical}
 
 -- physical memory is that of the same dump, in the same files, and read through the same borrows
 pub record FramesStay {M : Type 0} (image : M → Option Physical) (files : M → Option Files) (through : M → List ℕ) (old new : M) : Type 0 where
   pub same_image : image new ≡ image old
   pub same_files : files new ≡ files old
   pub same_through : through new ≡ through old
+
+-- virtual memory is that of the same dump, in the same files, read through the same borrows, and a word of it takes
+-- as many steps at most
+pub record SpaceStays {M : Type 0} (image : M → Option Image) (files : M → Option Files) (through : M → List ℕ) (most : M → ℕ) (old new : M) : Type 0 where
+  pub same_image : image new ≡ image old
+  pub same_files : files new ≡ files old
+  pub same_through : through new ≡ through old
+  pub same_most : most new ≡ most old
 
 -- the count of failures rose where reading failed, and else it is as it was
 abbrev pub CountsFaults : {A : Type 0} → Result A Stop → ℕ → ℕ → Type 0
