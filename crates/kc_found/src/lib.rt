@@ -18,5 +18,5 @@ pub use kc_memory::{
     know_numbers, know_pages, know_places, know_words, place_of, read_bits,
 };
 pub use list_space::ListSpace;
-pub use shapes::{HShape, ListShape};
+pub use shapes::{HShape, ListShape, RbShape};
 pub use verdict::{AuditCount, Verdict};
