@@ -1,3 +1,4 @@
 pub mod DocumentLemmas
 pub mod LinkLemmas
 pub mod ListLemmas
+mod SymbolLaws

@@ -11,7 +11,7 @@ use Rattle.kc_plan.specs.declared.keys.Need.TheVariants.{Required, Barred}
 use Rattle.kc_plan.specs.declared.keys.Sort.{Sort}
 use Rattle.kc_plan.specs.declared.keys.Sort.TheVariants.{Ring, Hlist}
 
--- how a key is spelled. No key is asked for as Other.
+-- how a key is spelled. A key that a plan doesn't have is told as `other`; none is asked for as that.
 abbrev pub spelled : PlanKey → List ℕ
 spelled key.Version = codes "version"
 spelled key.Audit = codes "audit"
@@ -29,7 +29,7 @@ spelled key.Unique = codes "unique"
 spelled key.Cached = codes "cached"
 spelled key.Check = codes "check"
 spelled key.Each = codes "each"
-spelled key.Other = []
+spelled key.Other = codes "other"
 
 -- a text spells one of these keys
 abbrev pub is_one_of : List PlanKey → List ℕ → Bool

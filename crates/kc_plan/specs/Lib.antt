@@ -2,6 +2,7 @@ pub mod Answers
 pub mod Audits
 pub mod Inside
 pub mod Keys
+pub mod Laws
 pub mod Links
 pub mod Plans
 pub mod Shapes

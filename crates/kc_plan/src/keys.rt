@@ -31,8 +31,8 @@ pub(crate) struct Needs {
     pub tree: Need,
 }
 
-// How a key is spelled. No key is asked for as `Other`.
-pub(crate) fn spelling(key: PlanKey) -> &'static str
+/// How a key is spelled. A key that a plan doesn't have is told as `other`; none is asked for as that.
+pub fn spelling(key: PlanKey) -> &'static str
     ensures { result.now ≡ spelled key }
 {
     match key {
@@ -52,7 +52,7 @@ pub(crate) fn spelling(key: PlanKey) -> &'static str
         PlanKey::Cached => "cached",
         PlanKey::Check => "check",
         PlanKey::Each => "each",
-        PlanKey::Other => "",
+        PlanKey::Other => "other",
     }
 }
 

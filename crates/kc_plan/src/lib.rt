@@ -8,6 +8,7 @@ mod fault;
 mod item;
 mod keys;
 mod kind;
+mod laws;
 mod link;
 mod plan;
 mod read;
@@ -16,7 +17,9 @@ mod start;
 mod value;
 
 pub use fault::{PRule, PlanFault, PlanKey, PlanStop};
+pub use keys::spelling;
 pub use kind::Kind;
+pub use laws::know_plans;
 pub use plan::{Audit, AuditList, Numbers, Plan, Start};
 pub use read::read_plan;
 
