@@ -41,12 +41,6 @@ OnWalkFault (Err (ends.Broken f)) P = ⊤
 OnWalkFault (Err ends.Fault) P = P
 OnWalkFault (Err ends.NoMemory) P = ⊤
 
-abbrev pub UnlessWalkFault : {A : Type 0} → Result A WalkStop → Type 0 → Type 0
-UnlessWalkFault (Ok x) P = P
-UnlessWalkFault (Err (ends.Broken f)) P = P
-UnlessWalkFault (Err ends.Fault) P = ⊤
-UnlessWalkFault (Err ends.NoMemory) P = P
-
 -- the count of failures rose where reading failed, and else it is as it was
 abbrev pub CountsWalkFaults : {A : Type 0} → Result A WalkStop → ℕ → ℕ → Type 0
 CountsWalkFaults (Ok x) before after = after ≡ before

@@ -1,11 +1,11 @@
 // Rings.
 ghost use Rattle.std.specs.Prelude.{◌≡◌, ℕ, List, ◌+◌, ◌*◌, ◌≤◌, Ok, IfOk, IfSome};
-ghost use Rattle.kc_outside.specs.Counts.{Rose};
+ghost use Rattle.kc_memory.specs.Stays.{SpaceStays};
 ghost use Rattle.kc_memory.specs.Translation.{vword};
 ghost use Rattle.kc_found.specs.FiniteLists.{NoRing, Ring};
 ghost use Rattle.kc_found.specs.Nodes.{two_taken};
 ghost use Rattle.kc_found.specs.Rings.{links, ring_site, ring_walk};
-ghost use Rattle.kc_found.specs.Walks.{IsNamed, OnBroken, OnWalkFault, TakesAs, UnlessWalkFault, WalksAs, WithinSteps};
+ghost use Rattle.kc_found.specs.Walks.{CountsWalkFaults, IsNamed, OnBroken, TakesAs, WalksAs, WithinSteps};
 
 use crate::words::{enter_both, is_poison, push_node};
 use kc_found::{Asked, Claims, ListShape, Rule, Space, VWord, WalkStop, Walked, broken_at};
@@ -29,13 +29,8 @@ fn enter_links<S: Space, L: Ledger>(
     ensures named { IsNamed result asked.now.audit asked.now.start }
     ensures steps { steps.new ≤ steps.old + 2 * S.most space.old }
 
-    ensures image { S.image space.new ≡ S.image space.old }
-    ensures files { S.files space.new ≡ S.files space.old }
-    ensures through { S.through space.new ≡ S.through space.old }
-    ensures most { S.most space.new ≡ S.most space.old }
-    ensures later { S.faults space.old ≤ S.faults space.new }
-    ensures quiet { UnlessWalkFault result (S.faults space.new ≡ S.faults space.old) }
-    ensures cause { OnWalkFault result (Rose (S.faults space.old) (S.faults space.new)) }
+    ensures stays { SpaceStays S.image S.files S.through S.most space.old space.new }
+    ensures cause { CountsWalkFaults result (S.faults space.old) (S.faults space.new) }
 {
     let next = node.wrapping_add(shape.next);
     let prev = node.wrapping_add(shape.prev);
@@ -58,13 +53,8 @@ fn enter_node<S: Space, L: Ledger>(
     ensures named { IsNamed result asked.now.audit asked.now.start }
     ensures steps { steps.new ≤ steps.old + 2 * S.most space.old }
 
-    ensures image { S.image space.new ≡ S.image space.old }
-    ensures files { S.files space.new ≡ S.files space.old }
-    ensures through { S.through space.new ≡ S.through space.old }
-    ensures most { S.most space.new ≡ S.most space.old }
-    ensures later { S.faults space.old ≤ S.faults space.new }
-    ensures quiet { UnlessWalkFault result (S.faults space.new ≡ S.faults space.old) }
-    ensures cause { OnWalkFault result (Rose (S.faults space.old) (S.faults space.new)) }
+    ensures stays { SpaceStays S.image S.files S.through S.most space.old space.new }
+    ensures cause { CountsWalkFaults result (S.faults space.old) (S.faults space.new) }
 {
     if from.value == 0 {
         return Err(broken_at(alloc, asked, Rule::N, &from, None));
@@ -104,13 +94,8 @@ pub fn ring<S: Space, L: Ledger>(
     ensures named { IsNamed result audit head }
     ensures bound { WithinSteps (S.image space.old) (S.most space.old) steps.old steps.new }
 
-    ensures image { S.image space.new ≡ S.image space.old }
-    ensures files { S.files space.new ≡ S.files space.old }
-    ensures through { S.through space.new ≡ S.through space.old }
-    ensures most { S.most space.new ≡ S.most space.old }
-    ensures later { S.faults space.old ≤ S.faults space.new }
-    ensures quiet { UnlessWalkFault result (S.faults space.new ≡ S.faults space.old) }
-    ensures cause { OnWalkFault result (Rose (S.faults space.old) (S.faults space.new)) }
+    ensures stays { SpaceStays S.image S.files S.through S.most space.old space.new }
+    ensures cause { CountsWalkFaults result (S.faults space.old) (S.faults space.new) }
 {
     let asked = Asked { audit, start: head };
     let mut claims = Claims::new(alloc);

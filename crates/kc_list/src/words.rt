@@ -1,13 +1,13 @@
 // Words that a walk reads and takes.
 ghost use Rattle.std.specs.Prelude.{◌≡◌, ℕ, ◌+◌, ◌*◌, ◌^◌, ◌<◌, ◌≤◌, ◌∷◌, ◌++◌, [], length, None, Ok, OnOk, IfOk, IfErr, IfSome};
-ghost use Rattle.kc_outside.specs.Counts.{Rose};
-ghost use Rattle.kc_memory.specs.Space.{AnswersAs, OnFault, UnlessFault};
+ghost use Rattle.kc_memory.specs.Space.{AnswersAs};
+ghost use Rattle.kc_memory.specs.Stays.{CountsFaults, SpaceStays};
 ghost use Rattle.kc_memory.specs.Translation.{vword};
 ghost use Rattle.kc_memory.specs.declared.rule.Rule.TheVariants.{A};
 ghost use Rattle.kc_found.specs.Nodes.{both, one_taken, two_taken};
 ghost use Rattle.kc_found.specs.Trials.{claimed};
 ghost use Rattle.kc_found.specs.Violations.{breaks};
-ghost use Rattle.kc_found.specs.Walks.{IsNamed, IsWalk, OnWalkFault, TakesAs, UnlessWalkFault};
+ghost use Rattle.kc_found.specs.Walks.{CountsWalkFaults, IsNamed, IsWalk, OnWalkFault, TakesAs};
 
 use kc_found::{Asked, Claims, Rule, Space, Stop, VWord, WalkStop, Walked, broken_at, stopped};
 use kc_word::{NoMemory, Steps};
@@ -24,13 +24,8 @@ fn read_both<S: Space, L: Ledger>(
     ensures words { AnswersAs (λ image. both (vword image) first second) (S.image space.old) result }
     ensures steps { steps.new ≤ steps.old + 2 * S.most space.old }
 
-    ensures image { S.image space.new ≡ S.image space.old }
-    ensures files { S.files space.new ≡ S.files space.old }
-    ensures through { S.through space.new ≡ S.through space.old }
-    ensures most { S.most space.new ≡ S.most space.old }
-    ensures later { S.faults space.old ≤ S.faults space.new }
-    ensures quiet { UnlessFault result (S.faults space.new ≡ S.faults space.old) }
-    ensures cause { OnFault result (Rose (S.faults space.old) (S.faults space.new)) }
+    ensures stays { SpaceStays S.image S.files S.through S.most space.old space.new }
+    ensures cause { CountsFaults result (S.faults space.old) (S.faults space.new) }
 {
     let a = space.word(first, steps)?;
     let b = space.word(second, steps)?;
@@ -70,13 +65,8 @@ pub(crate) fn enter_word<S: Space, L: Ledger>(
     ensures named { IsNamed result asked.now.audit asked.now.start }
     ensures steps { steps.new ≤ steps.old + 2 * S.most space.old }
 
-    ensures image { S.image space.new ≡ S.image space.old }
-    ensures files { S.files space.new ≡ S.files space.old }
-    ensures through { S.through space.new ≡ S.through space.old }
-    ensures most { S.most space.new ≡ S.most space.old }
-    ensures later { S.faults space.old ≤ S.faults space.new }
-    ensures quiet { UnlessWalkFault result (S.faults space.new ≡ S.faults space.old) }
-    ensures cause { OnWalkFault result (Rose (S.faults space.old) (S.faults space.new)) }
+    ensures stays { SpaceStays S.image S.files S.through S.most space.old space.new }
+    ensures cause { CountsWalkFaults result (S.faults space.old) (S.faults space.new) }
 {
     let word = match space.word(va, steps) {
         Ok(word) => word,
@@ -102,13 +92,8 @@ pub(crate) fn enter_both<S: Space, L: Ledger>(
     ensures named { IsNamed result asked.now.audit asked.now.start }
     ensures steps { steps.new ≤ steps.old + 2 * S.most space.old }
 
-    ensures image { S.image space.new ≡ S.image space.old }
-    ensures files { S.files space.new ≡ S.files space.old }
-    ensures through { S.through space.new ≡ S.through space.old }
-    ensures most { S.most space.new ≡ S.most space.old }
-    ensures later { S.faults space.old ≤ S.faults space.new }
-    ensures quiet { UnlessWalkFault result (S.faults space.new ≡ S.faults space.old) }
-    ensures cause { OnWalkFault result (Rose (S.faults space.old) (S.faults space.new)) }
+    ensures stays { SpaceStays S.image S.files S.through S.most space.old space.new }
+    ensures cause { CountsWalkFaults result (S.faults space.old) (S.faults space.new) }
 {
     let words = match read_both(space, first, second, steps) {
         Ok(words) => words,

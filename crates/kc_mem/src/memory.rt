@@ -1,11 +1,10 @@
 // The words at virtual addresses.
 ghost use Rattle.std.specs.Prelude.{◌≡◌, ◌+◌, ◌%◌, ◌^◌, ◌<◌, ◌≤◌, None, Err, IsTrue, IfSome, IfOk};
-ghost use Rattle.kc_outside.specs.Counts.{Rose};
 ghost use Rattle.kc_memory.specs.Image.{pword};
 ghost use Rattle.kc_memory.specs.Stopped.{is_stop};
 ghost use Rattle.kc_memory.specs.Reads.{StepsAre, word_reads};
-ghost use Rattle.kc_memory.specs.Space.{AnswersAs, OnFault, StopsAt, UnlessFault};
-ghost use Rattle.kc_memory.specs.Stays.{CountsFaults, FramesStay};
+ghost use Rattle.kc_memory.specs.Space.{AnswersAs, StopsAt};
+ghost use Rattle.kc_memory.specs.Stays.{CountsFaults, FramesStay, SpaceStays};
 ghost use Rattle.kc_memory.specs.Translation.{levels, vword, word_or_stop};
 ghost use Rattle.kc_mem.specs.Paged.{with_paging, refused, most_one, most_six};
 
@@ -85,13 +84,8 @@ impl<F: Frames> Space for Memory<F> {
         ensures stopped { StopsAt result va }
         ensures steps { steps.new ≤ steps.old + (levels self.old.paging + 1) }
 
-        ensures image { with_paging self.new.paging (F.image self.new.frames) ≡ with_paging self.old.paging (F.image self.old.frames) }
-        ensures files { F.files self.new.frames ≡ F.files self.old.frames }
-        ensures through { F.through self.new.frames ≡ F.through self.old.frames }
-        ensures most { levels self.new.paging + 1 ≡ levels self.old.paging + 1 }
-        ensures later { F.faults self.old.frames ≤ F.faults self.new.frames }
-        ensures quiet { UnlessFault result (F.faults self.new.frames ≡ F.faults self.old.frames) }
-        ensures cause { OnFault result (Rose (F.faults self.old.frames) (F.faults self.new.frames)) }
+        ensures stays { SpaceStays (λ m. with_paging m.paging (F.image m.frames)) (λ m. F.files m.frames) (λ m. F.through m.frames) (λ m. levels m.paging + 1) self.old self.new }
+        ensures cause { CountsFaults result (F.faults self.old.frames) (F.faults self.new.frames) }
 
         // What this memory adds: an address that is refused by itself is told at once, with no word read.
         ensures at_once { IfSome (refused self.old.paging va) (λ rule. result ≡ Err (Stop.Miss (record { va = va; rule = rule; level = 0; pa = 0; entry = None }))) }

@@ -2,4 +2,5 @@ pub mod HeldLaws
 mod NumberLaws
 mod PageLaws
 mod PlaceLaws
+pub mod StaysLaws
 mod WordLaws

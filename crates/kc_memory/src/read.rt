@@ -1,8 +1,8 @@
 // Reading a whole number, bit by bit.
 ghost use Rattle.std.specs.Prelude.{◌≡◌, ◌+◌, ◌*◌, ◌<◌, ◌≤◌, ◌^◌, pos, ◌-ℤ◌, ◌≤ℤ◌, ◌<ℤ◌, Some, IfOk, IfSome};
-ghost use Rattle.kc_outside.specs.Counts.{Rose};
 ghost use Rattle.kc_memory.specs.Bits.{bits as bits_of, bits_from, first_bit, in_one, in_two, next_word, number_of, word_of, InBits, StopsIn, StepsWithin};
-ghost use Rattle.kc_memory.specs.Space.{AnswersAs, OnFault, UnlessFault};
+ghost use Rattle.kc_memory.specs.Space.{AnswersAs};
+ghost use Rattle.kc_memory.specs.Stays.{CountsFaults, SpaceStays};
 
 use crate::place::place_of;
 use crate::scalar::Scalar;
@@ -32,13 +32,8 @@ pub fn read_bits<S: Space, L: Ledger>(
     ensures steps { steps.new ≤ steps.old + 2 * S.most space.old }
     ensures one_word { StepsWithin result (word_of (first_bit at bits.bit)) (S.most space.old) steps.old steps.new }
 
-    ensures image { S.image space.new ≡ S.image space.old }
-    ensures files { S.files space.new ≡ S.files space.old }
-    ensures through { S.through space.new ≡ S.through space.old }
-    ensures most { S.most space.new ≡ S.most space.old }
-    ensures later { S.faults space.old ≤ S.faults space.new }
-    ensures quiet { UnlessFault result (S.faults space.new ≡ S.faults space.old) }
-    ensures cause { OnFault result (Rose (S.faults space.old) (S.faults space.new)) }
+    ensures stays { SpaceStays S.image S.files S.through S.most space.old space.new }
+    ensures cause { CountsFaults result (S.faults space.old) (S.faults space.new) }
 {
     let first = first_bit(at, bits.bit);
     let va = word_of(first);

@@ -1,10 +1,10 @@
 // Virtual memory as a trait.
 ghost use Rattle.std.specs.Prelude.{◌≡◌, ℕ, ◌+◌, ◌≤◌, List, Option, IfOk};
-ghost use Rattle.kc_outside.specs.Counts.{Rose};
 ghost use Rattle.kc_outside.specs.Files.{Files};
 ghost use Rattle.kc_memory.specs.Image.{Image};
 ghost use Rattle.kc_memory.specs.Translation.{vword};
-ghost use Rattle.kc_memory.specs.Space.{AnswersAs, OnFault, UnlessFault, StopsAt};
+ghost use Rattle.kc_memory.specs.Space.{AnswersAs, StopsAt};
+ghost use Rattle.kc_memory.specs.Stays.{CountsFaults, SpaceStays};
 
 use crate::miss::Miss;
 use crate::words::VWord;
@@ -48,13 +48,8 @@ pub trait Space {
         ensures stopped { StopsAt result va }
         ensures steps { steps.new ≤ steps.old + most self.old }
 
-        ensures image { image self.new ≡ image self.old }
-        ensures files { files self.new ≡ files self.old }
-        ensures through { through self.new ≡ through self.old }
-        ensures most { most self.new ≡ most self.old }
-        ensures later { faults self.old ≤ faults self.new }
-        ensures quiet { UnlessFault result (faults self.new ≡ faults self.old) }
-        ensures cause { OnFault result (Rose (faults self.old) (faults self.new)) };
+        ensures stays { SpaceStays image files through most self.old self.new }
+        ensures cause { CountsFaults result (faults self.old) (faults self.new) };
 
     /// A word takes a step.
     ghost most_some: { (space : Self) → 1 ≤ most space };

@@ -1,8 +1,8 @@
 // Pointers in memory, and where they lead.
 ghost use Rattle.std.specs.Prelude.{◌≡◌, ◌+◌, ◌*◌, ◌≤◌, false, length, take, IfOk};
-ghost use Rattle.kc_outside.specs.Counts.{Rose};
 ghost use Rattle.kc_memory.specs.Bits.{InBits};
-ghost use Rattle.kc_memory.specs.Space.{AnswersAs, OnFault, UnlessFault};
+ghost use Rattle.kc_memory.specs.Space.{AnswersAs};
+ghost use Rattle.kc_memory.specs.Stays.{CountsFaults, SpaceStays};
 ghost use Rattle.kc_layout.specs.HopList.{hop_list};
 ghost use Rattle.kc_view.specs.Pointers.{behind, pointer, reached, target};
 ghost use Rattle.kc_view.specs.Words.{StepsOf, words_behind, words_of_pointer, words_reached};
@@ -52,13 +52,8 @@ fn read_pointer<S: Space, L: Ledger>(
     ensures words { StepsOf (λ image. words_of_pointer image at offset)
         (S.image space.old) result (S.most space.old) steps.old steps.new }
 
-    ensures image { S.image space.new ≡ S.image space.old }
-    ensures files { S.files space.new ≡ S.files space.old }
-    ensures through { S.through space.new ≡ S.through space.old }
-    ensures most { S.most space.new ≡ S.most space.old }
-    ensures later { S.faults space.old ≤ S.faults space.new }
-    ensures quiet { UnlessFault result (S.faults space.new ≡ S.faults space.old) }
-    ensures cause { OnFault result (Rose (S.faults space.old) (S.faults space.new)) }
+    ensures stays { SpaceStays S.image S.files S.through S.most space.old space.new }
+    ensures cause { CountsFaults result (S.faults space.old) (S.faults space.new) }
 {
     let bits = Bits {
         bit: 0,
@@ -80,13 +75,8 @@ pub(crate) fn behind<S: Space, L: Ledger>(
     ensures words { StepsOf (λ image. words_behind image at offsets.now)
         (S.image space.old) result (S.most space.old) steps.old steps.new }
 
-    ensures image { S.image space.new ≡ S.image space.old }
-    ensures files { S.files space.new ≡ S.files space.old }
-    ensures through { S.through space.new ≡ S.through space.old }
-    ensures most { S.most space.new ≡ S.most space.old }
-    ensures later { S.faults space.old ≤ S.faults space.new }
-    ensures quiet { UnlessFault result (S.faults space.new ≡ S.faults space.old) }
-    ensures cause { OnFault result (Rose (S.faults space.old) (S.faults space.new)) }
+    ensures stays { SpaceStays S.image S.files S.through S.most space.old space.new }
+    ensures cause { CountsFaults result (S.faults space.old) (S.faults space.new) }
 {
     match offsets {
         [] => Ok(at),
@@ -109,13 +99,8 @@ pub(crate) fn reach<S: Space, L: Ledger>(
     ensures words { StepsOf (λ image. words_reached image at offsets.now)
         (S.image space.old) result (S.most space.old) steps.old steps.new }
 
-    ensures image { S.image space.new ≡ S.image space.old }
-    ensures files { S.files space.new ≡ S.files space.old }
-    ensures through { S.through space.new ≡ S.through space.old }
-    ensures most { S.most space.new ≡ S.most space.old }
-    ensures later { S.faults space.old ≤ S.faults space.new }
-    ensures quiet { UnlessFault result (S.faults space.new ≡ S.faults space.old) }
-    ensures cause { OnFault result (Rose (S.faults space.old) (S.faults space.new)) }
+    ensures stays { SpaceStays S.image S.files S.through S.most space.old space.new }
+    ensures cause { CountsFaults result (S.faults space.old) (S.faults space.new) }
 {
     match offsets {
         [] => Ok(Reached::Address(at)),

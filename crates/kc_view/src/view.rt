@@ -39,9 +39,9 @@ pub enum Led<'b> {
 
 impl<'b> View<'b> {
     ghost use Rattle.std.specs.Prelude.{◌≡◌, ◌+◌, ◌*◌, ◌≤◌, length, IfOk, IfSome};
-    ghost use Rattle.kc_outside.specs.Counts.{Rose};
     ghost use Rattle.kc_memory.specs.Bits.{InBits};
-    ghost use Rattle.kc_memory.specs.Space.{AnswersAs, OnFault, UnlessFault};
+    ghost use Rattle.kc_memory.specs.Space.{AnswersAs};
+    ghost use Rattle.kc_memory.specs.Stays.{CountsFaults, SpaceStays};
     ghost use Rattle.kc_layout.specs.HopList.{hop_list};
     ghost use Rattle.kc_layout.specs.Views.{bits_view};
     ghost use Rattle.kc_view.specs.Elements.{element_of};
@@ -121,13 +121,8 @@ impl<'b> View<'b> {
         ensures words { StepsOf (λ image. words_behind image self.now.at (hop_list hops.now))
             (S.image space.old) result (S.most space.old) steps.old steps.new }
 
-        ensures image { S.image space.new ≡ S.image space.old }
-        ensures files { S.files space.new ≡ S.files space.old }
-        ensures through { S.through space.new ≡ S.through space.old }
-        ensures most { S.most space.new ≡ S.most space.old }
-        ensures later { S.faults space.old ≤ S.faults space.new }
-        ensures quiet { UnlessFault result (S.faults space.new ≡ S.faults space.old) }
-        ensures cause { OnFault result (Rose (S.faults space.old) (S.faults space.new)) }
+        ensures stays { SpaceStays S.image S.files S.through S.most space.old space.new }
+        ensures cause { CountsFaults result (S.faults space.old) (S.faults space.new) }
     {
         let offsets = all_offsets(hops);
         behind(space, self.at, &offsets[..usize::from(hops.count)], steps)
@@ -155,13 +150,8 @@ impl<'b> View<'b> {
             (λ image. words_at image self.now.at (hop_list field.now.hops) (bits_view field.now.bits))
             (S.image space.old) result (S.most space.old) steps.old steps.new }
 
-        ensures image { S.image space.new ≡ S.image space.old }
-        ensures files { S.files space.new ≡ S.files space.old }
-        ensures through { S.through space.new ≡ S.through space.old }
-        ensures most { S.most space.new ≡ S.most space.old }
-        ensures later { S.faults space.old ≤ S.faults space.new }
-        ensures quiet { UnlessFault result (S.faults space.new ≡ S.faults space.old) }
-        ensures cause { OnFault result (Rose (S.faults space.old) (S.faults space.new)) }
+        ensures stays { SpaceStays S.image S.files S.through S.most space.old space.new }
+        ensures cause { CountsFaults result (S.faults space.old) (S.faults space.new) }
     {
         match self.behind(space, &field.hops, steps) {
             Ok(at) => read_bits(space, at, field.bits, steps),
@@ -189,13 +179,8 @@ impl<'b> View<'b> {
         ensures words { StepsOf (λ image. words_reached image self.now.at (hop_list to.now.hops))
             (S.image space.old) result (S.most space.old) steps.old steps.new }
 
-        ensures image { S.image space.new ≡ S.image space.old }
-        ensures files { S.files space.new ≡ S.files space.old }
-        ensures through { S.through space.new ≡ S.through space.old }
-        ensures most { S.most space.new ≡ S.most space.old }
-        ensures later { S.faults space.old ≤ S.faults space.new }
-        ensures quiet { UnlessFault result (S.faults space.new ≡ S.faults space.old) }
-        ensures cause { OnFault result (Rose (S.faults space.old) (S.faults space.new)) }
+        ensures stays { SpaceStays S.image S.files S.through S.most space.old space.new }
+        ensures cause { CountsFaults result (S.faults space.old) (S.faults space.new) }
     {
         let offsets = all_offsets(&to.hops);
         let hops = &offsets[..usize::from(to.hops.count)];

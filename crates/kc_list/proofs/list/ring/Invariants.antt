@@ -1,4 +1,5 @@
 use Rattle.std.proofs.Common.{◌≡◌, ◌+◌, ◌*◌, ◌^◌, ◌-◌, ◌<◌, ◌≤◌, length}
+use Rattle.kc_memory.specs.Stays.{SpaceStays}
 use Rattle.kc_found.proofs.Told.{Reaches}
 use Rattle.kc_list.proofs.RingWalk.{rings, led_to}
 use Rattle.kc_list.proofs.list.ring.Given as goal
@@ -6,10 +7,7 @@ use Rattle.kc_list.proofs.list.ring.Given as goal
 abbrev pub invariant-loop-from : goal.invariant-loop-from
 invariant-loop-from g l = record {
   reaches : Reaches (rings l.shape l.audit l.head) (g.S.Space.image l.fn.space) l.claims l.walked (led_to l.from l.before l.last);
-  image : g.S.Space.image l.space ≡ g.S.Space.image l.fn.space;
-  files : g.S.Space.files l.space ≡ g.S.Space.files l.fn.space;
-  through : g.S.Space.through l.space ≡ g.S.Space.through l.fn.space;
-  most : g.S.Space.most l.space ≡ g.S.Space.most l.fn.space;
+  stays : SpaceStays g.S.Space.image g.S.Space.files g.S.Space.through g.S.Space.most l.fn.space l.space;
   quiet : g.S.Space.faults l.space ≡ g.S.Space.faults l.fn.space;
   fits : length l.walked < 2 ^ 64;
   steps : l.steps ≤ l.fn.steps + g.S.Space.most l.fn.space * (2 + 2 * length l.walked);

@@ -9,7 +9,7 @@ returns-in-empty-clause-exact g t c =
 
 pub returns-in-Ok-clause-exact : goal.returns-in-Ok-clause-exact
 returns-in-Ok-clause-exact g t c =
-    let rest = rw (c.in-Ok.ensures.image, take_rest c.args.offsets.now 1) at c.behind.ensures.exact in
+    let rest = rw (c.in-Ok.ensures.stays.same_image, take_rest c.args.offsets.now 1) at c.behind.ensures.exact in
     behind-next (g.S.Space.image c.args.space.now) c.args.at c.args.offsets.now c.in-Ok.pointer c.target.result c.behind.result c.in-len1-up.len_at_least c.in-Ok.ensures.exact c.target.ensures rest
 
 pub returns-in-Err-clause-exact : goal.returns-in-Err-clause-exact
@@ -18,7 +18,7 @@ returns-in-Err-clause-exact g t c =
 
 pub returns-in-Ok-clause-words : goal.returns-in-Ok-clause-words
 returns-in-Ok-clause-words g t c =
-    let rest = rw (c.in-Ok.ensures.image, c.in-Ok.ensures.most, take_rest c.args.offsets.now 1) at c.behind.ensures.words in
+    let rest = rw (c.in-Ok.ensures.stays.same_image, c.in-Ok.ensures.stays.same_most, take_rest c.args.offsets.now 1) at c.behind.ensures.words in
     behind_words-next (g.S.Space.image c.args.space.now) c.args.at c.args.offsets.now c.in-Ok.pointer c.target.result c.behind.result _ _ _ _ c.in-len1-up.len_at_least c.in-Ok.ensures.exact c.target.ensures c.in-Ok.ensures.words rest
 
 pub returns-in-Err-clause-words : goal.returns-in-Err-clause-words

@@ -14,7 +14,7 @@ returns-then-next-eq-NULL-clause-exact g t c =
 
 pub returns-else-next-eq-NULL-clause-exact : goal.returns-else-next-eq-NULL-clause-exact
 returns-else-next-eq-NULL-clause-exact g t c =
-    let rest = rw (c.in-Ok.ensures.image, take_rest c.args.offsets.now 1) at c.reach.ensures.exact in
+    let rest = rw (c.in-Ok.ensures.stays.same_image, take_rest c.args.offsets.now 1) at c.reach.ensures.exact in
     reached-next (g.S.Space.image c.args.space.now) c.args.at c.args.offsets.now c.in-Ok.pointer c.target-next.result c.reach.result c.in-len1-up.len_at_least c.in-Ok.ensures.exact c.target-next.ensures c.if-next-eq-NULL.false rest
 
 pub returns-in-Err-clause-exact : goal.returns-in-Err-clause-exact
@@ -27,7 +27,7 @@ returns-then-next-eq-NULL-clause-words g t c =
 
 pub returns-else-next-eq-NULL-clause-words : goal.returns-else-next-eq-NULL-clause-words
 returns-else-next-eq-NULL-clause-words g t c =
-    let rest = rw (c.in-Ok.ensures.image, c.in-Ok.ensures.most, take_rest c.args.offsets.now 1) at c.reach.ensures.words in
+    let rest = rw (c.in-Ok.ensures.stays.same_image, c.in-Ok.ensures.stays.same_most, take_rest c.args.offsets.now 1) at c.reach.ensures.words in
     reached_words-next (g.S.Space.image c.args.space.now) c.args.at c.args.offsets.now c.in-Ok.pointer c.target-next.result c.reach.result _ _ _ _ c.in-len1-up.len_at_least c.in-Ok.ensures.exact c.target-next.ensures c.if-next-eq-NULL.false c.in-Ok.ensures.words rest
 
 pub returns-in-Err-clause-words : goal.returns-in-Err-clause-words
