@@ -1,4 +1,5 @@
 mod Flip
+pub mod Known
 pub mod Passed
 pub mod Reached
 pub mod Told

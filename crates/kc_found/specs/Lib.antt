@@ -13,6 +13,8 @@ pub mod Chains
 pub mod FiniteLists
 pub mod HashChains
 pub mod Nodes
+pub mod RbFinite
+pub mod RbTrees
 pub mod Rings
 pub mod Taken
 pub mod Trials

@@ -4,6 +4,7 @@ use Rattle.kc_memory.specs.declared.rule.Rule.{Rule}
 use Rattle.kc_memory.specs.declared.rule.Rule.TheVariants.{M1, M2, M3, M4, M5, M6}
 use Rattle.kc_memory.specs.declared.words.VWord.{VWord}
 use Rattle.kc_memory.specs.declared.words.Place.{Place}
+use Rattle.kc_memory.specs.Bits.{Number}
 use Rattle.kc_memory.specs.Stopped.{Stopped}
 use Rattle.kc_memory.specs.Places.{place_of, entry_places}
 use Rattle.kc_found.specs.declared.asked.Asked.{Asked}
@@ -48,6 +49,18 @@ breaks asked rule w expected = record {
   expected = expected;
   stop = None;
   places = place_of w ∷ [];
+}
+
+-- the violation of a rule that a number of memory shows, at the address of its first byte
+abbrev pub breaks_field : Asked → Rule → ℕ → Number → Option ℕ → Violation
+breaks_field asked rule at number expected = record {
+  audit = asked.audit;
+  start = asked.start;
+  rule = rule;
+  at = at;
+  expected = expected;
+  stop = None;
+  places = number.first ∷ option_to_list number.second;
 }
 
 -- the violation by a word that can't be read: it shows the word that led there, and the refused paging entry

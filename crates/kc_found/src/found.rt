@@ -1,12 +1,12 @@
 // Violations, and why a walk ends early.
-ghost use Rattle.std.specs.Prelude.{◌≡◌, ◌++◌, false, map, option_to_list, IfOk, OnOk};
+ghost use Rattle.std.specs.Prelude.{◌≡◌, ◌++◌, ◌∷◌, false, map, option_to_list, IfOk, OnOk};
 ghost use Rattle.kc_memory.specs.Places.{place_of, entry_places};
-ghost use Rattle.kc_found.specs.Violations.{breaks, missed, is_of_reading};
+ghost use Rattle.kc_found.specs.Violations.{breaks, breaks_field, missed, is_of_reading};
 ghost use Rattle.kc_found.specs.Walks.{IsBroken, IsStopped};
 
 use crate::asked::Asked;
 use crate::items::Places;
-use kc_memory::{Miss, Place, Rule, Stop, VWord, entry_place, place_of};
+use kc_memory::{Miss, Place, Rule, Scalar, Stop, VWord, entry_place, place_of};
 use kc_word::NoMemory;
 use std::alloc::Global;
 use std::marker::Model;
@@ -86,6 +86,43 @@ fn push_place(places: &mut Places, place: Option<Place>) -> Result<(), NoMemory>
     match place {
         Some(place) => places.push(place),
         None => Ok(()),
+    }
+}
+
+// The places of the one or two words of a number.
+fn field_places(alloc: Global, number: &Scalar) -> Result<Places, NoMemory>
+    ensures { IfOk result (λ places. places ≡ number.now.first ∷ option_to_list number.now.second) }
+{
+    let mut places = Places::new(alloc);
+    places.push(number.first)?;
+    push_place(&mut places, number.second)?;
+    Ok(places)
+}
+
+/// The violation of a rule that a number of memory shows, at the address of its first byte. It is out of memory where
+/// none is left for the places.
+pub fn broken_field(
+    alloc: Global,
+    asked: &Asked,
+    rule: Rule,
+    at: u64,
+    number: &Scalar,
+    expected: Option<u64>,
+) -> WalkStop
+    requires { is_of_reading rule ≡ false }
+    ensures { IsBroken result (breaks_field asked.now rule at number.now expected) }
+{
+    match field_places(alloc, number) {
+        Ok(places) => WalkStop::Broken(Found {
+            audit: asked.audit,
+            start: asked.start,
+            rule,
+            at,
+            expected,
+            stop: None,
+            places,
+        }),
+        Err(NoMemory) => WalkStop::NoMemory,
     }
 }
 

@@ -7,11 +7,13 @@ mod found;
 mod items;
 mod list_space;
 mod shapes;
+mod take;
+mod trees;
 mod verdict;
 
 pub use asked::Asked;
 pub use claims::Claims;
-pub use found::{Found, WalkStop, broken_at, stopped};
+pub use found::{Found, WalkStop, broken_at, broken_field, stopped};
 pub use items::{Counts, Items, Name, Places, Walked};
 pub use kc_memory::{
     FrameStop, Frames, Miss, PWord, Place, Rule, Scalar, Space, Stop, VWord, entry_place,
@@ -19,4 +21,6 @@ pub use kc_memory::{
 };
 pub use list_space::ListSpace;
 pub use shapes::{HShape, ListShape, RbShape};
+pub use take::take_word;
+pub use trees::{RbHead, RbKey, RbLinks, RbSpot};
 pub use verdict::{AuditCount, Verdict};

@@ -1,0 +1,9 @@
+mod Descent
+mod Growth
+mod Judging
+mod Law
+mod Opening
+mod Order
+mod Rise
+mod Rows
+mod Words

@@ -1,0 +1,11 @@
+use Rattle.std.proofs.Common.{List, ℕ, Some, Ok}
+use Rattle.kc_found.specs.RbTrees.{reads_of}
+use Rattle.kc_rb.proofs.Law.{tree_of, walked}
+use Rattle.kc_rb.proofs.Order.{rising}
+use Rattle.kc_rb.proofs.laws.know_trees.Goals as goal
+
+pub returns-clause-trees : goal.returns-clause-trees
+returns-clause-trees c = λ image shape audit start ns. (walked image shape (record { audit = audit; start = start }) ns, λ e. tree_of (λ (xs : List ℕ). xs) (Some image) shape (record { audit = audit; start = start }) (Ok ns) e)
+
+pub returns-clause-keys : goal.returns-clause-keys
+returns-clause-keys c = λ image shape start ns t. rising (reads_of image) shape start ns t

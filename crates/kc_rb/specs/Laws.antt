@@ -1,0 +1,19 @@
+-- What the walks of red-black trees say of finite trees of nodes.
+use Rattle.std.specs.Prelude.{◌≡◌, ℕ, List, None, Ok}
+use Rattle.kc_memory.specs.Image.{Image}
+use Rattle.kc_found.specs.declared.shapes.RbShape.{RbShape}
+use Rattle.kc_found.specs.RbFinite.{RbTree, AreRising, keys_in}
+use Rattle.kc_found.specs.RbTrees.{reads_of, tree_walk}
+
+-- a red-black tree of the definition is walked whole, and what is walked without a violation is one
+abbrev pub TreesAreWalked : Type 0
+TreesAreWalked =
+    (image : Image) (shape : RbShape) (audit start : ℕ) (ns : List ℕ)
+    → (RbTree (reads_of image) shape start ns → tree_walk image shape audit start ≡ Ok ns)
+    × (tree_walk image shape audit start ≡ Ok ns → RbTree (reads_of image) shape start ns)
+
+-- from left to right its keys never fall, and rise where they are unique
+abbrev pub KeysRise : Type 0
+KeysRise =
+    (image : Image) (shape : RbShape) (start : ℕ) (ns : List ℕ)
+    → RbTree (reads_of image) shape start ns → AreRising shape.unique None (keys_in (reads_of image) shape ns)

@@ -1,0 +1,9 @@
+// What the definitions of walks say, for a reader to believe and a caller to learn.
+ghost use Rattle.kc_rb.specs.Laws.{KeysRise, TreesAreWalked};
+
+/// Does nothing. A finite tree of nodes that makes up a red-black tree is what its walk gives, from left to right, and
+/// a walk without a violation gives such a tree. Its keys are in order.
+pub fn know_trees()
+    ensures trees { TreesAreWalked }
+    ensures keys { KeysRise }
+{}
