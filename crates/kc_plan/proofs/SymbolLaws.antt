@@ -7,7 +7,8 @@ use Rattle.kc_plan.specs.declared.shape.Row.{Row}
 use Rattle.kc_plan.specs.Audits.{AuditText, StartText}
 use Rattle.kc_plan.specs.Laws.{PlansAgree}
 use Rattle.kc_plan.specs.Links.{links_for}
-use Rattle.kc_plan.specs.Plans.{AuditAt, Kernel, all_planned, begun, plan, plan_of, planned}
+use Rattle.kc_plan.specs.Planned.{AuditAt}
+use Rattle.kc_plan.specs.Plans.{Kernel, all_planned, begun, plan, plan_of, planned}
 use Rattle.kc_plan.specs.Steps.{document, parsed, written_for}
 use Rattle.kc_plan.specs.Values.{◌>>=◌}
 

@@ -1,9 +1,9 @@
 -- An audit of a plan as it is written, or the first fault of its table.
-use Rattle.std.specs.Prelude.{ℕ, List, [], ◌∷◌, ◌++◌, Bool, true, false, not, ◌&&◌, ◌||◌, nat_le, length, Option, Some, None, option_and_then, Result, Ok}
-use Rattle.std.specs.List.{list_all}
+use Rattle.std.specs.Prelude.{ℕ, List, [], ◌∷◌, ◌++◌, Bool, true, false, not, ◌&&◌, ◌||◌, length, Option, Some, None, option_and_then, Result, Ok}
 use Rattle.std.specs.Option.{option_map_or}
 use Rattle.std.specs.Str.{bytes_eq}
 use Rattle.toml.specs.Data.{Data, Members, no_members, member, as_str, as_array}
+use Rattle.kc_text.specs.Readers.{is_name}
 use Rattle.kc_plan.specs.declared.fault.PRule.{PRule}
 use Rattle.kc_plan.specs.declared.fault.PRule.TheVariants.{P3, P4, P5, P13}
 use Rattle.kc_plan.specs.declared.fault.PlanFault.{PlanFault}
@@ -40,15 +40,6 @@ pub record AuditText : Type 0 where
 abbrev pub all_keys : (List ℕ → Bool) → Members → Bool
 all_keys p no_members = true
 all_keys p (member key found rest) = p key && all_keys p rest
-
--- a letter, a digit, _ or -
-abbrev pub is_name_byte : ℕ → Bool
-is_name_byte c =
-    (nat_le 65 c && nat_le c 90) || ((nat_le 97 c && nat_le c 122) || ((nat_le 48 c && nat_le c 57) || (nat_le 95 c && nat_le c 95 || nat_le 45 c && nat_le c 45)))
-
--- a name is 1 to 64 of them
-abbrev pub is_name : List ℕ → Bool
-is_name text = nat_le 1 (length text) && (nat_le (length text) 64 && list_all is_name_byte text)
 
 -- one of the audits has this name
 abbrev pub is_among : List ℕ → List AuditText → Bool

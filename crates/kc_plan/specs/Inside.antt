@@ -1,8 +1,8 @@
 -- What a plan keeps of its type numbers.
 use Rattle.std.specs.Prelude.{ℕ, ◌≤◌, List, All, IfSome}
-use Rattle.kc_plan.specs.declared.plan.Audit.{Audit}
-use Rattle.kc_plan.specs.declared.plan.Start.{Start}
-use Rattle.kc_plan.specs.declared.plan.Start.TheVariants.{Root, From}
+use Rattle.kc_plan.specs.declared.planned.Audit.{Audit}
+use Rattle.kc_plan.specs.declared.planned.Start.{Start}
+use Rattle.kc_plan.specs.declared.planned.Start.TheVariants.{Root, From}
 
 -- the types where an audit begins are among so many
 abbrev pub StartsInside : ℕ → Start → Type 0

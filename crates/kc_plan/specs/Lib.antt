@@ -1,9 +1,11 @@
 pub mod Answers
 pub mod Audits
 pub mod Inside
+pub mod Kept
 pub mod Keys
 pub mod Laws
 pub mod Links
+pub mod Planned
 pub mod Plans
 pub mod Shapes
 pub mod Steps

@@ -14,29 +14,14 @@ use Rattle.kc_plan.specs.declared.fault.PRule.TheVariants.{P9, P10, P11}
 use Rattle.kc_plan.specs.declared.fault.PlanFault.{PlanFault}
 use Rattle.kc_plan.specs.declared.fault.PlanKey.TheVariants as key
 use Rattle.kc_plan.specs.declared.item.Link.{Link}
-use Rattle.kc_plan.specs.declared.kind.Kind.{Kind}
 use Rattle.kc_plan.specs.declared.shape.Row.{Row}
 use Rattle.kc_plan.specs.Audits.{AuditText, StartText}
 use Rattle.kc_plan.specs.Links.{above_of, links_for}
+use Rattle.kc_plan.specs.Planned.{AuditAt, StartAt}
+use Rattle.kc_plan.specs.Planned.StartAt.{RootAt, FromAt}
 use Rattle.kc_plan.specs.Shapes.{row}
 use Rattle.kc_plan.specs.Steps.{document, parsed, written_for}
 use Rattle.kc_plan.specs.Values.{◌>>=◌, at}
-
--- Where an audit begins: at a path from a type that lies at a symbol's address, or at a path from the
--- element of the audit above. The latter is passed over at a null pointer where it is optional.
-pub data StartAt : Type 0 where
-  RootAt : (symbol : ℕ) (ty : ℕ) (to : ByteAt) → StartAt
-  FromAt : (to : ByteAt) (optional : Bool) → StartAt
-
--- An audit: its name, its kind with the places of its words, where it begins, the type of its elements, the
--- byte of the node in an element, and the numbers of the audits that are made at each element.
-pub record AuditAt : Type 0 where
-  pub name : List ℕ
-  pub kind : Kind
-  pub start : StartAt
-  pub element : Option ℕ
-  pub link : ℕ
-  pub each : List ℕ
 
 -- what an audit is read against: the types, the addresses that the map lists for a name, and how far KASLR
 -- moved the kernel

@@ -7,18 +7,14 @@ use Rattle.std.specs.Global.{Global, Vec}
 use Rattle.toml.specs.Data.{Members}
 use Rattle.toml.specs.View.{table_view}
 use Rattle.toml.specs.declared.value.Value.{Value}
-use Rattle.kc_layout.specs.Views.{byte_view}
 use Rattle.kc_syms.specs.Symbols.{symbol}
 use Rattle.kc_plan.specs.declared.begin.Known.{Known}
 use Rattle.kc_btf.specs.Btf.{Types}
 use Rattle.kc_notes.specs.declared.info.Info.{Info}
 use Rattle.kc_syms.specs.declared.symbols.Symbols.{Symbols}
-use Rattle.kc_plan.specs.declared.plan.Audit.{Audit}
 use Rattle.kc_plan.specs.declared.plan.Plan.{Plan}
-use Rattle.kc_plan.specs.declared.plan.Start.{Start}
-use Rattle.kc_plan.specs.declared.plan.Start.TheVariants.{Root, From}
-use Rattle.kc_plan.specs.Plans.{AuditAt, Kernel, StartAt}
-use Rattle.kc_plan.specs.Plans.StartAt.{RootAt, FromAt}
+use Rattle.kc_plan.specs.Planned.{AuditAt, audits_seen}
+use Rattle.kc_plan.specs.Plans.{Kernel}
 use Rattle.kc_plan.specs.declared.item.AuditWords.{AuditWords}
 use Rattle.kc_plan.specs.declared.item.Link.{Link}
 use Rattle.kc_plan.specs.declared.item.PartWords.{PartWords}
@@ -63,16 +59,6 @@ links_in links = links.items
 
 abbrev pub kernel : Known → Kernel
 kernel known = record { types = known.btf.now; symbols = symbol known.symbols.now; kaslr = known.kaslr }
-
-abbrev pub start_seen : Start → StartAt
-start_seen (Root address ty to) = RootAt address ty (byte_view to)
-start_seen (From to optional) = FromAt (byte_view to) optional
-
-abbrev pub audit_seen : Audit → AuditAt
-audit_seen audit = record { name = audit.name; kind = audit.kind; start = start_seen audit.start; element = audit.element; link = audit.link; each = audit.each }
-
-abbrev pub audits_seen : List Audit → List AuditAt
-audits_seen audits = map audit_seen audits
 
 abbrev pub plan_seen : Plan → List AuditAt
 plan_seen plan = audits_seen plan.audits

@@ -1,9 +1,9 @@
 // The audits of a plan, as they are written.
 ghost use Rattle.std.specs.Prelude.{◌≡◌, ◌≤◌, [], map, length, IfOk};
-ghost use Rattle.std.specs.List.{list_all};
 ghost use Rattle.toml.specs.View.{table_view};
+ghost use Rattle.kc_text.specs.Readers.{is_name};
 ghost use Rattle.kc_plan.specs.Answers.{Gives};
-ghost use Rattle.kc_plan.specs.Audits.{is_name_byte, is_name, is_among, kind_for, name_for, parts_for, audit_for, audits_for};
+ghost use Rattle.kc_plan.specs.Audits.{is_among, kind_for, name_for, parts_for, audit_for, audits_for};
 ghost use Rattle.kc_plan.specs.Views.{text, part_text, audit_text, audit_texts, tables_in};
 
 use crate::fault::{PRule, PlanKey, PlanStop};
@@ -13,27 +13,9 @@ use crate::start::start_of;
 use crate::value::{
     flag_at, has, has_only, names_at, put, refuse_if, required_text, stop, text_at,
 };
+use kc_text::is_name;
 use std::alloc::Global;
 use toml::Table;
-
-fn is_name_byte(c: u8) -> bool
-    ensures { result ≡ is_name_byte c }
-{
-    matches!(c, b'A'..=b'Z' | b'a'..=b'z' | b'0'..=b'9' | b'_' | b'-')
-}
-
-fn are_name_bytes(text: &str) -> bool
-    ensures { result ≡ list_all is_name_byte text.now }
-{
-    text.as_bytes().iter().all(|c| is_name_byte(*c))
-}
-
-// A name of an audit.
-fn is_name(text: &str) -> bool
-    ensures { result ≡ is_name text.now }
-{
-    1 <= text.len() && text.len() <= 64 && are_name_bytes(text)
-}
 
 // One of the audits has this name.
 fn is_among(name: &str, audits: &[AuditWords<'_>]) -> bool
@@ -67,7 +49,7 @@ fn name_of<'t>(
     ensures { Gives text result (name_for (map audit_text earlier.now) audit (table_view table.now)) }
 {
     let name = required_text(table, audit, PlanKey::Name)?;
-    refuse_if(!is_name(name), PRule::P4, audit, PlanKey::Name)?;
+    refuse_if(!is_name(name.as_bytes()), PRule::P4, audit, PlanKey::Name)?;
     refuse_if(is_among(name, earlier), PRule::P5, audit, PlanKey::Name)?;
     Ok(name)
 }

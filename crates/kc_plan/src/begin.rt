@@ -7,14 +7,15 @@ ghost use Rattle.kc_plan.specs.declared.fault.PlanKey.TheVariants as key;
 ghost use Rattle.kc_plan.specs.Answers.{Gives};
 ghost use Rattle.kc_plan.specs.Plans.{is_struct, is_that, struct_at, type_named, addressed, root_at, from_at, begun, element_at, link_for, first_byte};
 ghost use Rattle.kc_plan.specs.Inside.{StartsInside};
+ghost use Rattle.kc_plan.specs.Planned.{start_seen};
 ghost use Rattle.kc_plan.specs.Values.{at};
-ghost use Rattle.kc_plan.specs.Views.{kernel, start_seen, start_text};
+ghost use Rattle.kc_plan.specs.Views.{kernel, start_text};
 ghost use Rattle.kc_syms.specs.Addresses.{common_of};
 ghost use Rattle.kc_syms.specs.Symbols.{symbol};
 
 use crate::fault::{PRule, PlanKey, PlanStop};
 use crate::item::StartWords;
-use crate::plan::Start;
+use crate::planned::Start;
 use crate::shape::Row;
 use crate::value::stop;
 use kc_btf::Btf;

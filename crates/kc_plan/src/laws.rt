@@ -4,5 +4,4 @@ ghost use Rattle.kc_plan.specs.Laws.{PlansAgree};
 /// Does nothing. A plan needs no more of the symbols than which addresses each name has.
 pub fn know_plans()
     ensures { PlansAgree }
-{
-}
+{}

@@ -11,6 +11,7 @@ mod kind;
 mod laws;
 mod link;
 mod plan;
+mod planned;
 mod read;
 mod shape;
 mod start;
@@ -20,7 +21,8 @@ pub use fault::{PRule, PlanFault, PlanKey, PlanStop};
 pub use keys::spelling;
 pub use kind::Kind;
 pub use laws::know_plans;
-pub use plan::{Audit, AuditList, Numbers, Plan, Start};
+pub use plan::Plan;
+pub use planned::{Audit, AuditList, Numbers, Start};
 pub use read::read_plan;
 
 #[cfg(test)]

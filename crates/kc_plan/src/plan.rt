@@ -1,55 +1,45 @@
-// A plan whose names and paths are looked up.
-use crate::kind::Kind;
-use kc_found::{Items, Name};
-use kc_layout::Located;
+// A plan, and what it keeps.
+ghost use Rattle.std.specs.Prelude.{◌≤◌, length, IsTrue};
+ghost use Rattle.kc_plan.specs.Kept.{have_names, are_later, named_once};
+ghost use Rattle.kc_plan.specs.Planned.{audits_seen};
 
-/// The audits of a plan, in its order.
-pub type AuditList = Items<Audit>;
+use crate::planned::{Audit, AuditList};
 
-/// The numbers of audits, counted from 0 in the order of the plan.
-pub type Numbers = Items<u32>;
-
-/// What a kernel's memory is audited for.
+/// What a kernel's memory is audited for: at most 256 audits. Each has a name of 1 to 64 letters, digits, `_` and `-`, and
+/// names audits behind it only. An audit that begins at a `from` is named once in the plan, and any other never.
 #[derive(Drop)]
 pub struct Plan {
     /// The audits, in the order of the plan.
     pub audits: AuditList,
+    pub ghost few: { length audits ≤ 256 },
+    pub ghost names: { IsTrue (have_names (audits_seen audits)) },
+    pub ghost later: { IsTrue (are_later 0 (length audits) (audits_seen audits)) },
+    pub ghost once: { IsTrue (named_once (audits_seen audits) 0 (audits_seen audits)) },
 }
 
-/// One audit: a structure that is walked, from one place or from each element of another audit.
-#[derive(Drop)]
-pub struct Audit {
-    /// Its name.
-    pub name: Name,
-    /// Its kind, with the places of the words that it reads.
-    pub kind: Kind,
-    /// Where it begins.
-    pub start: Start,
-    /// The number of its elements' type.
-    pub element: Option<u32>,
-    /// The byte of the node in an element.
-    pub link: u64,
-    /// The audits that are made at each of its elements, in this order.
-    pub each: Numbers,
-}
+impl Plan {
+    ghost use Rattle.std.specs.Prelude.{◌≡◌, ◌≤◌, ◌<◌, length, IsTrue, Some, slice_get};
+    ghost use Rattle.kc_text.specs.Readers.{is_name};
+    ghost use Rattle.kc_plan.specs.Kept.{are_between};
+    ghost use Rattle.kc_plan.specs.Planned.{audit_seen};
+    ghost use Rattle.kc_plan.specs.Views.{plan_seen};
 
-/// Where an audit begins.
-#[derive(Clone, Copy, Debug, PartialEq, Eq)]
-pub enum Start {
-    /// At a path from a type that lies at a symbol.
-    Root {
-        /// The symbol's address at run time.
-        symbol: u64,
-        /// The number of the type that lies there.
-        ty: u32,
-        /// The head, from there.
-        to: Located,
-    },
-    /// At a path from each element of the audit that names this one.
-    From {
-        /// The head, from the element.
-        to: Located,
-        /// Whether a null pointer on the way is passed over.
-        optional: bool,
-    },
+    /// The number of audits, at most 256.
+    pub fn count(&self) -> u32
+        ensures count { result ≡ length self.now.audits }
+        ensures few { length self.now.audits ≤ 256 }
+    {
+        self.audits.len() as u32
+    }
+
+    /// The audit with a number, counted from 0. The numbers in its `each` are greater, and below the number of audits.
+    pub fn audit(&self, number: u32) -> &Audit
+        requires { number < length self.now.audits }
+        ensures at { slice_get self.now.audits number ≡ Some result.now }
+        ensures seen { slice_get (plan_seen self.now) number ≡ Some (audit_seen result.now) }
+        ensures later { IsTrue (are_between number (length self.now.audits) result.now.each) }
+        ensures name { IsTrue (is_name result.now.name) }
+    {
+        self.audits.get(number as usize)
+    }
 }

@@ -1,0 +1,39 @@
+-- An audit of a plan, and what contracts see as one.
+use Rattle.std.specs.Prelude.{ℕ, List, map, Bool, true, false, Option}
+use Rattle.kc_layout.specs.Ends.{ByteAt}
+use Rattle.kc_layout.specs.Views.{byte_view}
+use Rattle.kc_plan.specs.declared.kind.Kind.{Kind}
+use Rattle.kc_plan.specs.declared.planned.Audit.{Audit}
+use Rattle.kc_plan.specs.declared.planned.Start.{Start}
+use Rattle.kc_plan.specs.declared.planned.Start.TheVariants.{Root, From}
+
+-- Where an audit begins: at a path from a type that lies at a symbol's address, or at a path from the
+-- element of the audit above. The latter is passed over at a null pointer where it is optional.
+pub data StartAt : Type 0 where
+  RootAt : (symbol : ℕ) (ty : ℕ) (to : ByteAt) → StartAt
+  FromAt : (to : ByteAt) (optional : Bool) → StartAt
+
+-- An audit: its name, its kind with the places of its words, where it begins, the type of its elements, the
+-- byte of the node in an element, and the numbers of the audits that are made at each element.
+pub record AuditAt : Type 0 where
+  pub name : List ℕ
+  pub kind : Kind
+  pub start : StartAt
+  pub element : Option ℕ
+  pub link : ℕ
+  pub each : List ℕ
+
+-- begins at a path from the element of the audit above
+abbrev pub is_from : StartAt → Bool
+is_from (RootAt symbol ty to) = false
+is_from (FromAt to optional) = true
+
+abbrev pub start_seen : Start → StartAt
+start_seen (Root address ty to) = RootAt address ty (byte_view to)
+start_seen (From to optional) = FromAt (byte_view to) optional
+
+abbrev pub audit_seen : Audit → AuditAt
+audit_seen audit = record { name = audit.name; kind = audit.kind; start = start_seen audit.start; element = audit.element; link = audit.link; each = audit.each }
+
+abbrev pub audits_seen : List Audit → List AuditAt
+audits_seen audits = map audit_seen audits
