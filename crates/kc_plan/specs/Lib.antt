@@ -1,5 +1,6 @@
 pub mod Answers
 pub mod Audits
+pub mod Events
 pub mod Inside
 pub mod Kept
 pub mod Keys
@@ -7,7 +8,10 @@ pub mod Laws
 pub mod Links
 pub mod Planned
 pub mod Plans
+pub mod Seen
 pub mod Shapes
+pub mod Stands
 pub mod Steps
 pub mod Values
+pub mod Verdicts
 pub mod Views

@@ -1,0 +1,44 @@
+-- The structures of a plan stand in a dump: each of them meets what its kind promises, all the way down.
+use Rattle.std.specs.Prelude.{ℕ, suc, nat_eq, IsTrue, List, [], ◌∷◌, Result, Ok, Err, MatchBool, ⊤}
+use Rattle.std.specs.List.{AllByRecursion}
+use Rattle.kc_memory.specs.Image.{Image}
+use Rattle.kc_memory.specs.Stopped.{Stopped}
+use Rattle.kc_memory.specs.Translation.{vword}
+use Rattle.kc_found.specs.FiniteLists as lists
+use Rattle.kc_plan.specs.declared.kind.Kind.{Kind}
+use Rattle.kc_plan.specs.declared.kind.Kind.TheVariants.{Ring, Hlist}
+use Rattle.kc_plan.specs.Planned.{AuditAt}
+use Rattle.kc_plan.specs.Seen.{PathEnd, EndsAt, NullAt, container_of, is_optional, path_end, path_of, roots}
+
+-- some nodes make up the structure of a kind that starts here
+unfoldable pub Holds : Image → Kind → ℕ → List ℕ → Type 0
+Holds image (Ring shape) start nodes = lists.Ring (vword image) shape start nodes
+Holds image (Hlist shape) start nodes = lists.HChain (vword image) shape start nodes
+
+-- each audit that is named there stands at an element, where `Go` says that one stands at an address
+abbrev pub ElementStands : AuditAt → (ℕ → ℕ → Type 0) → ℕ → Type 0
+ElementStands a Go element = AllByRecursion (λ m. Go m element) a.each
+
+-- some nodes make up the structure from a start, and each of their elements stands
+abbrev pub WalkStands : Image → AuditAt → (ℕ → ℕ → Type 0) → ℕ → Type 0
+WalkStands image a Go start =
+    (nodes : List ℕ) × Holds image a.kind start nodes × AllByRecursion (λ node. ElementStands a Go (container_of a.link node)) nodes
+
+-- The pointers of an audit's path can be read, up to the first that is null. Either one is, and the audit is optional, or
+-- none is, and the structure stands where they lead.
+abbrev pub EnterStands : Image → AuditAt → (ℕ → ℕ → Type 0) → Result PathEnd Stopped → Type 0
+EnterStands image a Go (Err s) = ⊥
+EnterStands image a Go (Ok (NullAt place at)) = IsTrue (is_optional a.start)
+EnterStands image a Go (Ok (EndsAt start)) = WalkStands image a Go start
+
+-- Audit m stands at a base, where these audits have the numbers from k on. An audit names later ones alone.
+unfoldable pub Stands : Image → List AuditAt → ℕ → ℕ → ℕ → Type 0
+Stands image [] k m base = ⊤
+Stands image (a ∷ later) k m base =
+    MatchBool (nat_eq m k)
+    (EnterStands image a (λ n element. Stands image later (suc k) n element) (path_end image base (path_of a.start).hops (path_of a.start).byte))
+    (Stands image later (suc k) m base)
+
+-- every root audit stands
+abbrev pub PlanStands : Image → List AuditAt → Type 0
+PlanStands image audits = AllByRecursion (λ r. Stands image audits 0 r.0 r.1) (roots 0 audits)
