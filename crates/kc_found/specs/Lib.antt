@@ -11,6 +11,7 @@ pub use Rattle.kc_memory.specs.Stopped
 pub use Rattle.kc_memory.specs.Translation
 pub mod Chains
 pub mod FiniteLists
+pub mod FiniteXarrays
 pub mod HashChains
 pub mod Nodes
 pub mod RbFinite
@@ -20,3 +21,7 @@ pub mod Taken
 pub mod Trials
 pub mod Violations
 pub mod Walks
+pub mod XaEntries
+pub mod XaLayouts
+pub mod XaNodes
+pub mod XaSites

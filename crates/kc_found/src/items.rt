@@ -73,4 +73,11 @@ impl<T: Drop> Items<T> {
     {
         &self.items[i]
     }
+
+    /// The items in their order.
+    pub fn as_slice(&self) -> &[T]
+        ensures { result.now ≡ self.now }
+    {
+        self.items.as_slice()
+    }
 }

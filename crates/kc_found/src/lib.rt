@@ -10,6 +10,7 @@ mod shapes;
 mod take;
 mod trees;
 mod verdict;
+mod xarrays;
 
 pub use asked::Asked;
 pub use claims::Claims;
@@ -24,3 +25,4 @@ pub use shapes::{HShape, ListShape, RbShape};
 pub use take::take_word;
 pub use trees::{RbHead, RbKey, RbLinks, RbSpot};
 pub use verdict::{AuditCount, Verdict};
+pub use xarrays::{XaEntry, XaHolder, XaItem, XaNode, XaShape, XaWalked, XaWords};

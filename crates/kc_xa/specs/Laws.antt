@@ -1,0 +1,27 @@
+-- What the walk of an xarray says of finite trees of nodes.
+use Rattle.std.specs.Prelude.{◌≡◌, ℕ, List, Ok, Err}
+use Rattle.kc_memory.specs.Image.{Image}
+use Rattle.kc_found.specs.declared.xarrays.XaItem.{XaItem}
+use Rattle.kc_found.specs.FiniteXarrays.{NoXArray, RisesFrom, XArray}
+use Rattle.kc_found.specs.Violations.{Violation}
+use Rattle.kc_found.specs.XaLayouts.{IsChunk, XaLayout}
+use Rattle.kc_found.specs.XaSites.{xa_course, xa_judged}
+
+-- an xarray of the definition is walked whole, and what is walked without a violation is one
+abbrev pub XarraysAreWalked : Type 0
+XarraysAreWalked =
+    (image : Image) (shape : XaLayout) (audit start : ℕ) (items : List XaItem)
+    → (XArray (xa_course image shape (record { audit = audit; start = start })) items → xa_judged image shape audit start ≡ Ok items)
+    × (xa_judged image shape audit start ≡ Ok items → XArray (xa_course image shape (record { audit = audit; start = start })) items)
+
+-- where there is a violation, there is no xarray
+abbrev pub ViolationsExclude : Type 0
+ViolationsExclude =
+    (image : Image) (shape : XaLayout) (audit start : ℕ) (v : Violation)
+    → xa_judged image shape audit start ≡ Err v → NoXArray (xa_course image shape (record { audit = audit; start = start }))
+
+-- the indexes of an xarray's pointers rise
+abbrev pub IndexesRise : Type 0
+IndexesRise =
+    (image : Image) (shape : XaLayout) (audit start : ℕ) (items : List XaItem) → IsChunk shape.chunk
+    → XArray (xa_course image shape (record { audit = audit; start = start })) items → RisesFrom 0 items

@@ -1,0 +1,139 @@
+// Xarrays, from their heads.
+ghost use Rattle.std.specs.Prelude.{◌≡◌, ℕ, ◌+◌, ◌*◌, ◌≤◌, List, [], length, Some, None, Ok, IfOk, OnOk, IfSome, true};
+ghost use Rattle.kc_memory.specs.Stays.{SpaceStays};
+ghost use Rattle.kc_memory.specs.Translation.{vword};
+ghost use Rattle.kc_found.specs.declared.xarrays.XaItem.{XaItem};
+ghost use Rattle.kc_found.specs.FiniteXarrays.{NoXArray, RisesFrom, XArray};
+ghost use Rattle.kc_found.specs.Walks.{CountsWalkFaults, IsNamed, OnBroken, WalksAs, WithinSteps};
+ghost use Rattle.kc_found.specs.Nodes.{at_offset};
+ghost use Rattle.kc_found.specs.XaNodes.{behind_entry};
+ghost use Rattle.kc_found.specs.XaSites.{xa_course, xa_judged};
+
+use crate::entries::{entry_of, head_fault, know_chunk};
+use crate::nodes::open_node;
+use crate::slots::{push_item, walk_slots};
+use crate::words::read_word;
+use kc_found::{
+    Asked, Claims, Space, VWord, WalkStop, XaEntry, XaShape, XaWalked, broken_at, take_word,
+};
+use kc_word::Steps;
+use std::alloc::Global;
+use std::sync::ledger::Ledger;
+
+// The word `xa_head`.
+fn read_head<S: Space, L: Ledger>(
+    alloc: Global,
+    space: &mut S,
+    shape: &XaShape,
+    asked: &Asked,
+    steps: &mut Steps<L>,
+) -> Result<VWord, WalkStop>
+    ensures word { WalksAs (λ w. w) (λ i. behind_entry (vword i) asked.now None (at_offset asked.now.start shape.now.head)) (S.image space.old) result }
+    ensures named { IsNamed result asked.now.audit asked.now.start }
+    ensures steps { steps.new ≤ steps.old + S.most space.old }
+
+    ensures stays { SpaceStays S.image S.files S.through S.most space.old space.new }
+    ensures cause { CountsWalkFaults result (S.faults space.old) (S.faults space.new) }
+{
+    let at = asked.start.wrapping_add(shape.head);
+    read_word(alloc, space, asked, at, None, steps)
+}
+
+// Walks an xarray.
+fn walk_head<S: Space, L: Ledger>(
+    alloc: Global,
+    space: &mut S,
+    shape: &XaShape,
+    asked: &Asked,
+    steps: &mut Steps<L>,
+) -> Result<XaWalked, WalkStop>
+    requires chunk { shape.now.chunk ≤ 64 }
+    requires some { 2 ≤ shape.now.chunk }
+    ensures walk { WalksAs (λ w. w) (λ i. xa_judged i shape.now asked.now.audit asked.now.start) (S.image space.old) result }
+    ensures named { IsNamed result asked.now.audit asked.now.start }
+    ensures bound { WithinSteps (S.image space.old) (S.most space.old) steps.old steps.new }
+
+    ensures stays { SpaceStays S.image S.files S.through S.most space.old space.new }
+    ensures cause { CountsWalkFaults result (S.faults space.old) (S.faults space.new) }
+{
+    let mut claims = Claims::new(alloc);
+    let mut walked = XaWalked::new(alloc);
+    let head = match read_head(alloc, space, shape, asked, steps) {
+        Ok(word) => word,
+        Err(stop) => return Err(stop),
+    };
+    match take_word(alloc, &mut claims, asked, &head) {
+        Ok(()) => {}
+        Err(stop) => return Err(stop),
+    }
+    let kind = entry_of(shape, &head);
+    if let Some(rule) = head_fault(kind) {
+        return Err(broken_at(alloc, asked, rule, &head, None));
+    }
+    match kind {
+        XaEntry::Pointer => {
+            push_item(&mut walked, 0, head.value)?;
+            Ok(walked)
+        }
+        XaEntry::Node => {
+            let node = match open_node(
+                alloc,
+                space,
+                shape,
+                asked,
+                &mut claims,
+                None,
+                head,
+                0,
+                steps,
+            ) {
+                Ok(node) => node,
+                Err(stop) => return Err(stop),
+            };
+            match walk_slots(
+                alloc,
+                space,
+                shape,
+                asked,
+                &mut claims,
+                &mut walked,
+                &node,
+                steps,
+            ) {
+                Ok(()) => Ok(walked),
+                Err(stop) => Err(stop),
+            }
+        }
+        _ => Ok(walked),
+    }
+}
+
+/// The pointers of the xarray at virtual address `start`, by rising index. The audit's number is named where the xarray
+/// breaks a rule.
+///
+/// # Errors
+///
+/// The first violation, exactly where the xarray has one; a failure of the space, whose count of faults then rose; or
+/// out of memory.
+pub fn xa_walk<S: Space, L: Ledger>(
+    alloc: Global,
+    space: &mut S,
+    shape: &XaShape,
+    start: u64,
+    audit: u32,
+    steps: &mut Steps<L>,
+) -> Result<XaWalked, WalkStop>
+    ensures walk { WalksAs (λ w. w) (λ image. xa_judged image shape.now audit start) (S.image space.old) result }
+    ensures finite { IfOk result (λ w. IfSome (S.image space.old) (λ image. XArray (xa_course image shape.now (record { audit = audit; start = start })) w)) }
+    ensures none { OnBroken result (IfSome (S.image space.old) (λ image. NoXArray (xa_course image shape.now (record { audit = audit; start = start })))) }
+    ensures rises { IfOk result (λ w. IfSome (S.image space.old) (λ image. RisesFrom 0 w)) }
+    ensures named { IsNamed result audit start }
+    ensures bound { WithinSteps (S.image space.old) (S.most space.old) steps.old steps.new }
+
+    ensures stays { SpaceStays S.image S.files S.through S.most space.old space.new }
+    ensures cause { CountsWalkFaults result (S.faults space.old) (S.faults space.new) }
+{
+    know_chunk(shape);
+    let asked = Asked { audit, start };
+    walk_head(alloc, space, shape, &asked, steps)
+}
