@@ -3,15 +3,15 @@ use Rattle.std.proofs.Common.{◌≡◌, ℕ, zero, suc, ◌+◌, ◌<◌, ◌�
 use Rattle.std.proofs.lemmas.List.{length-map}
 use Rattle.std.proofs.lemmas.List.Sums.{sum_by-cons}
 use Rattle.std.proofs.lemmas.Option.{slice_get-map}
-use Rattle.std.specs.Prelude.{is_some, nat_le, nat_lt, ◌==◌, if◌then◌else◌, unwrap_or}
+use Rattle.std.specs.Prelude.{is_some, ⊤, nat_le, nat_lt, ◌==◌, if◌then◌else◌, unwrap_or}
 use Rattle.std.specs.List.{count_by}
 use Rattle.std.specs.Option.{ok_or}
 use Rattle.std.proofs.lemmas.Bool.{and_from, and_parts, eq-eqb, eqb-false, eqb-true, leb-true, lt-leb, le-leb, lt-ltb}
-use Rattle.kc_layout.specs.Ends.{ByteAt, located}
-use Rattle.kc_syms.specs.Addresses.{common_of}
+use Rattle.kc_layout.specs.Ends.{BitsAt, ByteAt, located}
+use Rattle.kc_btf.specs.Btf.{Types}
 use Rattle.kc_text.specs.Readers.{is_name}
 use Rattle.toml.specs.Data.{Members}
-use Rattle.kc_plan.specs.declared.fault.PRule.TheVariants.{P11}
+use Rattle.kc_plan.specs.declared.fault.PRule.TheVariants.{P9, P11}
 use Rattle.kc_plan.specs.declared.fault.PlanFault.{PlanFault}
 use Rattle.kc_plan.specs.declared.fault.PlanKey.TheVariants as key
 use Rattle.kc_plan.specs.declared.item.AuditWords.{AuditWords}
@@ -24,10 +24,9 @@ use Rattle.kc_plan.specs.Kept.{are_between, are_later, have_names, named_once, t
 use Rattle.kc_plan.specs.Links.{links_for}
 use Rattle.kc_plan.specs.Planned.{AuditAt, StartAt, audit_seen, audits_seen, is_from}
 use Rattle.kc_plan.specs.Planned.StartAt.{RootAt, FromAt}
-use Rattle.kc_plan.specs.Plans.{Kernel, addressed, all_planned, begun, children, element_above, element_at, first_byte, from_at, link_for, plan_of, planned, root_at, struct_at, type_named}
-use Rattle.kc_plan.specs.Shapes.{row}
+use Rattle.kc_plan.specs.Plans.{Kernel, address_in, addressed, all_planned, begun, children, element_above, element_at, first_byte, from_at, key_for, kind_in, link_for, needs_in, plan_of, planned, root_at, root_for, struct_at, type_named}
 use Rattle.kc_plan.specs.Steps.{written_for}
-use Rattle.kc_plan.specs.Values.{◌>>=◌, at}
+use Rattle.kc_plan.specs.Values.{◌>>=◌, at, refuse_if}
 use Rattle.kc_plan.specs.Views.{audit_text}
 use Rattle.kc_plan.proofs.LinkLaws.{AllLead, AreAllLinks, AreLinks, Leads, from_within, has_from, links_are, one_if, same_truth, times_linked}
 use Rattle.kc_plan.proofs.StepLemmas.{bound, same_ok}
@@ -45,22 +44,30 @@ ArePlanned links n [] (audit ∷ audits) = ⊥
 ArePlanned links n (text ∷ texts) [] = ⊥
 ArePlanned links n (text ∷ texts) (audit ∷ audits) = IsPlanned links n text audit × ArePlanned links (suc n) texts audits
 
-root_begins : (kernel : Kernel) (needs : Row) (n address : ℕ) (type : Option (List ℕ)) (path : List ℕ) (start : StartAt) → root_at kernel.types needs n address type path ≡ Ok start → is_from start ≡ false
-root_begins kernel needs n address None path start e =
+root_begins : (types : Types) (needs : Row) (n address : ℕ) (type : Option (List ℕ)) (path : List ℕ) (start : StartAt)
+    → root_at types needs n address type path ≡ Ok start → is_from start ≡ false
+root_begins types needs n address None path start e =
     subst (λ start. is_from start ≡ false) (same_ok (RootAt address (unwrap_or needs.head 0) (first_byte (unwrap_or needs.head 0))) start e) refl
-root_begins kernel needs n address (Some name) path start e =
-    let led : ℕ → Result ByteAt PlanFault = λ ty. at (Some n) key.RootPath (struct_at kernel.types needs.head (located kernel.types ty path)) in
-    let ty = bound (at (Some n) key.RootType (type_named kernel.types name)) (λ ty. led ty >>= λ to. Ok (RootAt address ty to)) start e in
+root_begins types needs n address (Some name) path start e =
+    let led : ℕ → Result ByteAt PlanFault = λ ty. at (Some n) key.RootPath (struct_at types needs.head (located types ty path)) in
+    let ty = bound (at (Some n) key.RootType (type_named types name)) (λ ty. led ty >>= λ to. Ok (RootAt address ty to)) start e in
     let to = bound (led ty.0) (λ to. Ok (RootAt address ty.0 to)) start ty.2 in
     subst (λ start. is_from start ≡ false) (same_ok (RootAt address ty.0 to.0) start to.2) refl
 
-begins : (kernel : Kernel) (needs : Row) (n : ℕ) (above : Option ℕ) (text : StartText) (root : Option (List ℕ)) (start : StartAt) → begun kernel needs n above text root ≡ Ok start → is_from start ≡ not (is_some root)
-begins kernel needs n above text None start e =
-    let to = bound (at (Some n) key.From (from_at kernel.types needs above (unwrap_or text.from []))) (λ to. Ok (FromAt to text.optional)) start e in
+begins : (types : Types) (needs : Row) (n : ℕ) (above : Option ℕ) (text : StartText) (root : Option ℕ) (start : StartAt)
+    → begun types needs n above text root ≡ Ok start → is_from start ≡ not (is_some root)
+begins types needs n above text None start e =
+    let to = bound (at (Some n) key.From (from_at types needs above (unwrap_or text.from []))) (λ to. Ok (FromAt to text.optional)) start e in
     subst (λ start. is_from start ≡ true) (same_ok (FromAt to.0 text.optional) start to.2) refl
-begins kernel needs n above text (Some root) start e =
-    let address = bound (at (Some n) key.Root (addressed (common_of kernel.kaslr (kernel.symbols root)))) (λ address. root_at kernel.types needs n address text.root_type (unwrap_or text.root_path [])) start e in
-    root_begins kernel needs n address.0 text.root_type (unwrap_or text.root_path []) start address.2
+begins types needs n above text (Some address) start e =
+    root_begins types needs n address text.root_type (unwrap_or text.root_path []) start e
+
+-- a root audit has an address, and no other
+root_is : (kernel : Kernel) (n : ℕ) (name : Option (List ℕ)) (root : Option ℕ) → root_for kernel n name ≡ Ok root → is_some root ≡ is_some name
+root_is kernel n None root e = subst (λ root. is_some root ≡ false) (same_ok None root e) refl
+root_is kernel n (Some name) root e =
+    let address = bound (at (Some n) key.Root (addressed (address_in kernel name))) (λ address. Ok (Some address)) root e in
+    subst (λ root. is_some root ≡ true) (same_ok (Some address.0) root address.2) refl
 
 planned_from : (links : List Link) (n : ℕ) (text : AuditText) (start : StartAt) (element : Option ℕ) (link : ℕ) (kind : Kind) (audit : AuditAt)
     → ◌≡◌ {A = Result AuditAt PlanFault} (Ok (record { name = text.name; kind = kind; start = start; element = element; link = link; each = children links n })) (Ok audit)
@@ -73,16 +80,24 @@ planned_from links n text start element link kind audit e from =
 one_planned : (kernel : Kernel) (links : List Link) (before : List AuditAt) (n : ℕ) (text : AuditText) (audit : AuditAt) → planned kernel links before n text ≡ Ok audit → IsPlanned links n text audit
 unfolding planned
 one_planned kernel links before n text audit e =
-    let needs : Row = row kernel.types text.sort in
+    let needs : Row = needs_in kernel text in
+    let above : Option ℕ = element_above links before n in
+    let tested : Result ⊤ PlanFault = at (Some n) key.Kind (refuse_if (not needs.clear) P9) in
     let made : StartAt → Option ℕ → ℕ → Kind → AuditAt = λ start element link kind. record { name = text.name; kind = kind; start = start; element = element; link = link; each = children links n } in
-    let with_kind : StartAt → Option ℕ → ℕ → Result AuditAt PlanFault = λ start element link. at (Some n) key.Kind (ok_or needs.kind P11) >>= λ kind. Ok (made start element link kind) in
-    let with_link : StartAt → Option ℕ → Result AuditAt PlanFault = λ start element. link_for kernel.types needs n element text.parts.link >>= λ link. with_kind start element link in
-    let with_element : StartAt → Result AuditAt PlanFault = λ start. at (Some n) key.Element (element_at kernel.types text.parts.element) >>= λ element. with_link start element in
-    let start = bound (begun kernel needs n (element_above links before n) text.start text.start.root) with_element audit e in
-    let element = bound (at (Some n) key.Element (element_at kernel.types text.parts.element)) (with_link start.0) audit start.2 in
-    let link = bound (link_for kernel.types needs n element.0 text.parts.link) (with_kind start.0 element.0) audit element.2 in
-    let kind = bound (at (Some n) key.Kind (ok_or needs.kind P11)) (λ kind. Ok (made start.0 element.0 link.0 kind)) audit link.2 in
-    planned_from links n text start.0 element.0 link.0 kind.0 audit kind.2 (begins kernel needs n (element_above links before n) text.start text.start.root start.0 start.1)
+    let with_bits : StartAt → Option ℕ → ℕ → Option BitsAt → Result AuditAt PlanFault = λ start element link bits. at (Some n) key.Kind (ok_or (kind_in kernel text link bits) P11) >>= λ kind. Ok (made start element link kind) in
+    let with_link : StartAt → Option ℕ → ℕ → Result AuditAt PlanFault = λ start element link. key_for kernel.types n element text.parts.tree.key >>= λ bits. with_bits start element link bits in
+    let with_element : StartAt → Option ℕ → Result AuditAt PlanFault = λ start element. link_for kernel.types needs n element text.parts.link >>= λ link. with_link start element link in
+    let with_start : StartAt → Result AuditAt PlanFault = λ start. at (Some n) key.Element (element_at kernel.types needs.element text.parts.element) >>= λ element. with_element start element in
+    let with_root : Option ℕ → Result AuditAt PlanFault = λ root. begun kernel.types needs n above text.start root >>= λ start. with_start start in
+    let root = bound (root_for kernel n text.start.root) (λ root. tested >>= λ clear. with_root root) audit e in
+    let clear = bound tested (λ clear. with_root root.0) audit root.2 in
+    let start = bound (begun kernel.types needs n above text.start root.0) with_start audit clear.2 in
+    let element = bound (at (Some n) key.Element (element_at kernel.types needs.element text.parts.element)) (with_element start.0) audit start.2 in
+    let link = bound (link_for kernel.types needs n element.0 text.parts.link) (with_link start.0 element.0) audit element.2 in
+    let bits = bound (key_for kernel.types n element.0 text.parts.tree.key) (with_bits start.0 element.0 link.0) audit link.2 in
+    let kind = bound (at (Some n) key.Kind (ok_or (kind_in kernel text link.0 bits.0) P11)) (λ kind. Ok (made start.0 element.0 link.0 kind)) audit bits.2 in
+    planned_from links n text start.0 element.0 link.0 kind.0 audit kind.2
+    (begins kernel.types needs n above text.start root.0 start.0 start.1 ∙ ap not (root_is kernel n text.start.root root.0 root.1))
 
 -- the audits behind those that are planned already
 record Follow (links : List Link) (before : List AuditAt) (texts : List AuditText) (out : List AuditAt) : Type 0 where

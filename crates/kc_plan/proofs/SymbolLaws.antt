@@ -3,12 +3,13 @@ use Rattle.std.proofs.Common.{◌≡◌, ℕ, List, [], ◌∷◌, ◌++◌, len
 use Rattle.kc_btf.specs.Btf.{Types}
 use Rattle.kc_plan.specs.declared.fault.PlanFault.{PlanFault}
 use Rattle.kc_plan.specs.declared.item.Link.{Link}
-use Rattle.kc_plan.specs.declared.shape.Row.{Row}
-use Rattle.kc_plan.specs.Audits.{AuditText, StartText}
+use Rattle.kc_plan.specs.declared.kinds.Sort.{Sort}
+use Rattle.kc_plan.specs.declared.kinds.Sort.TheVariants.{Ring, Hlist}
+use Rattle.kc_plan.specs.Audits.{AuditText, PartText, StartText}
 use Rattle.kc_plan.specs.Laws.{PlansAgree}
 use Rattle.kc_plan.specs.Links.{links_for}
 use Rattle.kc_plan.specs.Planned.{AuditAt}
-use Rattle.kc_plan.specs.Plans.{Kernel, all_planned, begun, plan, plan_of, planned}
+use Rattle.kc_plan.specs.Plans.{Kernel, all_planned, plan, plan_of, planned, root_for}
 use Rattle.kc_plan.specs.Steps.{document, parsed, written_for}
 use Rattle.kc_plan.specs.Values.{◌>>=◌}
 
@@ -21,16 +22,23 @@ then_same : {A B : Type 0} → (r : Result A PlanFault) (go other : A → Result
 then_same (Ok a) go other same = same a
 then_same (Err fault) go other same = refl
 
-same_start : (types : Types) (kaslr : ℕ) (f g : List ℕ → List ℕ) (needs : Row) (n : ℕ) (above : Option ℕ) (start : StartText) (root : Option (List ℕ))
-    → ((name : List ℕ) → f name ≡ g name) → begun (over types kaslr f) needs n above start root ≡ begun (over types kaslr g) needs n above start root
+same_root : (types : Types) (kaslr : ℕ) (f g : List ℕ → List ℕ) (n : ℕ) (root : Option (List ℕ)) → ((name : List ℕ) → f name ≡ g name)
+    → root_for (over types kaslr f) n root ≡ root_for (over types kaslr g) n root
 unfolding over
-same_start types kaslr f g needs n above start None same = refl
-same_start types kaslr f g needs n above start (Some name) same = ap (λ listed. begun (over types kaslr (λ any. listed)) needs n above start (Some name)) (same name)
+same_root types kaslr f g n None same = refl
+same_root types kaslr f g n (Some name) same = ap (λ listed. root_for (over types kaslr (λ any. listed)) n (Some name)) (same name)
+
+-- an audit of each kind
+same_kind : (types : Types) (kaslr : ℕ) (f g : List ℕ → List ℕ) (links : List Link) (before : List AuditAt) (n : ℕ) (name : List ℕ) (sort : Sort) (start : StartText) (parts : PartText)
+    → ((name : List ℕ) → f name ≡ g name)
+    → planned (over types kaslr f) links before n (record { name = name; sort = sort; start = start; parts = parts }) ≡ planned (over types kaslr g) links before n (record { name = name; sort = sort; start = start; parts = parts })
+unfolding over planned
+same_kind types kaslr f g links before n name Ring start parts same = rw (same_root types kaslr f g n start.root same) refl
+same_kind types kaslr f g links before n name Hlist start parts same = rw (same_root types kaslr f g n start.root same) refl
 
 same_audit : (types : Types) (kaslr : ℕ) (f g : List ℕ → List ℕ) (links : List Link) (before : List AuditAt) (n : ℕ) (audit : AuditText)
     → ((name : List ℕ) → f name ≡ g name) → planned (over types kaslr f) links before n audit ≡ planned (over types kaslr g) links before n audit
-unfolding over planned
-same_audit types kaslr f g links before n audit same = rw (same_start types kaslr f g _ n _ audit.start audit.start.root same) refl
+same_audit types kaslr f g links before n audit same = same_kind types kaslr f g links before n audit.name audit.sort audit.start audit.parts same
 
 same_audits : (types : Types) (kaslr : ℕ) (f g : List ℕ → List ℕ) (links : List Link) (before : List AuditAt) (audits : List AuditText)
     → ((name : List ℕ) → f name ≡ g name) → all_planned (over types kaslr f) links before audits ≡ all_planned (over types kaslr g) links before audits

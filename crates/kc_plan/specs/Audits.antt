@@ -9,10 +9,12 @@ use Rattle.kc_plan.specs.declared.fault.PRule.TheVariants.{P3, P4, P5, P13}
 use Rattle.kc_plan.specs.declared.fault.PlanFault.{PlanFault}
 use Rattle.kc_plan.specs.declared.fault.PlanKey.{PlanKey}
 use Rattle.kc_plan.specs.declared.fault.PlanKey.TheVariants.{Name, Kind, Root, RootType, RootPath, From, Optional, Element, Link, Key, Unique, Cached, Check, Each, Other}
-use Rattle.kc_plan.specs.declared.keys.Sort.{Sort}
+use Rattle.kc_plan.specs.declared.keys.Need.{Need}
+use Rattle.kc_plan.specs.declared.keys.Need.TheVariants.{Required, Allowed, Barred}
 use Rattle.kc_plan.specs.declared.keys.Needs.{Needs}
-use Rattle.kc_plan.specs.declared.keys.Need.TheVariants.{Allowed}
-use Rattle.kc_plan.specs.Keys.{audit_keys, is_one_of, needs_of, sort_of}
+use Rattle.kc_plan.specs.declared.kinds.Sort.{Sort}
+use Rattle.kc_plan.specs.Keys.{audit_keys, is_one_of}
+use Rattle.kc_plan.specs.Kinds.{needs_of, sort_of}
 use Rattle.kc_plan.specs.Values.{◌>>=◌, all_read, at, flag_for, has, refuse_if, required, text_for, value_at, value_of}
 
 -- where an audit begins, as it is written
@@ -23,10 +25,17 @@ pub record StartText : Type 0 where
   pub from : Option (List ℕ)
   pub optional : Bool
 
+-- how the elements of a tree are ordered, and whether its root keeps the first, as it is written
+pub record TreeText : Type 0 where
+  pub key : Option (List ℕ)
+  pub unique : Bool
+  pub cached : Bool
+
 -- what an audit walks, as it is written
 pub record PartText : Type 0 where
   pub element : Option (List ℕ)
   pub link : Option (List ℕ)
+  pub tree : TreeText
   pub each : List (List ℕ)
 
 -- an audit, as it is written
@@ -88,18 +97,31 @@ listed (Some found) = value_of names found
 abbrev pub names_for : Option ℕ → PlanKey → Members → Result (List (List ℕ)) PlanFault
 names_for n key table = at n key (listed (value_at key table))
 
+-- an audit whose elements may have no type, and have none, though it asks something of each
+abbrev pub is_untyped : Need → Members → Bool
+is_untyped Required table = false
+is_untyped Allowed table = (has Check table || has Each table) && not (has Element table)
+is_untyped Barred table = false
+
+-- how the elements of a tree are ordered, where its kind asks this of the keys
+unfoldable pub tree_for : Option ℕ → Need → Members → Result TreeText PlanFault
+tree_for n need table = do
+  key ← text_for n need Key table
+  keyed ← at n Key (refuse_if (has Unique table && not (has Key table)) P3)
+  unique ← flag_for n need Unique table
+  cached ← flag_for n need Cached table
+  Ok (record { key = key; unique = option_map_or (λ flag. flag) unique false; cached = option_map_or (λ flag. flag) cached false })
+
 -- what it walks, where its kind asks this of its keys. Checks can't be audited yet.
 unfoldable pub parts_for : Option ℕ → Needs → Members → Result PartText PlanFault
 parts_for n needs table = do
   element ← text_for n needs.element Element table
+  typed ← at n Element (refuse_if (is_untyped needs.element table) P3)
   link ← text_for n needs.link Link table
-  key ← text_for n needs.tree Key table
-  keyed ← at n Key (refuse_if (has Unique table && not (has Key table)) P3)
-  unique ← flag_for n needs.tree Unique table
-  cached ← flag_for n needs.tree Cached table
+  tree ← tree_for n needs.tree table
   unchecked ← at n Check (refuse_if (has Check table) P13)
   each ← names_for n Each table
-  Ok (record { element = element; link = link; each = each })
+  Ok (record { element = element; link = link; tree = tree; each = each })
 
 -- the audit of a table, behind these
 unfoldable pub audit_for : List AuditText → Option ℕ → Members → Result AuditText PlanFault

@@ -1,15 +1,9 @@
--- The keys of a plan, and which of them an audit of a kind has.
-use Rattle.std.specs.Prelude.{ℕ, List, [], ◌∷◌, Bool, ◌||◌, codes, Result, Ok, Err, if◌then◌else◌}
+-- The keys of a plan.
+use Rattle.std.specs.Prelude.{ℕ, List, [], ◌∷◌, Bool, codes}
 use Rattle.std.specs.List.{list_any}
 use Rattle.std.specs.Str.{bytes_eq}
-use Rattle.kc_plan.specs.declared.fault.PRule.{PRule}
-use Rattle.kc_plan.specs.declared.fault.PRule.TheVariants.{P4, P13}
 use Rattle.kc_plan.specs.declared.fault.PlanKey.{PlanKey}
 use Rattle.kc_plan.specs.declared.fault.PlanKey.TheVariants as key
-use Rattle.kc_plan.specs.declared.keys.Needs.{Needs}
-use Rattle.kc_plan.specs.declared.keys.Need.TheVariants.{Required, Barred}
-use Rattle.kc_plan.specs.declared.keys.Sort.{Sort}
-use Rattle.kc_plan.specs.declared.keys.Sort.TheVariants.{Ring, Hlist}
 
 -- how a key is spelled. A key that a plan doesn't have is told as `other`; none is asked for as that.
 abbrev pub spelled : PlanKey → List ℕ
@@ -44,20 +38,3 @@ abbrev pub audit_keys : List PlanKey
 audit_keys =
     key.Name ∷ key.Kind ∷ key.Root ∷ key.RootType ∷ key.RootPath ∷ key.From ∷ key.Optional
     ∷ key.Element ∷ key.Link ∷ key.Key ∷ key.Unique ∷ key.Cached ∷ key.Check ∷ key.Each ∷ []
-
--- a kind that can't be audited yet
-abbrev pub is_later : List ℕ → Bool
-is_later text =
-    bytes_eq text (codes "rbtree") || (bytes_eq text (codes "xarray") || (bytes_eq text (codes "slub") || bytes_eq text (codes "tasks")))
-
--- the kind with a name
-abbrev pub sort_of : List ℕ → Result Sort PRule
-sort_of text =
-    if bytes_eq text (codes "ring") then Ok Ring
-    else (if bytes_eq text (codes "hlist") then Ok Hlist
-    else (if is_later text then Err P13 else Err P4))
-
--- what a kind asks of the keys that aren't for all kinds: one line for each kind
-abbrev pub needs_of : Sort → Needs
-needs_of Ring = record { element = Required; link = Required; tree = Barred }
-needs_of Hlist = record { element = Required; link = Required; tree = Barred }

@@ -4,6 +4,7 @@ pub mod Events
 pub mod Inside
 pub mod Kept
 pub mod Keys
+pub mod Kinds
 pub mod Laws
 pub mod Links
 pub mod Planned

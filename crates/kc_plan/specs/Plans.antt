@@ -1,11 +1,11 @@
 -- The plan of bytes over a kernel's types and symbols, or its first fault.
-use Rattle.std.specs.Prelude.{ℕ, List, [], ◌∷◌, ◌++◌, length, Bool, false, ◌==◌, Option, Some, None, unwrap_or, option_and_then, slice_get, Result, Ok, Err, if◌then◌else◌}
+use Rattle.std.specs.Prelude.{ℕ, List, [], ◌∷◌, ◌++◌, length, Bool, false, not, ◌==◌, Option, Some, None, unwrap_or, option_and_then, slice_get, Result, Ok, Err, if◌then◌else◌}
 use Rattle.std.specs.Option.{ok_or}
 use Rattle.kc_btf.specs.declared.types.TypeRef.{TypeRef}
 use Rattle.kc_btf.specs.Btf.{Types}
 use Rattle.kc_layout.specs.declared.fault.PathFault.{PathFault}
 use Rattle.kc_layout.specs.Bare.{compound_under}
-use Rattle.kc_layout.specs.Ends.{ByteAt, located}
+use Rattle.kc_layout.specs.Ends.{BitsAt, ByteAt, NumberAt, field, located}
 use Rattle.kc_layout.specs.Find.{find}
 use Rattle.kc_syms.specs.declared.fault.SymFault.{SymFault}
 use Rattle.kc_syms.specs.Addresses.{common_of}
@@ -14,14 +14,16 @@ use Rattle.kc_plan.specs.declared.fault.PRule.TheVariants.{P9, P10, P11}
 use Rattle.kc_plan.specs.declared.fault.PlanFault.{PlanFault}
 use Rattle.kc_plan.specs.declared.fault.PlanKey.TheVariants as key
 use Rattle.kc_plan.specs.declared.item.Link.{Link}
+use Rattle.kc_plan.specs.declared.kind.Kind.{Kind}
 use Rattle.kc_plan.specs.declared.shape.Row.{Row}
 use Rattle.kc_plan.specs.Audits.{AuditText, StartText}
+use Rattle.kc_plan.specs.Kinds.{row, shape}
 use Rattle.kc_plan.specs.Links.{above_of, links_for}
 use Rattle.kc_plan.specs.Planned.{AuditAt, StartAt}
 use Rattle.kc_plan.specs.Planned.StartAt.{RootAt, FromAt}
-use Rattle.kc_plan.specs.Shapes.{row}
+use Rattle.kc_plan.specs.Shapes.{OwnAt}
 use Rattle.kc_plan.specs.Steps.{document, parsed, written_for}
-use Rattle.kc_plan.specs.Values.{◌>>=◌, at}
+use Rattle.kc_plan.specs.Values.{◌>>=◌, at, refuse_if}
 
 -- what an audit is read against: the types, the addresses that the map lists for a name, and how far KASLR
 -- moved the kernel
@@ -71,19 +73,28 @@ abbrev pub from_at : Types → Row → Option ℕ → List ℕ → Result ByteAt
 from_at types needs None path = Err P10
 from_at types needs (Some element) path = struct_at types needs.head (located types element path)
 
--- where an audit begins, where the element of the audit above has this type
-abbrev pub begun : Kernel → Row → ℕ → Option ℕ → StartText → Option (List ℕ) → Result StartAt PlanFault
-begun kernel needs n above start None = do
-  to ← at (Some n) key.From (from_at kernel.types needs above (unwrap_or start.from []))
-  Ok (FromAt to start.optional)
-begun kernel needs n above start (Some root) = do
-  address ← at (Some n) key.Root (addressed (common_of kernel.kaslr (kernel.symbols root)))
-  root_at kernel.types needs n address start.root_type (unwrap_or start.root_path [])
+-- the address of a symbol of a kernel
+abbrev pub address_in : Kernel → List ℕ → Result ℕ SymFault
+address_in kernel name = common_of kernel.kaslr (kernel.symbols name)
 
--- the type of the elements
-abbrev pub element_at : Types → Option (List ℕ) → Result (Option ℕ) PRule
-element_at types None = Ok None
-element_at types (Some name) = do
+-- the address of a root audit's symbol
+abbrev pub root_for : Kernel → ℕ → Option (List ℕ) → Result (Option ℕ) PlanFault
+root_for kernel n None = Ok None
+root_for kernel n (Some name) = do
+  address ← at (Some n) key.Root (addressed (address_in kernel name))
+  Ok (Some address)
+
+-- where an audit begins, where its symbol has this address and the element of the audit above has this type
+abbrev pub begun : Types → Row → ℕ → Option ℕ → StartText → Option ℕ → Result StartAt PlanFault
+begun types needs n above start None = do
+  to ← at (Some n) key.From (from_at types needs above (unwrap_or start.from []))
+  Ok (FromAt to start.optional)
+begun types needs n above start (Some address) = root_at types needs n address start.root_type (unwrap_or start.root_path [])
+
+-- the type of the elements: a kind's own where no key names it
+abbrev pub element_at : Types → Option ℕ → Option (List ℕ) → Result (Option ℕ) PRule
+element_at types own None = Ok own
+element_at types own (Some name) = do
   ty ← type_named types name
   Ok (Some ty)
 
@@ -100,6 +111,21 @@ link_for types needs n (Some element) (Some path) = do
   place ← at (Some n) key.Link (struct_at types needs.node (located types element path))
   at (Some n) key.Link (inside place place.hops)
 
+-- a number that stands in the element itself
+abbrev pub bits_inside : BitsAt → List ℕ → Result (Option BitsAt) PRule
+bits_inside bits [] = Ok (Some bits)
+bits_inside bits (hop ∷ hops) = Err P10
+
+abbrev pub number_inside : Result NumberAt PathFault → Result (Option BitsAt) PRule
+number_inside (Err fault) = Err P10
+number_inside (Ok number) = bits_inside number.bits number.hops
+
+-- the bits of the key in an element
+abbrev pub key_for : Types → ℕ → Option ℕ → Option (List ℕ) → Result (Option BitsAt) PlanFault
+key_for types n element None = Ok None
+key_for types n None (Some path) = at (Some n) key.Key (Err P10)
+key_for types n (Some element) (Some path) = at (Some n) key.Key (number_inside (field types element path))
+
 -- the audits that an audit names
 abbrev pub children : List Link → ℕ → List ℕ
 children [] n = []
@@ -113,13 +139,26 @@ element_of audits n = option_and_then (λ (audit : AuditAt). audit.element) (sli
 abbrev pub element_above : List Link → List AuditAt → ℕ → Option ℕ
 element_above links before n = option_and_then (element_of before) (above_of links n)
 
+-- what the kind of an audit needs of a kernel
+abbrev pub needs_in : Kernel → AuditText → Row
+needs_in kernel audit = row kernel.types (address_in kernel) audit.sort audit.parts.tree.cached
+
+-- the kind of an audit, with where its words stand
+abbrev pub kind_in : Kernel → AuditText → ℕ → Option BitsAt → Option Kind
+kind_in kernel audit link bits =
+    shape kernel.types (address_in kernel) (needs_in kernel audit)
+    (record { link = link; key = bits; unique = audit.parts.tree.unique; cached = audit.parts.tree.cached }) audit.sort
+
 -- the audit with a number, behind these
 unfoldable pub planned : Kernel → List Link → List AuditAt → ℕ → AuditText → Result AuditAt PlanFault
 planned kernel links before n audit = do
-  start ← begun kernel (row kernel.types audit.sort) n (element_above links before n) audit.start audit.start.root
-  element ← at (Some n) key.Element (element_at kernel.types audit.parts.element)
-  link ← link_for kernel.types (row kernel.types audit.sort) n element audit.parts.link
-  kind ← at (Some n) key.Kind (ok_or (row kernel.types audit.sort).kind P11)
+  root ← root_for kernel n audit.start.root
+  clear ← at (Some n) key.Kind (refuse_if (not (needs_in kernel audit).clear) P9)
+  start ← begun kernel.types (needs_in kernel audit) n (element_above links before n) audit.start root
+  element ← at (Some n) key.Element (element_at kernel.types (needs_in kernel audit).element audit.parts.element)
+  link ← link_for kernel.types (needs_in kernel audit) n element audit.parts.link
+  bits ← key_for kernel.types n element audit.parts.tree.key
+  kind ← at (Some n) key.Kind (ok_or (kind_in kernel audit link bits) P11)
   Ok (record { name = audit.name; kind = kind; start = start; element = element; link = link; each = children links n })
 
 -- the audits, behind these

@@ -1,5 +1,5 @@
 -- What contracts see of an audit as it is written.
-use Rattle.std.specs.Prelude.{ℕ, List, map, String}
+use Rattle.std.specs.Prelude.{ℕ, List, map, option_map, String}
 use Rattle.std.specs.BTreeMap.{BTreeMap}
 use Rattle.std.specs.Option.{option_copied}
 use Rattle.std.specs.Borrow.{Bor}
@@ -7,6 +7,7 @@ use Rattle.std.specs.Global.{Global, Vec}
 use Rattle.toml.specs.Data.{Members}
 use Rattle.toml.specs.View.{table_view}
 use Rattle.toml.specs.declared.value.Value.{Value}
+use Rattle.kc_layout.specs.Views.{bits_view}
 use Rattle.kc_syms.specs.Symbols.{symbol}
 use Rattle.kc_plan.specs.declared.begin.Known.{Known}
 use Rattle.kc_btf.specs.Btf.{Types}
@@ -19,7 +20,10 @@ use Rattle.kc_plan.specs.declared.item.AuditWords.{AuditWords}
 use Rattle.kc_plan.specs.declared.item.Link.{Link}
 use Rattle.kc_plan.specs.declared.item.PartWords.{PartWords}
 use Rattle.kc_plan.specs.declared.item.StartWords.{StartWords}
-use Rattle.kc_plan.specs.Audits.{AuditText, PartText, StartText}
+use Rattle.kc_plan.specs.declared.item.TreeWords.{TreeWords}
+use Rattle.kc_plan.specs.declared.shape.Own.{Own}
+use Rattle.kc_plan.specs.Shapes.{OwnAt}
+use Rattle.kc_plan.specs.Audits.{AuditText, PartText, StartText, TreeText}
 
 abbrev pub text : Bor (List ℕ) → List ℕ
 text word = word.now
@@ -45,8 +49,11 @@ start_text start = record {
   optional = start.optional;
 }
 
+abbrev pub tree_text : TreeWords → TreeText
+tree_text tree = record { key = option_copied tree.key; unique = tree.unique; cached = tree.cached }
+
 abbrev pub part_text : PartWords → PartText
-part_text parts = record { element = option_copied parts.element; link = option_copied parts.link; each = texts parts.each }
+part_text parts = record { element = option_copied parts.element; link = option_copied parts.link; tree = tree_text parts.tree; each = texts parts.each }
 
 abbrev pub audit_text : AuditWords → AuditText
 audit_text audit = record { name = audit.name.now; sort = audit.sort; start = start_text audit.start; parts = part_text audit.parts }
@@ -59,6 +66,9 @@ links_in links = links.items
 
 abbrev pub kernel : Known → Kernel
 kernel known = record { types = known.btf.now; symbols = symbol known.symbols.now; kaslr = known.kaslr }
+
+abbrev pub own_seen : Own → OwnAt
+own_seen own = record { link = own.link; key = option_map bits_view own.key; unique = own.unique; cached = own.cached }
 
 abbrev pub plan_seen : Plan → List AuditAt
 plan_seen plan = audits_seen plan.audits

@@ -3,12 +3,13 @@ ghost use Rattle.std.specs.Prelude.{◌≡◌, ◌≤◌, [], map, length, IfOk}
 ghost use Rattle.toml.specs.View.{table_view};
 ghost use Rattle.kc_text.specs.Readers.{is_name};
 ghost use Rattle.kc_plan.specs.Answers.{Gives};
-ghost use Rattle.kc_plan.specs.Audits.{is_among, kind_for, name_for, parts_for, audit_for, audits_for};
-ghost use Rattle.kc_plan.specs.Views.{text, part_text, audit_text, audit_texts, tables_in};
+ghost use Rattle.kc_plan.specs.Audits.{is_among, kind_for, name_for, is_untyped, tree_for, parts_for, audit_for, audits_for};
+ghost use Rattle.kc_plan.specs.Views.{text, tree_text, part_text, audit_text, audit_texts, tables_in};
 
 use crate::fault::{PRule, PlanKey, PlanStop};
-use crate::item::{AuditWords, PartWords};
-use crate::keys::{AUDIT_KEYS, Need, Needs, Sort, needs_of, sort_of};
+use crate::item::{AuditWords, PartWords, TreeWords};
+use crate::keys::{AUDIT_KEYS, Need, Needs};
+use crate::kinds::{Sort, needs_of, sort_of};
 use crate::start::start_of;
 use crate::value::{
     flag_at, has, has_only, names_at, put, refuse_if, required_text, stop, text_at,
@@ -54,6 +55,31 @@ fn name_of<'t>(
     Ok(name)
 }
 
+// An audit whose elements may have no type, and have none, though it asks something of each.
+fn is_untyped(need: Need, table: &Table) -> bool
+    ensures { result ≡ is_untyped need (table_view table.now) }
+{
+    let asks = has(table, PlanKey::Check) || has(table, PlanKey::Each);
+    matches!(need, Need::Allowed) && asks && !has(table, PlanKey::Element)
+}
+
+// How the elements of a tree are ordered, where its kind asks this of the keys.
+#[tactic(auto, unfolding(crate::specs::Audits::tree_for))]
+fn tree_of(table: &Table, audit: Option<u32>, need: Need) -> Result<TreeWords<'_>, PlanStop>
+    ensures { Gives tree_text result (tree_for audit need (table_view table.now)) }
+{
+    let key = text_at(table, audit, need, PlanKey::Key)?;
+    let keyless = has(table, PlanKey::Unique) && !has(table, PlanKey::Key);
+    refuse_if(keyless, PRule::P3, audit, PlanKey::Key)?;
+    let unique = flag_at(table, audit, need, PlanKey::Unique)?;
+    let cached = flag_at(table, audit, need, PlanKey::Cached)?;
+    Ok(TreeWords {
+        key,
+        unique: unique.unwrap_or(false),
+        cached: cached.unwrap_or(false),
+    })
+}
+
 // What an audit walks, where its kind asks this of its keys. Checks can't be audited yet.
 #[tactic(auto, unfolding(crate::specs::Audits::parts_for))]
 fn parts_of<'t>(
@@ -65,12 +91,10 @@ fn parts_of<'t>(
     ensures { Gives part_text result (parts_for audit needs (table_view table.now)) }
 {
     let element = text_at(table, audit, needs.element, PlanKey::Element)?;
+    let untyped = is_untyped(needs.element, table);
+    refuse_if(untyped, PRule::P3, audit, PlanKey::Element)?;
     let link = text_at(table, audit, needs.link, PlanKey::Link)?;
-    let _ = text_at(table, audit, needs.tree, PlanKey::Key)?;
-    let keyless = has(table, PlanKey::Unique) && !has(table, PlanKey::Key);
-    refuse_if(keyless, PRule::P3, audit, PlanKey::Key)?;
-    let _ = flag_at(table, audit, needs.tree, PlanKey::Unique)?;
-    let _ = flag_at(table, audit, needs.tree, PlanKey::Cached)?;
+    let tree = tree_of(table, audit, needs.tree)?;
     refuse_if(
         has(table, PlanKey::Check),
         PRule::P13,
@@ -81,6 +105,7 @@ fn parts_of<'t>(
     Ok(PartWords {
         element,
         link,
+        tree,
         each,
     })
 }

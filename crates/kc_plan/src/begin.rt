@@ -1,11 +1,12 @@
 // The parts of an audit, looked up in a kernel's types and symbols.
-ghost use Rattle.std.specs.Prelude.{◌≡◌, ◌≤◌, [], length, Some, unwrap_or, IfOk, IfSome};
+ghost use Rattle.std.specs.Prelude.{◌≡◌, ◌≤◌, [], length, Some, unwrap_or, option_map, IfOk, IfSome};
 ghost use Rattle.std.specs.Option.{option_copied};
 ghost use Rattle.kc_layout.specs.Ends.{located};
-ghost use Rattle.kc_layout.specs.Views.{byte_view};
+ghost use Rattle.kc_layout.specs.Views.{byte_view, bits_view};
 ghost use Rattle.kc_plan.specs.declared.fault.PlanKey.TheVariants as key;
 ghost use Rattle.kc_plan.specs.Answers.{Gives};
-ghost use Rattle.kc_plan.specs.Plans.{is_struct, is_that, struct_at, type_named, addressed, root_at, from_at, begun, element_at, link_for, first_byte};
+ghost use Rattle.kc_plan.specs.Plans.{is_struct, is_that, struct_at, type_named, addressed, root_at, from_at, root_for, begun, element_at, link_for, key_for, first_byte};
+ghost use Rattle.kc_plan.specs.Kinds.{IsRow};
 ghost use Rattle.kc_plan.specs.Inside.{StartsInside};
 ghost use Rattle.kc_plan.specs.Planned.{start_seen};
 ghost use Rattle.kc_plan.specs.Values.{at};
@@ -19,8 +20,9 @@ use crate::planned::Start;
 use crate::shape::Row;
 use crate::value::stop;
 use kc_btf::Btf;
-use kc_layout::{Hops, Located, compound_under, find_type, locate};
+use kc_layout::{Hops, Located, compound_under, find_type, locate, resolve};
 use kc_syms::Symbols;
+use kc_word::Bits;
 
 // What an audit is read against: the types, the symbols, and how far KASLR moved the kernel, in bytes.
 #[derive(Clone, Copy)]
@@ -114,7 +116,7 @@ fn root_at(
     address: u64,
     start: StartWords<'_>,
 ) -> Result<Start, PlanStop>
-    requires { IfSome needs.now.head (λ id. id ≤ length btf.now.records) }
+    requires { IsRow (length btf.now.records) needs.now }
     ensures exact { Gives start_seen result (root_at btf.now needs.now audit address (option_copied start.entry.root_type) (unwrap_or (option_copied start.entry.root_path) [])) }
     ensures there { IfOk result (StartsInside (length btf.now.records)) }
 {
@@ -154,34 +156,57 @@ fn from_at(
     }
 }
 
-// Where an audit begins, where the element of the audit above has this type.
-pub(crate) fn begun(
+// The address of the symbol of a root audit.
+pub(crate) fn root_of(
     known: &Known<'_>,
+    audit: u32,
+    name: Option<&str>,
+) -> Result<Option<u64>, PlanStop>
+    ensures { Gives (λ root. root) result (root_for (kernel known.now) audit (option_copied name.entry)) }
+{
+    match name {
+        Some(name) => {
+            let address = address_of(known.symbols, known.kaslr, name, audit)?;
+            Ok(Some(address))
+        }
+        None => Ok(None),
+    }
+}
+
+// Where an audit begins, where its symbol has this address and the element of the audit above has this type.
+pub(crate) fn begun(
+    btf: &Btf,
     needs: &Row,
     audit: u32,
     above: Option<u32>,
+    root: Option<u64>,
     start: StartWords<'_>,
 ) -> Result<Start, PlanStop>
-    requires head { IfSome needs.now.head (λ id. id ≤ length known.now.btf.now.records) }
-    requires above { IfSome above (λ id. id ≤ length known.now.btf.now.records) }
-    ensures exact { Gives start_seen result (begun (kernel known.now) needs.now audit above (start_text start.entry) (option_copied start.entry.root)) }
-    ensures there { IfOk result (StartsInside (length known.now.btf.now.records)) }
+    requires row { IsRow (length btf.now.records) needs.now }
+    requires above { IfSome above (λ id. id ≤ length btf.now.records) }
+    ensures exact { Gives start_seen result (begun btf.now needs.now audit above (start_text start.entry) root) }
+    ensures there { IfOk result (StartsInside (length btf.now.records)) }
 {
-    let Some(root) = start.root else {
+    let Some(address) = root else {
         let path = start.from.unwrap_or("");
-        let to = from_at(known.btf, needs, audit, above, path)?;
+        let to = from_at(btf, needs, audit, above, path)?;
         return Ok(Start::From {
             to,
             optional: start.optional,
         });
     };
-    let address = address_of(known.symbols, known.kaslr, root, audit)?;
-    root_at(known.btf, needs, audit, address, start)
+    root_at(btf, needs, audit, address, start)
 }
 
 // The type of the elements.
-pub(crate) fn element_at(btf: &Btf, audit: u32, name: Option<&str>) -> Result<Option<u32>, PlanStop>
-    ensures exact { Gives (λ ty. ty) result (at (Some audit) key.Element (element_at btf.now (option_copied name.entry))) }
+pub(crate) fn element_at(
+    btf: &Btf,
+    needs: &Row,
+    audit: u32,
+    name: Option<&str>,
+) -> Result<Option<u32>, PlanStop>
+    requires { IsRow (length btf.now.records) needs.now }
+    ensures exact { Gives (λ ty. ty) result (at (Some audit) key.Element (element_at btf.now needs.now.element (option_copied name.entry))) }
     ensures there { IfOk result (λ ty. IfSome ty (λ id. id ≤ length btf.now.records)) }
 {
     match name {
@@ -189,7 +214,7 @@ pub(crate) fn element_at(btf: &Btf, audit: u32, name: Option<&str>) -> Result<Op
             let ty = type_named(btf, name, audit, PlanKey::Element)?;
             Ok(Some(ty))
         }
-        None => Ok(None),
+        None => Ok(needs.element),
     }
 }
 
@@ -215,5 +240,31 @@ pub(crate) fn link_at(
         Ok(place.byte)
     } else {
         Err(stop(PRule::P10, Some(audit), PlanKey::Link))
+    }
+}
+
+// The bits of the key in an element.
+pub(crate) fn key_at(
+    btf: &Btf,
+    audit: u32,
+    element: Option<u32>,
+    path: Option<&str>,
+) -> Result<Option<Bits>, PlanStop>
+    requires { IfSome element (λ id. id ≤ length btf.now.records) }
+    ensures { Gives (option_map bits_view) result (key_for btf.now audit element (option_copied path.entry)) }
+{
+    let Some(path) = path else {
+        return Ok(None);
+    };
+    let Some(element) = element else {
+        return Err(stop(PRule::P10, Some(audit), PlanKey::Key));
+    };
+    let Ok(number) = resolve(btf, element, path.as_bytes()) else {
+        return Err(stop(PRule::P10, Some(audit), PlanKey::Key));
+    };
+    if number.hops.count == 0 {
+        Ok(Some(number.bits))
+    } else {
+        Err(stop(PRule::P10, Some(audit), PlanKey::Key))
     }
 }

@@ -1,5 +1,5 @@
 // An audit as a plan writes it, in words of the plan's document.
-use crate::keys::Sort;
+use crate::kinds::Sort;
 
 // Where an audit begins.
 #[derive(Clone, Copy, Debug, PartialEq, Eq)]
@@ -11,11 +11,20 @@ pub(crate) struct StartWords<'t> {
     pub optional: bool,
 }
 
+// How the elements of a tree are ordered, and whether its root keeps the first.
+#[derive(Clone, Copy, Debug, PartialEq, Eq)]
+pub(crate) struct TreeWords<'t> {
+    pub key: Option<&'t str>,
+    pub unique: bool,
+    pub cached: bool,
+}
+
 // What an audit walks.
 #[derive(Drop)]
 pub(crate) struct PartWords<'t> {
     pub element: Option<&'t str>,
     pub link: Option<&'t str>,
+    pub tree: TreeWords<'t>,
     pub each: Vec<&'t str>,
 }
 

@@ -1,8 +1,8 @@
-// The keys of a plan, and which of them an audit of a kind has.
+// The keys of a plan, and what a kind of audit may ask of one.
 ghost use Rattle.std.specs.Prelude.{◌≡◌};
-ghost use Rattle.kc_plan.specs.Keys.{spelled, sort_of, is_later, needs_of};
+ghost use Rattle.kc_plan.specs.Keys.{spelled};
 
-use crate::fault::{PRule, PlanKey};
+use crate::fault::PlanKey;
 
 // What a kind of audit asks of a key.
 #[derive(Clone, Copy, Debug, PartialEq, Eq)]
@@ -13,13 +13,6 @@ pub(crate) enum Need {
     Allowed,
     // It isn't for this kind.
     Barred,
-}
-
-// The kinds of audits.
-#[derive(Clone, Copy, Debug, PartialEq, Eq)]
-pub(crate) enum Sort {
-    Ring,
-    Hlist,
 }
 
 // What a kind asks of the keys that aren't for all kinds.
@@ -76,43 +69,3 @@ pub(crate) const AUDIT_KEYS: [PlanKey; 14] = [
     PlanKey::Check,
     PlanKey::Each,
 ];
-
-// A kind that can't be audited yet.
-fn is_later(text: &str) -> bool
-    ensures { result ≡ is_later text.now }
-{
-    text == "rbtree" || text == "xarray" || text == "slub" || text == "tasks"
-}
-
-// The kind with a name.
-pub(crate) fn sort_of(text: &str) -> Result<Sort, PRule>
-    ensures { result ≡ sort_of text.now }
-{
-    if text == "ring" {
-        Ok(Sort::Ring)
-    } else if text == "hlist" {
-        Ok(Sort::Hlist)
-    } else if is_later(text) {
-        Err(PRule::P13)
-    } else {
-        Err(PRule::P4)
-    }
-}
-
-// What a kind asks of the keys.
-pub(crate) fn needs_of(sort: Sort) -> Needs
-    ensures { result ≡ needs_of sort }
-{
-    match sort {
-        Sort::Ring => Needs {
-            element: Need::Required,
-            link: Need::Required,
-            tree: Need::Barred,
-        },
-        Sort::Hlist => Needs {
-            element: Need::Required,
-            link: Need::Required,
-            tree: Need::Barred,
-        },
-    }
-}

@@ -8,6 +8,7 @@ mod fault;
 mod item;
 mod keys;
 mod kind;
+mod kinds;
 mod laws;
 mod link;
 mod plan;

@@ -1,40 +1,28 @@
 // A plan, read whole.
 ghost use Rattle.std.specs.Prelude.{◌≡◌, ◌≤◌, [], length, map, IfOk, IfSome};
 ghost use Rattle.kc_plan.specs.Answers.{Gives};
+ghost use Rattle.kc_plan.specs.Kinds.{AreRows};
 ghost use Rattle.kc_plan.specs.Inside.{IsInside, AreInside};
-ghost use Rattle.kc_plan.specs.Plans.{children, element_of, element_above, planned, all_planned, plan_of, plan};
-ghost use Rattle.kc_plan.specs.Shapes.{row, AreRows};
+ghost use Rattle.kc_plan.specs.Plans.{address_in, children, element_of, element_above, planned, all_planned, plan_of, plan};
 ghost use Rattle.kc_plan.specs.Planned.{audit_seen, audits_seen};
 ghost use Rattle.kc_plan.specs.Views.{kernel, kernel_of, audit_text, plan_seen};
 
-use crate::begin::{Known, begun, element_at, link_at};
+use crate::begin::{Known, begun, element_at, key_at, link_at, root_of};
 use crate::document::{audits_in, document_of};
 use crate::fault::{PRule, PlanKey, PlanStop};
 use crate::item::{AuditWords, Link};
-use crate::keys::Sort;
+use crate::kinds::{Rows, row_of, rows_of, shape_of};
 use crate::link::{above_of, links_of};
 use crate::plan::Plan;
 use crate::planned::{Audit, AuditList, Numbers};
-use crate::shape::{Row, Rows, rows_of};
-use crate::value::stop;
+use crate::shape::Own;
+use crate::value::{refuse_if, stop};
 use kc_btf::Btf;
 use kc_found::{Items, Name};
 use kc_notes::Info;
 use kc_syms::Symbols;
 use kc_word::NoMemory;
 use std::alloc::Global;
-
-// The row of a kind.
-fn row_of(btf: &Btf, rows: &Rows, sort: Sort) -> Row
-    requires { AreRows btf.now rows.now }
-    ensures exact { result ≡ row btf.now sort }
-    ensures there { IfSome result.head (λ id. id ≤ length btf.now.records) }
-{
-    match sort {
-        Sort::Ring => rows.ring,
-        Sort::Hlist => rows.hlist,
-    }
-}
 
 // The bytes of a name.
 fn name_of(alloc: Global, text: &str) -> Result<Name, NoMemory>
@@ -92,17 +80,27 @@ fn planned(
     number: u32,
     audit: &AuditWords<'_>,
 ) -> Result<Audit, PlanStop>
-    requires rows { AreRows known.now.btf.now rows.now }
+    requires rows { AreRows (kernel known.now).types (address_in (kernel known.now)) rows.now }
     requires before { AreInside (length known.now.btf.now.records) before.now }
     ensures exact { Gives audit_seen result (planned (kernel known.now) links.now (audits_seen before.now) number (audit_text audit.now)) }
     ensures inside { IfOk result (IsInside (length known.now.btf.now.records)) }
 {
-    let needs = row_of(known.btf, rows, audit.sort);
+    let tree = audit.parts.tree;
+    let needs = row_of(known, rows, audit.sort, tree.cached);
     let above = element_above(known.btf, links, before, number);
-    let start = begun(known, &needs, number, above, audit.start)?;
-    let element = element_at(known.btf, number, audit.parts.element)?;
+    let root = root_of(known, number, audit.start.root)?;
+    refuse_if(!needs.clear, PRule::P9, Some(number), PlanKey::Kind)?;
+    let start = begun(known.btf, &needs, number, above, root, audit.start)?;
+    let element = element_at(known.btf, &needs, number, audit.parts.element)?;
     let link = link_at(known.btf, &needs, number, element, audit.parts.link)?;
-    let Some(kind) = needs.kind else {
+    let key = key_at(known.btf, number, element, tree.key)?;
+    let own = Own {
+        link,
+        key,
+        unique: tree.unique,
+        cached: tree.cached,
+    };
+    let Some(kind) = shape_of(known, &needs, &own, audit.sort) else {
         return Err(stop(PRule::P11, Some(number), PlanKey::Kind));
     };
     let name = name_of(alloc, audit.name)?;
@@ -125,7 +123,7 @@ fn all_planned(
     links: &[Link],
     audits: &[AuditWords<'_>],
 ) -> Result<AuditList, PlanStop>
-    requires rows { AreRows known.now.btf.now rows.now }
+    requires rows { AreRows (kernel known.now).types (address_in (kernel known.now)) rows.now }
     requires few { length audits.now ≤ 256 }
     ensures exact { Gives audits_seen result (all_planned (kernel known.now) links.now [] (map audit_text audits.now)) }
     ensures inside { IfOk result (AreInside (length known.now.btf.now.records)) }
@@ -151,7 +149,7 @@ fn plan_of(
     ensures inside { IfOk result (AreInside (length known.now.btf.now.records)) }
 {
     let links = links_of(alloc, audits)?;
-    let rows = rows_of(known.btf);
+    let rows = rows_of(known);
     all_planned(alloc, known, &rows, &links, audits)
 }
 

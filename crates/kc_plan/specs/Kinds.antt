@@ -1,0 +1,84 @@
+-- The table of the kinds of audits: their names, what they ask of the keys, what they need of a kernel, and where their
+-- words stand. A new kind has a line in each.
+use Rattle.std.specs.Prelude.{◌≡◌, ◌≤◌, ℕ, length, List, Bool, true, false, ◌||◌, codes, Option, Some, None, option_map, option_and_then, IfSome, Result, Ok, Err, if◌then◌else◌}
+use Rattle.std.specs.Str.{bytes_eq}
+use Rattle.kc_btf.specs.Btf.{Types}
+use Rattle.kc_syms.specs.declared.fault.SymFault.{SymFault}
+use Rattle.kc_plan.specs.declared.fault.PRule.{PRule}
+use Rattle.kc_plan.specs.declared.fault.PRule.TheVariants.{P4, P13}
+use Rattle.kc_plan.specs.declared.keys.Needs.{Needs}
+use Rattle.kc_plan.specs.declared.keys.Need.TheVariants.{Required, Barred}
+use Rattle.kc_plan.specs.declared.kinds.Rows.{Rows}
+use Rattle.kc_plan.specs.declared.kinds.Sort.{Sort}
+use Rattle.kc_plan.specs.declared.kinds.Sort.TheVariants as sort
+use Rattle.kc_plan.specs.declared.kind.Kind.{Kind}
+use Rattle.kc_plan.specs.declared.kind.Kind.TheVariants.{Ring, Hlist}
+use Rattle.kc_plan.specs.declared.shape.Row.{Row}
+use Rattle.kc_plan.specs.Shapes.{OwnAt, struct_named, word_in}
+
+-- a kind that can't be audited yet
+abbrev pub is_later : List ℕ → Bool
+is_later text =
+    bytes_eq text (codes "rbtree") || (bytes_eq text (codes "xarray") || (bytes_eq text (codes "slub") || bytes_eq text (codes "tasks")))
+
+-- the kind with a name
+abbrev pub sort_of : List ℕ → Result Sort PRule
+sort_of text =
+    if bytes_eq text (codes "ring") then Ok sort.Ring
+    else (if bytes_eq text (codes "hlist") then Ok sort.Hlist
+    else (if is_later text then Err P13 else Err P4))
+
+-- what a kind asks of the keys that aren't for all kinds
+abbrev pub needs_of : Sort → Needs
+needs_of sort.Ring = record { element = Required; link = Required; tree = Barred }
+needs_of sort.Hlist = record { element = Required; link = Required; tree = Barred }
+
+-- the address of a symbol with a name
+abbrev pub Addresses : Type 0
+Addresses = List ℕ → Result ℕ SymFault
+
+-- what a kind needs of a kernel, where its root may be one that keeps the first element: the structs of its head and of
+-- the node in an element, the type of its elements where no key names it, and that its symbols have one address each
+abbrev pub row : Types → Addresses → Sort → Bool → Row
+row types address sort.Ring cached = record {
+  head = struct_named types (codes "list_head");
+  node = struct_named types (codes "list_head");
+  element = None;
+  clear = true;
+}
+row types address sort.Hlist cached = record {
+  head = struct_named types (codes "hlist_head");
+  node = struct_named types (codes "hlist_node");
+  element = None;
+  clear = true;
+}
+
+-- the words of a ring
+unfoldable pub ring_shape : Types → Option ℕ → Option Kind
+ring_shape types node =
+    option_and_then (λ next. option_map (λ prev. Ring (record { next = next; prev = prev }))
+    (word_in types node (codes "prev"))) (word_in types node (codes "next"))
+
+-- the words of a hash chain
+unfoldable pub hlist_shape : Types → Option ℕ → Option ℕ → Option Kind
+hlist_shape types head node =
+    option_and_then (λ first. option_and_then (λ next. option_map (λ pprev. Hlist (record { first = first; next = next; pprev = pprev }))
+    (word_in types node (codes "pprev"))) (word_in types node (codes "next"))) (word_in types head (codes "first"))
+
+-- a kind with where its words stand
+abbrev pub shape : Types → Addresses → Row → OwnAt → Sort → Option Kind
+shape types address needs own sort.Ring = ring_shape types needs.node
+shape types address needs own sort.Hlist = hlist_shape types needs.head needs.node
+
+-- the types of a row are among so many
+pub record IsRow (count : ℕ) (row : Row) : Type 0 where
+  pub head : IfSome row.head (λ id. id ≤ count)
+  pub node : IfSome row.node (λ id. id ≤ count)
+  pub element : IfSome row.element (λ id. id ≤ count)
+
+-- these are the rows of all kinds
+pub record AreRows (types : Types) (address : Addresses) (rows : Rows) : Type 0 where
+  pub ring : rows.ring ≡ row types address sort.Ring false
+  pub hlist : rows.hlist ≡ row types address sort.Hlist false
+  pub ring_there : IsRow (length types.records) rows.ring
+  pub hlist_there : IsRow (length types.records) rows.hlist

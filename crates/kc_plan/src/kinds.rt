@@ -1,0 +1,134 @@
+// The table of the kinds of audits. A new kind has a variant here and in `Kind`, and a line in each function that matches
+// on them: its name, what it asks of the keys, what it needs of a kernel, and where its words stand.
+ghost use Rattle.std.specs.Prelude.{◌≡◌, ◌≤◌, length, IfSome};
+ghost use Rattle.kc_plan.specs.declared.kinds.Sort.TheVariants as sort;
+ghost use Rattle.kc_plan.specs.Kinds.{sort_of, is_later, needs_of, ring_shape, hlist_shape, row, shape, AreRows, IsRow};
+ghost use Rattle.kc_plan.specs.Plans.{address_in};
+ghost use Rattle.kc_plan.specs.Views.{kernel, own_seen};
+
+use crate::begin::Known;
+use crate::fault::PRule;
+use crate::keys::{Need, Needs};
+use crate::kind::Kind;
+use crate::shape::{Own, Row, struct_named, word_in};
+use kc_btf::Btf;
+use kc_found::{HShape, ListShape};
+
+// The kinds of audits.
+#[derive(Clone, Copy, Debug, PartialEq, Eq)]
+pub(crate) enum Sort {
+    Ring,
+    Hlist,
+}
+
+// A kind that can't be audited yet.
+fn is_later(text: &str) -> bool
+    ensures { result ≡ is_later text.now }
+{
+    text == "rbtree" || text == "xarray" || text == "slub" || text == "tasks"
+}
+
+// The kind with a name.
+pub(crate) fn sort_of(text: &str) -> Result<Sort, PRule>
+    ensures { result ≡ sort_of text.now }
+{
+    if text == "ring" {
+        Ok(Sort::Ring)
+    } else if text == "hlist" {
+        Ok(Sort::Hlist)
+    } else if is_later(text) {
+        Err(PRule::P13)
+    } else {
+        Err(PRule::P4)
+    }
+}
+
+// What a kind asks of the keys.
+pub(crate) fn needs_of(sort: Sort) -> Needs
+    ensures { result ≡ needs_of sort }
+{
+    match sort {
+        Sort::Ring | Sort::Hlist => Needs {
+            element: Need::Required,
+            link: Need::Required,
+            tree: Need::Barred,
+        },
+    }
+}
+
+// What the kinds need of a kernel, looked up once for a plan.
+#[derive(Clone, Copy, Debug, PartialEq, Eq)]
+pub(crate) struct Rows {
+    pub ring: Row,
+    pub hlist: Row,
+}
+
+// The rows of all kinds.
+pub(crate) fn rows_of(known: &Known<'_>) -> Rows
+    ensures { AreRows (kernel known.now).types (address_in (kernel known.now)) result }
+{
+    let list = struct_named(known.btf, b"list_head");
+    let head = struct_named(known.btf, b"hlist_head");
+    let node = struct_named(known.btf, b"hlist_node");
+    Rows {
+        ring: Row {
+            head: list,
+            node: list,
+            element: None,
+            clear: true,
+        },
+        hlist: Row {
+            head,
+            node,
+            element: None,
+            clear: true,
+        },
+    }
+}
+
+// What a kind needs, where its root may be one that keeps the first element.
+pub(crate) fn row_of(known: &Known<'_>, rows: &Rows, sort: Sort, cached: bool) -> Row
+    requires { AreRows (kernel known.now).types (address_in (kernel known.now)) rows.now }
+    ensures exact { result ≡ row (kernel known.now).types (address_in (kernel known.now)) sort cached }
+    ensures there { IsRow (length known.now.btf.now.records) result }
+{
+    match sort {
+        Sort::Ring => rows.ring,
+        Sort::Hlist => rows.hlist,
+    }
+}
+
+// The words of a ring.
+#[tactic(auto, unfolding(crate::specs::Kinds::ring_shape))]
+fn ring_shape(btf: &Btf, node: Option<u32>) -> Option<Kind>
+    requires { IfSome node (λ id. id ≤ length btf.now.records) }
+    ensures { result ≡ ring_shape btf.now node }
+{
+    let next = word_in(btf, node, b"next")?;
+    let prev = word_in(btf, node, b"prev")?;
+    Some(Kind::Ring(ListShape { next, prev }))
+}
+
+// The words of a hash chain.
+#[tactic(auto, unfolding(crate::specs::Kinds::hlist_shape))]
+fn hlist_shape(btf: &Btf, head: Option<u32>, node: Option<u32>) -> Option<Kind>
+    requires head { IfSome head (λ id. id ≤ length btf.now.records) }
+    requires node { IfSome node (λ id. id ≤ length btf.now.records) }
+    ensures { result ≡ hlist_shape btf.now head node }
+{
+    let first = word_in(btf, head, b"first")?;
+    let next = word_in(btf, node, b"next")?;
+    let pprev = word_in(btf, node, b"pprev")?;
+    Some(Kind::Hlist(HShape { first, next, pprev }))
+}
+
+// A kind with where its words stand, where the types have them.
+pub(crate) fn shape_of(known: &Known<'_>, needs: &Row, own: &Own, sort: Sort) -> Option<Kind>
+    requires { IsRow (length known.now.btf.now.records) needs.now }
+    ensures { result ≡ shape (kernel known.now).types (address_in (kernel known.now)) needs.now (own_seen own.now) sort }
+{
+    match sort {
+        Sort::Ring => ring_shape(known.btf, needs.node),
+        Sort::Hlist => hlist_shape(known.btf, needs.head, needs.node),
+    }
+}
