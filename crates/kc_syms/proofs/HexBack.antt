@@ -73,7 +73,7 @@ back (c ∷ digits) m n all is =
     }
 
 -- no lower-case digit is an x
-plain : (digits : List ℕ) → list_all is_digit digits ≡ true → digits_of digits ≡ digits
+pub plain : (digits : List ℕ) → list_all is_digit digits ≡ true → digits_of digits ≡ digits
 plain [] all = refl
 plain (a ∷ []) all = refl
 plain (a ∷ b ∷ rest) all =

@@ -1,4 +1,5 @@
 mod AgreementLaws
+mod DigitLemmas
 mod HexBack
 mod IndexLemmas
 mod ReadLemmas

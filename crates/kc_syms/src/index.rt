@@ -1,9 +1,10 @@
 // The addresses of each name.
-ghost use Rattle.std.specs.Prelude.{◌≡◌, ℕ, List, [], ◌∷◌, ◌++◌, OnOk, OnErr, if◌then◌else◌};
+ghost use Rattle.std.specs.Prelude.{◌≡◌, ℕ, List, [], ◌∷◌, ◌++◌, IfOk, OnOk};
 ghost use Rattle.std.specs.Str.{bytes_eq};
 ghost use Rattle.kc_syms.specs.Listed.{listed, put_behind};
 
 use indexmap::IndexMap;
+use indexmap::map::Entry;
 use kc_word::NoMemory;
 use std::alloc::Global;
 
@@ -17,6 +18,19 @@ pub struct Listed {
 // The names, each with its addresses.
 pub type Index<'a> = IndexMap<&'a [u8], Listed>;
 
+// The bytes of a row, about: 16 digits, a kind and two spaces, a newline, and a name, of which some are of several rows.
+const ROW: usize = 40;
+
+// An index of no name, with room for the names of a map of this length.
+pub fn with_room<'a>(alloc: Global, length: usize) -> Result<Index<'a>, NoMemory>
+    ensures { IfOk result (λ index. (query : List ℕ) → listed index query ≡ []) }
+{
+    match IndexMap::with_capacity(alloc, length / ROW) {
+        Ok(index) => Ok(index),
+        Err(_) => Err(NoMemory),
+    }
+}
+
 // A row's address behind those of its name.
 pub fn add<'a>(
     alloc: Global,
@@ -26,16 +40,15 @@ pub fn add<'a>(
 ) -> Result<(), NoMemory>
     ensures { OnOk result ((query : List ℕ) → listed index.new query ≡ put_behind (bytes_eq name.now query) (listed index.old query) address) }
 {
-    if let Some(listed) = index.get_mut(&name) {
-        return put_last(&mut listed.rest, address);
-    }
-    let listed = Listed {
-        first: address,
-        rest: Vec::new(alloc),
-    };
-    match index.insert(name, listed) {
-        Ok(_) => Ok(()),
-        Err(_) => Err(NoMemory),
+    match index.entry(name)? {
+        Entry::Occupied(entry) => put_last(&mut entry.into_mut().rest, address),
+        Entry::Vacant(entry) => {
+            entry.insert(Listed {
+                first: address,
+                rest: Vec::new(alloc),
+            });
+            Ok(())
+        }
     }
 }
 

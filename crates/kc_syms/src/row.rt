@@ -1,11 +1,10 @@
 // A row of a map.
-ghost use Rattle.std.specs.Prelude.{◌≡◌, option_map};
+ghost use Rattle.std.specs.Prelude.{◌≡◌, ◌<◌, length, None, option_map, IfSome, if◌then◌else◌};
 ghost use Rattle.std.specs.Option.{option_copied};
 ghost use Rattle.std.specs.List.{list_all};
+ghost use Rattle.kc_word.specs.Hex.{digit_value};
 ghost use Rattle.kc_syms.specs.Rows.{is_digit, is_kind, is_name_byte, listed_in, name_in, name_behind, row_of};
 ghost use Rattle.kc_syms.specs.Views.{row_text};
-
-use kc_word::read_hex;
 
 // A row: the address that it lists, and its name, a part of the file.
 #[derive(Clone, Copy)]
@@ -30,20 +29,26 @@ pub fn read_row(line: &[u8]) -> Option<Row<'_>>
 
 // The address that 16 digits list.
 fn listed_in(digits: &[u8]) -> Option<u64>
+    requires { length digits.now ≡ 16 }
     ensures { result ≡ listed_in digits.now }
 {
-    if are_digits(digits) {
-        read_hex(digits)
-    } else {
-        None
+    let mut listed = 0;
+    for c in digits {
+        listed = 16 * listed + u64::from(worth(*c)?);
     }
+    Some(listed)
 }
 
-// All are hex digits, of lower case.
-fn are_digits(text: &[u8]) -> bool
-    ensures { result ≡ list_all is_digit text.now }
+// What a hex digit of lower case is worth.
+fn worth(c: u8) -> Option<u8>
+    ensures value { result ≡ (if is_digit c then digit_value c else None) }
+    ensures small { IfSome result (λ digit. digit < 16) }
 {
-    text.iter().all(|c| is_digit(*c))
+    match c {
+        b'0'..=b'9' => Some(c - b'0'),
+        b'a'..=b'f' => Some(c - b'a' + 10),
+        _ => None,
+    }
 }
 
 // The name behind a space, a kind and a space.
@@ -72,13 +77,6 @@ fn are_name_bytes(text: &[u8]) -> bool
     ensures { result ≡ list_all is_name_byte text.now }
 {
     text.iter().all(|c| is_name_byte(*c))
-}
-
-// A hex digit, of lower case.
-fn is_digit(c: u8) -> bool
-    ensures { result ≡ is_digit c }
-{
-    matches!(c, b'0'..=b'9' | b'a'..=b'f')
 }
 
 // The kind of a symbol.

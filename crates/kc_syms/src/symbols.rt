@@ -7,10 +7,9 @@ ghost use Rattle.kc_syms.specs.Rows.{lines, rows};
 ghost use Rattle.kc_syms.specs.Symbols.{symbol};
 
 use crate::fault::{SymFault, SymStop};
-use crate::index::{Index, add};
+use crate::index::{Index, add, with_room};
 use crate::row::read_row;
 use bstr::ByteSlice;
-use indexmap::IndexMap;
 use std::alloc::Global;
 
 // The kernel's image is linked to stand at this address and above.
@@ -37,7 +36,7 @@ impl<'a> Symbols<'a> {
         ensures exact { IsAnswer result (rows bytes.now) }
         ensures spelled { IsAnswerBySpelling result (lines bytes.now) }
     {
-        let mut index = IndexMap::new(alloc);
+        let mut index = with_room(alloc, bytes.len())?;
         let mut number = 1;
         for line in bytes.lines() {
             let Some(row) = read_row(line) else {

@@ -1,8 +1,6 @@
-use Rattle.std.proofs.Common.{Ok, Err, sym, ap, arith}
-use Rattle.std.specs.Map.{lookup}
-use Rattle.std.specs.Str.{bytes_eq}
+use Rattle.std.proofs.Common.{Ok, Err, sym, arith}
 use Rattle.kc_syms.specs.declared.fault.SymStop.TheVariants.{S1}
-use Rattle.kc_syms.specs.Listed.{list_of, listed}
+use Rattle.kc_syms.specs.Listed.{listed}
 use Rattle.kc_syms.proofs.ReadLemmas.{reads_all, reads_bad, reads_none, reads_row}
 use Rattle.kc_syms.proofs.SpellingLaws.{answers_by_spelling}
 use Rattle.kc_syms.proofs.symbols.Symbols.read.Goals as goal
@@ -14,8 +12,7 @@ loop-line-init c =
       tt,
       omega (arith, c.lines-line-items.ensures.len),
       rw (c.lines-line-items.ensures.value)
-          (reads_none (listed c.new-index.result) c.args.bytes.now
-          (λ name. ap (λ entries. list_of (lookup (λ key. bytes_eq name key.now) entries)) c.new-index.ensures.empty)),
+          (reads_none (listed c.in_ok-index.index) c.args.bytes.now c.in_ok-index.ensures),
     )
 
 pub loop-line-preserved : goal.loop-line-preserved

@@ -1,0 +1,58 @@
+-- Lower-case digits, read one by one.
+use Rattle.std.proofs.Common.{◌≡◌, ℕ, suc, ◌+◌, ◌*◌, ◌<◌, ◌≤◌, Bool, true, false, ◌&&◌, List, ◌∷◌, length, drop, get_or, Option, Some, None, refl, sym, ap, ◌∙◌, arith, drop-cons, if◌then◌else◌}
+use Rattle.std.proofs.Math.ListN.{drop_of_length-le}
+use Rattle.std.specs.List.{list_all}
+use Rattle.kc_word.specs.Hex.{digit_value, hex_from, hex_number}
+use Rattle.kc_word.proofs.HexLemmas.{hex_from-bad, hex_from-cons, hex_from-nil}
+use Rattle.kc_syms.specs.Rows.{is_digit, listed_in}
+use Rattle.kc_syms.proofs.HexBack.{plain}
+
+-- what a digit is worth
+abbrev pub worth : ℕ → Option ℕ
+worth c = if is_digit c then digit_value c else None
+
+-- the address whose digits are those of a number and then these
+abbrev pub listed_from : ℕ → List ℕ → Option ℕ
+listed_from n digits = if list_all is_digit digits then hex_from n digits else None
+
+-- a digit in front, where the rest are digits or not
+one_more : (digit all : Bool) (w o p : Option ℕ) (d : ℕ) → (if digit then w else None) ≡ Some d → (w ≡ Some d → o ≡ p)
+    → (if digit && all then o else None) ≡ (if all then p else None)
+one_more false all w o p d is go = cc
+one_more true false w o p d is go = refl
+one_more true true w o p d is go = go is
+
+no_more : (digit all : Bool) (w o : Option ℕ) → (if digit then w else None) ≡ None → (w ≡ None → o ≡ None)
+    → (if digit && all then o else None) ≡ None
+no_more false all w o is go = refl
+no_more true false w o is go = refl
+no_more true true w o is go = go is
+
+same_where : (b : Bool) (o p : Option ℕ) → (b ≡ true → o ≡ p) → (if b then o else None) ≡ (if b then p else None)
+same_where true o p go = go refl
+same_where false o p go = refl
+
+pub next_digit : (ds : List ℕ) (i n d : ℕ) → i < length ds → worth (get_or ds i 0) ≡ Some d
+    → listed_from (16 * n + d) (drop (i + 1) ds) ≡ listed_from n (drop i ds)
+next_digit ds i n d within is =
+    let c = get_or ds i 0 in
+    let rest = drop (suc i) ds in
+    let next : suc i ≡ i + 1 = omega arith in
+    let step : listed_from n (c ∷ rest) ≡ listed_from (16 * n + d) rest =
+    one_more (is_digit c) (list_all is_digit rest) (digit_value c) (hex_from n (c ∷ rest)) (hex_from (16 * n + d) rest) d is
+    (hex_from-cons n c d rest) in
+    rw (drop-cons ds i 0 within) (sym (step ∙ ap (λ j. listed_from (16 * n + d) (drop j ds)) next))
+
+pub bad_digit : (ds : List ℕ) (i n : ℕ) → i < length ds → worth (get_or ds i 0) ≡ None → listed_from n (drop i ds) ≡ None
+bad_digit ds i n within is =
+    let c = get_or ds i 0 in
+    let rest = drop (suc i) ds in
+    rw (drop-cons ds i 0 within)
+    (no_more (is_digit c) (list_all is_digit rest) (digit_value c) (hex_from n (c ∷ rest)) is (hex_from-bad n c rest))
+
+pub no_digit : (ds : List ℕ) (i n : ℕ) → length ds ≤ i → listed_from n (drop i ds) ≡ Some n
+no_digit ds i n past = ap (listed_from n) (drop_of_length-le ds past) ∙ hex_from-nil n
+
+-- sixteen digits list an address
+pub lists : (ds : List ℕ) → length ds ≡ 16 → listed_from 0 ds ≡ listed_in ds
+lists ds long = same_where (list_all is_digit ds) (hex_from 0 ds) (hex_number ds) (λ all. sym (rw (plain ds all, long)))
