@@ -10,3 +10,6 @@ mod walk;
 
 pub use laws::know_trees;
 pub use walk::rb_walk;
+
+#[cfg(test)]
+mod tests;
