@@ -2,5 +2,6 @@ mod Flip
 pub mod Known
 pub mod Passed
 pub mod Reached
+pub mod Shown
 pub mod Told
 pub mod Whole

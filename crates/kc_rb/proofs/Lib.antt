@@ -4,6 +4,7 @@ mod Judging
 mod Law
 mod Opening
 mod Order
+mod Places
 mod Rise
 mod Rows
 mod Words

@@ -1,9 +1,11 @@
 -- What the walks of red-black trees say of finite trees of nodes.
-use Rattle.std.specs.Prelude.{◌≡◌, ℕ, List, None, Ok}
+use Rattle.std.specs.Prelude.{◌≡◌, ℕ, List, None, Ok, Err}
 use Rattle.kc_memory.specs.Image.{Image}
+use Rattle.kc_memory.specs.Places.{AllStandIn}
 use Rattle.kc_found.specs.declared.shapes.RbShape.{RbShape}
 use Rattle.kc_found.specs.RbFinite.{RbTree, AreRising, keys_in}
 use Rattle.kc_found.specs.RbTrees.{reads_of, tree_walk}
+use Rattle.kc_found.specs.Violations.{Violation}
 
 -- a red-black tree of the definition is walked whole, and what is walked without a violation is one
 abbrev pub TreesAreWalked : Type 0
@@ -17,3 +19,9 @@ abbrev pub KeysRise : Type 0
 KeysRise =
     (image : Image) (shape : RbShape) (start : ℕ) (ns : List ℕ)
     → RbTree (reads_of image) shape start ns → AreRising shape.unique None (keys_in (reads_of image) shape ns)
+
+-- what a violation shows is true of the dump
+abbrev pub TreePlacesStand : Type 0
+TreePlacesStand =
+    (image : Image) (shape : RbShape) (audit start : ℕ) (v : Violation)
+    → tree_walk image shape audit start ≡ Err v → AllStandIn image v.places

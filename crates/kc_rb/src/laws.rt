@@ -1,9 +1,16 @@
 // What the definitions of walks say, for a reader to believe and a caller to learn.
-ghost use Rattle.kc_rb.specs.Laws.{KeysRise, TreesAreWalked};
+ghost use Rattle.kc_rb.specs.Laws.{KeysRise, TreePlacesStand, TreesAreWalked};
+
+use kc_found::{know_numbers, know_places};
 
 /// Does nothing. A finite tree of nodes that makes up a red-black tree is what its walk gives, from left to right, and
-/// a walk without a violation gives such a tree. Its keys are in order.
+/// a walk without a violation gives such a tree. Its keys are in order. The places that a violation shows are true of
+/// the dump.
 pub fn know_trees()
     ensures trees { TreesAreWalked }
     ensures keys { KeysRise }
-{}
+    ensures places { TreePlacesStand }
+{
+    know_places();
+    know_numbers();
+}

@@ -2,6 +2,7 @@ use Rattle.std.proofs.Common.{List, ℕ, Some, Ok}
 use Rattle.kc_found.specs.RbTrees.{reads_of}
 use Rattle.kc_rb.proofs.Law.{tree_of, walked}
 use Rattle.kc_rb.proofs.Order.{rising}
+use Rattle.kc_rb.proofs.Places.{walk_shows}
 use Rattle.kc_rb.proofs.laws.know_trees.Goals as goal
 
 pub returns-clause-trees : goal.returns-clause-trees
@@ -9,3 +10,6 @@ returns-clause-trees c = λ image shape audit start ns. (walked image shape (rec
 
 pub returns-clause-keys : goal.returns-clause-keys
 returns-clause-keys c = λ image shape start ns t. rising (reads_of image) shape start ns t
+
+pub returns-clause-places : goal.returns-clause-places
+returns-clause-places c = λ image shape audit start v is. walk_shows c.know_places.ensures c.know_numbers.ensures.stand image shape audit start v is
