@@ -8,6 +8,7 @@ pub mod Rising
 pub mod Rows
 pub mod SameWords
 pub mod Shaping
+pub mod Showing
 pub mod SlotWords
 pub mod Spending
 pub mod Standing

@@ -1,6 +1,7 @@
 -- What the trials of a node's own words claim and meet.
 use Rattle.std.proofs.Common.{◌≡◌, ℕ, zero, suc, ◌*◌, nat_eq, Bool, true, false, List, [], ◌∷◌, ◌++◌, map, Option, Some, refl, ◌∙◌, ap, append-nil}
 use Rattle.std.specs.Prelude.{Result, Ok, Err, not}
+use Rattle.kc_found.proofs.Known.{ok_after}
 use Rattle.kc_found.proofs.Passed.{met-append, claimed_in-append}
 use Rattle.kc_found.specs.FiniteXarrays.{own}
 use Rattle.kc_found.specs.Nodes.{at_offset}
@@ -70,10 +71,6 @@ found_is stop (Err m) w e = absurd (cc)
 pub read_among : (m : Image) (asked : Asked) (led : Option VWord) (va : ℕ) (w : VWord) → behind_entry (vword m) asked led va ≡ Ok w → is_member nat_eq (held m.physical) w.pa ≡ true
 read_among m asked led va w e = found_is_held m va w (found_is (missed asked led) (vword m va) w e)
 
-after : {A B : Type 0} (r : Result A Violation) (f : A → Result B Violation) (y : B) → and_then r f ≡ Ok y → (x : A) × (r ≡ Ok x) × (f x ≡ Ok y)
-after (Ok x) f y e = (x, refl, e)
-after (Err g) f y e = absurd (cc)
-
 map_append : (ws : List VWord) (w : VWord) → map (λ v. v.pa) (ws ++ w ∷ []) ≡ map (λ v. v.pa) ws ++ w.pa ∷ []
 map_append [] w = refl
 map_append (v ∷ ws) w = ap (λ ps. v.pa ∷ ps) (map_append ws w)
@@ -83,8 +80,8 @@ unfolding first_words
 first_among m asked led at zero ws e = let same : [] ≡ ws = cc in rw (← same) tt
 first_among m asked led at (suc n) ws e =
     let r = reader m asked led in
-    let s = after (first_words r at n) (λ vs. and_then (r (at_offset at (8 * n))) (λ w. Ok (vs ++ w ∷ []))) ws e in
-    let t = after (r (at_offset at (8 * n))) (λ w. Ok (s.0 ++ w ∷ [])) ws s.2 in
+    let s = ok_after (first_words r at n) (λ vs. and_then (r (at_offset at (8 * n))) (λ w. Ok (vs ++ w ∷ []))) ws e in
+    let t = ok_after (r (at_offset at (8 * n))) (λ w. Ok (s.0 ++ w ∷ [])) ws s.2 in
     let vs : List VWord = s.0 in
     let w : VWord = t.0 in
     let same : vs ++ w ∷ [] ≡ ws = let q = t.2 in cc in
@@ -94,13 +91,13 @@ pub node_among : (m : Image) (asked : Asked) (led : VWord) (shape : XaLayout) (n
 unfolding xa_words
 node_among m asked led shape node n e =
     let r = reader m asked led in
-    let a = after (r (at_offset node shape.parent)) _ n e in
-    let b = after (r (at_offset node shape.array)) _ n a.2 in
-    let d = after (first_words r (at_offset node shape.slots) shape.chunk) _ n b.2 in
-    let f = after (r (word_of (at_offset node shape.shift))) _ n d.2 in
-    let h = after (r (word_of (at_offset node shape.offset))) _ n f.2 in
-    let i = after (r (word_of (at_offset node shape.count))) _ n h.2 in
-    let j = after (r (word_of (at_offset node shape.nr_values))) _ n i.2 in
+    let a = ok_after (r (at_offset node shape.parent)) _ n e in
+    let b = ok_after (r (at_offset node shape.array)) _ n a.2 in
+    let d = ok_after (first_words r (at_offset node shape.slots) shape.chunk) _ n b.2 in
+    let f = ok_after (r (word_of (at_offset node shape.shift))) _ n d.2 in
+    let h = ok_after (r (word_of (at_offset node shape.offset))) _ n f.2 in
+    let i = ok_after (r (word_of (at_offset node shape.count))) _ n h.2 in
+    let j = ok_after (r (word_of (at_offset node shape.nr_values))) _ n i.2 in
     let made : XaWords = record { parent = a.0; array = b.0; slots = d.0; shift = f.0; offset = h.0; count = i.0; values = j.0 } in
     let same : made ≡ n = let q = j.2 in cc in
     rw (← same) (read_among m asked (Some led) _ a.0 a.1, (read_among m asked (Some led) _ b.0 b.1, first_among m asked led (at_offset node shape.slots) shape.chunk d.0 d.1))

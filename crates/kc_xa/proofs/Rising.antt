@@ -1,6 +1,7 @@
 -- The indexes of an xarray's pointers rise.
 use Rattle.std.proofs.Common.{◌≡◌, ℕ, zero, suc, ◌+◌, ◌-◌, ◌*◌, ◌%◌, ◌^◌, ◌<◌, ◌≤◌, nat_eq, Bool, true, false, List, [], ◌∷◌, ◌++◌, length, Option, None, Some, refl, sym, ◌∙◌, ap, arith, length-append, ◌⊎◌, inl, inr}
 use Rattle.std.specs.Prelude.{Result, Ok, Err, IfSome, IfOk, ◌&&◌, ◌||◌, IsTrue}
+use Rattle.kc_found.proofs.Known.{ok_after}
 use Rattle.kc_found.specs.FiniteXarrays.{Tree, NodeHolds, MayStand, item_of, IsTree, items, Top, IsTop, top_items, XArray, RisesFrom, End, Leaf, Down, Bare, Root}
 use Rattle.kc_found.specs.Nodes.{at_offset}
 use Rattle.kc_found.specs.Trials.{Reader, and_then}
@@ -16,7 +17,6 @@ use Rattle.kc_found.specs.declared.xarrays.XaItem.{XaItem}
 use Rattle.kc_found.specs.declared.xarrays.XaNode.{XaNode}
 use Rattle.kc_found.specs.declared.xarrays.XaWords.{XaWords}
 use Rattle.kc_memory.specs.Image.{Image}
-use Rattle.kc_memory.specs.Stopped.{Stopped}
 use Rattle.kc_memory.specs.declared.words.VWord.{VWord}
 use Rattle.kc_xa.proofs.Heads.{XaIs}
 use Rattle.kc_xa.proofs.Whole.{xarray_of_walk}
@@ -96,16 +96,12 @@ above : (chunk : ℕ) (o : XaNode) (i : ℕ) (k : XaEntry) → k ≡ Node → Ma
 above chunk o i k e h z = let g : MayStand chunk o i Node = rw e at h in let le : 1 ≤ o.shift = g.1 in absurd (omega (arith, le, z))
 
 -- a node has as many slots as the chunk says
-after : {A B : Type 0} (r : Result A Stopped) (f : A → Result B Stopped) (y : B) → and_then r f ≡ Ok y → (x : A) × (r ≡ Ok x) × (f x ≡ Ok y)
-after (Ok x) f y e = (x, refl, e)
-after (Err g) f y e = absurd (cc)
-
 first_length : (read : Reader) (at n : ℕ) (ws : List VWord) → first_words read at n ≡ Ok ws → length ws ≡ n
 unfolding first_words
 first_length read at zero ws e = let same : [] ≡ ws = cc in rw (← same) refl
 first_length read at (suc n) ws e =
-    let s = after (first_words read at n) (λ vs. and_then (read (at_offset at (8 * n))) (λ w. Ok (vs ++ w ∷ []))) ws e in
-    let t = after (read (at_offset at (8 * n))) (λ w. Ok (s.0 ++ w ∷ [])) ws s.2 in
+    let s = ok_after (first_words read at n) (λ vs. and_then (read (at_offset at (8 * n))) (λ w. Ok (vs ++ w ∷ []))) ws e in
+    let t = ok_after (read (at_offset at (8 * n))) (λ w. Ok (s.0 ++ w ∷ [])) ws s.2 in
     let vs : List VWord = s.0 in
     let w : VWord = t.0 in
     let same : vs ++ w ∷ [] ≡ ws = let q = t.2 in cc in
@@ -116,13 +112,13 @@ first_length read at (suc n) ws e =
 node_length : (read : Reader) (shape : XaLayout) (node : ℕ) (n : XaWords) → xa_words read shape node ≡ Ok n → length n.slots ≡ shape.chunk
 unfolding xa_words
 node_length read shape node n e =
-    let a = after (read (at_offset node shape.parent)) _ n e in
-    let b = after (read (at_offset node shape.array)) _ n a.2 in
-    let d = after (first_words read (at_offset node shape.slots) shape.chunk) _ n b.2 in
-    let f = after (read (word_of (at_offset node shape.shift))) _ n d.2 in
-    let h = after (read (word_of (at_offset node shape.offset))) _ n f.2 in
-    let i = after (read (word_of (at_offset node shape.count))) _ n h.2 in
-    let j = after (read (word_of (at_offset node shape.nr_values))) _ n i.2 in
+    let a = ok_after (read (at_offset node shape.parent)) _ n e in
+    let b = ok_after (read (at_offset node shape.array)) _ n a.2 in
+    let d = ok_after (first_words read (at_offset node shape.slots) shape.chunk) _ n b.2 in
+    let f = ok_after (read (word_of (at_offset node shape.shift))) _ n d.2 in
+    let h = ok_after (read (word_of (at_offset node shape.offset))) _ n f.2 in
+    let i = ok_after (read (word_of (at_offset node shape.count))) _ n h.2 in
+    let j = ok_after (read (word_of (at_offset node shape.nr_values))) _ n i.2 in
     let made : XaWords = record { parent = a.0; array = b.0; slots = d.0; shift = f.0; offset = h.0; count = i.0; values = j.0 } in
     let same : made ≡ n = let q = j.2 in cc in
     rw (← same) (first_length read (at_offset node shape.slots) shape.chunk d.0 d.1)

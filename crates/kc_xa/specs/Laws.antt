@@ -1,6 +1,7 @@
 -- What the walk of an xarray says of finite trees of nodes.
 use Rattle.std.specs.Prelude.{◌≡◌, ℕ, List, Ok, Err}
 use Rattle.kc_memory.specs.Image.{Image}
+use Rattle.kc_memory.specs.Places.{AllStandIn}
 use Rattle.kc_found.specs.declared.xarrays.XaItem.{XaItem}
 use Rattle.kc_found.specs.FiniteXarrays.{NoXArray, RisesFrom, XArray}
 use Rattle.kc_found.specs.Violations.{Violation}
@@ -19,6 +20,12 @@ abbrev pub ViolationsExclude : Type 0
 ViolationsExclude =
     (image : Image) (shape : XaLayout) (audit start : ℕ) (v : Violation)
     → xa_judged image shape audit start ≡ Err v → NoXArray (xa_course image shape (record { audit = audit; start = start }))
+
+-- what a violation shows is true of the dump
+abbrev pub XarrayPlacesStand : Type 0
+XarrayPlacesStand =
+    (image : Image) (shape : XaLayout) (audit start : ℕ) (v : Violation)
+    → xa_judged image shape audit start ≡ Err v → AllStandIn image v.places
 
 -- the indexes of an xarray's pointers rise
 abbrev pub IndexesRise : Type 0

@@ -1,20 +1,22 @@
 // Xarrays, from their heads.
-ghost use Rattle.std.specs.Prelude.{◌≡◌, ℕ, ◌+◌, ◌*◌, ◌≤◌, List, [], length, Some, None, Ok, IfOk, OnOk, IfSome, true};
+ghost use Rattle.std.specs.Prelude.{◌≡◌, ℕ, ◌+◌, ◌-◌, ◌*◌, ◌≤◌, List, [], length, Some, None, Ok, IfOk, OnOk, IfSome, true};
 ghost use Rattle.kc_memory.specs.Stays.{SpaceStays};
 ghost use Rattle.kc_memory.specs.Translation.{vword};
 ghost use Rattle.kc_found.specs.declared.xarrays.XaItem.{XaItem};
 ghost use Rattle.kc_found.specs.FiniteXarrays.{NoXArray, RisesFrom, XArray};
 ghost use Rattle.kc_found.specs.Walks.{CountsWalkFaults, IsNamed, OnBroken, WalksAs, WithinSteps};
 ghost use Rattle.kc_found.specs.Nodes.{at_offset};
-ghost use Rattle.kc_found.specs.XaNodes.{behind_entry};
-ghost use Rattle.kc_found.specs.XaSites.{xa_course, xa_judged};
+ghost use Rattle.kc_found.specs.Trials.{passed};
+ghost use Rattle.kc_found.specs.XaNodes.{behind_entry, xa_words};
+ghost use Rattle.kc_xa.specs.Steps.{IsOpened, node_steps};
+ghost use Rattle.kc_found.specs.XaSites.{node_site, xa_course, xa_judged};
 
 use crate::entries::{entry_of, head_fault, know_chunk};
 use crate::nodes::open_node;
 use crate::slots::{push_item, walk_slots};
 use crate::words::read_word;
 use kc_found::{
-    Asked, Claims, Space, VWord, WalkStop, XaEntry, XaShape, XaWalked, broken_at, take_word,
+    Asked, Claims, Space, VWord, WalkStop, XaEntry, XaNode, XaShape, XaWalked, broken_at, take_word,
 };
 use kc_word::Steps;
 use std::alloc::Global;
@@ -37,6 +39,31 @@ fn read_head<S: Space, L: Ledger>(
 {
     let at = asked.start.wrapping_add(shape.head);
     read_word(alloc, space, asked, at, None, steps)
+}
+
+// Opens the node that the head leads to.
+fn open_root<S: Space, L: Ledger>(
+    alloc: Global,
+    space: &mut S,
+    shape: &XaShape,
+    asked: &Asked,
+    claims: &mut Claims,
+    head: VWord,
+    steps: &mut Steps<L>,
+) -> Result<XaNode, WalkStop>
+    requires { shape.now.chunk ≤ 64 }
+    ensures site { WalksAs (λ _. claims.new) (λ i. passed claims.old (node_site asked.now shape.now None (head.value - 2) (xa_words (behind_entry (vword i) asked.now (Some head)) shape.now (head.value - 2)))) (S.image space.old) result }
+    ensures opened { IfOk result (λ o. IfSome (S.image space.old) (λ i. IsOpened shape.now head 0 (xa_words (behind_entry (vword i) asked.now (Some head)) shape.now (head.value - 2)) o)) }
+    ensures small { IfOk result (λ o. o.shift ≤ 60) }
+    ensures size { IfOk result (λ o. length o.slots ≡ shape.now.chunk) }
+    ensures more { OnOk result (length claims.new ≡ length claims.old + (shape.now.chunk + 2)) }
+    ensures named { IsNamed result asked.now.audit asked.now.start }
+    ensures steps { steps.new ≤ steps.old + node_steps (S.most space.old) shape.now.chunk }
+
+    ensures stays { SpaceStays S.image S.files S.through S.most space.old space.new }
+    ensures cause { CountsWalkFaults result (S.faults space.old) (S.faults space.new) }
+{
+    open_node(alloc, space, shape, asked, claims, None, head, 0, steps)
 }
 
 // Walks an xarray.
@@ -76,17 +103,7 @@ fn walk_head<S: Space, L: Ledger>(
             Ok(walked)
         }
         XaEntry::Node => {
-            let node = match open_node(
-                alloc,
-                space,
-                shape,
-                asked,
-                &mut claims,
-                None,
-                head,
-                0,
-                steps,
-            ) {
+            let node = match open_root(alloc, space, shape, asked, &mut claims, head, steps) {
                 Ok(node) => node,
                 Err(stop) => return Err(stop),
             };

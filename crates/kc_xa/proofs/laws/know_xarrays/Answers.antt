@@ -1,5 +1,6 @@
 use Rattle.kc_found.specs.XaSites.{xa_course}
 use Rattle.kc_xa.proofs.Rising.{rises}
+use Rattle.kc_xa.proofs.Showing.{violation_tells}
 use Rattle.kc_xa.proofs.Whole.{walk_of_xarray, xarray_of_walk, unwalked}
 use Rattle.kc_xa.proofs.laws.know_xarrays.Goals as goal
 
@@ -8,6 +9,9 @@ returns-clause-walked c = λ image shape audit start items. (walk_of_xarray imag
 
 pub returns-clause-broken : goal.returns-clause-broken
 returns-clause-broken c = λ image shape audit start v e. unwalked image shape (record { audit = audit; start = start }) v e
+
+pub returns-clause-places : goal.returns-clause-places
+returns-clause-places c = λ image shape audit start v e. violation_tells c.know_places.ensures image shape (record { audit = audit; start = start }) v e
 
 pub returns-clause-rise : goal.returns-clause-rise
 returns-clause-rise c = λ image shape audit start items chunk x. rises (xa_course image shape (record { audit = audit; start = start })) items chunk x

@@ -1,10 +1,10 @@
 use Rattle.std.proofs.Common.{arith, refl, ap, ◌∙◌, [], ◌∷◌, length, length-append}
-use Rattle.kc_xa.proofs.Staying.{then_stays}
+use Rattle.kc_xa.proofs.Staying.{stays_so, then_stays}
 use Rattle.kc_xa.proofs.SlotWords.{reads_none, reads_more, reads_stop, one_more}
 use Rattle.kc_xa.proofs.words.read_slots.Goals as goal
 
 pub loop-i-init : goal.loop-i-init
-loop-i-init g c = rw c.new-slots.ensures (reads_none (g.S.Space.image c.args.space.now) c.args.asked.now c.args.led c.args.va, record { same_image = refl; same_files = refl; same_through = refl; same_most = refl }, refl, refl, omega arith)
+loop-i-init g c = rw c.new-slots.ensures (reads_none (g.S.Space.image c.args.space.now) c.args.asked.now c.args.led c.args.va, stays_so g.S.Space.image g.S.Space.files g.S.Space.through g.S.Space.most c.args.space.now, refl, refl, omega arith)
 
 pub returns-in-Err-clause-words : goal.returns-in-Err-clause-words
 returns-in-Err-clause-words g c =
