@@ -9,7 +9,7 @@ use Rattle.kc_memory.specs.declared.rule.Rule.TheVariants.{R5, R6}
 use Rattle.kc_memory.specs.Held.{held, word_count}
 use Rattle.kc_memory.specs.Image.{Physical, Image}
 use Rattle.kc_found.specs.declared.found.WalkStop.{WalkStop}
-use Rattle.kc_found.specs.declared.found.WalkStop.TheVariants as ends
+use Rattle.kc_found.specs.declared.found.WalkStop.TheVariants as stops
 use Rattle.kc_found.specs.declared.asked.Asked.{Asked}
 use Rattle.kc_found.specs.declared.shapes.RbShape.{RbShape}
 use Rattle.kc_found.specs.declared.trees.RbHead.{RbHead}
@@ -170,6 +170,20 @@ no_tree physical c f reads e ns t = let ok = walk_of_tree physical c ns reads t 
 pub walked : (image : Image) (shape : RbShape) (asked : Asked) (ns : List ℕ) → RbTree (reads_of image) shape asked.start ns → judged (rb_trials (course_of image shape asked) (word_count image.physical)) ≡ Ok ns
 walked image shape asked ns t = walk_of_tree image.physical (course_of image shape asked) ns (reads_held image) t
 
+-- a tree or a violation, and never both
+abbrev pub Ends : Image → RbShape → Asked → Type 0
+Ends image shape asked = ((ns : List ℕ) × RbTree (reads_of image) shape asked.start ns) ⊎ ((v : Violation) × (judged (rb_trials (course_of image shape asked) (word_count image.physical)) ≡ Err v))
+
+ends_by : (image : Image) (shape : RbShape) (asked : Asked) (r : Result (List ℕ) Violation) → judged (rb_trials (course_of image shape asked) (word_count image.physical)) ≡ r → Ends image shape asked
+ends_by image shape asked (Ok ns) is = inl (ns, tree_of_walk image.physical (course_of image shape asked) ns (reads_held image) is)
+ends_by image shape asked (Err v) is = inr (v, is)
+
+pub ends : (image : Image) (shape : RbShape) (asked : Asked) → Ends image shape asked
+ends image shape asked = ends_by image shape asked (judged (rb_trials (course_of image shape asked) (word_count image.physical))) refl
+
+pub not_both : (image : Image) (shape : RbShape) (asked : Asked) (ns : List ℕ) (v : Violation) → RbTree (reads_of image) shape asked.start ns → judged (rb_trials (course_of image shape asked) (word_count image.physical)) ≡ Err v → ⊥
+not_both image shape asked ns v t is = no_tree image.physical (course_of image shape asked) v (reads_held image) is ns t
+
 pub tree_of : {B : Type 0} (v : B → List ℕ) (image : Option Image) (shape : RbShape) (asked : Asked) (result : Result B WalkStop) → RbIs v image shape asked result → IfOk result (λ x. IfSome image (λ i. RbTree (reads_of i) shape asked.start (v x)))
 tree_of v None shape asked (Ok x) e = tt
 tree_of v (Some i) shape asked (Ok x) e = tree_of_walk i.physical (course_of i shape asked) (v x) (reads_held i) e
@@ -178,7 +192,7 @@ tree_of v image shape asked (Err stop) e = tt
 pub none_of : {B : Type 0} (v : B → List ℕ) (image : Option Image) (shape : RbShape) (asked : Asked) (result : Result B WalkStop) → RbIs v image shape asked result →
     OnBroken result (IfSome image (λ i. NoRbTree (reads_of i) shape asked.start))
 none_of v image shape asked (Ok x) e = tt
-none_of v None shape asked (Err (ends.Broken f)) e = tt
-none_of v (Some i) shape asked (Err (ends.Broken f)) e = no_tree i.physical (course_of i shape asked) f (reads_held i) e
-none_of v image shape asked (Err ends.Fault) e = tt
-none_of v image shape asked (Err ends.NoMemory) e = tt
+none_of v None shape asked (Err (stops.Broken f)) e = tt
+none_of v (Some i) shape asked (Err (stops.Broken f)) e = no_tree i.physical (course_of i shape asked) f (reads_held i) e
+none_of v image shape asked (Err stops.Fault) e = tt
+none_of v image shape asked (Err stops.NoMemory) e = tt

@@ -1,5 +1,5 @@
 -- What the walks of red-black trees say of finite trees of nodes.
-use Rattle.std.specs.Prelude.{◌≡◌, ℕ, List, None, Ok, Err}
+use Rattle.std.specs.Prelude.{◌≡◌, ℕ, List, None, Ok, Err, ◌⊎◌}
 use Rattle.kc_memory.specs.Image.{Image}
 use Rattle.kc_memory.specs.Places.{AllStandIn}
 use Rattle.kc_found.specs.declared.shapes.RbShape.{RbShape}
@@ -13,6 +13,14 @@ TreesAreWalked =
     (image : Image) (shape : RbShape) (audit start : ℕ) (ns : List ℕ)
     → (RbTree (reads_of image) shape start ns → tree_walk image shape audit start ≡ Ok ns)
     × (tree_walk image shape audit start ≡ Ok ns → RbTree (reads_of image) shape start ns)
+
+-- whatever the memory is, cyclic or with several addresses of one word, there is such a tree or a first violation, and
+-- never both
+abbrev pub TreeOrViolation : Type 0
+TreeOrViolation =
+    (image : Image) (shape : RbShape) (audit start : ℕ)
+    → (((ns : List ℕ) × RbTree (reads_of image) shape start ns) ⊎ ((v : Violation) × (tree_walk image shape audit start ≡ Err v)))
+    × ((ns : List ℕ) (v : Violation) → RbTree (reads_of image) shape start ns → tree_walk image shape audit start ≡ Err v → ⊥)
 
 -- from left to right its keys never fall, and rise where they are unique
 abbrev pub KeysRise : Type 0
