@@ -3,6 +3,7 @@ ghost use Rattle.std.specs.Prelude.{◌≡◌, ℕ, List, [], ◌∷◌, ◌++�
 ghost use Rattle.std.specs.Str.{bytes_eq};
 ghost use Rattle.kc_syms.specs.Listed.{listed, put_behind};
 
+use crate::name::Name;
 use indexmap::IndexMap;
 use indexmap::map::Entry;
 use kc_word::NoMemory;
@@ -16,7 +17,7 @@ pub struct Listed {
 }
 
 // The names, each with its addresses.
-pub type Index<'a> = IndexMap<&'a [u8], Listed>;
+pub type Index<'a> = IndexMap<Name<'a>, Listed>;
 
 // The bytes of a row, about: 16 digits, a kind and two spaces, a newline, and a name, of which some are of several rows.
 const ROW: usize = 40;
@@ -40,7 +41,7 @@ pub fn add<'a>(
 ) -> Result<(), NoMemory>
     ensures { OnOk result ((query : List ℕ) → listed index.new query ≡ put_behind (bytes_eq name.now query) (listed index.old query) address) }
 {
-    match index.entry(name)? {
+    match index.entry(Name { bytes: name })? {
         Entry::Occupied(entry) => put_last(&mut entry.into_mut().rest, address),
         Entry::Vacant(entry) => {
             entry.insert(Listed {

@@ -3,6 +3,7 @@
 
 mod fault;
 mod index;
+mod name;
 mod row;
 mod symbols;
 #[cfg(test)]

@@ -8,6 +8,7 @@ ghost use Rattle.kc_syms.specs.Symbols.{symbol};
 
 use crate::fault::{SymFault, SymStop};
 use crate::index::{Index, add, with_room};
+use crate::name::Name;
 use crate::row::read_row;
 use bstr::ByteSlice;
 use std::alloc::Global;
@@ -61,7 +62,7 @@ impl<'a> Symbols<'a> {
         ensures exact { result ≡ common_of kaslr (symbol self.now name.now) }
         ensures agrees { Agrees kaslr (symbol self.now name.now) result }
     {
-        let Some(listed) = self.index.get(&name) else {
+        let Some(listed) = self.index.get(&Name { bytes: name }) else {
             return Err(SymFault::S2);
         };
         let first = at_run(listed.first, kaslr);

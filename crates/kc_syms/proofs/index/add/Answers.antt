@@ -11,7 +11,7 @@ returns-in-Vacant c =
     let none = rw c.in-Vacant.is at c.in_ok-entry.ensures.found in
     λ query.
     let said = listed-put c.args.index.now (map_with_value e now) c.args.name.now query now c.args.address None
-    ((c.in_ok-entry.ensures.update.0 now).0 record { ref_ptr = c.args.name.ref_ptr; now = query })
+    ((c.in_ok-entry.ensures.update.0 now).0 record { bytes = record { ref_ptr = c.args.name.ref_ptr; now = query } })
     (sym none) (rw c.insert.ensures.value (ap (λ rest. c.args.address ∷ rest) c.new.ensures.items)) in
     search (rules, said)
 
@@ -22,6 +22,6 @@ returns-in-Occupied c =
     let had = sym (ap entry_value c.in-Occupied.is ∙ c.into_mut.ensures.value) ∙ c.in_ok-entry.ensures.value in
     on_ok c.put_last.result c.put_last.ensures (λ longer query.
     let said = listed-put c.args.index.now (map_with_value e now) c.args.name.now query now c.args.address (Some c.into_mut.result.now)
-    ((c.in_ok-entry.ensures.update.0 now).0 record { ref_ptr = c.args.name.ref_ptr; now = query })
+    ((c.in_ok-entry.ensures.update.0 now).0 record { bytes = record { ref_ptr = c.args.name.ref_ptr; now = query } })
     had (ap (λ rest. c.into_mut.result.now.first ∷ rest) longer) in
     search (rules, said))
