@@ -1,12 +1,18 @@
--- What a finite list of nodes has to meet, to be a ring or a hash chain. Source: the kernel's include/linux/list.h.
-use Rattle.std.specs.Prelude.{◌≡◌, ℕ, ◌||◌, nat_eq, not, IsTrue, List, [], ◌∷◌, ◌++◌, map, reverse, option_to_list, Option, Some, None, Result, Ok, Err}
+-- What a finite list of addresses has to meet, to be a ring, a hash chain or a free list. Source: the kernel's
+-- include/linux/list.h and mm/slub.c.
+use Rattle.std.specs.Prelude.{◌≡◌, ℕ, ◌*◌, ◌<◌, ◌||◌, nat_eq, not, IsTrue, List, [], ◌∷◌, ◌++◌, map, reverse, option_to_list, Option, Some, None, option_map, Result, Ok, Err}
 use Rattle.std.specs.List.{IsDistinct, AllByRecursion}
 use Rattle.kc_memory.specs.declared.words.VWord.{VWord}
+use Rattle.kc_memory.specs.declared.words.Place.{Place}
+use Rattle.kc_memory.specs.Bits.{Number}
 use Rattle.kc_memory.specs.Stopped.{Stopped}
 use Rattle.kc_found.specs.declared.shapes.ListShape.{ListShape}
 use Rattle.kc_found.specs.declared.shapes.HShape.{HShape}
-use Rattle.kc_found.specs.Nodes.{at_offset, is_poison}
+use Rattle.kc_found.specs.declared.free.Grid.{Grid}
+use Rattle.kc_found.specs.FreeLists.{NumberReader, above_base, pointer_at, pointer_by}
+use Rattle.kc_found.specs.Nodes.{at_offset, is_poison, readable}
 use Rattle.kc_found.specs.Trials.{Reader}
+use Rattle.kc_found.specs.Violations.{places_by}
 
 -- the number that a word holds, where it can be read
 abbrev pub value_of : Result VWord Stopped → Option ℕ
@@ -67,3 +73,36 @@ pub record HChain (read : Reader) (shape : HShape) (head : ℕ) (ns : List ℕ) 
 -- no list of nodes is a hash chain
 abbrev pub NoHChain : Reader → HShape → ℕ → Type 0
 NoHChain read shape head = (ns : List ℕ) → HChain read shape head ns → ⊥
+
+-- an object of a slab: it is at the address of one of them, which isn't 0
+pub record IsFree (grid : Grid) (object : ℕ) : Type 0 where
+  pub some : IsTrue (not (nat_eq object 0))
+  pub number : ℕ
+  pub below : number < grid.objects
+  pub stands : above_base grid object ≡ number * grid.size
+
+-- the pointer that an object has, where it can be read
+abbrev pub pointer_of : NumberReader → Grid → ℕ → Option ℕ
+pointer_of read grid object =
+    option_map (pointer_by grid.random (pointer_at grid object)) (readable (read (pointer_at grid object)))
+
+-- the physical addresses of the one or two words of a number, where it can be read
+abbrev pub pas_of : Result Number Stopped → List ℕ
+pas_of (Ok n) = map (λ (p : Place). p.pa) (places_by (Some n))
+pas_of (Err s) = []
+
+-- those of the pointers of some objects
+abbrev pub pointer_words : NumberReader → Grid → List ℕ → List ℕ
+pointer_words read grid [] = []
+pointer_words read grid (o ∷ os) = pas_of (read (pointer_at grid o)) ++ pointer_words read grid os
+
+-- The free objects of a slab: the pointers from the slab's own on lead through the objects to 0, and no two of the words
+-- that hold those of the objects are one.
+pub record FreeChain (read : NumberReader) (grid : Grid) (first : ℕ) (os : List ℕ) : Type 0 where
+  pub members : AllByRecursion (IsFree grid) os
+  pub forward : Some first ∷ map (pointer_of read grid) os ≡ map Some (os ++ 0 ∷ [])
+  pub different : IsDistinct nat_eq (pointer_words read grid os)
+
+-- no list of objects is a free list
+abbrev pub NoFreeChain : NumberReader → Grid → ℕ → Type 0
+NoFreeChain read grid first = (os : List ℕ) → FreeChain read grid first os → ⊥

@@ -12,6 +12,7 @@ pub use Rattle.kc_memory.specs.Translation
 pub mod Chains
 pub mod FiniteLists
 pub mod FiniteXarrays
+pub mod FreeLists
 pub mod HashChains
 pub mod Nodes
 pub mod RbFinite

@@ -63,14 +63,23 @@ breaks_field asked rule at number expected = record {
   places = number.first ∷ option_to_list number.second;
 }
 
--- the violation by a word that can't be read: it shows the word that led there, and the refused paging entry
-abbrev pub missed : Asked → Option VWord → Stopped → Violation
-missed asked led s = record {
+-- the places of a number's one or two words, where there is a number
+abbrev pub places_by : Option Number → List Place
+places_by None = []
+places_by (Some n) = n.first ∷ option_to_list n.second
+
+-- the violation by a word that can't be read: it shows the words that led there, and the refused paging entry
+abbrev pub missed_behind : Asked → List Place → Stopped → Violation
+missed_behind asked led s = record {
   audit = asked.audit;
   start = asked.start;
   rule = s.rule;
   at = s.va;
   expected = None;
   stop = Some s;
-  places = map place_of (option_to_list led) ++ entry_places s.pa s.entry;
+  places = led ++ entry_places s.pa s.entry;
 }
+
+-- the same after one word, or after none
+abbrev pub missed : Asked → Option VWord → Stopped → Violation
+missed asked led s = missed_behind asked (map place_of (option_to_list led)) s

@@ -3,6 +3,7 @@ use Rattle.std.specs.Prelude.{◌≡◌, ℕ, ◌+◌, ◌*◌, ◌≤◌, List,
 use Rattle.kc_outside.specs.Counts.{Rose}
 use Rattle.kc_memory.specs.declared.space.Stop.{Stop}
 use Rattle.kc_memory.specs.declared.space.Stop.TheVariants as stops
+use Rattle.kc_memory.specs.declared.words.Place.{Place}
 use Rattle.kc_memory.specs.declared.words.VWord.{VWord}
 use Rattle.kc_memory.specs.Held.{word_count}
 use Rattle.kc_memory.specs.Image.{Image}
@@ -10,7 +11,7 @@ use Rattle.kc_found.specs.declared.asked.Asked.{Asked}
 use Rattle.kc_found.specs.declared.found.WalkStop.{WalkStop}
 use Rattle.kc_found.specs.declared.found.WalkStop.TheVariants as ends
 use Rattle.kc_found.specs.Trials.{Trial, passed}
-use Rattle.kc_found.specs.Violations.{Violation, missed}
+use Rattle.kc_found.specs.Violations.{Violation, missed, missed_behind}
 
 -- a stop is by this violation, unless it is out of memory
 abbrev pub IsBroken : WalkStop → Violation → Type 0
@@ -22,6 +23,11 @@ IsBroken ends.NoMemory v = ⊤
 abbrev pub IsStopped : WalkStop → Asked → Option VWord → Stop → Type 0
 IsStopped end asked led (stops.Miss s) = IsBroken end (missed asked led s)
 IsStopped end asked led stops.Fault = end ≡ ends.Fault
+
+-- the same after the words that these places show
+abbrev pub IsStoppedBehind : WalkStop → Asked → List Place → Stop → Type 0
+IsStoppedBehind end asked led (stops.Miss s) = IsBroken end (missed_behind asked led s)
+IsStoppedBehind end asked led stops.Fault = end ≡ ends.Fault
 
 -- short of a failure and of being out of memory, an answer is this one
 abbrev pub IsWalk : {A B : Type 0} → (A → B) → Result B Violation → Result A WalkStop → Type 0

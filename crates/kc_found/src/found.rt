@@ -1,8 +1,8 @@
 // Violations, and why a walk ends early.
 ghost use Rattle.std.specs.Prelude.{◌≡◌, ◌++◌, ◌∷◌, false, map, option_to_list, IfOk, OnOk};
 ghost use Rattle.kc_memory.specs.Places.{place_of, entry_places};
-ghost use Rattle.kc_found.specs.Violations.{breaks, breaks_field, missed, is_of_reading};
-ghost use Rattle.kc_found.specs.Walks.{IsBroken, IsStopped};
+ghost use Rattle.kc_found.specs.Violations.{breaks, breaks_field, missed, missed_behind, places_by, is_of_reading};
+ghost use Rattle.kc_found.specs.Walks.{IsBroken, IsStopped, IsStoppedBehind};
 
 use crate::asked::Asked;
 use crate::items::Places;
@@ -151,6 +151,47 @@ fn missed_at(alloc: Global, asked: &Asked, miss: Miss, led: Option<VWord>) -> Wa
             places,
         }),
         Err(NoMemory) => WalkStop::NoMemory,
+    }
+}
+
+// The places of the one or two words of a number, where there is one, and then that of the refused paging entry.
+fn behind_places(alloc: Global, miss: &Miss, led: Option<Scalar>) -> Result<Places, NoMemory>
+    ensures { IfOk result (λ places. places ≡ places_by led ++ entry_places miss.now.pa miss.now.entry) }
+{
+    let mut places = match led {
+        Some(number) => field_places(alloc, &number)?,
+        None => Places::new(alloc),
+    };
+    push_place(&mut places, entry_place(miss))?;
+    Ok(places)
+}
+
+// The violation by a word that can't be read, after the number that led to its site.
+fn missed_behind(alloc: Global, asked: &Asked, miss: Miss, led: Option<Scalar>) -> WalkStop
+    ensures { IsBroken result (missed_behind asked.now (places_by led) miss) }
+{
+    match behind_places(alloc, &miss, led) {
+        Ok(places) => WalkStop::Broken(Found {
+            audit: asked.audit,
+            start: asked.start,
+            rule: miss.rule,
+            at: miss.va,
+            expected: None,
+            stop: Some(miss),
+            places,
+        }),
+        Err(NoMemory) => WalkStop::NoMemory,
+    }
+}
+
+/// How a walk ends at a word that can't be read, after the number that led to its site, as with `stopped` after a word.
+/// It is out of memory where none is left for the places.
+pub fn stopped_behind(alloc: Global, asked: &Asked, stop: Stop, led: Option<Scalar>) -> WalkStop
+    ensures { IsStoppedBehind result asked.now (places_by led) stop }
+{
+    match stop {
+        Stop::Miss(miss) => missed_behind(alloc, asked, miss, led),
+        Stop::Fault => WalkStop::Fault,
     }
 }
 

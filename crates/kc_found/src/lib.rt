@@ -4,6 +4,7 @@
 mod asked;
 mod claims;
 mod found;
+mod free;
 mod items;
 mod list_space;
 mod shapes;
@@ -14,7 +15,8 @@ mod xarrays;
 
 pub use asked::Asked;
 pub use claims::Claims;
-pub use found::{Found, WalkStop, broken_at, broken_field, stopped};
+pub use found::{Found, WalkStop, broken_at, broken_field, stopped, stopped_behind};
+pub use free::{FreeLed, Grid, low_word};
 pub use items::{Counts, Items, Name, Places, Walked};
 pub use kc_memory::{
     FrameStop, Frames, Miss, PWord, Place, Rule, Scalar, Space, Stop, VWord, entry_place,

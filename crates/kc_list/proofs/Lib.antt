@@ -1,11 +1,11 @@
-mod Finite
+pub mod Finite
 mod HashLaw
 mod HashSites
 mod HashWalk
-mod Pairs
+pub mod Pairs
 mod Reading
 mod RingLaw
 mod RingSites
 mod RingWalk
 mod Rows
-mod Stops
+pub mod Stops

@@ -1,0 +1,3 @@
+mod FreeLaw
+mod FreeSites
+mod FreeWalk
