@@ -25,4 +25,5 @@ times_named number audits = sum_by (λ (audit : AuditAt). count_by (λ n. n == n
 -- audits that are counted from k on are named once among all where they begin at a `from`, and else never
 abbrev pub named_once : List AuditAt → ℕ → List AuditAt → Bool
 named_once all k [] = true
-named_once all k (audit ∷ later) = (times_named k all == (if is_from audit.start then 1 else 0)) && named_once all (suc k) later
+named_once all k (audit ∷ later) =
+    (times_named k all == (if is_from audit.start then 1 else 0)) && named_once all (suc k) later

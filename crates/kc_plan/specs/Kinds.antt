@@ -19,7 +19,8 @@ use Rattle.kc_plan.specs.Shapes.{OwnAt, struct_named, word_in}
 -- a kind that can't be audited yet
 abbrev pub is_later : List ℕ → Bool
 is_later text =
-    bytes_eq text (codes "rbtree") || (bytes_eq text (codes "xarray") || (bytes_eq text (codes "slub") || bytes_eq text (codes "tasks")))
+    bytes_eq text (codes "rbtree") || (bytes_eq text (codes "xarray")
+    || (bytes_eq text (codes "slub") || bytes_eq text (codes "tasks")))
 
 -- the kind with a name
 abbrev pub sort_of : List ℕ → Result Sort PRule

@@ -2,7 +2,7 @@
 use crate::kinds::Sort;
 
 // Where an audit begins.
-#[derive(Clone, Copy, Debug, PartialEq, Eq)]
+#[derive(Clone, Copy)]
 pub(crate) struct StartWords<'t> {
     pub root: Option<&'t str>,
     pub root_type: Option<&'t str>,
@@ -12,7 +12,7 @@ pub(crate) struct StartWords<'t> {
 }
 
 // How the elements of a tree are ordered, and whether its root keeps the first.
-#[derive(Clone, Copy, Debug, PartialEq, Eq)]
+#[derive(Clone, Copy)]
 pub(crate) struct TreeWords<'t> {
     pub key: Option<&'t str>,
     pub unique: bool,
@@ -38,7 +38,7 @@ pub(crate) struct AuditWords<'t> {
 }
 
 // An audit that names another in `each`, both by their numbers in the plan.
-#[derive(Clone, Copy, Debug, PartialEq, Eq)]
+#[derive(Clone, Copy)]
 pub(crate) struct Link {
     pub above: u32,
     pub below: u32,

@@ -5,7 +5,7 @@ ghost use Rattle.kc_plan.specs.Keys.{spelled};
 use crate::fault::PlanKey;
 
 // What a kind of audit asks of a key.
-#[derive(Clone, Copy, Debug, PartialEq, Eq)]
+#[derive(Clone, Copy)]
 pub(crate) enum Need {
     // It must be there.
     Required,
@@ -16,7 +16,7 @@ pub(crate) enum Need {
 }
 
 // What a kind asks of the keys that aren't for all kinds.
-#[derive(Clone, Copy, Debug, PartialEq, Eq)]
+#[derive(Clone, Copy)]
 pub(crate) struct Needs {
     pub element: Need,
     pub link: Need,

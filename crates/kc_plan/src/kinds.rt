@@ -1,5 +1,5 @@
-// The table of the kinds of audits. A new kind has a variant here and in `Kind`, and a line in each function that matches
-// on them: its name, what it asks of the keys, what it needs of a kernel, and where its words stand.
+// The table of the kinds of audits. A new kind has a variant here and in `Kind`, and a line in each function that
+// matches on them: its name, what it asks of the keys, what it needs of a kernel, and where its words stand.
 ghost use Rattle.std.specs.Prelude.{◌≡◌, ◌≤◌, length, IfSome};
 ghost use Rattle.kc_plan.specs.declared.kinds.Sort.TheVariants as sort;
 ghost use Rattle.kc_plan.specs.Kinds.{sort_of, is_later, needs_of, ring_shape, hlist_shape, row, shape, AreRows, IsRow};
@@ -15,7 +15,7 @@ use kc_btf::Btf;
 use kc_found::{HShape, ListShape};
 
 // The kinds of audits.
-#[derive(Clone, Copy, Debug, PartialEq, Eq)]
+#[derive(Clone, Copy)]
 pub(crate) enum Sort {
     Ring,
     Hlist,
@@ -57,7 +57,7 @@ pub(crate) fn needs_of(sort: Sort) -> Needs
 }
 
 // What the kinds need of a kernel, looked up once for a plan.
-#[derive(Clone, Copy, Debug, PartialEq, Eq)]
+#[derive(Clone, Copy)]
 pub(crate) struct Rows {
     pub ring: Row,
     pub hlist: Row,

@@ -5,8 +5,9 @@ ghost use Rattle.kc_plan.specs.Planned.{audits_seen};
 
 use crate::planned::{Audit, AuditList};
 
-/// What a kernel's memory is audited for: at most 256 audits. Each has a name of 1 to 64 letters, digits, `_` and `-`, and
-/// names audits behind it only. An audit that begins at a `from` is named once in the plan, and any other never.
+/// What a kernel's memory is audited for: at most 256 audits. Each has a name of 1 to 64 letters, digits, `_` and
+/// `-`, and names audits behind it only. An audit that begins at a `from` is named once in the plan, and any other
+/// never.
 #[derive(Drop)]
 pub struct Plan {
     /// The audits, in the order of the plan.

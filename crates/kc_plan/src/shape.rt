@@ -7,7 +7,7 @@ use kc_layout::{compound_under, find_type, resolve};
 use kc_word::Bits;
 
 // What a kind needs of a kernel.
-#[derive(Clone, Copy, Debug, PartialEq, Eq)]
+#[derive(Clone, Copy)]
 pub(crate) struct Row {
     // The number of the struct of its head.
     pub head: Option<u32>,
@@ -21,7 +21,7 @@ pub(crate) struct Row {
 
 // What an audit gives of its own: the byte of the node in an element, the bits of the key there, whether no two elements
 // have one key, and whether the root keeps the first element.
-#[derive(Clone, Copy, Debug, PartialEq, Eq)]
+#[derive(Clone, Copy)]
 pub(crate) struct Own {
     pub link: u64,
     pub key: Option<Bits>,

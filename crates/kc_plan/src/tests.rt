@@ -132,8 +132,8 @@ fn run_cases(rt: &(impl Abort + AllocGlobal), text: &str) -> Result<usize, Fail>
 #[test]
 fn the_first_fault_is_told(rt: HostRuntime) -> Result<(), Fail> {
     assert_eq!(rt; run_cases(&rt, faults::FAULTS)?, 36);
-    assert_eq!(rt; run_cases(&rt, faults::KEYS)?, 28);
-    assert_eq!(rt; run_cases(&rt, faults::PLACES)?, 12);
+    assert_eq!(rt; run_cases(&rt, faults::KEYS)?, 32);
+    assert_eq!(rt; run_cases(&rt, faults::PLACES)?, 15);
     let answer = told(rt.alloc(), b"# \xff", "", "")?;
     assert_eq!(rt; answer.as_str(), "P1");
     Ok(())
@@ -141,6 +141,6 @@ fn the_first_fault_is_told(rt: HostRuntime) -> Result<(), Fail> {
 
 #[test]
 fn plans_have_numbers(rt: HostRuntime) -> Result<(), Fail> {
-    assert_eq!(rt; run_cases(&rt, plans::PLANS)?, 11);
+    assert_eq!(rt; run_cases(&rt, plans::PLANS)?, 14);
     Ok(())
 }

@@ -285,6 +285,10 @@ audit = [{ kind = 'ring', root = 1 }]
 
 P4 0 Name
 version = 1
+audit = [{ kind = 'ring', name = 1, root = 1 }]
+
+P4 0 Name
+version = 1
 audit = [{ kind = 'ring', name = '', root = 1 }]
 
 P3 0 Root
@@ -298,6 +302,14 @@ audit = [{ kind = 'ring', name = 'r', root = 1, root_type = 1 }]
 P3 0 RootType
 version = 1
 audit = [{ kind = 'ring', name = 'r', root = 'no', root_path = 1 }]
+
+P4 0 RootType
+version = 1
+audit = [{ kind = 'ring', name = 'r', root = 'no', root_type = 1 }]
+
+P4 0 RootPath
+version = 1
+audit = [{ kind = 'ring', name = 'r', root = 'no', root_type = 'no', root_path = 1, from = 1 }]
 
 P3 0 RootType
 version = 1
@@ -323,6 +335,10 @@ P3 0 Key
 version = 1
 audit = [{ kind = 'ring', name = 'r', root = 'no', element = 'no', link = 'no', unique = true }]
 
+P3 0 Key
+version = 1
+audit = [{ kind = 'hlist', name = 'h', root = 'no', element = 'no', link = 'no', key = 'no', unique = 5 }]
+
 P3 0 Cached
 version = 1
 audit = [{ kind = 'ring', name = 'r', root = 'no', element = 'no', link = 'no', cached = true, check = 5 }]
@@ -337,6 +353,10 @@ audit = [{ kind = 'ring', name = 'r', root = 'no', element = 'no', link = 'no', 
 
 /// Who may name whom, and what a symbol and a path must lead to.
 pub const PLACES: &str = "P6 0 Each
+version = 1
+audit = [{ kind = 'ring', name = 'r', root = 'no', element = 'no', link = 'no', each = ['no'] }]
+
+P6 0 Each
 version = 1
 audit = [{ kind = 'ring', name = 'r', root = 'no', element = 'no', link = 'no', each = ['r'] }]
 
@@ -397,6 +417,17 @@ audit = [
   { kind = 'ring', name = 'a', root = 'my_ring', element = 'task_struct', link = 'tasks', each = ['b'] },
   { kind = 'ring', name = 'b', from = 'stack', element = 'no', link = 'no' },
 ]
+
+P10 1 From
+version = 1
+audit = [
+  { kind = 'ring', name = 'a', root = 'my_ring', element = 'task_struct', link = 'tasks', each = ['b'] },
+  { kind = 'ring', name = 'b', from = 'no', element = 'no', link = 'no' },
+]
+
+P10 0 RootPath
+version = 1
+audit = [{ kind = 'hlist', name = 'h', root = 'an_item', root_type = 'item', root_path = 'link', element = 'no', link = 'no' }]
 
 P10 0 Element
 version = 1

@@ -45,6 +45,18 @@ P11 0 Kind|\0text\0 for \0prev\0
 version = 1
 audit = [{ kind = 'ring', name = 'r', root = 'my_ring', element = 'item', link = 'link' }]
 
+P11 0 Kind|\0text\0 for \0next\0
+version = 1
+audit = [{ kind = 'ring', name = 'r', root = 'my_ring', element = 'item', link = 'link' }]
+
+P10 0 RootPath|\0list_body\0 for \0list_head\0
+version = 1
+audit = [{ kind = 'ring', name = 'r', root = 'an_item', root_type = 'item', root_path = 'link', element = 'item', link = 'link' }]
+
+P10 0 Link|\0hlist_base\0 for \0hlist_node\0
+version = 1
+audit = [{ kind = 'hlist', name = 'h', root = 'my_hl', element = 'item', link = 'hnode' }]
+
 P10 0 Link|\0list_body\0 for \0list_head\0
 version = 1
 audit = [{ kind = 'ring', name = 'r', root = 'my_ring', element = 'item', link = 'link' }]
