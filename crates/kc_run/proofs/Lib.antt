@@ -1,0 +1,7 @@
+mod ChainsShown
+mod Counting
+mod Going
+mod Rows
+mod Showing
+mod Standing
+mod Unrolling

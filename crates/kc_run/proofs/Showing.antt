@@ -1,0 +1,102 @@
+-- The words that a verdict shows are true of the dump.
+use Rattle.std.proofs.Common.{◌≡◌, ℕ, suc, Bool, true, false, nat_eq, List, [], ◌∷◌, ◌++◌, length, refl}
+use Rattle.std.specs.Prelude.{Result, Ok, Err, ⊤, if◌then◌else◌}
+use Rattle.kc_memory.specs.Bits.{Number, number_places}
+use Rattle.kc_memory.specs.Image.{Image}
+use Rattle.kc_memory.specs.Laws.{NumbersStand, PlacesStand}
+use Rattle.kc_memory.specs.Places.{AllStandIn, StandsIn, entry_places}
+use Rattle.kc_memory.specs.Stopped.{Stopped}
+use Rattle.kc_view.specs.Pointers.{pointer, target}
+use Rattle.kc_view.specs.Typed.{bytes_on}
+use Rattle.kc_memory.specs.Translation.{and_then}
+use Rattle.kc_found.specs.Violations.{Violation}
+use Rattle.kc_plan.specs.declared.kind.Kind.{Kind}
+use Rattle.kc_plan.specs.declared.kind.Kind.TheVariants.{Ring, Hlist}
+use Rattle.kc_plan.specs.Events.{Event, Walk, Wrong, first_wrong, verdict_of}
+use Rattle.kc_plan.specs.Planned.{AuditAt}
+use Rattle.kc_plan.specs.Seen.{PathEnd, EndsAt, NullAt, world, nodes_of, path_end, path_of, is_optional, unless_null, container_of, in_turn, at_element, walked, entered, seen, roots, all_seen}
+use Rattle.kc_plan.specs.Verdicts.{verdict_places}
+use Rattle.kc_run.specs.Laws.{VerdictsStand}
+use Rattle.kc_run.proofs.ChainsShown.{hash_walk_shows, ring_walk_shows}
+
+-- the violations that are seen do
+AllSeen : Image → List Event → Type 0
+AllSeen image [] = ⊤
+AllSeen image (Walk n size ∷ es) = AllSeen image es
+AllSeen image (Wrong v ∷ es) = AllStandIn image v.places × AllSeen image es
+
+seen_whole : (image : Image) (es us : List Event) → AllSeen image es → AllSeen image us → AllSeen image (es ++ us)
+unfolding AllSeen
+seen_whole image [] us a b = b
+seen_whole image (Walk n size ∷ es) us a b = seen_whole image es us a b
+seen_whole image (Wrong v ∷ es) us a b = (a.0, seen_whole image es us a.1 b)
+
+turn_shows : {X : Type 0} (image : Image) (see : X → List Event) (xs : List X) → ((x : X) → AllSeen image (see x)) → AllSeen image (in_turn see xs)
+unfolding AllSeen
+turn_shows image see [] go = tt
+turn_shows image see (x ∷ xs) go = seen_whole image (see x) (in_turn see xs) (go x) (turn_shows image see xs go)
+
+one_of : (image : Image) (b : Bool) (es us : List Event) → AllSeen image es → AllSeen image us → AllSeen image (if b then es else us)
+one_of image true es us a b = a
+one_of image false es us a b = b
+
+-- where a path's pointers lead
+EndStands : Image → Result PathEnd Stopped → Type 0
+EndStands image (Ok (EndsAt start)) = ⊤
+EndStands image (Ok (NullAt place at)) = StandsIn image place
+EndStands image (Err s) = AllStandIn image (entry_places s.pa s.entry)
+
+on_stands : (image : Image) (at : ℕ) (r : Result Number Stopped) (go : ℕ → Result PathEnd Stopped) → AllStandIn image (number_places r) → ((next : ℕ) → EndStands image (go next)) → EndStands image (and_then r (λ p. unless_null at p go))
+unfolding EndStands
+on_stands image at (Err s) go here next = here
+on_stands image at (Ok p) go here next = by_null (nat_eq (target p.value) 0)
+  where
+    by_null : (null : Bool) → EndStands image (if null then Ok (NullAt p.first at) else go (target p.value))
+    by_null true = here.0
+    by_null false = next (target p.value)
+
+end_stands : NumbersStand → (image : Image) (at : ℕ) (hops : List ℕ) (byte : ℕ) → EndStands image (path_end image at hops byte)
+unfolding EndStands path_end
+end_stands numbers image at [] byte = tt
+end_stands numbers image at (offset ∷ offsets) byte =
+    on_stands image (bytes_on at offset) (pointer image at offset) (λ next. path_end image next offsets byte)
+    (numbers image (bytes_on at offset) 0 64 false) (λ next. end_stands numbers image next offsets byte)
+
+nodes_show : PlacesStand → (image : Image) (kind : Kind) (n start : ℕ) (v : Violation) → nodes_of image kind n start ≡ Err v → AllStandIn image v.places
+unfolding nodes_of
+nodes_show places image (Ring shape) n start v is = ring_walk_shows places image shape n start v is
+nodes_show places image (Hlist shape) n start v is = hash_walk_shows places image shape n start v is
+
+walked_shows : (image : Image) (n : ℕ) (a : AuditAt) (start : ℕ) (go : ℕ → ℕ → List Event) (r : Result (List ℕ) Violation) → ((v : Violation) → r ≡ Err v → AllStandIn image v.places) → ((m x : ℕ) → AllSeen image (go m x)) →
+    AllSeen image (walked (world image) n a start go r)
+unfolding AllSeen
+walked_shows image n a start go (Err v) here below = (here v refl, tt)
+walked_shows image n a start go (Ok nodes) here below =
+    turn_shows image (λ node. at_element (world image) n a start go (container_of a.link node)) nodes (λ node. turn_shows image (λ m. go m (container_of a.link node)) a.each (λ m. below m (container_of a.link node)))
+
+entered_shows : PlacesStand → (image : Image) (n : ℕ) (a : AuditAt) (go : ℕ → ℕ → List Event) (base : ℕ) (r : Result PathEnd Stopped) → EndStands image r → ((m x : ℕ) → AllSeen image (go m x)) →
+    AllSeen image (entered (world image) n a go base r)
+unfolding AllSeen EndStands
+entered_shows places image n a go base (Err s) here below = (here, tt)
+entered_shows places image n a go base (Ok (NullAt place at)) here below = one_of image (is_optional a.start) [] _ tt ((here, tt), tt)
+entered_shows places image n a go base (Ok (EndsAt start)) here below =
+    walked_shows image n a start go (nodes_of image a.kind n start) (nodes_show places image a.kind n start) below
+
+seen_shows : PlacesStand → NumbersStand → (image : Image) (audits : List AuditAt) (k m base : ℕ) → AllSeen image (seen (world image) audits k m base)
+unfolding AllSeen seen
+seen_shows places numbers image [] k m base = tt
+seen_shows places numbers image (a ∷ later) k m base =
+    one_of image (nat_eq m k) _ _
+    (entered_shows places image k a (λ n x. seen (world image) later (suc k) n x) base (path_end image base (path_of a.start).hops (path_of a.start).byte) (end_stands numbers image base (path_of a.start).hops (path_of a.start).byte) (λ n x. seen_shows places numbers image later (suc k) n x))
+    (seen_shows places numbers image later (suc k) m base)
+
+first_shows : (image : Image) (n : ℕ) (all es : List Event) → AllSeen image es → AllStandIn image (verdict_places (verdict_of n all (first_wrong es)))
+unfolding AllSeen
+first_shows image n all [] a = tt
+first_shows image n all (Walk m size ∷ es) a = first_shows image n all es a
+first_shows image n all (Wrong v ∷ es) a = a.0
+
+pub verdicts_stand : PlacesStand → NumbersStand → VerdictsStand
+verdicts_stand places numbers image audits =
+    first_shows image (length audits) (all_seen (world image) audits) (all_seen (world image) audits)
+    (turn_shows image (λ r. seen (world image) audits 0 r.0 r.1) (roots 0 audits) (λ r. seen_shows places numbers image audits 0 r.0 r.1))

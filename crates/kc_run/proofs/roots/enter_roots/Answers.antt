@@ -1,0 +1,21 @@
+use Rattle.std.proofs.Common.{◌∙◌}
+use Rattle.kc_memory.proofs.StaysLaws.{stays_on}
+use Rattle.kc_plan.specs.Seen.{world, all_seen}
+use Rattle.kc_plan.specs.Planned.{audit_seen}
+use Rattle.kc_plan.specs.Views.{plan_seen}
+use Rattle.kc_run.proofs.Going.{roots_go, roots_stop}
+use Rattle.kc_run.proofs.roots.enter_roots.Goals as goal
+
+pub returns-in-Err-clause-tally : goal.returns-in-Err-clause-tally
+returns-in-Err-clause-tally g c =
+    roots_stop _ _ (g.S.Space.image c.args.space.now) c.args.counts.now c.loop-number.counts c.enter_root.new.counts c.enter_root.new.counts (λ i. all_seen (world i) (plan_seen c.args.known.now.plan.now)) (plan_seen c.args.known.now.plan.now) (audit_seen c.audit.result.now) c.loop-number.number c.in-Err.stop
+    c.audit.ensures.seen c.loop-number.invariant.0 (rw c.loop-number.invariant.1.same_image at c.in-Err.ensures.tally)
+
+pub loop-number-preserved : goal.loop-number-preserved
+loop-number-preserved g c = (
+  roots_go (g.S.Space.image c.args.space.now) c.args.counts.now c.loop-number.counts c.enter_root.new.counts (λ i. all_seen (world i) (plan_seen c.args.known.now.plan.now)) (plan_seen c.args.known.now.plan.now) (audit_seen c.audit.result.now) c.loop-number.number c.in-Ok.field-0
+      c.audit.ensures.seen c.loop-number.invariant.0 (rw c.loop-number.invariant.1.same_image at c.in-Ok.ensures.tally),
+  stays_on _ _ _ _ c.args.space.now c.loop-number.space c.enter_root.new.space c.loop-number.invariant.1 c.in-Ok.ensures.stays,
+  c.in-Ok.ensures.cause ∙ c.loop-number.invariant.2,
+  c.in-Ok.ensures.size ∙ c.loop-number.invariant.3,
+)

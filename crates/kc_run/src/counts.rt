@@ -1,0 +1,37 @@
+// The counts of a plan's audits.
+ghost use Rattle.std.specs.Prelude.{◌≡◌, ◌<◌, length, IfOk};
+ghost use Rattle.kc_plan.specs.Views.{plan_seen};
+ghost use Rattle.kc_run.specs.Tally.{added, zeros};
+
+use kc_found::{AuditCount, Counts};
+use kc_plan::Plan;
+use kc_word::NoMemory;
+use std::alloc::Global;
+
+// No walk yet, for each audit of a plan.
+pub(crate) fn no_walks(alloc: Global, plan: &Plan) -> Result<Counts, NoMemory>
+    ensures { IfOk result (λ counts. counts ≡ zeros (plan_seen plan.now)) }
+{
+    let mut counts = Counts::new(alloc);
+    for _ in 0..plan.count() {
+        counts.push(AuditCount {
+            walks: 0,
+            elements: 0,
+        })?;
+    }
+    Ok(counts)
+}
+
+// Counts a walk of an audit, which met so many elements.
+pub(crate) fn count_walk(counts: &mut Counts, audit: u32, elements: usize)
+    requires { audit < length counts.old }
+    ensures added { counts.new ≡ added counts.old audit elements }
+    ensures size { length counts.new ≡ length counts.old }
+{
+    let count = *counts.get(audit as usize);
+    let more = AuditCount {
+        walks: count.walks.saturating_add(1),
+        elements: count.elements.saturating_add(elements as u64),
+    };
+    counts.set(audit as usize, more);
+}

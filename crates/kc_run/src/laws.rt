@@ -1,0 +1,16 @@
+// What the definition of verdicts says, for a reader to believe and a caller to learn.
+ghost use Rattle.kc_run.specs.Laws.{CleanWhereStanding, VerdictsStand};
+
+use kc_list::know_lists;
+use kc_memory::{know_numbers, know_places};
+
+/// Does nothing. The verdict on a plan is clean exactly where every root audit stands, and the words that it shows are
+/// true of the dump.
+pub fn know_verdicts()
+    ensures clean { CleanWhereStanding }
+    ensures places { VerdictsStand }
+{
+    know_lists();
+    know_places();
+    know_numbers();
+}

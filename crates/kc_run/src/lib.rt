@@ -1,0 +1,15 @@
+//! The run of a plan: its audits, nested in one another, and the verdict that they come to.
+#![tactic(auto)]
+
+mod begin;
+mod counts;
+mod laws;
+mod nest;
+mod roots;
+mod walk;
+
+pub use laws::know_verdicts;
+pub use roots::{RunStop, run};
+
+#[cfg(test)]
+mod tests;

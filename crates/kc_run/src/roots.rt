@@ -1,0 +1,129 @@
+// All audits of a plan.
+ghost use Rattle.std.specs.Prelude.{◌≡◌, ◌<◌, length, IfOk, IfSome};
+ghost use Rattle.kc_memory.specs.Stays.{SpaceStays};
+ghost use Rattle.kc_found.specs.Walks.{CountsWalkFaults};
+ghost use Rattle.kc_plan.specs.Inside.{AreInside};
+ghost use Rattle.kc_plan.specs.Seen.{all_seen, in_turn, root_of, seen, world};
+ghost use Rattle.kc_plan.specs.Verdicts.{FitsPlan, verdict};
+ghost use Rattle.kc_plan.specs.Planned.{start_seen};
+ghost use Rattle.kc_plan.specs.Views.{plan_seen};
+ghost use Rattle.kc_run.specs.Answers.{CountsRunFaults};
+ghost use Rattle.kc_run.specs.Tally.{NamesBelow, TalliesAs};
+
+use crate::counts::no_walks;
+use crate::nest::{Known, enter};
+use kc_btf::Btf;
+use kc_found::{Asked, Counts, Space, Verdict, WalkStop};
+use kc_plan::{Plan, Start};
+use kc_word::{NoMemory, Steps};
+use std::alloc::Global;
+use std::sync::ledger::Ledger;
+
+/// Why a plan has no verdict.
+#[derive(Clone, Copy, Debug, PartialEq, Eq)]
+pub enum RunStop {
+    /// Reading the dump failed. The count of faults rose.
+    Fault,
+    /// No memory was left.
+    NoMemory,
+}
+
+// Makes an audit, where it is a root audit.
+fn enter_root<S: Space, L: Ledger>(
+    alloc: Global,
+    known: &Known<'_>,
+    space: &mut S,
+    counts: &mut Counts,
+    number: u32,
+    start: &Start,
+    steps: &mut Steps<L>,
+) -> Result<(), WalkStop>
+    requires inside { number < length known.now.plan.now.audits }
+    requires types { AreInside (length known.now.btf.now.records) known.now.plan.now.audits }
+    requires counted { length counts.old ≡ length known.now.plan.now.audits }
+
+    ensures tally { TalliesAs (λ image. in_turn (λ r. seen (world image) (plan_seen known.now.plan.now) 0 r.0 r.1) (root_of number (start_seen start.now))) counts.old counts.new (S.image space.old) result }
+    ensures size { length counts.new ≡ length counts.old }
+    ensures named { NamesBelow result (length known.now.plan.now.audits) }
+
+    ensures stays { SpaceStays S.image S.files S.through S.most space.old space.new }
+    ensures cause { CountsWalkFaults result (S.faults space.old) (S.faults space.new) }
+{
+    match start {
+        Start::Root { symbol, .. } => {
+            let base = Asked {
+                audit: number,
+                start: *symbol,
+            };
+            enter(alloc, known, space, counts, &base, steps)
+        }
+        Start::From { .. } => Ok(()),
+    }
+}
+
+// Makes the root audits, in the order of the plan.
+fn enter_roots<S: Space, L: Ledger>(
+    alloc: Global,
+    known: &Known<'_>,
+    space: &mut S,
+    counts: &mut Counts,
+    steps: &mut Steps<L>,
+) -> Result<(), WalkStop>
+    requires types { AreInside (length known.now.btf.now.records) known.now.plan.now.audits }
+    requires counted { length counts.old ≡ length known.now.plan.now.audits }
+
+    ensures tally { TalliesAs (λ image. all_seen (world image) (plan_seen known.now.plan.now)) counts.old counts.new (S.image space.old) result }
+    ensures size { length counts.new ≡ length counts.old }
+    ensures named { NamesBelow result (length known.now.plan.now.audits) }
+
+    ensures stays { SpaceStays S.image S.files S.through S.most space.old space.new }
+    ensures cause { CountsWalkFaults result (S.faults space.old) (S.faults space.new) }
+{
+    for number in 0..known.plan.count() {
+        let start = &known.plan.audit(number).start;
+        match enter_root(alloc, known, space, counts, number, start, steps) {
+            Ok(()) => {}
+            Err(stop) => return Err(stop),
+        }
+    }
+    Ok(())
+}
+
+/// The verdict on a plan over the types that it was read with: the first violation, or where there is none how often
+/// each audit walked, and how many elements it met.
+///
+/// Root audits are made in the order of the plan. An audit is walked whole first, from where its path leads; then, element
+/// by element, the audits that it names are made there. Where a path stops, or has a null pointer and the audit isn't
+/// optional, the violation names the audit and the address from which the path was followed. A count stays at 2^64 - 1 once
+/// it is there.
+///
+/// # Errors
+///
+/// A failure of the space, whose count of faults then rose, or out of memory.
+pub fn run<S: Space, L: Ledger>(
+    alloc: Global,
+    plan: &Plan,
+    btf: &Btf,
+    space: &mut S,
+    steps: &mut Steps<L>,
+) -> Result<Verdict, RunStop>
+    requires { AreInside (length btf.now.records) plan.now.audits }
+
+    ensures exact { IfOk result (λ found. IfSome (S.image space.old) (λ image. verdict image (plan_seen plan.now) ≡ found)) }
+    ensures fits { IfOk result (FitsPlan (length plan.now.audits)) }
+
+    ensures stays { SpaceStays S.image S.files S.through S.most space.old space.new }
+    ensures cause { CountsRunFaults result (S.faults space.old) (S.faults space.new) }
+{
+    let known = Known { plan, btf };
+    let mut counts = match no_walks(alloc, plan) {
+        Ok(counts) => counts,
+        Err(NoMemory) => return Err(RunStop::NoMemory),
+    };
+    match enter_roots(alloc, &known, space, &mut counts, steps) {
+        Ok(()) => Ok(Verdict::Clean(counts)),
+        Err(WalkStop::Broken(found)) => Ok(Verdict::Broken(found)),
+        Err(WalkStop::Fault) => Err(RunStop::Fault),
+        Err(WalkStop::NoMemory) => Err(RunStop::NoMemory),
+    }
+}

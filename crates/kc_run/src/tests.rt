@@ -1,0 +1,189 @@
+// Nested audits over the words of a made dump.
+ghost use Rattle.std.specs.Prelude.{◌≡◌, ◌<◌, length};
+ghost use Rattle.kc_plan.specs.Inside.{AreInside};
+
+use crate::{RunStop, run};
+use kc_btf::Btf;
+use kc_fixture::{MAP, btf_file};
+use kc_found::{Counts, Found, ListSpace, VWord, Verdict};
+use kc_notes::Info;
+use kc_plan::{Plan, PlanStop, read_plan};
+use kc_syms::Symbols;
+use kc_word::Steps;
+use std::alloc::{AllocError, Global};
+use std::marker::Brand;
+use std::sync::ledger::{Blank, Ledger};
+use std::test::Fail;
+
+// The two maps of physical memory.
+const IMAGE: u64 = 0xffff_ffff_8000_0000;
+
+const DIRECT: u64 = 0xffff_8880_0000_0000;
+
+// A physical address, and the word there.
+type Word = (u64, u64);
+
+// A ring of one task, whose signal has a ring of two threads.
+const WORDS: [Word; 11] = [
+    (0xb008, DIRECT + 0xd008),
+    (0xb010, DIRECT + 0xd008),
+    (0xd008, IMAGE + 0xb008),
+    (0xd010, IMAGE + 0xb008),
+    (0xd050, DIRECT + 0xd080),
+    (0xd080, DIRECT + 0xd058),
+    (0xd088, DIRECT + 0xd158),
+    (0xd058, DIRECT + 0xd158),
+    (0xd060, DIRECT + 0xd080),
+    (0xd158, DIRECT + 0xd080),
+    (0xd160, DIRECT + 0xd058),
+];
+
+// The tasks, and the threads of each.
+const NEST: &str = "version = 1
+[[audit]]
+name = 'g'
+kind = 'ring'
+root = 'init_task'
+root_type = 'task_struct'
+root_path = 'tasks'
+element = 'task_struct'
+link = 'tasks'
+each = ['t']
+[[audit]]
+name = 't'
+kind = 'ring'
+from = 'signal->thread_head'
+element = 'task_struct'
+link = 'thread_node'
+";
+
+// What is added to the plan, the words that are changed, and the verdict.
+const ROWS: [(&str, &[Word], &str); 6] = [
+    ("", &[], "clean 1 1 1 2"),
+    (
+        "",
+        &[(0xd050, 0)],
+        "broken 1 ffff88800000d000 N ffff88800000d050 none ffff88800000d050 d050 f050 0",
+    ),
+    ("optional = true", &[(0xd050, 0)], "clean 1 1 0 0"),
+    // A pointer that leads nowhere, and no task.
+    (
+        "optional = true",
+        &[(0xd050, 0x7000)],
+        "broken 1 7000 M6 7000 none",
+    ),
+    (
+        "",
+        &[(0xb008, IMAGE + 0xb008), (0xb010, IMAGE + 0xb008)],
+        "clean 1 0 0 0",
+    ),
+    // The outer ring is judged whole before what lies below its elements.
+    (
+        "",
+        &[(0xb010, 0), (0xd050, 0)],
+        "broken 0 ffffffff8000b008 L1 ffffffff8000b010 ffff88800000d008 ffffffff8000b010 b010 d010 0",
+    ),
+];
+
+const INFO: Info = Info {
+    table: 0x1000,
+    five: false,
+    sme: 0,
+    kaslr: 0,
+    phys_base: 0,
+};
+
+// The changed words, and then the others, each by its two addresses. The first word with an address counts.
+fn space_of(alloc: Global, changed: &[Word]) -> Result<ListSpace, AllocError> {
+    let mut all = Vec::new(alloc);
+    for list in [changed, &WORDS[..]] {
+        for (pa, value) in list {
+            for map in [IMAGE, DIRECT] {
+                all.push(VWord {
+                    va: pa.wrapping_add(map),
+                    pa: *pa,
+                    off: pa.wrapping_add(0x2000),
+                    value: *value,
+                })?;
+            }
+        }
+    }
+    Ok(ListSpace::new(all))
+}
+
+// The walks and elements of each audit.
+fn clean_text(alloc: Global, counts: &Counts) -> Result<String, AllocError> {
+    let mut text = String::from_str(alloc, "clean")?;
+    for i in 0..counts.len() {
+        let count = counts.get(i);
+        write!(&mut text, " {} {}", count.walks, count.elements)?;
+    }
+    Ok(text)
+}
+
+// The audit, the start, the rule, where, what should stand there, and the places.
+fn broken_text(alloc: Global, found: &Found) -> Result<String, AllocError> {
+    let mut text = format!(in alloc;
+        "broken {} {:x} {:?} {:x}",
+        found.audit, found.start, found.rule, found.at
+    )?;
+    match found.expected {
+        Some(expected) => write!(&mut text, " {expected:x}")?,
+        None => text.push_str(" none")?,
+    }
+    for i in 0..found.places.len() {
+        let place = found.places.get(i);
+        let va = place.va.unwrap_or(0);
+        write!(
+            &mut text,
+            " {va:x} {:x} {:x} {:x}",
+            place.pa, place.off, place.value
+        )?;
+    }
+    Ok(text)
+}
+
+fn verdict_text<L: Ledger>(
+    alloc: Global,
+    plan: &Plan,
+    btf: &Btf,
+    space: &mut ListSpace,
+    blank: Blank,
+) -> Result<String, AllocError>
+    requires name { blank.name ≡ L.name }
+    requires parts { blank.parts ≡ L.parts }
+    requires some { 0 < L.parts }
+    requires types { AreInside (length btf.now.records) plan.now.audits }
+{
+    let mut steps = Steps::<L>::new(blank);
+    match run(alloc, plan, btf, space, &mut steps) {
+        Ok(Verdict::Clean(counts)) => clean_text(alloc, &counts),
+        Ok(Verdict::Broken(found)) => broken_text(alloc, &found),
+        Err(RunStop::Fault) => String::from_str(alloc, "failed"),
+        Err(RunStop::NoMemory) => String::from_str(alloc, "out of memory"),
+    }
+}
+
+// The verdict on the plan with a line more.
+fn told(alloc: Global, more: &str, changed: &[Word]) -> Result<String, Fail> {
+    let btf = Btf::read(alloc, btf_file(alloc)?)?;
+    let symbols = Symbols::read(alloc, MAP.as_bytes())?;
+    let text = format!(in alloc; "{NEST}{more}")?;
+    match read_plan(alloc, text.as_bytes(), &btf, &symbols, &INFO) {
+        Ok(plan) => {
+            let mut space = space_of(alloc, changed)?;
+            Ok(verdict_text::<Brand>(alloc, &plan, &btf, &mut space, Blank::new(1))?)
+        }
+        Err(PlanStop::Fault(_)) => Ok(String::from_str(alloc, "refused")?),
+        Err(PlanStop::NoMemory) => Ok(String::from_str(alloc, "out of memory")?),
+    }
+}
+
+#[test]
+fn audits_are_made_at_each_element(rt: HostRuntime) -> Result<(), Fail> {
+    for (more, changed, wanted) in ROWS {
+        let verdict = told(rt.alloc(), more, changed)?;
+        assert_eq!(rt; verdict.as_str(), wanted, "{more} {changed:?}");
+    }
+    Ok(())
+}

@@ -1,0 +1,32 @@
+// The walk of an audit, by its kind.
+ghost use Rattle.kc_memory.specs.Stays.{SpaceStays};
+ghost use Rattle.kc_found.specs.Walks.{CountsWalkFaults, IsNamed, WalksAs};
+ghost use Rattle.kc_plan.specs.Seen.{nodes_of};
+
+use kc_found::{Asked, Space, WalkStop, Walked};
+use kc_list::{hchain, ring};
+use kc_plan::Kind;
+use kc_word::Steps;
+use std::alloc::Global;
+use std::sync::ledger::Ledger;
+
+// The nodes of a structure, or its first violation.
+#[tactic(auto, unfolding(kc_plan::specs::Seen::nodes_of))]
+pub(crate) fn walk<S: Space, L: Ledger>(
+    alloc: Global,
+    space: &mut S,
+    kind: &Kind,
+    asked: &Asked,
+    steps: &mut Steps<L>,
+) -> Result<Walked, WalkStop>
+    ensures walk { WalksAs (λ nodes. nodes) (λ image. nodes_of image kind.now asked.now.audit asked.now.start) (S.image space.old) result }
+    ensures named { IsNamed result asked.now.audit asked.now.start }
+
+    ensures stays { SpaceStays S.image S.files S.through S.most space.old space.new }
+    ensures cause { CountsWalkFaults result (S.faults space.old) (S.faults space.new) }
+{
+    match kind {
+        Kind::Ring(shape) => ring(alloc, space, shape, asked.start, asked.audit, steps),
+        Kind::Hlist(shape) => hchain(alloc, space, shape, asked.start, asked.audit, steps),
+    }
+}
