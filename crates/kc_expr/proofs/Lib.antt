@@ -1,0 +1,4 @@
+pub mod BitLemmas
+pub mod LiveLemmas
+pub mod TokenLemmas
+pub mod WeightLemmas

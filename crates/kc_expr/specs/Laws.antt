@@ -1,0 +1,35 @@
+-- The trees that tokens give are those of the grammar, and the place of a fault is the length of the longest front that
+-- goes on to a text that is read.
+use Rattle.std.specs.Prelude.{◌≡◌, ◌≤◌, ℕ, List, [], ◌∷◌, ◌++◌, Some, Ok, Err}
+use Rattle.kc_text.specs.Format.{IsPlace}
+use Rattle.kc_expr.specs.Tree.{Token, Tree, tokens, Fits, IsPath, depth}
+use Rattle.kc_expr.specs.Tree.Token.{bang, open_token, close_token, operator, number, path}
+use Rattle.kc_expr.specs.Machine.{tree_of_tokens, parsed}
+
+-- the paths among tokens are paths
+abbrev pub IsGoodToken : Token → Type 0
+IsGoodToken bang = Unit {0}
+IsGoodToken open_token = Unit {0}
+IsGoodToken close_token = Unit {0}
+IsGoodToken (operator op) = Unit {0}
+IsGoodToken (number n) = Unit {0}
+IsGoodToken (path p) = IsPath p
+
+abbrev pub ArePaths : List Token → Type 0
+ArePaths [] = Unit {0}
+ArePaths (t ∷ ts) = IsGoodToken t × ArePaths ts
+
+-- each tree of the grammar is read from its tokens, and no other tree is
+abbrev pub TokensAreRead : Type 0
+TokensAreRead = (t : Tree) → Fits t → depth t ≤ 16 → tree_of_tokens (tokens t) ≡ Some t
+
+-- the tree that tokens give is one of the grammar, and they are its tokens
+abbrev pub ReadTokens : Type 0
+ReadTokens = (ts : List Token) (t : Tree) → ArePaths ts → tree_of_tokens ts ≡ Some t → Fits t × (depth t ≤ 16) × (tokens t ≡ ts)
+
+-- these bytes go on to a text that is read
+abbrev pub GoesOn : List ℕ → Type 0
+GoesOn front = (rest : List ℕ) × (t : Tree) × (parsed (front ++ rest) ≡ Ok t)
+
+abbrev pub PlacesAreLongest : Type 0
+PlacesAreLongest = (text : List ℕ) (n : ℕ) → parsed text ≡ Err n → IsPlace GoesOn text n

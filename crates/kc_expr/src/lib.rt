@@ -1,0 +1,25 @@
+//! Checks of elements: the language of a plan's key `check`, its trees and their values.
+#![tactic(auto)]
+
+mod evaluation;
+mod expr;
+mod fields;
+mod laws;
+mod parsing;
+mod piece;
+mod reader;
+mod stack;
+mod state;
+mod stop;
+mod token;
+mod tree;
+mod value;
+
+pub use evaluation::eval;
+pub use expr::Expr;
+pub use laws::{know_places, know_trees};
+pub use parsing::parse;
+pub use stop::ExprStop;
+
+#[cfg(test)]
+mod tests;

@@ -1,0 +1,15 @@
+// The tokens of checks.
+use crate::tree::Operator;
+
+#[derive(Debug, Drop)]
+pub(crate) enum Token {
+    // `!`
+    Not,
+    // `(`
+    Open,
+    // `)`
+    Close,
+    Operator(Operator),
+    Literal(u64),
+    Path(Vec<u8>),
+}
