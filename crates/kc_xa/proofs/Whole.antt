@@ -144,6 +144,15 @@ walk_of_xarray m shape asked walked x =
 pub unwalked : (m : Image) (shape : XaLayout) (asked : Asked) (v : Violation) → xa_judged m shape asked.audit asked.start ≡ Err v → NoXArray (xa_course m shape asked)
 unwalked m shape asked v e = λ walked x. let k = walk_of_xarray m shape asked walked x in absurd (cc)
 
+-- a tree, or a violation
+either_by : (m : Image) (shape : XaLayout) (asked : Asked) (r : Result (List XaItem) Violation) → xa_judged m shape asked.audit asked.start ≡ r →
+    ((items : List XaItem) × XArray (xa_course m shape asked) items) ⊎ ((v : Violation) × (xa_judged m shape asked.audit asked.start ≡ Err v))
+either_by m shape asked (Ok items) is = inl (items, xarray_of_walk m shape asked items is)
+either_by m shape asked (Err v) is = inr (v, is)
+
+pub tree_or_violation : (m : Image) (shape : XaLayout) (asked : Asked) → ((items : List XaItem) × XArray (xa_course m shape asked) items) ⊎ ((v : Violation) × (xa_judged m shape asked.audit asked.start ≡ Err v))
+tree_or_violation m shape asked = either_by m shape asked (xa_judged m shape asked.audit asked.start) refl
+
 -- the same where the dump is told or not
 pub finite_of : {B : Type 0} (u : B → List XaItem) (image : Option Image) (shape : XaLayout) (asked : Asked) (r : Result B WalkStop) → XaIs u image shape asked r → IfOk r (λ w. IfSome image (λ m. XArray (xa_course m shape asked) (u w)))
 finite_of u None shape asked (Ok w) e = tt

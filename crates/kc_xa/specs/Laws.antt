@@ -1,5 +1,5 @@
 -- What the walk of an xarray says of finite trees of nodes.
-use Rattle.std.specs.Prelude.{◌≡◌, ℕ, List, Ok, Err}
+use Rattle.std.specs.Prelude.{◌≡◌, ℕ, List, Ok, Err, ◌⊎◌}
 use Rattle.kc_memory.specs.Image.{Image}
 use Rattle.kc_memory.specs.Places.{AllStandIn}
 use Rattle.kc_found.specs.declared.xarrays.XaItem.{XaItem}
@@ -15,11 +15,13 @@ XarraysAreWalked =
     → (XArray (xa_course image shape (record { audit = audit; start = start })) items → xa_judged image shape audit start ≡ Ok items)
     × (xa_judged image shape audit start ≡ Ok items → XArray (xa_course image shape (record { audit = audit; start = start })) items)
 
--- where there is a violation, there is no xarray
-abbrev pub ViolationsExclude : Type 0
-ViolationsExclude =
-    (image : Image) (shape : XaLayout) (audit start : ℕ) (v : Violation)
-    → xa_judged image shape audit start ≡ Err v → NoXArray (xa_course image shape (record { audit = audit; start = start }))
+-- whatever the memory is, cyclic or with several addresses of one word, there is such a tree or a first violation, and
+-- never both
+abbrev pub XarrayOrViolation : Type 0
+XarrayOrViolation =
+    (image : Image) (shape : XaLayout) (audit start : ℕ)
+    → (((items : List XaItem) × XArray (xa_course image shape (record { audit = audit; start = start })) items) ⊎ ((v : Violation) × (xa_judged image shape audit start ≡ Err v)))
+    × ((v : Violation) → xa_judged image shape audit start ≡ Err v → NoXArray (xa_course image shape (record { audit = audit; start = start })))
 
 -- what a violation shows is true of the dump
 abbrev pub XarrayPlacesStand : Type 0

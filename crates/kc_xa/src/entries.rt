@@ -5,6 +5,12 @@ ghost use Rattle.kc_found.specs.XaLayouts.{IsChunk};
 
 use kc_found::{Items, Rule, VWord, XaEntry, XaShape};
 
+// The least entry that is an error: an internal one with the number -4095.
+const FIRST_ERROR: u64 = 0xffff_ffff_ffff_c006;
+
+// The number of the zero entry.
+const ZERO: u64 = 257;
+
 // What an entry is, in a node of `chunk` slots.
 #[tactic(auto, unfolding(kc_found::specs::XaEntries::kind))]
 pub(crate) fn kind_of(chunk: u64, entry: u64) -> XaEntry
@@ -19,10 +25,10 @@ pub(crate) fn kind_of(chunk: u64, entry: u64) -> XaEntry
     if entry % 2 == 1 {
         return XaEntry::Odd;
     }
-    if 4096 < entry && entry < 0xffff_ffff_ffff_c006 {
+    if 4096 < entry && entry < FIRST_ERROR {
         return XaEntry::Node;
     }
-    if entry / 4 == 257 {
+    if entry / 4 == ZERO {
         return XaEntry::Zero;
     }
     if entry / 4 + 2 <= chunk {
@@ -47,6 +53,7 @@ pub(crate) fn entry_of(shape: &XaShape, word: &VWord) -> XaEntry
     kind_of(shape.chunk, word.value)
 }
 
+// Whether an entry may have siblings.
 fn may_have_siblings(kind: XaEntry) -> bool
     ensures { result ≡ Rattle.kc_found.specs.XaEntries.may_have_siblings kind }
 {

@@ -1,14 +1,14 @@
 // What the definitions of walks say, for a reader to believe and a caller to learn.
-ghost use Rattle.kc_xa.specs.Laws.{IndexesRise, ViolationsExclude, XarrayPlacesStand, XarraysAreWalked};
+ghost use Rattle.kc_xa.specs.Laws.{IndexesRise, XarrayOrViolation, XarrayPlacesStand, XarraysAreWalked};
 
 use kc_found::know_places;
 
-/// Does nothing. A finite tree of nodes that makes up an xarray is what its walk gives, with rising indexes; a walk
-/// without a violation gives such a tree's pointers, and one with a violation has no such tree.
-/// The places that a violation shows are true of the dump.
+/// Does nothing. A finite tree of nodes that makes up an xarray is what its walk gives, with rising indexes, and a walk
+/// without a violation gives such a tree's pointers; so there is such a tree or a violation, and never both. The places
+/// that a violation shows are true of the dump.
 pub fn know_xarrays()
     ensures walked { XarraysAreWalked }
-    ensures broken { ViolationsExclude }
+    ensures either { XarrayOrViolation }
     ensures places { XarrayPlacesStand }
     ensures rise { IndexesRise }
 {

@@ -42,12 +42,14 @@ fn broken_in(
     }
 }
 
+// How many bits of an index a level takes.
 fn chunk_shift(chunk: u64) -> u64
     ensures { result ≡ Rattle.kc_found.specs.XaNodes.chunk_shift chunk }
 {
     if chunk == 64 { 6 } else { 4 }
 }
 
+// X1: whether a shift fits the level, by the slot that the node hangs in.
 fn is_shift(chunk: u64, holder: Option<XaHolder>, shift: u64) -> bool
     ensures { result ≡ Rattle.kc_found.specs.XaNodes.is_shift chunk holder shift }
 {
@@ -57,6 +59,7 @@ fn is_shift(chunk: u64, holder: Option<XaHolder>, shift: u64) -> bool
     }
 }
 
+// The shift that X1 expects, below the root.
 fn shift_wanted(chunk: u64, holder: Option<XaHolder>) -> Option<u64>
     ensures { result ≡ Rattle.kc_found.specs.XaNodes.shift_wanted chunk holder }
 {
@@ -66,6 +69,7 @@ fn shift_wanted(chunk: u64, holder: Option<XaHolder>) -> Option<u64>
     }
 }
 
+// X2: whether an offset is the number of the slot that the node hangs in.
 fn is_slot(holder: Option<XaHolder>, offset: u64) -> bool
     ensures { result ≡ Rattle.kc_found.specs.XaNodes.is_slot holder offset }
 {
@@ -75,6 +79,7 @@ fn is_slot(holder: Option<XaHolder>, offset: u64) -> bool
     }
 }
 
+// The offset that X2 expects.
 fn slot_wanted(holder: Option<XaHolder>) -> Option<u64>
     ensures { result ≡ Rattle.kc_found.specs.XaNodes.slot_wanted holder }
 {
@@ -84,6 +89,7 @@ fn slot_wanted(holder: Option<XaHolder>) -> Option<u64>
     }
 }
 
+// The parent that X3 expects.
 fn parent_wanted(holder: Option<XaHolder>) -> u64
     ensures { result ≡ Rattle.kc_found.specs.XaNodes.parent_wanted holder }
 {
@@ -117,6 +123,7 @@ fn odd(slots: &Items<VWord>) -> u64
         .count() as u64
 }
 
+// Whether an entry is a sibling.
 fn is_sibling(chunk: u64, entry: u64) -> bool
     ensures { result ≡ Rattle.kc_found.specs.XaEntries.is_sibling (kind chunk entry) }
 {
@@ -142,6 +149,7 @@ fn has_sibling(chunk: u64, slots: &Items<VWord>) -> bool
         .any(|word| is_sibling(chunk, word.value))
 }
 
+// X5: whether a count is that of the slots.
 fn is_count(shape: &XaShape, count: u64, slots: &Items<VWord>) -> bool
     ensures { result ≡ Rattle.kc_found.specs.XaNodes.is_count shape.now count slots.now }
 {
@@ -153,6 +161,7 @@ fn is_count(shape: &XaShape, count: u64, slots: &Items<VWord>) -> bool
     }
 }
 
+// X6: whether a count is that of the odd entries, unless there is a sibling.
 fn is_odd_count(shape: &XaShape, values: u64, slots: &Items<VWord>) -> bool
     ensures { result ≡ Rattle.kc_found.specs.XaNodes.is_odd_count shape.now values slots.now }
 {
