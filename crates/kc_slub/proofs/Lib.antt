@@ -1,3 +1,4 @@
 mod FreeLaw
 mod FreeSites
 mod FreeWalk
+mod Steps

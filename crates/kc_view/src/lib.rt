@@ -3,9 +3,11 @@
 
 mod laws;
 mod pointers;
+mod slub;
 #[cfg(test)]
 mod tests;
 mod view;
 
 pub use laws::know_values;
+pub use slub::{Base, SlubShape};
 pub use view::{Led, View};

@@ -1,0 +1,213 @@
+-- The walk of a slab cache, step by step. Source: the kernel's mm/slab.h, `struct kmem_cache` and `struct slab`, and
+-- mm/slub.c; the order is this project's.
+use Rattle.std.specs.Prelude.{◌≡◌, ◌≤◌, ℕ, zero, suc, ◌+◌, ◌-◌, ◌*◌, ◌/◌, ◌%◌, ◌^◌, Bool, ◌&&◌, ◌||◌, nat_eq, nat_lt, not, min, if◌then◌else◌, List, [], ◌∷◌, ◌++◌, length, Option, Some, None, Result, Ok, Err, false}
+use Rattle.std.specs.Option.{unwrap_or}
+use Rattle.kc_btf.specs.Btf.{Types}
+use Rattle.kc_memory.specs.declared.rule.Rule.{Rule}
+use Rattle.kc_memory.specs.declared.rule.Rule.TheVariants.{U1, U2, U3, U4, U6, U7}
+use Rattle.kc_memory.specs.Bits.{Number, bits}
+use Rattle.kc_memory.specs.Image.{Image}
+use Rattle.kc_memory.specs.Stopped.{Stopped}
+use Rattle.kc_memory.specs.Translation.{vword}
+use Rattle.kc_memory.specs.Translation as memory
+use Rattle.kc_layout.specs.declared.place.Field.{Field}
+use Rattle.kc_layout.specs.HopList.{hop_list}
+use Rattle.kc_view.specs.declared.slub.Base.{Base}
+use Rattle.kc_view.specs.declared.slub.Base.TheVariants.{At, Is}
+use Rattle.kc_view.specs.declared.slub.SlubShape.{SlubShape}
+use Rattle.kc_view.specs.Pointers.{behind}
+use Rattle.kc_view.specs.Typed.{bytes_on}
+use Rattle.kc_found.specs.declared.asked.Asked.{Asked}
+use Rattle.kc_found.specs.declared.found.WalkStop.{WalkStop}
+use Rattle.kc_found.specs.declared.found.WalkStop.TheVariants as ends
+use Rattle.kc_found.specs.declared.free.Grid.{Grid}
+use Rattle.kc_found.specs.FreeLists.{free_list, low_word, number_in}
+use Rattle.kc_found.specs.Nodes.{at_offset}
+use Rattle.kc_found.specs.Rings.{ring_walk}
+use Rattle.kc_found.specs.Trials.{and_then}
+use Rattle.kc_found.specs.Violations.{Violation, breaks_field, missed}
+use Rattle.kc_slub.specs.declared.fields.FieldNumber.{FieldNumber}
+use Rattle.kc_slub.specs.declared.cache.Bases.{Bases}
+use Rattle.kc_slub.specs.declared.cache.Objects.{Objects}
+
+-- a field of a struct at an address: its number, and the address of its first byte
+abbrev pub field_of : Image → ℕ → Field → Result FieldNumber Stopped
+field_of image at f =
+    memory.and_then (behind image at (hop_list f.hops)) (λ end.
+    memory.and_then (bits image end f.bits.bit f.bits.width f.bits.signed) (λ n.
+    Ok (record { number = n; at = bytes_on end (f.bits.bit / 8) })))
+
+-- its number modulo 2^64
+abbrev pub value_of : FieldNumber → ℕ
+value_of f = low_word f.number.value
+
+-- what was read, or the violation by the stop
+abbrev pub or_missed : {A : Type 0} → Asked → Result A Stopped → Result A Violation
+or_missed asked (Ok a) = Ok a
+or_missed asked (Err s) = Err (missed asked None s)
+
+-- a field is read, or the violation by the stop
+abbrev pub read_field : Image → Asked → ℕ → Field → Result FieldNumber Violation
+read_field image asked at f = or_missed asked (field_of image at f)
+
+-- a rule, broken where a test is true: a field shows it
+abbrev pub unless : {A : Type 0} → Bool → Violation → Result A Violation → Result A Violation
+unless broken v go = if broken then Err v else go
+
+abbrev pub breaks_at : Asked → Rule → FieldNumber → Option ℕ → Violation
+breaks_at asked rule f expected = breaks_field asked rule f.at f.number expected
+
+-- a base, which may be a word of memory
+abbrev pub base_of : Image → Asked → Base → Result ℕ Violation
+base_of image asked (Is n) = Ok n
+base_of image asked (At a) = and_then (or_missed asked (vword image a)) (λ w. Ok w.value)
+
+-- how many pointers of the array `node` are looked at
+abbrev pub count_of : Image → Asked → ℕ → Base → Result ℕ Violation
+count_of image asked nodes (Is n) = Ok (min nodes n)
+count_of image asked nodes (At a) = and_then (or_missed asked (bits image a 0 32 false)) (λ n. Ok (min nodes (low_word n.value)))
+
+-- steps 1 and 2: the two bases and the number of nodes
+abbrev pub bases_of : Image → Asked → SlubShape → Result Bases Violation
+bases_of image asked shape =
+    and_then (base_of image asked shape.vmemmap) (λ v.
+    and_then (base_of image asked shape.direct) (λ d.
+    and_then (count_of image asked shape.nodes shape.node_ids) (λ n.
+    Ok (record { vmemmap = v; direct = d; nodes = n }))))
+
+-- a field of the cache that a kernel may not have
+abbrev pub optional_of : Image → Asked → Option Field → Result (Option ℕ) Violation
+optional_of image asked None = Ok None
+optional_of image asked (Some f) = and_then (read_field image asked asked.start f) (λ n. Ok (Some (value_of n)))
+
+-- step 3: how the objects of the cache lie in its slabs; U3 of the size
+abbrev pub objects_of : Image → Asked → SlubShape → Result Objects Violation
+objects_of image asked shape =
+    and_then (read_field image asked asked.start shape.offset) (λ o.
+    and_then (read_field image asked asked.start shape.size) (λ s.
+    and_then (optional_of image asked shape.random) (λ r.
+    and_then (optional_of image asked shape.left_pad) (λ p.
+    unless (nat_eq (value_of s) 0 || nat_lt (value_of s) (value_of o + 8)) (breaks_at asked U3 s None)
+    (Ok (record { size = value_of s; offset = value_of o; random = r; left_pad = unwrap_or p 0 }))))))
+
+-- the number of the page that a slab's descriptor stands for, by the descriptor's offset in the array
+abbrev pub page_of : SlubShape → Bases → ℕ → ℕ
+page_of shape b slab = (slab + (2 ^ 64 - b.vmemmap)) % 2 ^ 64 / shape.page_size
+
+-- it is a page's descriptor: physical memory has less than 2^40 pages
+abbrev pub is_descriptor : SlubShape → Bases → ℕ → Bool
+is_descriptor shape b slab =
+    nat_eq ((slab + (2 ^ 64 - b.vmemmap)) % 2 ^ 64 % shape.page_size) 0 && nat_lt (page_of shape b slab) (2 ^ 40)
+
+-- where a slab's objects lie
+abbrev pub grid_of : SlubShape → Bases → Objects → ℕ → ℕ → Grid
+grid_of shape b o slab objects = record {
+  base = at_offset (at_offset b.direct (4096 * page_of shape b slab)) o.left_pad;
+  size = o.size;
+  objects = objects;
+  offset = o.offset;
+  random = o.random;
+}
+
+-- the free list, and then U6 of `inuse`
+unfoldable pub list_checked : Image → Asked → Grid → ℕ → ℕ → FieldNumber → Number → Result ℕ Violation
+list_checked image asked grid slab wanted inuse first =
+    and_then (free_list image grid first asked) (λ os.
+    unless (not (nat_eq (length os) wanted)) (breaks_at asked U6 inuse (Some wanted)) (Ok slab))
+
+-- step 5, from `freelist` on: U4 and then the free list
+abbrev pub free_checked : Image → Asked → SlubShape → Bases → Objects → ℕ → ℕ → FieldNumber → Result ℕ Violation
+free_checked image asked shape b o slab objects inuse =
+    and_then (read_field image asked slab shape.freelist) (λ f.
+    unless (not (is_descriptor shape b slab)) (breaks_field asked U4 slab f.number None)
+    (list_checked image asked (grid_of shape b o slab objects) slab (objects - value_of inuse) inuse f.number))
+
+-- step 5, of the numbers of objects: U3 of `objects`
+abbrev pub counts_checked : Image → Asked → SlubShape → Bases → Objects → ℕ → Result ℕ Violation
+counts_checked image asked shape b o slab =
+    and_then (read_field image asked slab shape.objects) (λ n.
+    and_then (read_field image asked slab shape.inuse) (λ u.
+    unless (nat_eq (value_of n) 0 || nat_lt (value_of n) (value_of u)) (breaks_at asked U3 n None)
+    (free_checked image asked shape b o slab (value_of n) u)))
+
+-- step 5 whole: U1 of `slab_cache` and U2 of `frozen` come first
+abbrev pub slab_checked : Image → Asked → SlubShape → Bases → Objects → ℕ → Result ℕ Violation
+slab_checked image asked shape b o slab =
+    and_then (read_field image asked slab shape.slab_cache) (λ c.
+    unless (not (nat_eq (value_of c) asked.start)) (breaks_at asked U1 c (Some asked.start))
+    (and_then (read_field image asked slab shape.frozen) (λ z.
+    unless (not (nat_eq (value_of z) 0)) (breaks_at asked U2 z (Some 0))
+    (counts_checked image asked shape b o slab))))
+
+-- the slab of a ring's node
+abbrev pub slab_of : SlubShape → ℕ → ℕ
+slab_of shape node = (node + (2 ^ 64 - shape.slab_list)) % 2 ^ 64
+
+-- the slabs so far, and those of the nodes of a ring
+unfoldable pub slabs_checked : Image → Asked → SlubShape → Bases → Objects → List ℕ → List ℕ → Result (List ℕ) Violation
+slabs_checked image asked shape b o slabs [] = Ok slabs
+slabs_checked image asked shape b o slabs (n ∷ ns) =
+    and_then (slab_checked image asked shape b o (slab_of shape n)) (λ s. slabs_checked image asked shape b o (slabs ++ s ∷ []) ns)
+
+-- an inner walk's violation is one of this walk
+abbrev pub started : Violation → ℕ → Violation
+started v start = record {
+  audit = v.audit;
+  start = start;
+  rule = v.rule;
+  at = v.at;
+  expected = v.expected;
+  stop = v.stop;
+  places = v.places;
+}
+
+abbrev pub started_at : {A : Type 0} → ℕ → Result A Violation → Result A Violation
+started_at start (Ok a) = Ok a
+started_at start (Err v) = Err (started v start)
+
+-- the ring of a node's partial slabs
+abbrev pub partial_of : Image → Asked → SlubShape → ℕ → Result (List ℕ) Violation
+partial_of image asked shape knode = started_at asked.start (ring_walk image shape.list asked.audit (at_offset knode shape.partial))
+
+-- step 4 of a node: `nr_partial`, the ring, its slabs, and then U7
+abbrev pub knode_checked : Image → Asked → SlubShape → Bases → Objects → List ℕ → ℕ → Result (List ℕ) Violation
+knode_checked image asked shape b o slabs knode =
+    and_then (read_field image asked knode shape.nr_partial) (λ p.
+    and_then (partial_of image asked shape knode) (λ ns.
+    and_then (slabs_checked image asked shape b o slabs ns) (λ more.
+    unless (not (nat_eq (value_of p) (length ns))) (breaks_at asked U7 p (Some (length ns))) (Ok more))))
+
+-- the address of a pointer of the array `node`
+abbrev pub node_at : Asked → SlubShape → ℕ → ℕ
+node_at asked shape i = at_offset (at_offset asked.start shape.node) (8 * i)
+
+-- step 4 of a pointer: a null one is passed over
+abbrev pub node_checked : Image → Asked → SlubShape → Bases → Objects → List ℕ → ℕ → Result (List ℕ) Violation
+node_checked image asked shape b o slabs i =
+    and_then (or_missed asked (number_in image (node_at asked shape i))) (λ p.
+    if nat_eq (low_word p.value) 0 then Ok slabs else knode_checked image asked shape b o slabs (low_word p.value))
+
+-- step 4 of so many pointers, from index i on
+unfoldable pub nodes_checked : Image → Asked → SlubShape → Bases → Objects → ℕ → ℕ → List ℕ → Result (List ℕ) Violation
+nodes_checked image asked shape b o zero i slabs = Ok slabs
+nodes_checked image asked shape b o (suc left) i slabs =
+    and_then (node_checked image asked shape b o slabs i) (λ more. nodes_checked image asked shape b o left (suc i) more)
+
+-- the slabs on the partial lists of a cache, or the first violation
+abbrev pub cache_slabs : Image → SlubShape → Asked → Result (List ℕ) Violation
+cache_slabs image shape asked =
+    and_then (bases_of image asked shape) (λ b.
+    and_then (objects_of image asked shape) (λ o.
+    nodes_checked image asked shape b o b.nodes 0 []))
+
+-- the numbers of the types of a shape are those of these types
+pub record IsInside (shape : SlubShape) (types : Types) : Type 0 where
+  pub cache : shape.cache ≤ length types.records
+  pub knode : shape.knode ≤ length types.records
+  pub slab : shape.slab ≤ length types.records
+
+-- the end of an inner walk is that of this one
+abbrev pub IsStartedAt : ℕ → WalkStop → WalkStop → Type 0
+IsStartedAt start (ends.Broken v) end = end ≡ ends.Broken (started v start)
+IsStartedAt start ends.Fault end = end ≡ ends.Fault
+IsStartedAt start ends.NoMemory end = end ≡ ends.NoMemory

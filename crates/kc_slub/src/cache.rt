@@ -1,0 +1,192 @@
+// What a slab cache says of its slabs.
+ghost use Rattle.std.specs.Prelude.{◌≡◌, ◌≤◌, ◌+◌, length, IfOk};
+ghost use Rattle.kc_memory.specs.Stays.{SpaceStays};
+ghost use Rattle.kc_found.specs.Walks.{CountsWalkFaults, IsNamed, WalksAs};
+ghost use Rattle.kc_slub.specs.Caches.{base_of, bases_of, count_of, objects_of, optional_of};
+
+use crate::fields::read_field;
+use kc_found::{Asked, Rule, Space, WalkStop, broken_field, low_word, read_bits, stopped};
+use kc_layout::Field;
+use kc_view::{Base, SlubShape, View};
+use kc_word::{Bits, Steps};
+use std::alloc::Global;
+use std::sync::ledger::Ledger;
+
+// Where page descriptors and physical memory stand, and how many nodes there are.
+#[derive(Clone, Copy, Debug, PartialEq, Eq)]
+pub(crate) struct Bases {
+    // The virtual address of the first page descriptor.
+    pub vmemmap: u64,
+    // The virtual address of the first byte of physical memory.
+    pub direct: u64,
+    // How many pointers of the array `node` are looked at.
+    pub nodes: u64,
+}
+
+// How the objects of a cache lie in its slabs, in bytes.
+#[derive(Clone, Copy, Debug, PartialEq, Eq)]
+pub(crate) struct Objects {
+    // From one object to the next.
+    pub size: u64,
+    // From an object's address to its free pointer.
+    pub offset: u64,
+    // What free pointers are encoded with.
+    pub random: Option<u64>,
+    // Before the first object.
+    pub left_pad: u64,
+}
+
+// A base, which may be a word of memory.
+fn read_base<S: Space, L: Ledger>(
+    alloc: Global,
+    space: &mut S,
+    asked: &Asked,
+    base: Base,
+    steps: &mut Steps<L>,
+) -> Result<u64, WalkStop>
+    ensures exact { WalksAs (λ n. n) (λ i. base_of i asked.now base) (S.image space.old) result }
+    ensures named { IsNamed result asked.now.audit asked.now.start }
+
+    ensures stays { SpaceStays S.image S.files S.through S.most space.old space.new }
+    ensures cause { CountsWalkFaults result (S.faults space.old) (S.faults space.new) }
+{
+    match base {
+        Base::Is(number) => Ok(number),
+        Base::At(at) => match space.word(at, steps) {
+            Ok(word) => Ok(word.value),
+            Err(stop) => Err(stopped(alloc, asked, stop, None)),
+        },
+    }
+}
+
+// How many pointers of the array `node` are looked at, of so many.
+fn read_count<S: Space, L: Ledger>(
+    alloc: Global,
+    space: &mut S,
+    asked: &Asked,
+    nodes: u32,
+    node_ids: Base,
+    steps: &mut Steps<L>,
+) -> Result<u64, WalkStop>
+    ensures exact { WalksAs (λ n. n) (λ i. count_of i asked.now nodes node_ids) (S.image space.old) result }
+    ensures few { IfOk result (λ n. n ≤ nodes) }
+    ensures named { IsNamed result asked.now.audit asked.now.start }
+
+    ensures stays { SpaceStays S.image S.files S.through S.most space.old space.new }
+    ensures cause { CountsWalkFaults result (S.faults space.old) (S.faults space.new) }
+{
+    let bits = Bits {
+        bit: 0,
+        width: 32,
+        signed: false,
+    };
+    match node_ids {
+        Base::Is(number) => Ok(u64::from(nodes).min(number)),
+        Base::At(at) => match read_bits(space, at, bits, steps) {
+            Ok(number) => Ok(u64::from(nodes).min(low_word(&number))),
+            Err(stop) => Err(stopped(alloc, asked, stop, None)),
+        },
+    }
+}
+
+// The bases and the number of nodes.
+pub(crate) fn read_bases<S: Space, L: Ledger>(
+    alloc: Global,
+    space: &mut S,
+    asked: &Asked,
+    shape: &SlubShape,
+    steps: &mut Steps<L>,
+) -> Result<Bases, WalkStop>
+    ensures exact { WalksAs (λ b. b) (λ i. bases_of i asked.now shape.now) (S.image space.old) result }
+    ensures few { IfOk result (λ b. b.nodes ≤ shape.now.nodes) }
+    ensures named { IsNamed result asked.now.audit asked.now.start }
+
+    ensures stays { SpaceStays S.image S.files S.through S.most space.old space.new }
+    ensures cause { CountsWalkFaults result (S.faults space.old) (S.faults space.new) }
+{
+    let vmemmap = match read_base(alloc, space, asked, shape.vmemmap, steps) {
+        Ok(vmemmap) => vmemmap,
+        Err(stop) => return Err(stop),
+    };
+    let direct = match read_base(alloc, space, asked, shape.direct, steps) {
+        Ok(direct) => direct,
+        Err(stop) => return Err(stop),
+    };
+    match read_count(alloc, space, asked, shape.nodes, shape.node_ids, steps) {
+        Ok(nodes) => Ok(Bases {
+            vmemmap,
+            direct,
+            nodes,
+        }),
+        Err(stop) => Err(stop),
+    }
+}
+
+// A field of the cache that a kernel may not have.
+fn read_optional<S: Space, L: Ledger>(
+    alloc: Global,
+    space: &mut S,
+    asked: &Asked,
+    cache: &View<'_>,
+    field: &Option<Field>,
+    steps: &mut Steps<L>,
+) -> Result<Option<u64>, WalkStop>
+    requires { cache.now.at ≡ asked.now.start }
+    ensures exact { WalksAs (λ n. n) (λ i. optional_of i asked.now field.now) (S.image space.old) result }
+    ensures named { IsNamed result asked.now.audit asked.now.start }
+
+    ensures stays { SpaceStays S.image S.files S.through S.most space.old space.new }
+    ensures cause { CountsWalkFaults result (S.faults space.old) (S.faults space.new) }
+{
+    match field {
+        None => Ok(None),
+        Some(field) => match read_field(alloc, space, asked, cache, field, steps) {
+            Ok(number) => Ok(Some(number.value())),
+            Err(stop) => Err(stop),
+        },
+    }
+}
+
+// How the objects of the cache lie in its slabs.
+pub(crate) fn read_objects<S: Space, L: Ledger>(
+    alloc: Global,
+    space: &mut S,
+    asked: &Asked,
+    shape: &SlubShape,
+    cache: &View<'_>,
+    steps: &mut Steps<L>,
+) -> Result<Objects, WalkStop>
+    requires { cache.now.at ≡ asked.now.start }
+    ensures exact { WalksAs (λ o. o) (λ i. objects_of i asked.now shape.now) (S.image space.old) result }
+    ensures fits { IfOk result (λ o. (1 ≤ o.size) × (o.offset + 8 ≤ o.size)) }
+    ensures named { IsNamed result asked.now.audit asked.now.start }
+
+    ensures stays { SpaceStays S.image S.files S.through S.most space.old space.new }
+    ensures cause { CountsWalkFaults result (S.faults space.old) (S.faults space.new) }
+{
+    let offset = match read_field(alloc, space, asked, cache, &shape.offset, steps) {
+        Ok(offset) => offset.value(),
+        Err(stop) => return Err(stop),
+    };
+    let size = match read_field(alloc, space, asked, cache, &shape.size, steps) {
+        Ok(size) => size,
+        Err(stop) => return Err(stop),
+    };
+    let random = match read_optional(alloc, space, asked, cache, &shape.random, steps) {
+        Ok(random) => random,
+        Err(stop) => return Err(stop),
+    };
+    let left_pad = match read_optional(alloc, space, asked, cache, &shape.left_pad, steps) {
+        Ok(left_pad) => left_pad,
+        Err(stop) => return Err(stop),
+    };
+    if size.value() == 0 || u128::from(size.value()) < u128::from(offset) + 8 {
+        return Err(broken_field(alloc, asked, Rule::U3, size.at, &size.number, None));
+    }
+    Ok(Objects {
+        size: size.value(),
+        offset,
+        random,
+        left_pad: left_pad.unwrap_or(0),
+    })
+}

@@ -1,0 +1,73 @@
+// Fields of caches, nodes and slabs.
+ghost use Rattle.std.specs.Prelude.{◌≡◌, ◌≤◌, length};
+ghost use Rattle.kc_memory.specs.Space.{AnswersAs};
+ghost use Rattle.kc_memory.specs.Stays.{CountsFaults, SpaceStays};
+ghost use Rattle.kc_found.specs.Walks.{CountsWalkFaults, IsNamed, WalksAs};
+ghost use Rattle.kc_slub.specs.Caches.{field_of, or_missed, value_of};
+
+use kc_btf::Btf;
+use kc_found::{Asked, Scalar, Space, Stop, WalkStop, low_word, read_bits, stopped};
+use kc_layout::Field;
+use kc_view::View;
+use kc_word::Steps;
+use std::alloc::Global;
+use std::sync::ledger::Ledger;
+
+// The number of a field.
+#[derive(Clone, Copy, Debug, PartialEq, Eq)]
+pub(crate) struct FieldNumber {
+    // The number, with its words.
+    pub number: Scalar,
+    // The virtual address of the field's first byte.
+    pub at: u64,
+}
+
+impl FieldNumber {
+    // The number modulo 2^64.
+    pub(crate) fn value(&self) -> u64
+        ensures { result ≡ value_of self.now }
+    {
+        low_word(&self.number)
+    }
+}
+
+// A field of a struct of this type.
+fn field_of<S: Space, L: Ledger>(
+    space: &mut S,
+    view: &View<'_>,
+    field: &Field,
+    steps: &mut Steps<L>,
+) -> Result<FieldNumber, Stop>
+    ensures exact { AnswersAs (λ i. field_of i view.now.at field.now) (S.image space.old) result }
+
+    ensures stays { SpaceStays S.image S.files S.through S.most space.old space.new }
+    ensures cause { CountsFaults result (S.faults space.old) (S.faults space.new) }
+{
+    let end = view.behind(space, &field.hops, steps)?;
+    let number = read_bits(space, end, field.bits, steps)?;
+    Ok(FieldNumber {
+        number,
+        at: end.wrapping_add(field.bits.bit / 8),
+    })
+}
+
+// A field of a struct of this type, or the violation by the stop.
+pub(crate) fn read_field<S: Space, L: Ledger>(
+    alloc: Global,
+    space: &mut S,
+    asked: &Asked,
+    view: &View<'_>,
+    field: &Field,
+    steps: &mut Steps<L>,
+) -> Result<FieldNumber, WalkStop>
+    ensures exact { WalksAs (λ f. f) (λ i. or_missed asked.now (field_of i view.now.at field.now)) (S.image space.old) result }
+    ensures named { IsNamed result asked.now.audit asked.now.start }
+
+    ensures stays { SpaceStays S.image S.files S.through S.most space.old space.new }
+    ensures cause { CountsWalkFaults result (S.faults space.old) (S.faults space.new) }
+{
+    match field_of(space, view, field, steps) {
+        Ok(number) => Ok(number),
+        Err(stop) => Err(stopped(alloc, asked, stop, None)),
+    }
+}

@@ -1,0 +1,207 @@
+// A slab on a partial list.
+ghost use Rattle.std.specs.Prelude.{◌≡◌, ◌≤◌, ◌+◌, length};
+ghost use Rattle.kc_memory.specs.Stays.{SpaceStays};
+ghost use Rattle.kc_found.specs.FreeLists.{IsGrid};
+ghost use Rattle.kc_found.specs.Walks.{CountsWalkFaults, IsNamed, WalksAs};
+ghost use Rattle.kc_slub.specs.Caches.{counts_checked, free_checked, grid_of, is_descriptor, list_checked, page_of, slab_checked};
+
+use crate::cache::{Bases, Objects};
+use crate::fields::{FieldNumber, read_field};
+use crate::free::free_walk;
+use kc_found::{Asked, Grid, Rule, Scalar, Space, WalkStop, broken_field};
+use kc_view::{SlubShape, View};
+use kc_word::Steps;
+use std::alloc::Global;
+use std::sync::ledger::Ledger;
+
+// Physical memory has less than so many pages.
+const PAGES: u64 = 1 << 40;
+
+// The number of the page that a descriptor stands for.
+fn page_of(shape: &SlubShape, bases: &Bases, slab: u64) -> u64
+    ensures { result ≡ page_of shape.now bases.now slab }
+{
+    slab.wrapping_sub(bases.vmemmap) / shape.page_size
+}
+
+// A page has its descriptor there.
+fn is_descriptor(shape: &SlubShape, bases: &Bases, slab: u64) -> bool
+    ensures { result ≡ is_descriptor shape.now bases.now slab }
+{
+    slab.wrapping_sub(bases.vmemmap) % shape.page_size == 0 && page_of(shape, bases, slab) < PAGES
+}
+
+// Where a slab's objects lie.
+fn grid_of(shape: &SlubShape, bases: &Bases, objects: &Objects, slab: u64, count: u64) -> Grid
+    ensures { result ≡ grid_of shape.now bases.now objects.now slab count }
+{
+    let page = page_of(shape, bases, slab).wrapping_mul(4096);
+    Grid {
+        base: bases
+            .direct
+            .wrapping_add(page)
+            .wrapping_add(objects.left_pad),
+        size: objects.size,
+        objects: count,
+        offset: objects.offset,
+        random: objects.random,
+    }
+}
+
+// Looks at a slab's free list, which is to have so many objects.
+fn check_list<S: Space, L: Ledger>(
+    alloc: Global,
+    space: &mut S,
+    asked: &Asked,
+    grid: &Grid,
+    slab: u64,
+    wanted: u64,
+    inuse: &FieldNumber,
+    first: Scalar,
+    steps: &mut Steps<L>,
+) -> Result<u64, WalkStop>
+    requires { IsGrid grid.now }
+    ensures exact { WalksAs (λ s. s) (λ i. list_checked i asked.now grid.now slab wanted inuse.now first) (S.image space.old) result }
+    ensures named { IsNamed result asked.now.audit asked.now.start }
+
+    ensures stays { SpaceStays S.image S.files S.through S.most space.old space.new }
+    ensures cause { CountsWalkFaults result (S.faults space.old) (S.faults space.new) }
+{
+    let free = match free_walk(alloc, space, grid, first, asked.audit, asked.start, steps) {
+        Ok(free) => free,
+        Err(stop) => return Err(stop),
+    };
+    if free.len() as u64 != wanted {
+        return Err(broken_field(
+            alloc,
+            asked,
+            Rule::U6,
+            inuse.at,
+            &inuse.number,
+            Some(wanted),
+        ));
+    }
+    Ok(slab)
+}
+
+// Looks at a slab's free list, which is to have as many objects as aren't in use.
+fn check_free<S: Space, L: Ledger>(
+    alloc: Global,
+    space: &mut S,
+    asked: &Asked,
+    shape: &SlubShape,
+    bases: &Bases,
+    objects: &Objects,
+    slab: &View<'_>,
+    count: u64,
+    inuse: &FieldNumber,
+    steps: &mut Steps<L>,
+) -> Result<u64, WalkStop>
+    requires some { 1 ≤ objects.now.size }
+    requires inside { objects.now.offset + 8 ≤ objects.now.size }
+    ensures exact { WalksAs (λ s. s) (λ i. free_checked i asked.now shape.now bases.now objects.now slab.now.at count inuse.now) (S.image space.old) result }
+    ensures named { IsNamed result asked.now.audit asked.now.start }
+
+    ensures stays { SpaceStays S.image S.files S.through S.most space.old space.new }
+    ensures cause { CountsWalkFaults result (S.faults space.old) (S.faults space.new) }
+{
+    let first = match read_field(alloc, space, asked, slab, &shape.freelist, steps) {
+        Ok(first) => first.number,
+        Err(stop) => return Err(stop),
+    };
+    if !is_descriptor(shape, bases, slab.at()) {
+        return Err(broken_field(alloc, asked, Rule::U4, slab.at(), &first, None));
+    }
+    let grid = grid_of(shape, bases, objects, slab.at(), count);
+    let wanted = count.saturating_sub(inuse.value());
+    check_list(
+        alloc,
+        space,
+        asked,
+        &grid,
+        slab.at(),
+        wanted,
+        inuse,
+        first,
+        steps,
+    )
+}
+
+// Looks at a slab's numbers of objects, and then at its free list.
+fn check_counts<S: Space, L: Ledger>(
+    alloc: Global,
+    space: &mut S,
+    asked: &Asked,
+    shape: &SlubShape,
+    bases: &Bases,
+    objects: &Objects,
+    slab: &View<'_>,
+    steps: &mut Steps<L>,
+) -> Result<u64, WalkStop>
+    requires some { 1 ≤ objects.now.size }
+    requires inside { objects.now.offset + 8 ≤ objects.now.size }
+    ensures exact { WalksAs (λ s. s) (λ i. counts_checked i asked.now shape.now bases.now objects.now slab.now.at) (S.image space.old) result }
+    ensures named { IsNamed result asked.now.audit asked.now.start }
+
+    ensures stays { SpaceStays S.image S.files S.through S.most space.old space.new }
+    ensures cause { CountsWalkFaults result (S.faults space.old) (S.faults space.new) }
+{
+    let count = match read_field(alloc, space, asked, slab, &shape.objects, steps) {
+        Ok(count) => count,
+        Err(stop) => return Err(stop),
+    };
+    let inuse = match read_field(alloc, space, asked, slab, &shape.inuse, steps) {
+        Ok(inuse) => inuse,
+        Err(stop) => return Err(stop),
+    };
+    let most = count.value();
+    if most == 0 || most < inuse.value() {
+        return Err(broken_field(alloc, asked, Rule::U3, count.at, &count.number, None));
+    }
+    check_free(
+        alloc, space, asked, shape, bases, objects, slab, most, &inuse, steps,
+    )
+}
+
+// Looks at a slab, and gives its address.
+pub(crate) fn check_slab<S: Space, L: Ledger>(
+    alloc: Global,
+    space: &mut S,
+    asked: &Asked,
+    shape: &SlubShape,
+    bases: &Bases,
+    objects: &Objects,
+    slab: &View<'_>,
+    steps: &mut Steps<L>,
+) -> Result<u64, WalkStop>
+    requires some { 1 ≤ objects.now.size }
+    requires inside { objects.now.offset + 8 ≤ objects.now.size }
+    ensures exact { WalksAs (λ s. s) (λ i. slab_checked i asked.now shape.now bases.now objects.now slab.now.at) (S.image space.old) result }
+    ensures named { IsNamed result asked.now.audit asked.now.start }
+
+    ensures stays { SpaceStays S.image S.files S.through S.most space.old space.new }
+    ensures cause { CountsWalkFaults result (S.faults space.old) (S.faults space.new) }
+{
+    let cache = match read_field(alloc, space, asked, slab, &shape.slab_cache, steps) {
+        Ok(cache) => cache,
+        Err(stop) => return Err(stop),
+    };
+    if cache.value() != asked.start {
+        return Err(broken_field(
+            alloc,
+            asked,
+            Rule::U1,
+            cache.at,
+            &cache.number,
+            Some(asked.start),
+        ));
+    }
+    let frozen = match read_field(alloc, space, asked, slab, &shape.frozen, steps) {
+        Ok(frozen) => frozen,
+        Err(stop) => return Err(stop),
+    };
+    if frozen.value() != 0 {
+        return Err(broken_field(alloc, asked, Rule::U2, frozen.at, &frozen.number, Some(0)));
+    }
+    check_counts(alloc, space, asked, shape, bases, objects, slab, steps)
+}

@@ -1,0 +1,266 @@
+// The partial lists of a cache.
+ghost use Rattle.std.specs.Prelude.{◌≡◌, ℕ, ◌∷◌, ◌++◌, [], ◌≤◌, ◌+◌, ◌^◌, ◌<◌, length, OnOk};
+ghost use Rattle.kc_memory.specs.Stays.{SpaceStays};
+ghost use Rattle.kc_found.specs.Walks.{CountsWalkFaults, IsNamed, OnBroken, OnWalkFault, WalksAs};
+ghost use Rattle.kc_slub.specs.Caches.{IsInside, cache_slabs, knode_checked, node_checked, nodes_checked, partial_of, slabs_checked, IsStartedAt};
+
+use crate::cache::{Bases, Objects, read_bases, read_objects};
+use crate::fields::read_field;
+use crate::slab::check_slab;
+use kc_btf::Btf;
+use kc_found::{
+    Asked, Found, Rule, Space, WalkStop, Walked, broken_field, low_word, read_bits, stopped,
+};
+use kc_list::ring;
+use kc_view::{SlubShape, View};
+use kc_word::{Bits, NoMemory, Steps};
+use std::alloc::Global;
+use std::sync::ledger::Ledger;
+
+// Adds a slab to those that were looked at.
+fn push_slab(slabs: &mut Walked, slab: u64) -> Result<(), WalkStop>
+    ensures added { OnOk result (slabs.new ≡ slabs.old ++ slab ∷ []) }
+    ensures broken { OnBroken result ⊥ }
+    ensures no_fault { OnWalkFault result ⊥ }
+{
+    match slabs.push(slab) {
+        Ok(()) => Ok(()),
+        Err(NoMemory) => Err(WalkStop::NoMemory),
+    }
+}
+
+// Looks at the slabs of a ring's nodes.
+fn check_slabs<S: Space, L: Ledger>(
+    alloc: Global,
+    space: &mut S,
+    asked: &Asked,
+    btf: &Btf,
+    shape: &SlubShape,
+    bases: &Bases,
+    objects: &Objects,
+    nodes: &Walked,
+    slabs: &mut Walked,
+    steps: &mut Steps<L>,
+) -> Result<(), WalkStop>
+    requires some { 1 ≤ objects.now.size }
+    requires inside { objects.now.offset + 8 ≤ objects.now.size }
+    requires types { IsInside shape.now btf.now }
+    ensures exact { WalksAs (λ _. slabs.new) (λ i. slabs_checked i asked.now shape.now bases.now objects.now slabs.old nodes.now) (S.image space.old) result }
+    ensures named { IsNamed result asked.now.audit asked.now.start }
+
+    ensures stays { SpaceStays S.image S.files S.through S.most space.old space.new }
+    ensures cause { CountsWalkFaults result (S.faults space.old) (S.faults space.new) }
+{
+    let mut i = 0;
+    while i < nodes.len() {
+        let at = nodes.get(i).wrapping_sub(shape.slab_list);
+        let view = View::new(btf, shape.slab, at);
+        let slab = match check_slab(alloc, space, asked, shape, bases, objects, &view, steps) {
+            Ok(slab) => slab,
+            Err(stop) => return Err(stop),
+        };
+        push_slab(slabs, slab)?;
+        i += 1;
+    }
+    Ok(())
+}
+
+// Names where this walk starts in the end of an inner one.
+fn started_at(stop: WalkStop, start: u64) -> WalkStop
+    ensures { IsStartedAt start stop result }
+{
+    match stop {
+        WalkStop::Broken(found) => WalkStop::Broken(Found {
+            audit: found.audit,
+            start,
+            rule: found.rule,
+            at: found.at,
+            expected: found.expected,
+            stop: found.stop,
+            places: found.places,
+        }),
+        WalkStop::Fault => WalkStop::Fault,
+        WalkStop::NoMemory => WalkStop::NoMemory,
+    }
+}
+
+// The ring of a node's partial slabs.
+fn walk_partial<S: Space, L: Ledger>(
+    alloc: Global,
+    space: &mut S,
+    asked: &Asked,
+    shape: &SlubShape,
+    knode: u64,
+    steps: &mut Steps<L>,
+) -> Result<Walked, WalkStop>
+    ensures exact { WalksAs (λ w. w) (λ i. partial_of i asked.now shape.now knode) (S.image space.old) result }
+    ensures named { IsNamed result asked.now.audit asked.now.start }
+
+    ensures stays { SpaceStays S.image S.files S.through S.most space.old space.new }
+    ensures cause { CountsWalkFaults result (S.faults space.old) (S.faults space.new) }
+{
+    let head = knode.wrapping_add(shape.partial);
+    match ring(alloc, space, &shape.list, head, asked.audit, steps) {
+        Ok(nodes) => Ok(nodes),
+        Err(stop) => Err(started_at(stop, asked.start)),
+    }
+}
+
+// Looks at the partial slabs of a node, and at how many it says they are.
+fn check_knode<S: Space, L: Ledger>(
+    alloc: Global,
+    space: &mut S,
+    asked: &Asked,
+    btf: &Btf,
+    shape: &SlubShape,
+    bases: &Bases,
+    objects: &Objects,
+    knode: u64,
+    slabs: &mut Walked,
+    steps: &mut Steps<L>,
+) -> Result<(), WalkStop>
+    requires some { 1 ≤ objects.now.size }
+    requires inside { objects.now.offset + 8 ≤ objects.now.size }
+    requires types { IsInside shape.now btf.now }
+    ensures exact { WalksAs (λ _. slabs.new) (λ i. knode_checked i asked.now shape.now bases.now objects.now slabs.old knode) (S.image space.old) result }
+    ensures named { IsNamed result asked.now.audit asked.now.start }
+
+    ensures stays { SpaceStays S.image S.files S.through S.most space.old space.new }
+    ensures cause { CountsWalkFaults result (S.faults space.old) (S.faults space.new) }
+{
+    let view = View::new(btf, shape.knode, knode);
+    let said = match read_field(alloc, space, asked, &view, &shape.nr_partial, steps) {
+        Ok(said) => said,
+        Err(stop) => return Err(stop),
+    };
+    let nodes = match walk_partial(alloc, space, asked, shape, knode, steps) {
+        Ok(nodes) => nodes,
+        Err(stop) => return Err(stop),
+    };
+    match check_slabs(
+        alloc, space, asked, btf, shape, bases, objects, &nodes, slabs, steps,
+    ) {
+        Ok(()) => {}
+        Err(stop) => return Err(stop),
+    }
+    let wanted = nodes.len() as u64;
+    if said.value() != wanted {
+        return Err(broken_field(alloc, asked, Rule::U7, said.at, &said.number, Some(wanted)));
+    }
+    Ok(())
+}
+
+// Looks at the node of a pointer of the array `node`, unless the pointer is null.
+fn check_node<S: Space, L: Ledger>(
+    alloc: Global,
+    space: &mut S,
+    asked: &Asked,
+    btf: &Btf,
+    shape: &SlubShape,
+    bases: &Bases,
+    objects: &Objects,
+    i: u64,
+    slabs: &mut Walked,
+    steps: &mut Steps<L>,
+) -> Result<(), WalkStop>
+    requires index { i < 65536 }
+    requires some { 1 ≤ objects.now.size }
+    requires inside { objects.now.offset + 8 ≤ objects.now.size }
+    requires types { IsInside shape.now btf.now }
+    ensures exact { WalksAs (λ _. slabs.new) (λ im. node_checked im asked.now shape.now bases.now objects.now slabs.old i) (S.image space.old) result }
+    ensures named { IsNamed result asked.now.audit asked.now.start }
+
+    ensures stays { SpaceStays S.image S.files S.through S.most space.old space.new }
+    ensures cause { CountsWalkFaults result (S.faults space.old) (S.faults space.new) }
+{
+    let bits = Bits {
+        bit: 0,
+        width: 64,
+        signed: false,
+    };
+    let at = asked.start.wrapping_add(shape.node).wrapping_add(8 * i);
+    let knode = match read_bits(space, at, bits, steps) {
+        Ok(pointer) => low_word(&pointer),
+        Err(stop) => return Err(stopped(alloc, asked, stop, None)),
+    };
+    if knode == 0 {
+        return Ok(());
+    }
+    check_knode(
+        alloc, space, asked, btf, shape, bases, objects, knode, slabs, steps,
+    )
+}
+
+// Looks at the nodes of the cache, and gives the slabs on their lists.
+fn walk_nodes<S: Space, L: Ledger>(
+    alloc: Global,
+    space: &mut S,
+    asked: &Asked,
+    btf: &Btf,
+    shape: &SlubShape,
+    bases: &Bases,
+    objects: &Objects,
+    steps: &mut Steps<L>,
+) -> Result<Walked, WalkStop>
+    requires few { bases.now.nodes ≤ 65536 }
+    requires some { 1 ≤ objects.now.size }
+    requires inside { objects.now.offset + 8 ≤ objects.now.size }
+    requires types { IsInside shape.now btf.now }
+    ensures exact { WalksAs (λ w. w) (λ i. nodes_checked i asked.now shape.now bases.now objects.now bases.now.nodes 0 []) (S.image space.old) result }
+    ensures named { IsNamed result asked.now.audit asked.now.start }
+
+    ensures stays { SpaceStays S.image S.files S.through S.most space.old space.new }
+    ensures cause { CountsWalkFaults result (S.faults space.old) (S.faults space.new) }
+{
+    let mut slabs = Walked::new(alloc);
+    let mut i = 0;
+    while i < bases.nodes {
+        match check_node(
+            alloc, space, asked, btf, shape, bases, objects, i, &mut slabs, steps,
+        ) {
+            Ok(()) => {}
+            Err(stop) => return Err(stop),
+        }
+        i += 1;
+    }
+    Ok(slabs)
+}
+
+/// The slabs on the partial lists of the cache at virtual address `cache`, node by node, each in the order of its ring.
+/// The audit's number is named where the cache breaks a rule.
+///
+/// # Errors
+///
+/// The first violation, exactly where the cache has one; a failure of the space, whose count of faults then rose; or
+/// out of memory.
+pub fn cache_walk<S: Space, L: Ledger>(
+    alloc: Global,
+    space: &mut S,
+    btf: &Btf,
+    shape: &SlubShape,
+    cache: u64,
+    audit: u32,
+    steps: &mut Steps<L>,
+) -> Result<Walked, WalkStop>
+    requires { IsInside shape.now btf.now }
+    ensures walk { WalksAs (λ w. w) (λ i. cache_slabs i shape.now (record { audit = audit; start = cache })) (S.image space.old) result }
+    ensures named { IsNamed result audit cache }
+
+    ensures stays { SpaceStays S.image S.files S.through S.most space.old space.new }
+    ensures cause { CountsWalkFaults result (S.faults space.old) (S.faults space.new) }
+{
+    let asked = Asked {
+        audit,
+        start: cache,
+    };
+    let bases = match read_bases(alloc, space, &asked, shape, steps) {
+        Ok(bases) => bases,
+        Err(stop) => return Err(stop),
+    };
+    let view = View::new(btf, shape.cache, cache);
+    let objects = match read_objects(alloc, space, &asked, shape, &view, steps) {
+        Ok(objects) => objects,
+        Err(stop) => return Err(stop),
+    };
+    walk_nodes(alloc, space, &asked, btf, shape, &bases, &objects, steps)
+}
