@@ -1,2 +1,4 @@
+mod Checked
 mod Pieces
+mod Planned
 mod Usage

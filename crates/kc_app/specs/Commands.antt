@@ -2,13 +2,14 @@
 use Rattle.std.specs.Prelude.{ℕ, List, [], ◌∷◌, ◌++◌, codes, find, Option, None, option_and_then}
 use Rattle.std.specs.Str.{bytes_eq}
 use Rattle.kc_app.specs.Asked.{Asked, Form}
+use Rattle.kc_app.specs.Check.{check_form}
 use Rattle.kc_app.specs.Layout.{layout_form}
 use Rattle.kc_app.specs.Show.{show_form}
 use Rattle.kc_app.specs.Word.{word_form}
 
 -- the commands in the order of usage
 abbrev pub forms : List Form
-forms = word_form ∷ layout_form ∷ show_form ∷ []
+forms = word_form ∷ layout_form ∷ show_form ∷ check_form ∷ []
 
 -- what the words behind the program's name ask for: the first one names the command, the others are its words
 abbrev pub command : List (List ℕ) → Option Asked

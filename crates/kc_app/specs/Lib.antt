@@ -1,5 +1,6 @@
 pub mod Answer
 pub mod Asked
+pub mod Check
 pub mod Commands
 pub mod Ends
 pub mod Failures

@@ -13,17 +13,23 @@ use Rattle.kc_btf.specs.Readers.{name_at}
 use Rattle.kc_layout.specs.declared.listing.Line.{Line}
 use Rattle.kc_text.specs.Text.{hex, name_text, visible}
 use Rattle.kc_report.specs.Lines.{address_text, place_lines, rule_lines, stop_line}
+use Rattle.kc_report.specs.Report.{AuditLine}
+use Rattle.kc_report.specs.ReportText.{broken_lines, clean_text}
 use Rattle.kc_input.specs.Lines.{refusal_line}
 use Rattle.kc_input.specs.declared.refusal.Refusal.{Refusal}
 use Rattle.kc_app.specs.declared.status.Status.{Status}
 use Rattle.kc_app.specs.declared.status.Status.TheVariants.{Done, Broken, Refused}
 
--- what is said of words of a dump, beside the words themselves: nothing, the number that they hold, or the rule,
--- the virtual address, the level and the physical address of a stop
+-- what is said of words of a dump, beside the words themselves: nothing; the number that they hold; the rule, the
+-- virtual address, the level and the physical address of a stop; that no structure breaks a rule, with each audit's
+-- counts; or the audit whose structure does, by its name, with the walk's start, the rule, the address, what should stand
+-- there, and the level and physical address of a stop
 pub data Said : Type 0 where
   Bare : Said
   Value : ℤ → Said
   Stop : Rule → ℕ → ℕ → ℕ → Said
+  Sound : List AuditLine → Said
+  Unsound : List ℕ → ℕ → Rule → ℕ → Option ℕ → Option (ℕ × ℕ) → Said
 
 -- What a command shows: what is said of words of a memory, and these words; or the members of a struct or union,
 -- which no dump has: the strings, the type, the name that was asked, and the lines.
@@ -43,11 +49,18 @@ abbrev pub bare_lines : List Place → List ℕ
 bare_lines [] = []
 bare_lines (p ∷ ps) = bare_line p ++ bare_lines ps
 
+-- what a report says of a violation, with the words that show it
+abbrev pub unsound_lines : List ℕ → ℕ → Rule → ℕ → Option ℕ → Option (ℕ × ℕ) → List Place → List ℕ
+unsound_lines audit start rule at expected stop places =
+    broken_lines (record { audit = audit; start = start; rule = rule; at = at; expected = expected; stop = stop; places = places })
+
 -- what is said of words, with them
 abbrev pub seen_text : Said → List Place → List ℕ
 seen_text Bare places = bare_lines places
 seen_text (Value v) places = codes "value " ++ signed_decimal v ++ codes "\n" ++ place_lines places
 seen_text (Stop rule va level pa) places = rule_lines rule va ++ stop_line rule level pa ++ place_lines places
+seen_text (Sound lines) places = clean_text lines ++ place_lines places
+seen_text (Unsound audit start rule at expected stop) places = unsound_lines audit start rule at expected stop places
 
 -- a width in bits, or a dash where it isn't known
 abbrev pub width_text : Option ℕ → List ℕ
@@ -81,6 +94,8 @@ abbrev pub said_status : Said → Status
 said_status Bare = Done
 said_status (Value v) = Done
 said_status (Stop rule va level pa) = Broken
+said_status (Sound lines) = Done
+said_status (Unsound audit start rule at expected stop) = Broken
 
 abbrev pub shown_status : Shown → Status
 shown_status (Seen said image places) = said_status said

@@ -15,14 +15,15 @@ use std::alloc::Global;
 
 /// A line for each command.
 pub const USAGE: &[u8] =
-    b"usage: kaudit word DUMP TABLE ADDRESS\nusage: kaudit layout BTF TYPE\nusage: kaudit show DUMP BTF MAP SYMBOL TYPE PATH\n";
+    b"usage: kaudit word DUMP TABLE ADDRESS\nusage: kaudit layout BTF TYPE\nusage: kaudit show DUMP BTF MAP SYMBOL TYPE PATH\nusage: kaudit check DUMP BTF MAP PLAN\n";
 
 /// Runs the command that the words behind the program's name are: the first one names it. `None` exactly where
 /// they aren't a command; the store isn't asked then.
 pub fn run<S: Store>(alloc: Global, store: &mut S, words: &[String]) -> Option<Result<Answer, Halt>>
     requires { (slot : Slot) → ForSome (word_in (command (map string_bytes words.now)) slot) (S.may store.old slot) }
 
-    ensures output { Runs (command (map string_bytes words.now)) (S.files store.old) result (S.opened store.old) (S.opened store.new) }
+    ensures output { Runs (command (map string_bytes words.now)) (S.files store.old) result (S.opened store.old)
+        (S.opened store.new) }
     ensures unasked { OnNone result (S.asked store.new ≡ S.asked store.old) }
     ensures files { S.files store.new ≡ S.files store.old }
     ensures later { S.faults store.old ≤ S.faults store.new }
@@ -36,6 +37,7 @@ pub fn run<S: Store>(alloc: Global, store: &mut S, words: &[String]) -> Option<R
         "word" => crate::word::run(alloc, store, words),
         "layout" => crate::layout::run(alloc, store, words),
         "show" => crate::show::run(alloc, store, words),
+        "check" => crate::check::run(alloc, store, words),
         _ => None,
     }
 }

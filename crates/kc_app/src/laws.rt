@@ -2,6 +2,7 @@
 ghost use Rattle.kc_app.specs.Output.{ShownStand};
 
 use kc_memory::know_places;
+use kc_run::know_verdicts;
 use kc_view::know_values;
 
 /// Does nothing. Every word of a dump that an output shows stands in the dump at the printed places.
@@ -10,4 +11,5 @@ pub fn know_shown()
 {
     know_places();
     know_values();
+    know_verdicts();
 }

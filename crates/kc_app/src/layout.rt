@@ -50,9 +50,11 @@ fn read(words: &[String]) -> Option<Asks<'_>>
 /// Runs `layout` on its words: the first fault of the file of types, else the members of the struct or union
 /// with a name. `None` where these aren't its words; the store isn't asked then.
 pub fn run<S: Store>(alloc: Global, store: &mut S, words: &[String]) -> Option<Result<Answer, Halt>>
-    requires { (slot : Slot) → ForSome (word_in (layout_asks (map string_bytes words.now)) slot) (S.may store.old slot) }
+    requires { (slot : Slot) → ForSome (word_in (layout_asks (map string_bytes words.now)) slot)
+        (S.may store.old slot) }
 
-    ensures output { Runs (layout_asks (map string_bytes words.now)) (S.files store.old) result (S.opened store.old) (S.opened store.new) }
+    ensures output { Runs (layout_asks (map string_bytes words.now)) (S.files store.old) result (S.opened store.old)
+        (S.opened store.new) }
     ensures unasked { OnNone result (S.asked store.new ≡ S.asked store.old) }
     ensures files { S.files store.new ≡ S.files store.old }
     ensures later { S.faults store.old ≤ S.faults store.new }
@@ -67,7 +69,8 @@ pub fn run<S: Store>(alloc: Global, store: &mut S, words: &[String]) -> Option<R
 fn layout<S: Store>(alloc: Global, store: &mut S, asks: Asks<'_>) -> Result<Answer, Halt>
     requires may { S.may store.old Slot.Btf asks.btf.now }
 
-    ensures output { PrintsOf (λ files. layout_made asks.entry.name.now (files Slot.Btf asks.entry.btf.now)) (S.files store.old) result }
+    ensures output { PrintsOf (λ files. layout_made asks.entry.name.now (files Slot.Btf asks.entry.btf.now))
+        (S.files store.old) result }
     ensures unopened { StayBehind (layout_view asks.entry).named result (S.opened store.old) (S.opened store.new) }
     ensures files { S.files store.new ≡ S.files store.old }
     ensures later { S.faults store.old ≤ S.faults store.new }

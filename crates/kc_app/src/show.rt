@@ -95,7 +95,8 @@ fn read(words: &[String]) -> Option<Asks<'_>>
 pub fn run<S: Store>(alloc: Global, store: &mut S, words: &[String]) -> Option<Result<Answer, Halt>>
     requires { (slot : Slot) → ForSome (word_in (show_asks (map string_bytes words.now)) slot) (S.may store.old slot) }
 
-    ensures output { Runs (show_asks (map string_bytes words.now)) (S.files store.old) result (S.opened store.old) (S.opened store.new) }
+    ensures output { Runs (show_asks (map string_bytes words.now)) (S.files store.old) result (S.opened store.old)
+        (S.opened store.new) }
     ensures unasked { OnNone result (S.asked store.new ≡ S.asked store.old) }
     ensures files { S.files store.new ≡ S.files store.old }
     ensures later { S.faults store.old ≤ S.faults store.new }
@@ -112,8 +113,11 @@ fn show<S: Store>(alloc: Global, store: &mut S, asks: &Asks<'_>) -> Result<Answe
     requires btf { S.may store.old Slot.Btf asks.now.btf.now }
     requires map { S.may store.old Map asks.now.map.now }
 
-    ensures output { PrintsOf (λ files. show_made (worded asks.now) (files Dump asks.now.dump.now) (files Slot.Btf asks.now.btf.now) (files Map asks.now.map.now)) (S.files store.old) result }
-    ensures unopened { StayBehind (show_asked (worded asks.now)).named result (S.opened store.old) (S.opened store.new) }
+    ensures output { PrintsOf
+        (λ files. show_made (worded asks.now) (files Dump asks.now.dump.now) (files Slot.Btf asks.now.btf.now)
+        (files Map asks.now.map.now)) (S.files store.old) result }
+    ensures unopened { StayBehind (show_asked (worded asks.now)).named result (S.opened store.old)
+        (S.opened store.new) }
     ensures files { S.files store.new ≡ S.files store.old }
     ensures later { S.faults store.old ≤ S.faults store.new }
     ensures quiet { UnlessStore result (S.faults store.new ≡ S.faults store.old) }
@@ -136,7 +140,8 @@ fn find_target<S: Store>(
 ) -> Result<Target, Halt>
     requires may { S.may store.old Map asks.now.map.now }
 
-    ensures told { IsOf target_view (λ files. target_in (worded asks.now) types.now kaslr (files Map asks.now.map.now)) (S.files store.old) result }
+    ensures told { IsOf target_view (λ files. target_in (worded asks.now) types.now kaslr (files Map asks.now.map.now))
+        (S.files store.old) result }
     ensures last { RefusesLast (show_asked (worded asks.now)).named result }
     ensures ty { IfOk result (λ target. target.ty ≤ length types.now.records) }
     ensures there { IfOk result (λ target. target.field.ty ≤ length types.now.records) }
@@ -169,7 +174,10 @@ fn look_up<S: Store>(
     requires ty { target.now.ty ≤ length types.now.records }
     requires inside { AreInside (S.sizes store.old Dump) core.now.segments }
 
-    ensures output { PrintsOfBytes (λ bytes. let image = image_of bytes core.now.segments (by_info info) in gives (number_shown image (number_read image (target_view target.now)))) (content (S.files store.old) Dump (S.opened store.old Dump)) result }
+    ensures output { PrintsOfBytes
+        (λ bytes. let image = image_of bytes core.now.segments (by_info info) in
+        gives (number_shown image (number_read image (target_view target.now))))
+        (content (S.files store.old) Dump (S.opened store.old Dump)) result }
     ensures not_refused { NotRefused result }
     ensures files { S.files store.new ≡ S.files store.old }
     ensures later { S.faults store.old ≤ S.faults store.new }
@@ -193,7 +201,9 @@ fn push_second(text: &mut Vec<u8>, second: Option<Place>) -> Result<(), NoMemory
 
 // The text of a number: its value in decimal, and the words that hold it.
 fn number_text(alloc: Global, number: Scalar) -> Result<Vec<u8>, NoMemory>
-    ensures { IfOk result (λ text. text.items ≡ codes "value " ++ signed_decimal number.value ++ codes "\n" ++ place_lines (number_places (Ok number))) }
+    ensures { IfOk result
+        (λ text. text.items ≡ codes "value " ++ signed_decimal number.value ++ codes "\n" ++ place_lines
+        (number_places (Ok number))) }
 {
     let mut text = Vec::new(alloc);
     push(&mut text, b"value ")?;
@@ -226,7 +236,9 @@ fn read_number<S: Store>(
     requires table { IsTable paging.table }
     requires inside { AreInside (S.sizes store.old Dump) segments.items }
 
-    ensures number { AnswersAs (λ bytes. value_at (image_of bytes segments.items paging) view.now.at (hop_list field.now.hops) (bits_view field.now.bits)) (content (S.files store.old) Dump (S.opened store.old Dump)) result }
+    ensures number { AnswersAs
+        (λ bytes. value_at (image_of bytes segments.items paging) view.now.at (hop_list field.now.hops)
+        (bits_view field.now.bits)) (content (S.files store.old) Dump (S.opened store.old Dump)) result }
     ensures files { S.files store.new ≡ S.files store.old }
     ensures later { S.faults store.old ≤ S.faults store.new }
     ensures quiet { UnlessFault result (S.faults store.new ≡ S.faults store.old) }
@@ -250,7 +262,9 @@ fn read_counted<S: Store, L: Ledger>(
     requires table { IsTable paging.table }
     requires inside { AreInside (S.sizes store.old Dump) segments.items }
 
-    ensures number { AnswersAs (λ bytes. value_at (image_of bytes segments.items paging) view.now.at (hop_list field.now.hops) (bits_view field.now.bits)) (content (S.files store.old) Dump (S.opened store.old Dump)) result }
+    ensures number { AnswersAs
+        (λ bytes. value_at (image_of bytes segments.items paging) view.now.at (hop_list field.now.hops)
+        (bits_view field.now.bits)) (content (S.files store.old) Dump (S.opened store.old Dump)) result }
     ensures files { S.files store.new ≡ S.files store.old }
     ensures later { S.faults store.old ≤ S.faults store.new }
     ensures quiet { UnlessFault result (S.faults store.new ≡ S.faults store.old) }

@@ -1,8 +1,9 @@
 // The program over made files. The files beside this one have the cases, and an empty line ends a case. Its lines
 // give the words (`words` several, `word` one that is empty or has spaces); what is changed: `put` a word of the dump
 // at a physical address, `bytes` some at a file offset, `types` some of the types at a file offset, `map` the map's
-// lines, `row` one line more; which files aren't there; which call fails; and what is wanted, where `usage` stands for
-// its lines. Numbers are hex.
+// lines, `row` one line more, `planned` a plan by its name and `plan` a line more of it; which files aren't there; which
+// call fails; and what is wanted, where `usage` stands for its lines. Numbers are hex.
+mod checks;
 mod commands;
 mod layouts;
 mod numbers;
@@ -23,6 +24,7 @@ use kc_mem::Memory;
 use kc_memory::{Space, VWord};
 use kc_outside::{MemSink, MemStore, Slot, Store};
 use kc_phys::Phys;
+use kc_report::{read_report, text};
 use kc_word::{NoMemory, PageCfg, Segment, Steps, read_hex};
 use std::alloc::{AllocError, Global};
 use std::marker::Brand;
@@ -40,8 +42,10 @@ struct Case {
     dump: Vec<u8>,
     types: Vec<u8>,
     map: Vec<u8>,
+    plan: Vec<u8>,
     has_types: bool,
     has_map: bool,
+    has_plan: bool,
     fails: u64,
     out_limit: usize,
     err_limit: usize,
@@ -65,6 +69,20 @@ fn read_text(
     }
     if text.is_empty() {
         text.extend_from_slice(usual)?;
+    }
+    Ok(text)
+}
+
+// A plan by its name, and the lines that a case adds.
+fn plan_text(alloc: Global, lines: &str) -> Result<Vec<u8>, AllocError> {
+    let mut text = Vec::new(alloc);
+    for line in lines.lines() {
+        if let Some(name) = line.strip_prefix("planned ") {
+            text.extend_from_slice(checks::plan_named(name).as_bytes())?;
+        }
+        if let Some(value) = line.strip_prefix("plan ") {
+            push_line(&mut text, value)?;
+        }
     }
     Ok(text)
 }
@@ -109,8 +127,10 @@ impl Case {
             dump: core_with_note(alloc, &note)?,
             types: btf_file(alloc)?,
             map: read_text(alloc, lines, "map ", MAP.as_bytes())?,
+            plan: plan_text(alloc, lines)?,
             has_types: true,
             has_map: true,
+            has_plan: true,
             fails: 0,
             out_limit: ENOUGH,
             err_limit: ENOUGH,
@@ -164,6 +184,7 @@ impl Case {
             "types_length" => self.types.truncate(small(value)),
             "no_types" => self.has_types = false,
             "no_map" => self.has_map = false,
+            "no_plan" => self.has_plan = false,
             "row" => push_line(&mut self.map, value)?,
             "length" => self.dump.truncate(small(value)),
             _ => {}
@@ -180,6 +201,9 @@ fn make_store(alloc: Global, case: &Case) -> Result<MemStore, NoMemory> {
     }
     if case.has_map {
         store.add("z.map", &case.map)?;
+    }
+    if case.has_plan {
+        store.add("z.plan", &case.plan)?;
     }
     store.fail(case.fails)?;
     Ok(store)
@@ -209,6 +233,17 @@ fn run_case(rt: &(impl Abort + AllocGlobal), lines: &str) -> Result<(), Fail> {
     assert_eq!(rt; u64::from(u8::from(status)), case.status, "{lines}");
     assert_eq!(rt; out.bytes(), taken(&case.out, case.out_limit), "{lines}");
     assert_eq!(rt; err.bytes(), taken(&case.err, case.err_limit), "{lines}");
+    if lines.starts_with("words check") && case.status < 2 {
+        is_read_back(rt, out.bytes())?;
+    }
+    Ok(())
+}
+
+// A report is read back to the same text.
+fn is_read_back(rt: &(impl Abort + AllocGlobal), bytes: &[u8]) -> Result<(), Fail> {
+    let report = read_report(rt.alloc(), bytes)?;
+    let again = text(rt.alloc(), &report)?;
+    assert_eq!(rt; &again[..], bytes);
     Ok(())
 }
 
@@ -259,6 +294,21 @@ fn layouts_are_listed_or_refused(rt: HostRuntime) -> Result<(), Fail> {
 fn numbers_are_shown_with_their_words(rt: HostRuntime) -> Result<(), Fail> {
     assert_eq!(rt; run_cases(&rt, numbers::NUMBERS)?, 17);
     assert_eq!(rt; run_cases(&rt, questions::QUESTIONS)?, 28);
+    Ok(())
+}
+
+#[test]
+fn structures_are_clean_or_the_first_violation_is_told(rt: HostRuntime) -> Result<(), Fail> {
+    assert_eq!(rt; run_cases(&rt, checks::CHAINS)?, 12);
+    assert_eq!(rt; run_cases(&rt, checks::NESTED)?, 11);
+    assert_eq!(rt; run_cases(&rt, checks::WAYS)?, 7);
+    Ok(())
+}
+
+#[test]
+fn plans_are_refused_with_audit_and_key(rt: HostRuntime) -> Result<(), Fail> {
+    assert_eq!(rt; run_cases(&rt, checks::PLANS)?, 13);
+    assert_eq!(rt; run_cases(&rt, checks::FAILING)?, 2);
     Ok(())
 }
 

@@ -32,7 +32,8 @@ const MEMORY_REFUSED: &[u8] = b"memory refused\n";
 // Says on standard error that standard output failed, as far as it takes it.
 fn tell_failure<E: Sink>(err: &mut E)
     ensures part { TookPrefix (E.taken err.old) (E.taken err.new) sink_failed }
-    ensures whole { E.faults err.old < 2 ^ 64 - 1 → E.faults err.new ≡ E.faults err.old → E.taken err.new ≡ with_piece (E.taken err.old) sink_failed }
+    ensures whole { E.faults err.old < 2 ^ 64 - 1 → E.faults err.new ≡ E.faults err.old → E.taken err.new ≡ with_piece
+        (E.taken err.old) sink_failed }
     ensures later { E.faults err.old ≤ E.faults err.new }
 {
     match put_all(err, SINK_FAILED) {
@@ -51,7 +52,9 @@ fn put_out<O: Sink, E: Sink>(out: &mut O, err: &mut E, text: &[u8]) -> Result<()
 
     ensures err_nothing { OnOk result (E.taken err.new ≡ with_piece (E.taken err.old) []) }
     ensures err_part { OnErr result (TookPrefix (E.taken err.old) (E.taken err.new) sink_failed) }
-    ensures err_whole { OnErr result (E.faults err.old < 2 ^ 64 - 1 → E.faults err.new ≡ E.faults err.old → E.taken err.new ≡ with_piece (E.taken err.old) sink_failed) }
+    ensures err_whole { OnErr result
+        (E.faults err.old < 2 ^ 64 - 1 → E.faults err.new ≡ E.faults err.old → E.taken err.new ≡ with_piece
+        (E.taken err.old) sink_failed) }
     ensures err_later { E.faults err.old ≤ E.faults err.new }
     ensures err_quiet { OnOk result (E.faults err.new ≡ E.faults err.old) }
 {
@@ -79,7 +82,8 @@ pub fn kaudit<S: Store, O: Sink, E: Sink>(
         (IsTold (map string_bytes words.now) (S.files store.old) result (O.taken out.old) (O.taken out.new) (E.taken err.old) (E.taken err.new)) }
 
     // Where nothing failed, there is an answer or want of memory.
-    ensures complete { (Rose (S.faults store.old) (S.faults store.new) → ⊥) → (Rose (O.faults out.old) (O.faults out.new) → ⊥)
+    ensures complete { (Rose (S.faults store.old) (S.faults store.new) → ⊥)
+        → (Rose (O.faults out.old) (O.faults out.new) → ⊥)
         → (Rose (E.faults err.old) (E.faults err.new) → ⊥) → IsTrue (is_answer result || nat_eq (number result) 5) }
 
     // Each status has its cause.
@@ -87,9 +91,11 @@ pub fn kaudit<S: Store, O: Sink, E: Sink>(
     ensures store_text { At result StoreFailed (E.taken err.new ≡ with_piece (E.taken err.old) store_failed) }
     ensures memory_text { At result OutOfMemory (E.taken err.new ≡ with_piece (E.taken err.old) memory_refused) }
     ensures usage { At result NoCommand (command (map string_bytes words.now) ≡ None) }
-    ensures usage_only { command (map string_bytes words.now) ≡ None → IsTrue (nat_eq (number result) 6 || nat_eq (number result) 4) }
+    ensures usage_only { command (map string_bytes words.now) ≡ None → IsTrue
+        (nat_eq (number result) 6 || nat_eq (number result) 4) }
     ensures usage_unasked { command (map string_bytes words.now) ≡ None → S.asked store.new ≡ S.asked store.old }
-    ensures sink_failed { At result SinkFailed (Rose (O.faults out.old) (O.faults out.new) ⊎ Rose (E.faults err.old) (E.faults err.new)) }
+    ensures sink_failed { At result SinkFailed
+        (Rose (O.faults out.old) (O.faults out.new) ⊎ Rose (E.faults err.old) (E.faults err.new)) }
 
     // Standard output stays empty on a refusal. The store failed only at status 3, or where that couldn't be
     // told, and a sink only at status 4.
@@ -100,12 +106,15 @@ pub fn kaudit<S: Store, O: Sink, E: Sink>(
     ensures quiet_err { OnTrue (is_sink_quiet result) (E.faults err.new ≡ E.faults err.old) }
 
     // Where a file is refused, the files after it aren't opened: their slots are as before.
-    ensures unopened { At result Refused (AskedStay (command (map string_bytes words.now)) (S.files store.old) (S.opened store.old) (S.opened store.new)) }
+    ensures unopened { At result Refused
+        (AskedStay (command (map string_bytes words.now)) (S.files store.old) (S.opened store.old)
+        (S.opened store.new)) }
 
     // What the sinks took where one failed.
     ensures out_part { At result SinkFailed (O.faults out.old < O.faults out.new
         → TookPart (map string_bytes words.now) (S.files store.old) (O.taken out.old) (O.taken out.new)) }
-    ensures err_part { At result SinkFailed (O.faults out.old < O.faults out.new → TookPrefix (E.taken err.old) (E.taken err.new) sink_failed) }
+    ensures err_part { At result SinkFailed
+        (O.faults out.old < O.faults out.new → TookPrefix (E.taken err.old) (E.taken err.new) sink_failed) }
     ensures err_whole { At result SinkFailed (E.faults err.old < 2 ^ 64 - 1 → E.faults err.new ≡ E.faults err.old
         → E.taken err.new ≡ with_piece (E.taken err.old) sink_failed) }
     ensures out_nothing { At result SinkFailed (O.faults out.old < 2 ^ 64 - 1 → O.faults out.new ≡ O.faults out.old

@@ -98,7 +98,8 @@ fn read(words: &[String]) -> Option<Asks<'_>>
 pub fn run<S: Store>(alloc: Global, store: &mut S, words: &[String]) -> Option<Result<Answer, Halt>>
     requires { (slot : Slot) → ForSome (word_in (word_asks (map string_bytes words.now)) slot) (S.may store.old slot) }
 
-    ensures output { Runs (word_asks (map string_bytes words.now)) (S.files store.old) result (S.opened store.old) (S.opened store.new) }
+    ensures output { Runs (word_asks (map string_bytes words.now)) (S.files store.old) result (S.opened store.old)
+        (S.opened store.new) }
     ensures unasked { OnNone result (S.asked store.new ≡ S.asked store.old) }
     ensures files { S.files store.new ≡ S.files store.old }
     ensures later { S.faults store.old ≤ S.faults store.new }
@@ -114,7 +115,9 @@ fn word<S: Store>(alloc: Global, store: &mut S, asks: Asks<'_>) -> Result<Answer
     requires may { S.may store.old Dump asks.dump.now }
     requires table { IfSome asks.table IsTable }
 
-    ensures output { PrintsOf (λ files. word_made asks.entry.table asks.entry.address (files Dump asks.entry.dump.now)) (S.files store.old) result }
+    ensures output { PrintsOf
+        (λ files. word_made asks.entry.table asks.entry.address (files Dump asks.entry.dump.now)) (S.files store.old)
+        result }
     ensures unopened { StayBehind (word_view asks.entry).named result (S.opened store.old) (S.opened store.new) }
     ensures files { S.files store.new ≡ S.files store.old }
     ensures later { S.faults store.old ≤ S.faults store.new }
@@ -182,7 +185,8 @@ fn read_word<S: Store>(
     requires table { IsTable paging.table }
     requires inside { AreInside (S.sizes store.old Dump) segments.items }
 
-    ensures word { AnswersAs (λ bytes. vword (image_of bytes segments.items paging) address) (content (S.files store.old) Dump (S.opened store.old Dump)) result }
+    ensures word { AnswersAs (λ bytes. vword (image_of bytes segments.items paging) address)
+        (content (S.files store.old) Dump (S.opened store.old Dump)) result }
     ensures files { S.files store.new ≡ S.files store.old }
     ensures later { S.faults store.old ≤ S.faults store.new }
     ensures quiet { UnlessFault result (S.faults store.new ≡ S.faults store.old) }
@@ -205,7 +209,8 @@ fn read_counted<S: Store, L: Ledger>(
     requires table { IsTable paging.table }
     requires inside { AreInside (S.sizes store.old Dump) segments.items }
 
-    ensures word { AnswersAs (λ bytes. vword (image_of bytes segments.items paging) address) (content (S.files store.old) Dump (S.opened store.old Dump)) result }
+    ensures word { AnswersAs (λ bytes. vword (image_of bytes segments.items paging) address)
+        (content (S.files store.old) Dump (S.opened store.old Dump)) result }
     ensures files { S.files store.new ≡ S.files store.old }
     ensures later { S.faults store.old ≤ S.faults store.new }
     ensures quiet { UnlessFault result (S.faults store.new ≡ S.faults store.old) }

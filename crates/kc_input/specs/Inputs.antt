@@ -8,6 +8,8 @@ use Rattle.kc_layout.specs.Find.{find}
 use Rattle.kc_layout.specs.Ends.{NumberAt, field}
 use Rattle.kc_syms.specs.Addresses.{common_of}
 use Rattle.kc_syms.specs.Rows.{RowText, addresses, rows}
+use Rattle.kc_plan.specs.Planned.{AuditAt}
+use Rattle.kc_plan.specs.Plans.{Kernel, plan}
 use Rattle.kc_input.specs.declared.refusal.Refusal.TheVariants as refusal
 use Rattle.kc_input.specs.Made.{◌>>=◌, Made, bytes_in, checked, short_file, wanted}
 
@@ -42,3 +44,15 @@ type_named types name = wanted refusal.NoType (find types name)
 -- where the number lies that a path leads to, from a type
 abbrev pub number_at : Types → ℕ → List ℕ → Made NumberAt
 number_at types id path = checked refusal.Path (field types id path)
+
+-- the bytes of a plan, unless it is above the limit
+abbrev pub plan_in : Option (List ℕ) → Made (List ℕ)
+plan_in file = short_file slot.Plan file
+
+-- a kernel's types, and the addresses that the rows of its map list, which KASLR moved so far
+abbrev pub kernel_by : Types → List RowText → ℕ → Kernel
+kernel_by types rows kaslr = record { types = types; symbols = λ name. addresses name rows; kaslr = kaslr }
+
+-- the audits of a plan, or its first fault
+abbrev pub audits_in : Types → List RowText → ℕ → List ℕ → Made (List AuditAt)
+audits_in types rows kaslr bytes = checked refusal.Plan (plan (kernel_by types rows kaslr) bytes)

@@ -1,5 +1,5 @@
 -- The line of a refusal.
-use Rattle.std.specs.Prelude.{ℕ, List, ◌++◌, codes, decimal}
+use Rattle.std.specs.Prelude.{ℕ, List, [], ◌++◌, codes, decimal, Option, Some, None}
 use Rattle.kc_outside.specs.declared.store.Slot.{Slot}
 use Rattle.kc_outside.specs.declared.store.Slot.TheVariants.{Dump, Btf, Map, Plan, Report, Module}
 use Rattle.kc_elf.specs.declared.fault.CoreFault.{CoreFault}
@@ -14,9 +14,14 @@ use Rattle.kc_layout.specs.declared.fault.QRule.{QRule}
 use Rattle.kc_layout.specs.declared.fault.QRule.TheVariants.{Q2, Q3, Q4, Q5, Q6, Q7, Q8}
 use Rattle.kc_syms.specs.declared.fault.SymFault.{SymFault}
 use Rattle.kc_syms.specs.declared.fault.SymFault.TheVariants.{S2, S3}
+use Rattle.kc_plan.specs.declared.fault.PlanFault.{PlanFault}
+use Rattle.kc_plan.specs.declared.fault.PlanKey.{PlanKey}
+use Rattle.kc_plan.specs.declared.fault.PRule.{PRule}
+use Rattle.kc_plan.specs.declared.fault.PRule.TheVariants.{P1, P2, P3, P4, P5, P6, P7, P8, P9, P10, P11, P13}
+use Rattle.kc_plan.specs.Keys.{spelled}
 use Rattle.kc_text.specs.Text.{hex}
 use Rattle.kc_input.specs.declared.refusal.Refusal.{Refusal}
-use Rattle.kc_input.specs.declared.refusal.Refusal.TheVariants.{Core, Notes, TooLong, Types, MapLine, Symbol, NoType, Path}
+use Rattle.kc_input.specs.declared.refusal.Refusal.TheVariants.{Core, Notes, TooLong, Types, MapLine, Symbol, NoType, Path, Plan as of_plan}
 
 -- the code of a core file's fault, with the index of a program header
 abbrev pub core_code : CoreFault → List ℕ
@@ -73,6 +78,33 @@ abbrev pub symbol_code : SymFault → List ℕ
 symbol_code S2 = codes "S2"
 symbol_code (S3 first other) = codes "S3 " ++ hex first ++ codes " " ++ hex other
 
+-- the code of a rule of plans
+abbrev pub plan_rule : PRule → List ℕ
+plan_rule P1 = codes "P1"
+plan_rule P2 = codes "P2"
+plan_rule P3 = codes "P3"
+plan_rule P4 = codes "P4"
+plan_rule P5 = codes "P5"
+plan_rule P6 = codes "P6"
+plan_rule P7 = codes "P7"
+plan_rule P8 = codes "P8"
+plan_rule P9 = codes "P9"
+plan_rule P10 = codes "P10"
+plan_rule P11 = codes "P11"
+plan_rule P13 = codes "P13"
+
+-- the audit of a plan, by its number from 0, and the key, where a fault has them
+abbrev pub audit_part : Option ℕ → List ℕ
+audit_part None = []
+audit_part (Some number) = codes " audit " ++ decimal number
+
+abbrev pub key_part : Option PlanKey → List ℕ
+key_part None = []
+key_part (Some key) = codes " key " ++ spelled key
+
+abbrev pub plan_code : PlanFault → List ℕ
+plan_code fault = plan_rule fault.rule ++ audit_part fault.audit ++ key_part fault.key
+
 -- the name of a slot
 abbrev pub slot_name : Slot → List ℕ
 slot_name Dump = codes "dump"
@@ -92,6 +124,7 @@ refusal_text (MapLine line) = codes "map S1 line " ++ decimal line
 refusal_text (Symbol fault) = codes "symbol " ++ symbol_code fault
 refusal_text NoType = codes "path Q1 step 0"
 refusal_text (Path fault) = codes "path " ++ path_code fault.rule ++ codes " step " ++ decimal fault.step
+refusal_text (of_plan fault) = codes "plan " ++ plan_code fault
 
 abbrev pub refusal_line : Refusal → List ℕ
 refusal_line refusal = codes "refused " ++ refusal_text refusal ++ codes "\n"

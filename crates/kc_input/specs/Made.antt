@@ -1,6 +1,7 @@
 -- What is made of a command's files, step by step.
 use Rattle.std.specs.Prelude.{◌≡◌, ⊤, ℕ, ◌^◌, nat_le, if◌then◌else◌, List, length, Option, Some, None, Result, Ok, Err}
 use Rattle.kc_outside.specs.declared.store.Slot.{Slot}
+use Rattle.kc_outside.specs.declared.store.Slot.TheVariants.{Plan}
 use Rattle.kc_outside.specs.Files.{Files}
 use Rattle.kc_input.specs.declared.refusal.Refusal.{Refusal}
 use Rattle.kc_input.specs.declared.refusal.Refusal.TheVariants.{TooLong}
@@ -40,9 +41,14 @@ abbrev pub bytes_in : Option (List ℕ) → Made (List ℕ)
 bytes_in None = None
 bytes_in (Some bytes) = gives bytes
 
--- a file of at most 64 MiB; a longer one is refused before a byte of it is read
+-- how long a file may be that is read whole, in bytes: a plan 1 MiB, another one 64 MiB
+abbrev pub limit : Slot → ℕ
+limit Plan = 2 ^ 20
+limit slot = 2 ^ 26
+
+-- a longer file is refused before a byte of it is read
 abbrev pub if_short : Slot → List ℕ → Made (List ℕ)
-if_short slot bytes = if nat_le (length bytes) (2 ^ 26) then gives bytes else refuses (TooLong slot)
+if_short slot bytes = if nat_le (length bytes) (limit slot) then gives bytes else refuses (TooLong slot)
 
 abbrev pub short_file : Slot → Option (List ℕ) → Made (List ℕ)
 short_file slot file = bytes_in file >>= if_short slot

@@ -5,7 +5,9 @@ use Rattle.kc_elf.specs.declared.fault.CoreStop.{CoreStop}
 use Rattle.kc_elf.specs.declared.fault.CoreStop.TheVariants as elf
 use Rattle.kc_syms.specs.declared.fault.SymStop.{SymStop}
 use Rattle.kc_syms.specs.declared.fault.SymStop.TheVariants as syms
-use Rattle.kc_input.specs.declared.refusal.Refusal.TheVariants.{Core, Types, MapLine}
+use Rattle.kc_plan.specs.declared.fault.PlanStop.{PlanStop}
+use Rattle.kc_plan.specs.declared.fault.PlanStop.TheVariants as plans
+use Rattle.kc_input.specs.declared.refusal.Refusal.TheVariants.{Core, Types, MapLine, Plan}
 use Rattle.kc_input.specs.declared.halt.Halt.{Halt}
 use Rattle.kc_input.specs.declared.halt.Halt.TheVariants.{Refused, Store, Memory}
 
@@ -21,3 +23,7 @@ of_types btf.NoMemory = Memory
 abbrev pub of_map : SymStop → Halt
 of_map (syms.S1 line) = Refused (MapLine line)
 of_map syms.NoMemory = Memory
+
+abbrev pub of_plan : PlanStop → Halt
+of_plan (plans.Fault fault) = Refused (Plan fault)
+of_plan plans.NoMemory = Memory

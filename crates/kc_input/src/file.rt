@@ -4,15 +4,23 @@ ghost use Rattle.kc_outside.specs.Counts.{Rose};
 ghost use Rattle.kc_outside.specs.Files.{content, named, HasLength, HasPart, OthersStay};
 ghost use Rattle.kc_input.specs.Halts.{OnStore, NotRefused, UnlessStore};
 ghost use Rattle.kc_input.specs.Slots.{RefusesIn};
-ghost use Rattle.kc_input.specs.Made.{IsOf, short_file};
+ghost use Rattle.kc_input.specs.Made.{IsOf, limit, short_file};
 
 use crate::halt::Halt;
 use crate::refusal::Refusal;
 use kc_outside::{Failed, Slot, Store};
 use std::alloc::Global;
 
-// The longest file that is read whole, in bytes.
-const LONGEST: u64 = 1 << 26;
+// How long a file may be that is read whole, in bytes: a plan 1 MiB, another one 64 MiB.
+fn limit(slot: Slot) -> u64
+    ensures value { result ≡ limit slot }
+    ensures most { result ≤ 2 ^ 26 }
+{
+    match slot {
+        Slot::Plan => 1 << 20,
+        _ => 1 << 26,
+    }
+}
 
 /// Opens a file in a slot, and asks its size in bytes.
 pub fn open<S: Store>(store: &mut S, slot: Slot, name: &str) -> Result<u64, Failed>
@@ -61,7 +69,8 @@ fn read_opened<S: Store>(
     Ok(bytes)
 }
 
-/// Reads a file whole. One of more than 64 MiB is refused before a byte of it is read.
+/// Reads a file whole. A plan of more than 1 MiB, or another file of more than 64 MiB, is refused before a byte of it is
+/// read.
 pub fn read_file<S: Store>(
     alloc: Global,
     store: &mut S,
@@ -82,7 +91,7 @@ pub fn read_file<S: Store>(
     ensures cause { OnStore result (Rose (S.faults store.old) (S.faults store.new)) }
 {
     let size = open(store, slot, name)?;
-    if size > LONGEST {
+    if size > limit(slot) {
         return Err(Halt::Refused(Refusal::TooLong(slot)));
     }
     read_opened(alloc, store, slot, size)

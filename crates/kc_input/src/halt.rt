@@ -6,6 +6,7 @@ use crate::refusal::Refusal;
 use kc_btf::BtfStop;
 use kc_elf::CoreStop;
 use kc_outside::Failed;
+use kc_plan::PlanStop;
 use kc_syms::SymStop;
 use kc_word::NoMemory;
 use std::alloc::AllocError;
@@ -89,6 +90,19 @@ impl From<SymStop> for Halt {
         match stop {
             SymStop::S1(line) => Halt::Refused(Refusal::MapLine(line)),
             SymStop::NoMemory => Halt::Memory,
+        }
+    }
+}
+
+impl From<PlanStop> for Halt {
+    ghost use Rattle.kc_input.specs.Stops.{of_plan};
+
+    ghost from_gives = { λ stop halt. halt ≡ of_plan stop };
+
+    fn from(stop: PlanStop) -> Self {
+        match stop {
+            PlanStop::Fault(fault) => Halt::Refused(Refusal::Plan(fault)),
+            PlanStop::NoMemory => Halt::Memory,
         }
     }
 }

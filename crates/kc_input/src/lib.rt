@@ -1,4 +1,4 @@
-//! What the files of a command hold, or the first refusal: a dump and its notes, types and symbols.
+//! What the files of a command hold, or the first refusal: a dump and its notes, types, symbols and a plan.
 #![tactic(auto)]
 
 mod dump;
@@ -7,6 +7,7 @@ mod find;
 mod halt;
 mod line;
 mod map;
+mod plan;
 mod refusal;
 mod types;
 
@@ -15,5 +16,6 @@ pub use find::{find_field, find_named, find_symbol};
 pub use halt::Halt;
 pub use line::refusal_line;
 pub use map::{read_map, read_symbols};
+pub use plan::{read_audits, read_plan_file};
 pub use refusal::Refusal;
 pub use types::read_types;

@@ -1,7 +1,7 @@
 // The line of a refusal.
-ghost use Rattle.std.specs.Prelude.{◌≡◌, ◌++◌, codes, decimal, IfOk, OnOk};
+ghost use Rattle.std.specs.Prelude.{◌≡◌, ◌++◌, Some, codes, decimal, IfOk, OnOk};
 ghost use Rattle.kc_text.specs.Text.{hex};
-ghost use Rattle.kc_input.specs.Lines.{core_code, key_text, note_code, btf_code, path_code, symbol_code, slot_name, refusal_text, refusal_line};
+ghost use Rattle.kc_input.specs.Lines.{audit_part, btf_code, core_code, key_part, key_text, note_code, path_code, plan_code, plan_rule, refusal_line, refusal_text, slot_name, symbol_code};
 
 use crate::refusal::Refusal;
 use kc_btf::{BRule, BtfFault};
@@ -9,6 +9,7 @@ use kc_elf::CoreFault;
 use kc_layout::{PathFault, QRule};
 use kc_notes::{NoteFault, NoteKey};
 use kc_outside::Slot;
+use kc_plan::{PRule, PlanFault, PlanKey, spelling};
 use kc_syms::SymFault;
 use kc_text::{push, push_hex, push_numbered};
 use kc_word::NoMemory;
@@ -173,6 +174,59 @@ fn push_path(text: &mut Vec<u8>, fault: PathFault) -> Result<(), NoMemory>
     push_numbered(text, b" step ", u64::from(fault.step))
 }
 
+fn plan_rule(rule: PRule) -> &'static [u8]
+    ensures { result.now ≡ plan_rule rule }
+{
+    match rule {
+        PRule::P1 => b"P1",
+        PRule::P2 => b"P2",
+        PRule::P3 => b"P3",
+        PRule::P4 => b"P4",
+        PRule::P5 => b"P5",
+        PRule::P6 => b"P6",
+        PRule::P7 => b"P7",
+        PRule::P8 => b"P8",
+        PRule::P9 => b"P9",
+        PRule::P10 => b"P10",
+        PRule::P11 => b"P11",
+        PRule::P13 => b"P13",
+    }
+}
+
+fn push_audit(text: &mut Vec<u8>, audit: Option<u32>) -> Result<(), NoMemory>
+    ensures { OnOk result (text.new.items ≡ text.old.items ++ audit_part audit) }
+{
+    match audit {
+        Some(number) => push_numbered(text, b" audit ", u64::from(number)),
+        None => Ok(()),
+    }
+}
+
+fn push_spelled(text: &mut Vec<u8>, key: PlanKey) -> Result<(), NoMemory>
+    ensures { OnOk result (text.new.items ≡ text.old.items ++ key_part (Some key)) }
+{
+    push(text, b" key ")?;
+    push(text, spelling(key).as_bytes())
+}
+
+fn push_key(text: &mut Vec<u8>, key: Option<PlanKey>) -> Result<(), NoMemory>
+    ensures { OnOk result (text.new.items ≡ text.old.items ++ key_part key) }
+{
+    match key {
+        Some(key) => push_spelled(text, key),
+        None => Ok(()),
+    }
+}
+
+fn push_plan(text: &mut Vec<u8>, fault: PlanFault) -> Result<(), NoMemory>
+    ensures { OnOk result (text.new.items ≡ text.old.items ++ (codes "plan " ++ plan_code fault)) }
+{
+    push(text, b"plan ")?;
+    push(text, plan_rule(fault.rule))?;
+    push_audit(text, fault.audit)?;
+    push_key(text, fault.key)
+}
+
 fn push_refusal(text: &mut Vec<u8>, refusal: Refusal) -> Result<(), NoMemory>
     ensures { OnOk result (text.new.items ≡ text.old.items ++ refusal_text refusal) }
 {
@@ -185,6 +239,7 @@ fn push_refusal(text: &mut Vec<u8>, refusal: Refusal) -> Result<(), NoMemory>
         Refusal::Symbol(fault) => push_symbol(text, fault),
         Refusal::NoType => push(text, b"path Q1 step 0"),
         Refusal::Path(fault) => push_path(text, fault),
+        Refusal::Plan(fault) => push_plan(text, fault),
     }
 }
 

@@ -1,12 +1,13 @@
 // Why a file, or what is looked up in it, is refused.
 ghost use Rattle.std.specs.Prelude.{◌≡◌};
-ghost use Rattle.kc_input.specs.declared.refusal.Refusal.TheVariants.{Core, Notes, Types, Symbol, Path};
+ghost use Rattle.kc_input.specs.declared.refusal.Refusal.TheVariants.{Core, Notes, Types, Symbol, Path, Plan};
 
 use kc_btf::BtfFault;
 use kc_elf::CoreFault;
 use kc_layout::PathFault;
 use kc_notes::NoteFault;
 use kc_outside::Slot;
+use kc_plan::PlanFault;
 use kc_syms::SymFault;
 
 /// The first fault of a command's files, or of what it looks up in them.
@@ -28,6 +29,8 @@ pub enum Refusal {
     NoType,
     /// The path leads nowhere.
     Path(PathFault),
+    /// The plan breaks a rule.
+    Plan(PlanFault),
 }
 
 impl From<CoreFault> for Refusal {
@@ -67,5 +70,13 @@ impl From<PathFault> for Refusal {
 
     fn from(fault: PathFault) -> Self {
         Refusal::Path(fault)
+    }
+}
+
+impl From<PlanFault> for Refusal {
+    ghost from_gives = { λ fault refusal. refusal ≡ Plan fault };
+
+    fn from(fault: PlanFault) -> Self {
+        Refusal::Plan(fault)
     }
 }

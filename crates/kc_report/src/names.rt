@@ -2,6 +2,7 @@
 ghost use Rattle.std.specs.Prelude.{◌≡◌, ◌<◌, [], ◌∷◌, ◌++◌, length, IsTrue, OnOk, OnErr, Some, slice_get};
 ghost use Rattle.kc_text.specs.Readers.{is_name};
 
+use crate::make::copied;
 use kc_found::{Items, Name};
 use kc_word::NoMemory;
 use std::alloc::Global;
@@ -45,6 +46,20 @@ impl PlanNames {
         ensures kept { OnErr result (self.new ≡ self.old) }
     {
         self.names.push(name)
+    }
+
+    /// Adds a copy of the name of the next audit.
+    ///
+    /// # Errors
+    ///
+    /// Out of memory, where the names stay as they were.
+    pub fn push_copy(&mut self, alloc: Global, name: &Name) -> Result<(), NoMemory>
+        requires { IsTrue (is_name name.now) }
+        ensures added { OnOk result (self.new ≡ self.old ++ name.now ∷ []) }
+        ensures kept { OnErr result (self.new ≡ self.old) }
+    {
+        let copy = copied(alloc, name)?;
+        self.push(copy)
     }
 
     /// The number of names.

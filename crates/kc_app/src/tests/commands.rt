@@ -4,6 +4,7 @@
 pub const USAGE: &str = "usage: kaudit word DUMP TABLE ADDRESS
 usage: kaudit layout BTF TYPE
 usage: kaudit show DUMP BTF MAP SYMBOL TYPE PATH
+usage: kaudit check DUMP BTF MAP PLAN
 ";
 
 /// Words that are no command, and names that aren't there.

@@ -1,0 +1,106 @@
+-- `check`: the structures of a kernel, by a plan.
+use Rattle.std.specs.Prelude.{◌≡◌, ⊤, ◌⊎◌, ℕ, List, [], ◌∷◌, codes, map, slice_get, Option, Some, None, unwrap_or, IfOk, IfSome, Result, Ok, Err}
+use Rattle.kc_outside.specs.declared.store.Slot.{Slot}
+use Rattle.kc_outside.specs.declared.store.Slot.TheVariants as slot
+use Rattle.kc_memory.specs.Image.{Image}
+use Rattle.kc_btf.specs.Btf.{Types}
+use Rattle.kc_notes.specs.Info.{info}
+use Rattle.kc_found.specs.declared.verdict.Verdict.{Verdict}
+use Rattle.kc_found.specs.declared.verdict.Verdict.TheVariants.{Clean, Broken}
+use Rattle.kc_plan.specs.Planned.{AuditAt}
+use Rattle.kc_plan.specs.Verdicts.{verdict, verdict_places}
+use Rattle.kc_report.specs.Copies.{counted, told_stop}
+use Rattle.kc_input.specs.declared.halt.Halt.{Halt}
+use Rattle.kc_input.specs.declared.halt.Halt.TheVariants.{Refused, Store, Memory}
+use Rattle.kc_input.specs.declared.refusal.Refusal.TheVariants.{Notes}
+use Rattle.kc_input.specs.Inputs.{audits_in, dump_parts, map_in, plan_in, rows_in, types_in}
+use Rattle.kc_input.specs.Made.{◌>>=◌, Made, checked, gives}
+use Rattle.kc_input.specs.Paging.{by_info}
+use Rattle.kc_input.specs.Slots.{refused_slot}
+use Rattle.kc_run.specs.declared.roots.RunStop.{RunStop}
+use Rattle.kc_app.specs.declared.check.Asks.{Asks}
+use Rattle.kc_app.specs.Asked.{Asked, Form}
+use Rattle.kc_app.specs.Shown.{Said, Sound, Unsound, Shown, Seen}
+use Rattle.kc_app.specs.Word.{bytes_of, image_of}
+
+-- what `check` asks: four files by their names
+pub record Files : Type 0 where
+  pub dump : List ℕ
+  pub btf : List ℕ
+  pub map : List ℕ
+  pub plan : List ℕ
+
+-- the audits of a plan over the rows of a map: the map's faults come first
+abbrev pub planned_in : Types → ℕ → Option (List ℕ) → Option (List ℕ) → Made (List AuditAt)
+planned_in types kaslr map plan = do
+  listed ← map_in map
+  rows ← rows_in listed
+  bytes ← plan_in plan
+  audits_in types rows kaslr bytes
+
+-- the memory that is audited, and the audits
+pub record Audited : Type 0 where
+  pub image : Image
+  pub audits : List AuditAt
+
+-- the faults come in the order dump, types, map and plan
+abbrev pub audited : Option (List ℕ) → Option (List ℕ) → Option (List ℕ) → Option (List ℕ) → Made Audited
+audited dump btf map plan = do
+  parts ← dump_parts dump
+  told ← checked Notes (info parts.notes)
+  types ← types_in btf
+  audits ← planned_in types told.kaslr map plan
+  gives (record { image = image_of (bytes_of dump) parts.segments (by_info told); audits = audits })
+
+-- the audits' names
+abbrev pub names_of : List AuditAt → List (List ℕ)
+names_of audits = map (λ (audit : AuditAt). audit.name) audits
+
+-- what is said of a verdict beside the words that show it
+abbrev pub verdict_said : List (List ℕ) → Verdict → Said
+verdict_said names (Clean counts) = Sound (counted names counts)
+verdict_said names (Broken v) =
+    Unsound (unwrap_or (slice_get names v.audit) []) v.start v.rule v.at v.expected (told_stop v.rule v.stop)
+
+-- a verdict with its words
+abbrev pub verdict_shown : Image → List (List ℕ) → Verdict → Shown
+verdict_shown image names found = Seen (verdict_said names found) image (verdict_places found)
+
+-- the verdict on the memory
+abbrev pub check_made : Option (List ℕ) → Option (List ℕ) → Option (List ℕ) → Option (List ℕ) → Made Shown
+check_made dump btf map plan = do
+  all ← audited dump btf map plan
+  gives (verdict_shown all.image (names_of all.audits) (verdict all.image all.audits))
+
+abbrev pub check_asked : Files → Asked
+check_asked f = record {
+  named = record { slot = slot.Dump; name = f.dump } ∷ record { slot = slot.Btf; name = f.btf }
+      ∷ record { slot = slot.Map; name = f.map } ∷ record { slot = slot.Plan; name = f.plan } ∷ [];
+  made = λ files. check_made (files slot.Dump) (files slot.Btf) (files slot.Map) (files slot.Plan);
+}
+
+abbrev pub check_asks : List (List ℕ) → Option Asked
+check_asks (dump ∷ btf ∷ map ∷ plan ∷ []) = Some (check_asked (record { dump = dump; btf = btf; map = map; plan = plan }))
+check_asks _ = None
+
+abbrev pub check_form : Form
+check_form = record { name = codes "check"; words = codes "DUMP BTF MAP PLAN"; asks = check_asks }
+
+-- as the code keeps them
+abbrev pub files_view : Asks → Files
+files_view a = record { dump = a.dump.now; btf = a.btf.now; map = a.map.now; plan = a.plan.now }
+
+abbrev pub check_view : Asks → Asked
+check_view a = check_asked (files_view a)
+
+-- the verdict is the one that a definition gives of the dump, where it is told
+abbrev pub FindsAs : {I : Type 0} → (I → Verdict) → Option I → Result Verdict RunStop → Type 0
+FindsAs truth told r = IfOk r (λ found. IfSome told (λ i. truth i ≡ found))
+
+-- a refusal is about the map, and the plan's slot is then as before, or it is about the plan
+abbrev pub RefusesLate : {A : Type 0} → Result A Halt → (Slot → Option (List ℕ)) → (Slot → Option (List ℕ)) → Type 0
+RefusesLate (Ok a) old new = ⊤
+RefusesLate (Err (Refused refusal)) old new =
+    ((refused_slot refusal ≡ Some slot.Map) × (new slot.Plan ≡ old slot.Plan)) ⊎ (refused_slot refusal ≡ Some slot.Plan)
+RefusesLate (Err Store) old new = ⊤
+RefusesLate (Err Memory) old new = ⊤

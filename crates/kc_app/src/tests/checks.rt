@@ -1,0 +1,533 @@
+// Cases of plans: what `check` finds, and which plans are refused.
+
+/// A ring.
+const RING: &str = "version = 1
+[[audit]]
+name = \"r\"
+kind = \"ring\"
+root = \"my_ring\"
+element = \"item\"
+link = \"link\"
+";
+
+/// A tree.
+const TREE: &str = "version = 1
+[[audit]]
+name = \"t\"
+kind = \"rbtree\"
+root = \"my_rb\"
+element = \"item\"
+link = \"rb\"
+key = \"key\"
+";
+
+/// A hash chain.
+const HASH: &str = "version = 1
+[[audit]]
+name = \"h\"
+kind = \"hlist\"
+root = \"my_hl\"
+element = \"item\"
+link = \"hnode\"
+";
+
+/// The leaders of all tasks, and the threads of each.
+pub const NEST: &str = "version = 1
+[[audit]]
+name = \"g\"
+kind = \"ring\"
+root = \"init_task\"
+root_type = \"task_struct\"
+root_path = \"tasks\"
+element = \"task_struct\"
+link = \"tasks\"
+each = [\"t\"]
+[[audit]]
+name = \"t\"
+kind = \"ring\"
+from = \"signal->thread_head\"
+element = \"task_struct\"
+link = \"thread_node\"
+";
+
+/// The leaders of all tasks, the threads of each, and for each thread its children and its siblings.
+const KIN: &str = "version = 1
+[[audit]]
+name = \"g\"
+kind = \"ring\"
+root = \"init_task\"
+root_type = \"task_struct\"
+root_path = \"tasks\"
+element = \"task_struct\"
+link = \"tasks\"
+each = [\"t\"]
+[[audit]]
+name = \"t\"
+kind = \"ring\"
+from = \"signal->thread_head\"
+element = \"task_struct\"
+link = \"thread_node\"
+each = [\"children\", \"siblings\"]
+[[audit]]
+name = \"children\"
+kind = \"ring\"
+from = \"children\"
+element = \"task_struct\"
+link = \"sibling\"
+[[audit]]
+name = \"siblings\"
+kind = \"ring\"
+from = \"sibling\"
+element = \"task_struct\"
+link = \"sibling\"
+";
+
+/// The leaders of all tasks, and the threads of each one's parent.
+const WAY: &str = "version = 1
+[[audit]]
+name = \"g\"
+kind = \"ring\"
+root = \"init_task\"
+root_type = \"task_struct\"
+root_path = \"tasks\"
+element = \"task_struct\"
+link = \"tasks\"
+each = [\"t\"]
+[[audit]]
+name = \"t\"
+kind = \"ring\"
+from = \"real_parent->signal->thread_head\"
+element = \"task_struct\"
+link = \"thread_node\"
+";
+
+/// The plan with a name.
+pub fn plan_named(name: &str) -> &'static str {
+    match name {
+        "ring" => RING,
+        "tree" => TREE,
+        "hash" => HASH,
+        "nest" => NEST,
+        "kin" => KIN,
+        "way" => WAY,
+        _ => "",
+    }
+}
+
+/// Each rule of a ring, and of a hash chain.
+pub const CHAINS: &str = "words check z.core z.btf z.map z.plan
+planned ring
+out clean
+out audit r walks 1 elements 3
+
+words check z.core z.btf z.map z.plan
+planned ring
+put b120 ffffffff8000b120
+put b128 ffffffff8000b120
+out clean
+out audit r walks 1 elements 0
+
+words check z.core z.btf z.map z.plan
+planned ring
+put 11048 ffffffff8000b120
+status 1
+out broken
+out audit r
+out start ffffffff8000b120
+out rule L1
+out at ffff888000011048
+out expected ffff888000011000
+out place ffff888000011048 0000000000011048 0000000000013048 ffffffff8000b120
+
+words check z.core z.btf z.map z.plan
+planned ring
+put 11080 ffff888000011000
+status 1
+out broken
+out audit r
+out start ffffffff8000b120
+out rule A
+out at ffff888000011000
+out expected none
+out place ffff888000011000 0000000000011000 0000000000013000 ffff888000011040
+
+words check z.core z.btf z.map z.plan
+planned ring
+put 11080 ffffffff80011000
+status 1
+out broken
+out audit r
+out start ffffffff8000b120
+out rule A
+out at ffffffff80011000
+out expected none
+out place ffffffff80011000 0000000000011000 0000000000013000 ffff888000011040
+
+words check z.core z.btf z.map z.plan
+planned ring
+put 11040 dead000000000100
+status 1
+out broken
+out audit r
+out start ffffffff8000b120
+out rule K
+out at ffff888000011040
+out expected none
+out place ffff888000011040 0000000000011040 0000000000013040 dead000000000100
+
+words check z.core z.btf z.map z.plan
+planned ring
+put b128 ffff888000011040
+status 1
+out broken
+out audit r
+out start ffffffff8000b120
+out rule L1
+out at ffffffff8000b128
+out expected ffff888000011080
+out place ffffffff8000b128 000000000000b128 000000000000d128 ffff888000011040
+
+words check z.core z.btf z.map z.plan
+planned ring
+put 1888 9083
+status 1
+out broken
+out audit r
+out start ffffffff8000b120
+out rule M5
+out at ffff888000011000
+out expected none
+out stop 4 0000000000001888
+out place ffffffff8000b120 000000000000b120 000000000000d120 ffff888000011000
+out place - 0000000000001888 0000000000003888 0000000000009083
+
+words check z.core z.btf z.map z.plan
+plan version = 1
+plan audit = [{ name = 'r', kind = 'ring', root = 'far_ring', element = 'item', link = 'link' }]
+status 1
+out broken
+out audit r
+out start ffff888000020000
+out rule M6
+out at ffff888000020000
+out expected none
+out stop 0 0000000000020000
+
+words check z.core z.btf z.map z.plan
+planned hash
+out clean
+out audit h walks 1 elements 1
+
+words check z.core z.btf z.map z.plan
+planned hash
+put 11018 0
+status 1
+out broken
+out audit h
+out start ffffffff8000b140
+out rule H1
+out at ffff888000011018
+out expected ffffffff8000b140
+out place ffff888000011018 0000000000011018 0000000000013018 0000000000000000
+
+words check z.core z.btf z.map z.plan
+plan version = 1
+plan audit = []
+out clean";
+
+/// Audits below audits.
+pub const NESTED: &str = "words check z.core z.btf z.map z.plan
+planned nest
+out clean
+out audit g walks 1 elements 1
+out audit t walks 1 elements 2
+
+words check z.core z.btf z.map z.plan
+planned nest
+put d050 0
+status 1
+out broken
+out audit t
+out start ffff88800000d000
+out rule N
+out at ffff88800000d050
+out expected none
+out place ffff88800000d050 000000000000d050 000000000000f050 0000000000000000
+
+words check z.core z.btf z.map z.plan
+planned nest
+plan optional = true
+put d050 0
+out clean
+out audit g walks 1 elements 1
+out audit t walks 0 elements 0
+
+words check z.core z.btf z.map z.plan
+planned nest
+plan optional = true
+out clean
+out audit g walks 1 elements 1
+out audit t walks 1 elements 2
+
+words check z.core z.btf z.map z.plan
+plan version = 1
+plan audit = [
+plan { name = 'r', kind = 'ring', root = 'my_ring', element = 'item', link = 'link', each = ['a'] },
+plan { name = 'a', kind = 'ring', from = 'link', element = 'item', link = 'link', each = ['b'] },
+plan { name = 'b', kind = 'ring', from = 'link', element = 'item', link = 'link', each = ['c'] },
+plan { name = 'c', kind = 'ring', from = 'link', element = 'item', link = 'link' },
+plan ]
+out clean
+out audit r walks 1 elements 3
+out audit a walks 3 elements 9
+out audit b walks 9 elements 27
+out audit c walks 27 elements 81
+
+words check z.core z.btf z.map z.plan
+plan version = 1
+plan audit = [
+plan { name = 'r', kind = 'ring', root = 'my_ring', element = 'item', link = 'link', each = ['b', 'a'] },
+plan { name = 'a', kind = 'ring', from = 'link', element = 'item', link = 'link' },
+plan { name = 'b', kind = 'ring', from = '', element = 'item', link = 'link' },
+plan ]
+status 2
+err refused plan P10 audit 2 key from
+
+words check z.core z.btf z.map z.plan
+plan version = 1
+plan audit = [
+plan { name = 'h', kind = 'hlist', root = 'my_hl', element = 'item', link = 'hnode', each = ['b', 'a'] },
+plan { name = 'a', kind = 'ring', from = 'link', element = 'item', link = 'link' },
+plan { name = 'b', kind = 'ring', from = 'link', element = 'item', link = 'link' },
+plan { name = 'r', kind = 'ring', root = 'my_ring', element = 'item', link = 'link' },
+plan ]
+out clean
+out audit h walks 1 elements 1
+out audit a walks 1 elements 3
+out audit b walks 1 elements 3
+out audit r walks 1 elements 3
+
+words check z.core z.btf z.map z.plan
+planned kin
+put d138 ffff88800000d138
+put d140 ffff88800000d138
+out clean
+out audit g walks 1 elements 1
+out audit t walks 1 elements 2
+out audit children walks 2 elements 0
+out audit siblings walks 2 elements 1
+
+words check z.core z.btf z.map z.plan
+planned kin
+put d038 0
+put d128 0
+status 1
+out broken
+out audit siblings
+out start ffff88800000d038
+out rule N
+out at ffff88800000d038
+out expected none
+out place ffff88800000d038 000000000000d038 000000000000f038 0000000000000000
+
+words check z.core z.btf z.map z.plan
+planned kin
+put d128 0
+put d138 0
+status 1
+out broken
+out audit children
+out start ffff88800000d128
+out rule N
+out at ffff88800000d128
+out expected none
+out place ffff88800000d128 000000000000d128 000000000000f128 0000000000000000
+
+words check z.core z.btf z.map z.plan
+planned kin
+put d028 0
+put d160 0
+status 1
+out broken
+out audit t
+out start ffff88800000d080
+out rule L1
+out at ffff88800000d160
+out expected ffff88800000d058
+out place ffff88800000d160 000000000000d160 000000000000f160 0000000000000000";
+
+/// A path that stops below an element.
+pub const WAYS: &str = "words check z.core z.btf z.map z.plan
+planned way
+out clean
+out audit g walks 1 elements 1
+out audit t walks 1 elements 1
+
+words check z.core z.btf z.map z.plan
+planned way
+put d020 0
+status 1
+out broken
+out audit t
+out start ffff88800000d000
+out rule N
+out at ffff88800000d020
+out expected none
+out place ffff88800000d020 000000000000d020 000000000000f020 0000000000000000
+
+words check z.core z.btf z.map z.plan
+planned way
+put d020 8000000000000000
+status 1
+out broken
+out audit t
+out start ffff88800000d000
+out rule M2
+out at 8000000000000050
+out expected none
+
+words check z.core z.btf z.map z.plan
+planned way
+put d020 ffffea0000000000
+put 1ea0 30003
+status 1
+out broken
+out audit t
+out start ffff88800000d000
+out rule M3
+out at ffffea0000000050
+out expected none
+out stop 3 0000000000030000
+
+words check z.core z.btf z.map z.plan
+planned way
+put d020 ffffffff8002ffb0
+status 1
+out broken
+out audit t
+out start ffff88800000d000
+out rule M4
+out at ffffffff80030000
+out expected none
+out stop 1 0000000000004180
+out place - 0000000000004180 0000000000006180 0000000000000000
+
+words check z.core z.btf z.map z.plan
+planned way
+put d020 ffffea0000000000
+put 1ea0 5083
+status 1
+out broken
+out audit t
+out start ffff88800000d000
+out rule M5
+out at ffffea0000000050
+out expected none
+out stop 4 0000000000001ea0
+out place - 0000000000001ea0 0000000000003ea0 0000000000005083
+
+words check z.core z.btf z.map z.plan
+planned way
+put d020 ffff888000020000
+status 1
+out broken
+out audit t
+out start ffff88800000d000
+out rule M6
+out at ffff888000020050
+out expected none
+out stop 0 0000000000020050";
+
+/// What is refused, and in which order.
+pub const PLANS: &str = "words check z.core z.btf z.map z.plan
+planned ring
+length 21fff
+status 2
+err refused dump E9 index 2
+
+words check z.core z.btf z.map z.plan
+planned ring
+bytes 1000 00 00 00 00 00 00 00 00 00 00 00 00
+status 2
+err refused dump V2
+
+words check z.core z.btf z.map z.plan
+length 0
+no_plan
+status 2
+err refused dump E1
+
+words check z.core z.btf z.map z.plan
+planned ring
+row ffffffff8000b128 D my_ring
+status 2
+err refused plan P9 audit 0 key root
+
+words check z.core z.btf z.map z.plan
+no_plan
+map ffffffff8000b000 D init_task
+map xyz
+status 2
+err refused map S1 line 2
+
+words check z.core z.btf z.map z.plan
+no_plan
+status 3
+err store failed
+
+words check z.core z.btf z.map z.plan
+plan a =
+status 2
+err refused plan P1
+
+words check z.core z.btf z.map z.plan
+plan version = 2
+status 2
+err refused plan P2 key version
+
+words check z.core z.btf z.map z.plan
+plan version = 1
+plan more = 1
+status 2
+err refused plan P3 key other
+
+words check z.core z.btf z.map z.plan
+plan version = 1
+plan audit = [{ kind = 'list' }]
+status 2
+err refused plan P4 audit 0 key kind
+
+words check z.core z.btf z.map z.plan
+plan version = 1
+plan audit = [
+plan { name = 't', kind = 'ring', from = 'signal->thread_head', element = 'task_struct', link = 'thread_node' },
+plan { name = 'g', kind = 'ring', root = 'init_task', root_type = 'task_struct', root_path = 'tasks', element = 'task_struct', link = 'tasks', each = ['t'] },
+plan ]
+status 2
+err refused plan P6 audit 1 key each
+
+words check z.core z.btf z.map z.plan
+plan version = 1
+plan audit = [{ name = 'r', kind = 'ring', root = 'my_ring', element = 'items', link = 'link' }]
+status 2
+err refused plan P10 audit 0 key element
+
+words check z.core z.btf z.map z.plan
+planned tree
+status 2
+err refused plan P13 audit 0 key kind";
+
+/// Where the store or a sink fails.
+pub const FAILING: &str = "words check z.core z.btf z.map z.plan
+planned ring
+fails 5
+status 3
+err store failed
+
+words check z.core z.btf z.map z.plan
+planned ring
+out_limit a
+status 4
+out clean
+out audit r walks 1 elements 3
+err sink failed";

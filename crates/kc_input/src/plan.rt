@@ -1,0 +1,66 @@
+// The plan of an audit.
+ghost use Rattle.std.specs.Prelude.{◌≡◌, ◌≤◌, ℕ, List, length, IfOk};
+ghost use Rattle.kc_outside.specs.declared.store.Slot.{Slot};
+ghost use Rattle.kc_outside.specs.Counts.{Rose};
+ghost use Rattle.kc_outside.specs.Files.{OthersStay};
+ghost use Rattle.kc_syms.specs.Answers.{Stands};
+ghost use Rattle.kc_syms.specs.Rows.{RowText};
+ghost use Rattle.kc_syms.specs.Symbols.{symbol};
+ghost use Rattle.kc_plan.specs.Inside.{AreInside};
+ghost use Rattle.kc_plan.specs.Views.{plan_seen};
+ghost use Rattle.kc_input.specs.Halts.{NotStore, OnStore, UnlessStore};
+ghost use Rattle.kc_input.specs.Inputs.{audits_in, plan_in};
+ghost use Rattle.kc_input.specs.Slots.{RefusesIn};
+ghost use Rattle.kc_input.specs.Made.{Is, IsOf};
+
+use crate::file::read_file;
+use crate::halt::Halt;
+use kc_btf::Btf;
+use kc_notes::Info;
+use kc_outside::{Slot, Store};
+use kc_plan::{Plan, know_plans, read_plan};
+use kc_syms::Symbols;
+use std::alloc::Global;
+
+/// Reads the bytes of a plan whole, into slot Plan.
+///
+/// # Errors
+///
+/// The file is above 1 MiB; a failed call of the store; no memory was left.
+pub fn read_plan_file<S: Store>(alloc: Global, store: &mut S, name: &str) -> Result<Vec<u8>, Halt>
+    requires may { S.may store.old Slot.Plan name.now }
+
+    ensures told { IsOf (λ plan. plan.items) (λ files. plan_in (files Slot.Plan name.now)) (S.files store.old) result }
+    ensures refused { RefusesIn Slot.Plan result }
+
+    ensures others_opened { OthersStay Slot.Plan (S.opened store.old) (S.opened store.new) }
+    ensures others_sizes { OthersStay Slot.Plan (S.sizes store.old) (S.sizes store.new) }
+    ensures may { (s : Slot) (n : List ℕ) → S.may store.old s n → S.may store.new s n }
+    ensures files { S.files store.new ≡ S.files store.old }
+    ensures later { S.faults store.old ≤ S.faults store.new }
+    ensures quiet { UnlessStore result (S.faults store.new ≡ S.faults store.old) }
+    ensures cause { OnStore result (Rose (S.faults store.old) (S.faults store.new)) }
+{
+    read_file(alloc, store, Slot::Plan, name)
+}
+
+/// The audits of a plan with these bytes, over a kernel's types and symbols.
+///
+/// # Errors
+///
+/// The plan's first fault P1 to P11 or P13, with its audit and key; no memory was left.
+pub fn read_audits(
+    alloc: Global,
+    bytes: &[u8],
+    types: &Btf,
+    symbols: &Symbols<'_>,
+    info: &Info,
+) -> Result<Plan, Halt>
+    ensures made { (rows : List RowText) → Stands (symbol symbols.now) rows → Is plan_seen (audits_in types.now rows info.now.kaslr bytes.now) result }
+    ensures refused { RefusesIn Slot.Plan result }
+    ensures no_call { NotStore result }
+    ensures inside { IfOk result (λ plan. AreInside (length types.now.records) plan.audits) }
+{
+    know_plans();
+    Ok(read_plan(alloc, bytes, types, symbols, info)?)
+}
