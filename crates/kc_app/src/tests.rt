@@ -307,7 +307,7 @@ fn structures_are_clean_or_the_first_violation_is_told(rt: HostRuntime) -> Resul
 
 #[test]
 fn plans_are_refused_with_audit_and_key(rt: HostRuntime) -> Result<(), Fail> {
-    assert_eq!(rt; run_cases(&rt, checks::PLANS)?, 13);
+    assert_eq!(rt; run_cases(&rt, checks::PLANS)?, 14);
     assert_eq!(rt; run_cases(&rt, checks::FAILING)?, 2);
     Ok(())
 }

@@ -1,3 +1,4 @@
+pub mod BitsLemmas
 pub mod DocumentLemmas
 pub mod LinkLaws
 pub mod LinkLemmas

@@ -11,10 +11,11 @@ use Rattle.kc_view.specs.Pointers.{pointer, target}
 use Rattle.kc_view.specs.Typed.{bytes_on}
 use Rattle.kc_found.specs.declared.asked.Asked.{Asked}
 use Rattle.kc_found.specs.HashChains.{hash_walk}
+use Rattle.kc_found.specs.RbTrees.{tree_walk}
 use Rattle.kc_found.specs.Rings.{ring_walk}
 use Rattle.kc_found.specs.Violations.{Violation, missed}
 use Rattle.kc_plan.specs.declared.kind.Kind.{Kind}
-use Rattle.kc_plan.specs.declared.kind.Kind.TheVariants.{Ring, Hlist}
+use Rattle.kc_plan.specs.declared.kind.Kind.TheVariants.{Ring, Hlist, Rbtree}
 use Rattle.kc_plan.specs.Events.{Event, Walk, Wrong}
 use Rattle.kc_plan.specs.Planned.{AuditAt, StartAt}
 use Rattle.kc_plan.specs.Planned.StartAt.{RootAt, FromAt}
@@ -39,6 +40,7 @@ path_end image at (offset ∷ offsets) byte =
 unfoldable pub nodes_of : Image → Kind → ℕ → ℕ → Result (List ℕ) Violation
 nodes_of image (Ring shape) audit start = ring_walk image shape audit start
 nodes_of image (Hlist shape) audit start = hash_walk image shape audit start
+nodes_of image (Rbtree shape) audit start = tree_walk image shape audit start
 
 -- What a plan asks of a dump: where a path leads from an address, and what a walk of a kind gives, for an audit's number and
 -- a start.

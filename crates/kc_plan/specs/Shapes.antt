@@ -1,10 +1,13 @@
 -- What the kinds of audits find in a kernel's types.
-use Rattle.std.specs.Prelude.{ℕ, ◌/◌, ◌%◌, List, Bool, ◌&&◌, ◌==◌, Option, Some, None, option_map, option_and_then, Result, Ok, Err, if◌then◌else◌}
+use Rattle.std.specs.Prelude.{◌≡◌, ℕ, ◌^◌, ◌/◌, ◌%◌, nat_lt, nat_le, true, false, List, Bool, ◌&&◌, ◌==◌, Option, Some, None, option_map, option_and_then, Result, Ok, Err, if◌then◌else◌}
+use Rattle.std.proofs.Common.{refl}
+use Rattle.std.proofs.lemmas.Bool.{and_parts, leb-true, ltb-true}
+use Rattle.kc_word.specs.declared.bits.Bits.{Bits}
 use Rattle.kc_btf.specs.declared.types.TypeRef.{TypeRef}
 use Rattle.kc_btf.specs.Btf.{Types}
 use Rattle.kc_layout.specs.declared.fault.PathFault.{PathFault}
 use Rattle.kc_layout.specs.Bare.{compound_under}
-use Rattle.kc_layout.specs.Ends.{BitsAt, NumberAt, field}
+use Rattle.kc_layout.specs.Ends.{BitsAt, ByteAt, NumberAt, field, located}
 use Rattle.kc_layout.specs.Find.{find}
 
 -- the number of the struct with a name, under the modifiers of a typedef that has it
@@ -19,6 +22,32 @@ word_at (Ok number) =
 
 abbrev pub word_in : Types → Option ℕ → List ℕ → Option ℕ
 word_in types id name = option_and_then (λ id. word_at (field types id name)) id
+
+-- the byte of a member in a struct
+abbrev pub byte_at : Result ByteAt PathFault → Option ℕ
+byte_at (Err fault) = None
+byte_at (Ok place) = Some place.byte
+
+abbrev pub byte_in : Types → Option ℕ → List ℕ → Option ℕ
+byte_in types id name = option_and_then (λ id. byte_at (located types id name)) id
+
+-- bits as the code keeps them: below bit 2^36, 1 to 64 of them. Those that types give are so.
+abbrev pub are_bits : BitsAt → Bool
+are_bits bits = nat_lt bits.bit (2 ^ 36) && (nat_le 1 bits.width && nat_le bits.width 64)
+
+abbrev pub bits_if : (bits : BitsAt) (are : Bool) → are_bits bits ≡ are → Option Bits
+bits_if bits false is = None
+bits_if bits true is = Some (record {
+  bit = bits.bit;
+  width = bits.width;
+  signed = bits.signed;
+  near = ltb-true bits.bit (2 ^ 36) (and_parts (nat_lt bits.bit (2 ^ 36)) (nat_le 1 bits.width && nat_le bits.width 64) is).0;
+  some = leb-true 1 bits.width (and_parts (nat_le 1 bits.width) (nat_le bits.width 64) (and_parts (nat_lt bits.bit (2 ^ 36)) (nat_le 1 bits.width && nat_le bits.width 64) is).1).0;
+  word = leb-true bits.width 64 (and_parts (nat_le 1 bits.width) (nat_le bits.width 64) (and_parts (nat_lt bits.bit (2 ^ 36)) (nat_le 1 bits.width && nat_le bits.width 64) is).1).1;
+})
+
+abbrev pub bits_from : BitsAt → Option Bits
+bits_from bits = bits_if bits (are_bits bits) refl
 
 -- what an audit gives of its own: the byte of the node in an element, the bits of the key there, whether no two
 -- elements have one key, and whether the root keeps the first element

@@ -5,8 +5,10 @@ use Rattle.kc_memory.specs.Image.{Image}
 use Rattle.kc_memory.specs.Stopped.{Stopped}
 use Rattle.kc_memory.specs.Translation.{vword}
 use Rattle.kc_found.specs.FiniteLists as lists
+use Rattle.kc_found.specs.RbFinite.{RbTree}
+use Rattle.kc_found.specs.RbTrees.{reads_of}
 use Rattle.kc_plan.specs.declared.kind.Kind.{Kind}
-use Rattle.kc_plan.specs.declared.kind.Kind.TheVariants.{Ring, Hlist}
+use Rattle.kc_plan.specs.declared.kind.Kind.TheVariants.{Ring, Hlist, Rbtree}
 use Rattle.kc_plan.specs.Planned.{AuditAt}
 use Rattle.kc_plan.specs.Seen.{PathEnd, EndsAt, NullAt, container_of, is_optional, path_end, path_of, roots}
 
@@ -14,6 +16,7 @@ use Rattle.kc_plan.specs.Seen.{PathEnd, EndsAt, NullAt, container_of, is_optiona
 unfoldable pub Holds : Image → Kind → ℕ → List ℕ → Type 0
 Holds image (Ring shape) start nodes = lists.Ring (vword image) shape start nodes
 Holds image (Hlist shape) start nodes = lists.HChain (vword image) shape start nodes
+Holds image (Rbtree shape) start nodes = RbTree (reads_of image) shape start nodes
 
 -- each audit that is named there stands at an element, where `Go` says that one stands at an address
 abbrev pub ElementStands : AuditAt → (ℕ → ℕ → Type 0) → ℕ → Type 0

@@ -1,5 +1,5 @@
 // The kinds of audits.
-use kc_found::{HShape, ListShape};
+use kc_found::{HShape, ListShape, RbShape};
 
 /// The kind of an audit, with the places of the words that it reads.
 #[derive(Clone, Copy, Debug, PartialEq, Eq)]
@@ -8,4 +8,6 @@ pub enum Kind {
     Ring(ListShape),
     /// A hash chain (`struct hlist_head`, `struct hlist_node`).
     Hlist(HShape),
+    /// A red-black tree (`struct rb_root` or `struct rb_root_cached`, `struct rb_node`).
+    Rbtree(RbShape),
 }

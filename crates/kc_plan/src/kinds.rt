@@ -2,7 +2,7 @@
 // matches on them: its name, what it asks of the keys, what it needs of a kernel, and where its words stand.
 ghost use Rattle.std.specs.Prelude.{◌≡◌, ◌≤◌, length, IfSome};
 ghost use Rattle.kc_plan.specs.declared.kinds.Sort.TheVariants as sort;
-ghost use Rattle.kc_plan.specs.Kinds.{sort_of, is_later, needs_of, ring_shape, hlist_shape, row, shape, AreRows, IsRow};
+ghost use Rattle.kc_plan.specs.Kinds.{sort_of, is_later, needs_of, ring_shape, hlist_shape, root_words, tree_shape, row, shape, AreRows, IsRow};
 ghost use Rattle.kc_plan.specs.Plans.{address_in};
 ghost use Rattle.kc_plan.specs.Views.{kernel, own_seen};
 
@@ -10,22 +10,23 @@ use crate::begin::Known;
 use crate::fault::PRule;
 use crate::keys::{Need, Needs};
 use crate::kind::Kind;
-use crate::shape::{Own, Row, struct_named, word_in};
+use crate::shape::{Own, Row, byte_in, struct_named, word_in};
 use kc_btf::Btf;
-use kc_found::{HShape, ListShape};
+use kc_found::{HShape, ListShape, RbShape};
 
 // The kinds of audits.
 #[derive(Clone, Copy)]
 pub(crate) enum Sort {
     Ring,
     Hlist,
+    Rbtree,
 }
 
 // A kind that can't be audited yet.
 fn is_later(text: &str) -> bool
     ensures { result ≡ is_later text.now }
 {
-    text == "rbtree" || text == "xarray" || text == "slub" || text == "tasks"
+    text == "xarray" || text == "slub" || text == "tasks"
 }
 
 // The kind with a name.
@@ -36,6 +37,8 @@ pub(crate) fn sort_of(text: &str) -> Result<Sort, PRule>
         Ok(Sort::Ring)
     } else if text == "hlist" {
         Ok(Sort::Hlist)
+    } else if text == "rbtree" {
+        Ok(Sort::Rbtree)
     } else if is_later(text) {
         Err(PRule::P13)
     } else {
@@ -53,6 +56,11 @@ pub(crate) fn needs_of(sort: Sort) -> Needs
             link: Need::Required,
             tree: Need::Barred,
         },
+        Sort::Rbtree => Needs {
+            element: Need::Required,
+            link: Need::Required,
+            tree: Need::Allowed,
+        },
     }
 }
 
@@ -61,6 +69,9 @@ pub(crate) fn needs_of(sort: Sort) -> Needs
 pub(crate) struct Rows {
     pub ring: Row,
     pub hlist: Row,
+    pub rbtree: Row,
+    // Of a tree whose root keeps the first element.
+    pub cached: Row,
 }
 
 // The rows of all kinds.
@@ -70,6 +81,7 @@ pub(crate) fn rows_of(known: &Known<'_>) -> Rows
     let list = struct_named(known.btf, b"list_head");
     let head = struct_named(known.btf, b"hlist_head");
     let node = struct_named(known.btf, b"hlist_node");
+    let tree = struct_named(known.btf, b"rb_node");
     Rows {
         ring: Row {
             head: list,
@@ -80,6 +92,18 @@ pub(crate) fn rows_of(known: &Known<'_>) -> Rows
         hlist: Row {
             head,
             node,
+            element: None,
+            clear: true,
+        },
+        rbtree: Row {
+            head: struct_named(known.btf, b"rb_root"),
+            node: tree,
+            element: None,
+            clear: true,
+        },
+        cached: Row {
+            head: struct_named(known.btf, b"rb_root_cached"),
+            node: tree,
             element: None,
             clear: true,
         },
@@ -95,6 +119,8 @@ pub(crate) fn row_of(known: &Known<'_>, rows: &Rows, sort: Sort, cached: bool) -
     match sort {
         Sort::Ring => rows.ring,
         Sort::Hlist => rows.hlist,
+        Sort::Rbtree if cached => rows.cached,
+        Sort::Rbtree => rows.rbtree,
     }
 }
 
@@ -122,6 +148,58 @@ fn hlist_shape(btf: &Btf, head: Option<u32>, node: Option<u32>) -> Option<Kind>
     Some(Kind::Hlist(HShape { first, next, pprev }))
 }
 
+// The offsets of the word of a root that has its top node, and of the one that has its first.
+#[derive(Clone, Copy)]
+pub(crate) struct RootWords {
+    pub root: u64,
+    pub leftmost: Option<u64>,
+}
+
+// The words of a root, which may keep the first node.
+#[tactic(auto, unfolding(crate::specs::Kinds::root_words))]
+fn root_words(btf: &Btf, head: Option<u32>, cached: bool) -> Option<RootWords>
+    requires { IfSome head (λ id. id ≤ length btf.now.records) }
+    ensures { result ≡ root_words btf.now head cached }
+{
+    if !cached {
+        let root = word_in(btf, head, b"rb_node")?;
+        return Some(RootWords {
+            root,
+            leftmost: None,
+        });
+    }
+    let inner = byte_in(btf, head, b"rb_root")?;
+    let root = word_in(btf, struct_named(btf, b"rb_root"), b"rb_node")?;
+    let leftmost = word_in(btf, head, b"rb_leftmost")?;
+    Some(RootWords {
+        root: inner.wrapping_add(root),
+        leftmost: Some(leftmost),
+    })
+}
+
+// The words of a red-black tree.
+#[tactic(auto, using(crate::proofs::BitsLemmas::key_kept), unfolding(crate::specs::Kinds::tree_shape))]
+fn tree_shape(btf: &Btf, head: Option<u32>, node: Option<u32>, own: &Own) -> Option<Kind>
+    requires head { IfSome head (λ id. id ≤ length btf.now.records) }
+    requires node { IfSome node (λ id. id ≤ length btf.now.records) }
+    ensures { result ≡ tree_shape btf.now head node (own_seen own.now) }
+{
+    let parent_color = word_in(btf, node, b"__rb_parent_color")?;
+    let right = word_in(btf, node, b"rb_right")?;
+    let left = word_in(btf, node, b"rb_left")?;
+    let words = root_words(btf, head, own.cached)?;
+    Some(Kind::Rbtree(RbShape {
+        parent_color,
+        right,
+        left,
+        root: words.root,
+        leftmost: words.leftmost,
+        link: own.link,
+        key: own.key,
+        unique: own.unique,
+    }))
+}
+
 // A kind with where its words stand, where the types have them.
 pub(crate) fn shape_of(known: &Known<'_>, needs: &Row, own: &Own, sort: Sort) -> Option<Kind>
     requires { IsRow (length known.now.btf.now.records) needs.now }
@@ -130,5 +208,6 @@ pub(crate) fn shape_of(known: &Known<'_>, needs: &Row, own: &Own, sort: Sort) ->
     match sort {
         Sort::Ring => ring_shape(known.btf, needs.node),
         Sort::Hlist => hlist_shape(known.btf, needs.head, needs.node),
+        Sort::Rbtree => tree_shape(known.btf, needs.head, needs.node, own),
     }
 }

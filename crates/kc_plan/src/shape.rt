@@ -1,9 +1,9 @@
 // What the kinds of audits find in a kernel's types.
 ghost use Rattle.std.specs.Prelude.{◌≡◌, ◌≤◌, length, IfSome};
-ghost use Rattle.kc_plan.specs.Shapes.{struct_named, word_in};
+ghost use Rattle.kc_plan.specs.Shapes.{struct_named, byte_in, word_in};
 
 use kc_btf::Btf;
-use kc_layout::{compound_under, find_type, resolve};
+use kc_layout::{compound_under, find_type, locate, resolve};
 use kc_word::Bits;
 
 // What a kind needs of a kernel.
@@ -51,5 +51,16 @@ pub(crate) fn word_in(btf: &Btf, id: Option<u32>, name: &[u8]) -> Option<u64>
         Some(number.bits.bit / 8)
     } else {
         None
+    }
+}
+
+// The byte of a member in a struct.
+pub(crate) fn byte_in(btf: &Btf, id: Option<u32>, name: &[u8]) -> Option<u64>
+    requires { IfSome id (λ id. id ≤ length btf.now.records) }
+    ensures { result ≡ byte_in btf.now id name.now }
+{
+    match locate(btf, id?, name) {
+        Ok(place) => Some(place.byte),
+        Err(_) => None,
     }
 }

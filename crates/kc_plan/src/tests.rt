@@ -73,6 +73,7 @@ fn push_audit(text: &mut String, audit: &Audit) -> Result<(), AllocError> {
             " hlist {} {} {}",
             shape.first, shape.next, shape.pprev
         )?,
+        Kind::Rbtree(shape) => write!(text, " rbtree {shape:?}")?,
     }
     push_start(text, &audit.start)?;
     write!(text, " element {:?} {} each", audit.element, audit.link)?;
@@ -131,7 +132,7 @@ fn run_cases(rt: &(impl Abort + AllocGlobal), text: &str) -> Result<usize, Fail>
 
 #[test]
 fn the_first_fault_is_told(rt: HostRuntime) -> Result<(), Fail> {
-    assert_eq!(rt; run_cases(&rt, faults::FAULTS)?, 36);
+    assert_eq!(rt; run_cases(&rt, faults::FAULTS)?, 40);
     assert_eq!(rt; run_cases(&rt, faults::KEYS)?, 32);
     assert_eq!(rt; run_cases(&rt, faults::PLACES)?, 15);
     let answer = told(rt.alloc(), b"# \xff", "", "")?;
@@ -141,6 +142,6 @@ fn the_first_fault_is_told(rt: HostRuntime) -> Result<(), Fail> {
 
 #[test]
 fn plans_have_numbers(rt: HostRuntime) -> Result<(), Fail> {
-    assert_eq!(rt; run_cases(&rt, plans::PLANS)?, 14);
+    assert_eq!(rt; run_cases(&rt, plans::PLANS)?, 24);
     Ok(())
 }

@@ -3,6 +3,7 @@ ghost use Rattle.kc_run.specs.Laws.{CleanWhereStanding, VerdictsStand};
 
 use kc_list::know_lists;
 use kc_memory::{know_numbers, know_places};
+use kc_rb::know_trees;
 
 /// Does nothing. The verdict on a plan is clean exactly where every root audit stands, and the words that it shows are
 /// true of the dump.
@@ -11,6 +12,7 @@ pub fn know_verdicts()
     ensures places { VerdictsStand }
 {
     know_lists();
+    know_trees();
     know_places();
     know_numbers();
 }

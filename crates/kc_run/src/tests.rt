@@ -1,4 +1,4 @@
-// Nested audits over the words of a made dump.
+// Audits over the words of a made dump.
 ghost use Rattle.std.specs.Prelude.{◌≡◌, ◌<◌, length};
 ghost use Rattle.kc_plan.specs.Inside.{AreInside};
 
@@ -23,8 +23,8 @@ const DIRECT: u64 = 0xffff_8880_0000_0000;
 // A physical address, and the word there.
 type Word = (u64, u64);
 
-// A ring of one task, whose signal has a ring of two threads.
-const WORDS: [Word; 11] = [
+// A ring of one task, whose signal has a ring of two threads; and a tree of three items.
+const WORDS: [Word; 24] = [
     (0xb008, DIRECT + 0xd008),
     (0xb010, DIRECT + 0xd008),
     (0xd008, IMAGE + 0xb008),
@@ -36,6 +36,19 @@ const WORDS: [Word; 11] = [
     (0xd060, DIRECT + 0xd080),
     (0xd158, DIRECT + 0xd080),
     (0xd160, DIRECT + 0xd058),
+    (0xb130, DIRECT + 0x11068),
+    (0x11020, 0x7_0000_0007),
+    (0x11028, DIRECT + 0x11068),
+    (0x11030, 0),
+    (0x11038, 0),
+    (0x11060, 9),
+    (0x11068, 1),
+    (0x11070, DIRECT + 0x110a8),
+    (0x11078, DIRECT + 0x11028),
+    (0x110a0, 12),
+    (0x110a8, DIRECT + 0x11068),
+    (0x110b0, 0),
+    (0x110b8, 0),
 ];
 
 // The tasks, and the threads of each.
@@ -57,31 +70,54 @@ element = 'task_struct'
 link = 'thread_node'
 ";
 
-// What is added to the plan, the words that are changed, and the verdict.
-const ROWS: [(&str, &[Word], &str); 6] = [
-    ("", &[], "clean 1 1 1 2"),
+// A tree of three items.
+const TREE: &str = "version = 1
+[[audit]]
+name = 't'
+kind = 'rbtree'
+root = 'my_rb'
+element = 'item'
+link = 'rb'
+key = 'key'
+";
+
+// The plan, what is added to it, the words that are changed, and the verdict.
+const ROWS: [(&str, &str, &[Word], &str); 8] = [
+    (NEST, "", &[], "clean 1 1 1 2"),
     (
+        NEST,
         "",
         &[(0xd050, 0)],
         "broken 1 ffff88800000d000 N ffff88800000d050 none ffff88800000d050 d050 f050 0",
     ),
-    ("optional = true", &[(0xd050, 0)], "clean 1 1 0 0"),
+    (NEST, "optional = true", &[(0xd050, 0)], "clean 1 1 0 0"),
     // A pointer that leads nowhere, and no task.
     (
+        NEST,
         "optional = true",
         &[(0xd050, 0x7000)],
         "broken 1 7000 M6 7000 none",
     ),
     (
+        NEST,
         "",
         &[(0xb008, IMAGE + 0xb008), (0xb010, IMAGE + 0xb008)],
         "clean 1 0 0 0",
     ),
     // The outer ring is judged whole before what lies below its elements.
     (
+        NEST,
         "",
         &[(0xb010, 0), (0xd050, 0)],
         "broken 0 ffffffff8000b008 L1 ffffffff8000b010 ffff88800000d008 ffffffff8000b010 b010 d010 0",
+    ),
+    (TREE, "", &[], "clean 1 3"),
+    // One leaf is both children.
+    (
+        TREE,
+        "",
+        &[(0x11070, DIRECT + 0x11028)],
+        "broken 0 ffffffff8000b130 A ffff888000011028 none ffff888000011028 11028 13028 ffff888000011068",
     ),
 ];
 
@@ -164,11 +200,11 @@ fn verdict_text<L: Ledger>(
     }
 }
 
-// The verdict on the plan with a line more.
-fn told(alloc: Global, more: &str, changed: &[Word]) -> Result<String, Fail> {
+// The verdict on a plan with a line more.
+fn told(alloc: Global, plan: &str, more: &str, changed: &[Word]) -> Result<String, Fail> {
     let btf = Btf::read(alloc, btf_file(alloc)?)?;
     let symbols = Symbols::read(alloc, MAP.as_bytes())?;
-    let text = format!(in alloc; "{NEST}{more}")?;
+    let text = format!(in alloc; "{plan}{more}")?;
     match read_plan(alloc, text.as_bytes(), &btf, &symbols, &INFO) {
         Ok(plan) => {
             let mut space = space_of(alloc, changed)?;
@@ -180,10 +216,10 @@ fn told(alloc: Global, more: &str, changed: &[Word]) -> Result<String, Fail> {
 }
 
 #[test]
-fn audits_are_made_at_each_element(rt: HostRuntime) -> Result<(), Fail> {
-    for (more, changed, wanted) in ROWS {
-        let verdict = told(rt.alloc(), more, changed)?;
-        assert_eq!(rt; verdict.as_str(), wanted, "{more} {changed:?}");
+fn each_audit_is_made_where_it_begins(rt: HostRuntime) -> Result<(), Fail> {
+    for (plan, more, changed, wanted) in ROWS {
+        let verdict = told(rt.alloc(), plan, more, changed)?;
+        assert_eq!(rt; verdict.as_str(), wanted, "{plan} {more} {changed:?}");
     }
     Ok(())
 }

@@ -6,6 +6,7 @@ ghost use Rattle.kc_plan.specs.Seen.{nodes_of};
 use kc_found::{Asked, Space, WalkStop, Walked};
 use kc_list::{hchain, ring};
 use kc_plan::Kind;
+use kc_rb::rb_walk;
 use kc_word::Steps;
 use std::alloc::Global;
 use std::sync::ledger::Ledger;
@@ -28,5 +29,6 @@ pub(crate) fn walk<S: Space, L: Ledger>(
     match kind {
         Kind::Ring(shape) => ring(alloc, space, shape, asked.start, asked.audit, steps),
         Kind::Hlist(shape) => hchain(alloc, space, shape, asked.start, asked.audit, steps),
+        Kind::Rbtree(shape) => rb_walk(alloc, space, shape, asked.start, asked.audit, steps),
     }
 }

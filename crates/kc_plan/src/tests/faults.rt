@@ -38,7 +38,7 @@ audit = [{ kind = 'heap', extra = 1 }]
 
 P13 0 Kind
 version = 1
-audit = [{ name = 't', kind = 'rbtree', root = 'my_rb', element = 'item', link = 'rb', key = 'key' }]
+audit = [{ name = 'x', kind = 'xarray', root = 'my_xa', element = 'item' }]
 
 P3 0 Other
 version = 1
@@ -198,6 +198,22 @@ audit = [{ kind = 'ring', name = 'r', root = 'my_ring', element = 'item', link =
 P10 0 Link
 version = 1
 audit = [{ kind = 'ring', name = 'r', root = 'init_task', element = 'task_struct', link = 'signal->thread_head' }]
+
+P10 0 Key
+version = 1
+audit = [{ kind = 'rbtree', name = 't', root = 'my_rb', element = 'item', link = 'rb', key = 'link' }]
+
+P10 0 Key
+version = 1
+audit = [{ kind = 'rbtree', name = 't', root = 'my_rb', element = 'item', link = 'rb', key = 'link.next->prev' }]
+
+P3 0 Key
+version = 1
+audit = [{ kind = 'rbtree', name = 't', root = 'my_rb', element = 'item', link = 'rb', unique = true, cached = 5 }]
+
+P4 0 Cached
+version = 1
+audit = [{ kind = 'rbtree', name = 't', root = 'my_rb', element = 'item', link = 'rb', key = 'no', unique = true, cached = 5 }]
 
 P10 1 From
 version = 1

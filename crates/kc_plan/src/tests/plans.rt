@@ -22,6 +22,26 @@ root = 'my_hl'
 element = 'item'
 link = 'hnode'
 
+plan t rbtree RbShape { parent_color: 0, right: 8, left: 16, root: 0, leftmost: None, link: 40, key: Some(Bits { bit: 256, width: 32, signed: true }), unique: false } root ffffffff8000c130 13 hops 0 0 0 byte 0 type 13 element Some(32) 40 each;
+version = 1
+[[audit]]
+name = 't'
+kind = 'rbtree'
+root = 'my_rb'
+element = 'item'
+link = 'rb'
+key = 'key'
+
+plan t rbtree RbShape { parent_color: 0, right: 8, left: 16, root: 0, leftmost: Some(8), link: 40, key: None, unique: false } root ffffffff8000c130 14 hops 0 0 0 byte 0 type 14 element Some(32) 40 each;
+version = 1
+[[audit]]
+name = 't'
+kind = 'rbtree'
+root = 'my_rb'
+element = 'item'
+link = 'rb'
+cached = true
+
 plan g ring 0 8 root ffffffff8000c000 31 hops 0 0 0 byte 8 type 6 element Some(31) 8 each 1; t ring 0 8 from true hops 1 80 0 byte 0 type 6 element Some(31) 88 each;
 version = 1
 [[audit]]
@@ -75,4 +95,36 @@ audit = [{ kind = 'hlist', name = 'h', root = 'my_hl', element = 'item', link = 
 
 P11 0 Kind|\0first\0 for \0pprev\0
 version = 1
-audit = [{ kind = 'hlist', name = 'h', root = 'my_hl', element = 'item', link = 'hnode' }]";
+audit = [{ kind = 'hlist', name = 'h', root = 'my_hl', element = 'item', link = 'hnode' }]
+
+P11 0 Kind|\0__rb_parent_colon\0 for \0__rb_parent_color\0
+version = 1
+audit = [{ kind = 'rbtree', name = 't', root = 'my_rb', element = 'item', link = 'rb' }]
+
+P11 0 Kind|\0rb_eight\0 for \0rb_right\0
+version = 1
+audit = [{ kind = 'rbtree', name = 't', root = 'my_rb', element = 'item', link = 'rb' }]
+
+P11 0 Kind|\0rb_gift\0 for \0rb_left\0
+version = 1
+audit = [{ kind = 'rbtree', name = 't', root = 'my_rb', element = 'item', link = 'rb' }]
+
+P11 0 Kind|\0rb_boot\0 for \0rb_root\0
+version = 1
+audit = [{ kind = 'rbtree', name = 't', root = 'my_rb', element = 'item', link = 'rb' }]
+
+P11 0 Kind|\0rb_boot\0 for \0rb_root\0
+version = 1
+audit = [{ kind = 'rbtree', name = 't', root = 'my_rb', element = 'item', link = 'rb', cached = true }]
+
+P11 0 Kind|\0rb_lastmost\0 for \0rb_leftmost\0
+version = 1
+audit = [{ kind = 'rbtree', name = 't', root = 'my_rb', element = 'item', link = 'rb', cached = true }]
+
+P10 0 RootPath
+version = 1
+audit = [{ kind = 'rbtree', name = 't', root = 'my_rb', root_type = 'rb_root', root_path = '', element = 'item', link = 'rb', cached = true }]
+
+P10 0 Link
+version = 1
+audit = [{ kind = 'rbtree', name = 't', root = 'my_rb', element = 'item', link = 'link' }]";
