@@ -4,7 +4,7 @@ use Rattle.kc_btf.specs.Btf.{Types}
 use Rattle.kc_plan.specs.declared.fault.PlanFault.{PlanFault}
 use Rattle.kc_plan.specs.declared.item.Link.{Link}
 use Rattle.kc_plan.specs.declared.kinds.Sort.{Sort}
-use Rattle.kc_plan.specs.declared.kinds.Sort.TheVariants.{Ring, Hlist, Rbtree}
+use Rattle.kc_plan.specs.declared.kinds.Sort.TheVariants.{Ring, Hlist, Rbtree, Xarray}
 use Rattle.kc_plan.specs.Audits.{AuditText, PartText, StartText}
 use Rattle.kc_plan.specs.Laws.{PlansAgree}
 use Rattle.kc_plan.specs.Links.{links_for}
@@ -36,6 +36,7 @@ unfolding over planned
 same_kind types kaslr f g links before n name Ring start parts same = rw (same_root types kaslr f g n start.root same) refl
 same_kind types kaslr f g links before n name Hlist start parts same = rw (same_root types kaslr f g n start.root same) refl
 same_kind types kaslr f g links before n name Rbtree start parts same = rw (same_root types kaslr f g n start.root same) refl
+same_kind types kaslr f g links before n name Xarray start parts same = rw (same_root types kaslr f g n start.root same) refl
 
 same_audit : (types : Types) (kaslr : ℕ) (f g : List ℕ → List ℕ) (links : List Link) (before : List AuditAt) (n : ℕ) (audit : AuditText)
     → ((name : List ℕ) → f name ≡ g name) → planned (over types kaslr f) links before n audit ≡ planned (over types kaslr g) links before n audit

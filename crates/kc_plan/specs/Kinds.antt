@@ -8,19 +8,19 @@ use Rattle.kc_plan.specs.declared.fault.PRule.{PRule}
 use Rattle.kc_plan.specs.declared.fault.PRule.TheVariants.{P4, P13}
 use Rattle.kc_plan.specs.declared.keys.Needs.{Needs}
 use Rattle.kc_plan.specs.declared.keys.Need.TheVariants.{Required, Allowed, Barred}
+use Rattle.kc_plan.specs.declared.kinds.NodeBytes.{NodeBytes}
 use Rattle.kc_plan.specs.declared.kinds.RootWords.{RootWords}
 use Rattle.kc_plan.specs.declared.kinds.Rows.{Rows}
 use Rattle.kc_plan.specs.declared.kinds.Sort.{Sort}
 use Rattle.kc_plan.specs.declared.kinds.Sort.TheVariants as sort
 use Rattle.kc_plan.specs.declared.kind.Kind.{Kind}
-use Rattle.kc_plan.specs.declared.kind.Kind.TheVariants.{Ring, Hlist, Rbtree}
+use Rattle.kc_plan.specs.declared.kind.Kind.TheVariants.{Ring, Hlist, Rbtree, Xarray}
 use Rattle.kc_plan.specs.declared.shape.Row.{Row}
-use Rattle.kc_plan.specs.Shapes.{OwnAt, bits_from, byte_in, struct_named, word_in}
+use Rattle.kc_plan.specs.Shapes.{OwnAt, bits_from, byte_in, chunk_in, small_in, struct_named, word_in}
 
 -- a kind that can't be audited yet
 abbrev pub is_later : List ℕ → Bool
-is_later text =
-    bytes_eq text (codes "xarray") || (bytes_eq text (codes "slub") || bytes_eq text (codes "tasks"))
+is_later text = bytes_eq text (codes "slub") || bytes_eq text (codes "tasks")
 
 -- the kind with a name
 abbrev pub sort_of : List ℕ → Result Sort PRule
@@ -28,13 +28,15 @@ sort_of text =
     if bytes_eq text (codes "ring") then Ok sort.Ring
     else (if bytes_eq text (codes "hlist") then Ok sort.Hlist
     else (if bytes_eq text (codes "rbtree") then Ok sort.Rbtree
-    else (if is_later text then Err P13 else Err P4)))
+    else (if bytes_eq text (codes "xarray") then Ok sort.Xarray
+    else (if is_later text then Err P13 else Err P4))))
 
 -- what a kind asks of the keys that aren't for all kinds
 abbrev pub needs_of : Sort → Needs
 needs_of sort.Ring = record { element = Required; link = Required; tree = Barred }
 needs_of sort.Hlist = record { element = Required; link = Required; tree = Barred }
 needs_of sort.Rbtree = record { element = Required; link = Required; tree = Allowed }
+needs_of sort.Xarray = record { element = Allowed; link = Barred; tree = Barred }
 
 -- the address of a symbol with a name
 abbrev pub Addresses : Type 0
@@ -58,6 +60,12 @@ row types address sort.Hlist cached = record {
 row types address sort.Rbtree cached = record {
   head = struct_named types (if cached then codes "rb_root_cached" else codes "rb_root");
   node = struct_named types (codes "rb_node");
+  element = None;
+  clear = true;
+}
+row types address sort.Xarray cached = record {
+  head = struct_named types (codes "xarray");
+  node = struct_named types (codes "xa_node");
   element = None;
   clear = true;
 }
@@ -97,11 +105,36 @@ tree_shape types head node own =
     }))
     (root_words types head own.cached)) (word_in types node (codes "rb_left"))) (word_in types node (codes "rb_right"))) (word_in types node (codes "__rb_parent_color"))
 
+-- the bytes of an xarray's node
+unfoldable pub node_bytes : Types → Option ℕ → Option NodeBytes
+node_bytes types node =
+    option_and_then (λ shift. option_and_then (λ offset. option_and_then (λ count. option_map (λ values. record { shift = shift; offset = offset; count = count; nr_values = values })
+    (small_in types node (codes "nr_values"))) (small_in types node (codes "count"))) (small_in types node (codes "offset"))) (small_in types node (codes "shift"))
+
+-- the words of an xarray, and the number of a node's slots. The array of slots and the first of them are looked at.
+unfoldable pub xarray_shape : Types → Option ℕ → Option ℕ → Option Kind
+xarray_shape types head node =
+    option_and_then (λ head. option_and_then (λ (bytes : NodeBytes). option_and_then (λ parent. option_and_then (λ array. option_and_then (λ slots. option_map (λ chunk. Xarray (record {
+      head = head;
+      shift = bytes.shift;
+      offset = bytes.offset;
+      count = bytes.count;
+      nr_values = bytes.nr_values;
+      parent = parent;
+      array = array;
+      slots = slots;
+      chunk = chunk;
+      idr = false;
+    }))
+    (chunk_in types node (codes "slots"))) (word_in types node (codes "slots[0]"))) (word_in types node (codes "array")))
+    (word_in types node (codes "parent"))) (node_bytes types node)) (word_in types head (codes "xa_head"))
+
 -- a kind with where its words stand
 abbrev pub shape : Types → Addresses → Row → OwnAt → Sort → Option Kind
 shape types address needs own sort.Ring = ring_shape types needs.node
 shape types address needs own sort.Hlist = hlist_shape types needs.head needs.node
 shape types address needs own sort.Rbtree = tree_shape types needs.head needs.node own
+shape types address needs own sort.Xarray = xarray_shape types needs.head needs.node
 
 -- the types of a row are among so many
 pub record IsRow (count : ℕ) (row : Row) : Type 0 where
@@ -115,7 +148,9 @@ pub record AreRows (types : Types) (address : Addresses) (rows : Rows) : Type 0 
   pub hlist : rows.hlist ≡ row types address sort.Hlist false
   pub rbtree : rows.rbtree ≡ row types address sort.Rbtree false
   pub cached : rows.cached ≡ row types address sort.Rbtree true
+  pub xarray : rows.xarray ≡ row types address sort.Xarray false
   pub ring_there : IsRow (length types.records) rows.ring
   pub hlist_there : IsRow (length types.records) rows.hlist
   pub rbtree_there : IsRow (length types.records) rows.rbtree
   pub cached_there : IsRow (length types.records) rows.cached
+  pub xarray_there : IsRow (length types.records) rows.xarray

@@ -1,12 +1,13 @@
 -- What the kinds of audits find in a kernel's types.
-use Rattle.std.specs.Prelude.{◌≡◌, ℕ, ◌^◌, ◌/◌, ◌%◌, nat_lt, nat_le, true, false, List, Bool, ◌&&◌, ◌==◌, Option, Some, None, option_map, option_and_then, Result, Ok, Err, if◌then◌else◌}
+use Rattle.std.specs.Prelude.{◌≡◌, ℕ, ◌^◌, ◌/◌, ◌%◌, nat_lt, nat_le, true, false, List, Bool, ◌&&◌, ◌||◌, ◌==◌, Option, Some, None, option_map, option_and_then, Result, Ok, Err, if◌then◌else◌}
 use Rattle.std.proofs.Common.{refl}
 use Rattle.std.proofs.lemmas.Bool.{and_parts, leb-true, ltb-true}
 use Rattle.kc_word.specs.declared.bits.Bits.{Bits}
+use Rattle.kc_btf.specs.declared.types.ArrayOf.{ArrayOf}
 use Rattle.kc_btf.specs.declared.types.TypeRef.{TypeRef}
 use Rattle.kc_btf.specs.Btf.{Types}
 use Rattle.kc_layout.specs.declared.fault.PathFault.{PathFault}
-use Rattle.kc_layout.specs.Bare.{compound_under}
+use Rattle.kc_layout.specs.Bare.{array_under, compound_under}
 use Rattle.kc_layout.specs.Ends.{BitsAt, ByteAt, NumberAt, field, located}
 use Rattle.kc_layout.specs.Find.{find}
 
@@ -22,6 +23,26 @@ word_at (Ok number) =
 
 abbrev pub word_in : Types → Option ℕ → List ℕ → Option ℕ
 word_in types id name = option_and_then (λ id. word_at (field types id name)) id
+
+-- the byte at which a number of 8 bits stands, in a struct: at a whole byte
+abbrev pub small_at : Result NumberAt PathFault → Option ℕ
+small_at (Err fault) = None
+small_at (Ok number) =
+    if (number.bits.width == 8) && (number.bits.bit % 8 == 0) then Some (number.bits.bit / 8) else None
+
+abbrev pub small_in : Types → Option ℕ → List ℕ → Option ℕ
+small_in types id name = option_and_then (λ id. small_at (field types id name)) id
+
+-- how many items an array in a struct has, where they are 16 or 64
+abbrev pub chunk_if : ArrayOf → Option ℕ
+chunk_if array = if (array.nelems == 16) || (array.nelems == 64) then Some array.nelems else None
+
+abbrev pub chunk_at : Types → Result ByteAt PathFault → Option ℕ
+chunk_at types (Err fault) = None
+chunk_at types (Ok place) = option_and_then chunk_if (array_under types place.ty)
+
+abbrev pub chunk_in : Types → Option ℕ → List ℕ → Option ℕ
+chunk_in types id name = option_and_then (λ id. chunk_at types (located types id name)) id
 
 -- the byte of a member in a struct
 abbrev pub byte_at : Result ByteAt PathFault → Option ℕ

@@ -1,22 +1,32 @@
 -- The structures of a plan stand in a dump: each of them meets what its kind promises, all the way down.
-use Rattle.std.specs.Prelude.{ℕ, suc, nat_eq, IsTrue, List, [], ◌∷◌, Result, Ok, Err, MatchBool, ⊤}
+use Rattle.std.specs.Prelude.{◌≡◌, ℕ, suc, nat_eq, IsTrue, List, [], ◌∷◌, Result, Ok, Err, MatchBool, ⊤}
 use Rattle.std.specs.List.{AllByRecursion}
 use Rattle.kc_memory.specs.Image.{Image}
 use Rattle.kc_memory.specs.Stopped.{Stopped}
 use Rattle.kc_memory.specs.Translation.{vword}
+use Rattle.kc_found.specs.declared.xarrays.XaItem.{XaItem}
 use Rattle.kc_found.specs.FiniteLists as lists
+use Rattle.kc_found.specs.FiniteXarrays.{XArray}
 use Rattle.kc_found.specs.RbFinite.{RbTree}
 use Rattle.kc_found.specs.RbTrees.{reads_of}
+use Rattle.kc_found.specs.XaLayouts.{XaLayout}
+use Rattle.kc_found.specs.XaSites.{xa_course}
 use Rattle.kc_plan.specs.declared.kind.Kind.{Kind}
-use Rattle.kc_plan.specs.declared.kind.Kind.TheVariants.{Ring, Hlist, Rbtree}
+use Rattle.kc_plan.specs.declared.kind.Kind.TheVariants.{Ring, Hlist, Rbtree, Xarray}
 use Rattle.kc_plan.specs.Planned.{AuditAt}
-use Rattle.kc_plan.specs.Seen.{PathEnd, EndsAt, NullAt, container_of, is_optional, path_end, path_of, roots}
+use Rattle.kc_plan.specs.Seen.{PathEnd, EndsAt, NullAt, container_of, entries, is_optional, path_end, path_of, roots}
+
+-- some addresses are the pointers of an xarray that starts here, by rising index. Which audit asks doesn't bear on it.
+abbrev pub XArrayOf : Image → XaLayout → ℕ → List ℕ → Type 0
+XArrayOf image shape start nodes =
+    (items : List XaItem) × XArray (xa_course image shape (record { audit = 0; start = start })) items × (entries items ≡ nodes)
 
 -- some nodes make up the structure of a kind that starts here
 unfoldable pub Holds : Image → Kind → ℕ → List ℕ → Type 0
 Holds image (Ring shape) start nodes = lists.Ring (vword image) shape start nodes
 Holds image (Hlist shape) start nodes = lists.HChain (vword image) shape start nodes
 Holds image (Rbtree shape) start nodes = RbTree (reads_of image) shape start nodes
+Holds image (Xarray shape) start nodes = XArrayOf image shape start nodes
 
 -- each audit that is named there stands at an element, where `Go` says that one stands at an address
 abbrev pub ElementStands : AuditAt → (ℕ → ℕ → Type 0) → ℕ → Type 0

@@ -31,7 +31,7 @@ pub enum PRule {
     P10,
     /// The types lack what this kind of audit needs.
     P11,
-    /// This can't be audited yet: one of the kinds `xarray`, `slub` and `tasks`, or checks.
+    /// This can't be audited yet: the kinds `slub` and `tasks`, or checks.
     P13,
 }
 

@@ -1,5 +1,5 @@
 // The kinds of audits.
-use kc_found::{HShape, ListShape, RbShape};
+use kc_found::{HShape, ListShape, RbShape, XaShape};
 
 /// The kind of an audit, with the places of the words that it reads.
 #[derive(Clone, Copy, Debug, PartialEq, Eq)]
@@ -10,4 +10,6 @@ pub enum Kind {
     Hlist(HShape),
     /// A red-black tree (`struct rb_root` or `struct rb_root_cached`, `struct rb_node`).
     Rbtree(RbShape),
+    /// An xarray (`struct xarray`, `struct xa_node`), whose elements are its pointers.
+    Xarray(XaShape),
 }

@@ -2,7 +2,7 @@
 // matches on them: its name, what it asks of the keys, what it needs of a kernel, and where its words stand.
 ghost use Rattle.std.specs.Prelude.{◌≡◌, ◌≤◌, length, IfSome};
 ghost use Rattle.kc_plan.specs.declared.kinds.Sort.TheVariants as sort;
-ghost use Rattle.kc_plan.specs.Kinds.{sort_of, is_later, needs_of, ring_shape, hlist_shape, root_words, tree_shape, row, shape, AreRows, IsRow};
+ghost use Rattle.kc_plan.specs.Kinds.{sort_of, is_later, needs_of, ring_shape, hlist_shape, root_words, tree_shape, node_bytes, xarray_shape, row, shape, AreRows, IsRow};
 ghost use Rattle.kc_plan.specs.Plans.{address_in};
 ghost use Rattle.kc_plan.specs.Views.{kernel, own_seen};
 
@@ -10,9 +10,9 @@ use crate::begin::Known;
 use crate::fault::PRule;
 use crate::keys::{Need, Needs};
 use crate::kind::Kind;
-use crate::shape::{Own, Row, byte_in, struct_named, word_in};
+use crate::shape::{Own, Row, byte_in, chunk_in, small_in, struct_named, word_in};
 use kc_btf::Btf;
-use kc_found::{HShape, ListShape, RbShape};
+use kc_found::{HShape, ListShape, RbShape, XaShape};
 
 // The kinds of audits.
 #[derive(Clone, Copy)]
@@ -20,13 +20,14 @@ pub(crate) enum Sort {
     Ring,
     Hlist,
     Rbtree,
+    Xarray,
 }
 
 // A kind that can't be audited yet.
 fn is_later(text: &str) -> bool
     ensures { result ≡ is_later text.now }
 {
-    text == "xarray" || text == "slub" || text == "tasks"
+    text == "slub" || text == "tasks"
 }
 
 // The kind with a name.
@@ -39,6 +40,8 @@ pub(crate) fn sort_of(text: &str) -> Result<Sort, PRule>
         Ok(Sort::Hlist)
     } else if text == "rbtree" {
         Ok(Sort::Rbtree)
+    } else if text == "xarray" {
+        Ok(Sort::Xarray)
     } else if is_later(text) {
         Err(PRule::P13)
     } else {
@@ -61,6 +64,11 @@ pub(crate) fn needs_of(sort: Sort) -> Needs
             link: Need::Required,
             tree: Need::Allowed,
         },
+        Sort::Xarray => Needs {
+            element: Need::Allowed,
+            link: Need::Barred,
+            tree: Need::Barred,
+        },
     }
 }
 
@@ -72,6 +80,7 @@ pub(crate) struct Rows {
     pub rbtree: Row,
     // Of a tree whose root keeps the first element.
     pub cached: Row,
+    pub xarray: Row,
 }
 
 // The rows of all kinds.
@@ -107,6 +116,12 @@ pub(crate) fn rows_of(known: &Known<'_>) -> Rows
             element: None,
             clear: true,
         },
+        xarray: Row {
+            head: struct_named(known.btf, b"xarray"),
+            node: struct_named(known.btf, b"xa_node"),
+            element: None,
+            clear: true,
+        },
     }
 }
 
@@ -121,6 +136,7 @@ pub(crate) fn row_of(known: &Known<'_>, rows: &Rows, sort: Sort, cached: bool) -
         Sort::Hlist => rows.hlist,
         Sort::Rbtree if cached => rows.cached,
         Sort::Rbtree => rows.rbtree,
+        Sort::Xarray => rows.xarray,
     }
 }
 
@@ -200,6 +216,60 @@ fn tree_shape(btf: &Btf, head: Option<u32>, node: Option<u32>, own: &Own) -> Opt
     }))
 }
 
+// The offsets of the bytes of an xarray's node.
+#[derive(Clone, Copy)]
+pub(crate) struct NodeBytes {
+    pub shift: u64,
+    pub offset: u64,
+    pub count: u64,
+    pub nr_values: u64,
+}
+
+// The bytes of an xarray's node.
+#[tactic(auto, unfolding(crate::specs::Kinds::node_bytes))]
+fn node_bytes(btf: &Btf, node: Option<u32>) -> Option<NodeBytes>
+    requires { IfSome node (λ id. id ≤ length btf.now.records) }
+    ensures { result ≡ node_bytes btf.now node }
+{
+    let shift = small_in(btf, node, b"shift")?;
+    let offset = small_in(btf, node, b"offset")?;
+    let count = small_in(btf, node, b"count")?;
+    let nr_values = small_in(btf, node, b"nr_values")?;
+    Some(NodeBytes {
+        shift,
+        offset,
+        count,
+        nr_values,
+    })
+}
+
+// The words of an xarray.
+#[tactic(auto, unfolding(crate::specs::Kinds::xarray_shape))]
+fn xarray_shape(btf: &Btf, head: Option<u32>, node: Option<u32>) -> Option<Kind>
+    requires head { IfSome head (λ id. id ≤ length btf.now.records) }
+    requires node { IfSome node (λ id. id ≤ length btf.now.records) }
+    ensures { result ≡ xarray_shape btf.now head node }
+{
+    let head = word_in(btf, head, b"xa_head")?;
+    let bytes = node_bytes(btf, node)?;
+    let parent = word_in(btf, node, b"parent")?;
+    let array = word_in(btf, node, b"array")?;
+    let slots = word_in(btf, node, b"slots[0]")?;
+    let chunk = chunk_in(btf, node, b"slots")?;
+    Some(Kind::Xarray(XaShape {
+        head,
+        shift: bytes.shift,
+        offset: bytes.offset,
+        count: bytes.count,
+        nr_values: bytes.nr_values,
+        parent,
+        array,
+        slots,
+        chunk,
+        idr: false,
+    }))
+}
+
 // A kind with where its words stand, where the types have them.
 pub(crate) fn shape_of(known: &Known<'_>, needs: &Row, own: &Own, sort: Sort) -> Option<Kind>
     requires { IsRow (length known.now.btf.now.records) needs.now }
@@ -209,5 +279,6 @@ pub(crate) fn shape_of(known: &Known<'_>, needs: &Row, own: &Own, sort: Sort) ->
         Sort::Ring => ring_shape(known.btf, needs.node),
         Sort::Hlist => hlist_shape(known.btf, needs.head, needs.node),
         Sort::Rbtree => tree_shape(known.btf, needs.head, needs.node, own),
+        Sort::Xarray => xarray_shape(known.btf, needs.head, needs.node),
     }
 }

@@ -1,9 +1,10 @@
 // What the kinds of audits find in a kernel's types.
 ghost use Rattle.std.specs.Prelude.{◌≡◌, ◌≤◌, length, IfSome};
-ghost use Rattle.kc_plan.specs.Shapes.{struct_named, byte_in, word_in};
+ghost use Rattle.kc_plan.specs.Shapes.{struct_named, byte_in, chunk_in, small_in, word_in};
+ghost use Rattle.kc_found.specs.XaLayouts.{IsChunk};
 
 use kc_btf::Btf;
-use kc_layout::{compound_under, find_type, locate, resolve};
+use kc_layout::{array_under, compound_under, find_type, locate, resolve};
 use kc_word::Bits;
 
 // What a kind needs of a kernel.
@@ -49,6 +50,40 @@ pub(crate) fn word_in(btf: &Btf, id: Option<u32>, name: &[u8]) -> Option<u64>
     };
     if number.bits.width == 64 && number.bits.bit % 64 == 0 {
         Some(number.bits.bit / 8)
+    } else {
+        None
+    }
+}
+
+// The byte at which a number of 8 bits stands in a struct.
+pub(crate) fn small_in(btf: &Btf, id: Option<u32>, name: &[u8]) -> Option<u64>
+    requires { IfSome id (λ id. id ≤ length btf.now.records) }
+    ensures { result ≡ small_in btf.now id name.now }
+{
+    let id = id?;
+    let Ok(number) = resolve(btf, id, name) else {
+        return None;
+    };
+    if number.bits.width == 8 && number.bits.bit % 8 == 0 {
+        Some(number.bits.bit / 8)
+    } else {
+        None
+    }
+}
+
+// How many items an array in a struct has, where they are 16 or 64.
+pub(crate) fn chunk_in(btf: &Btf, id: Option<u32>, name: &[u8]) -> Option<u64>
+    requires { IfSome id (λ id. id ≤ length btf.now.records) }
+    ensures exact { result ≡ chunk_in btf.now id name.now }
+    ensures chunk { IfSome result IsChunk }
+{
+    let id = id?;
+    let Ok(place) = locate(btf, id, name) else {
+        return None;
+    };
+    let array = array_under(btf, place.ty)?;
+    if array.nelems == 16 || array.nelems == 64 {
+        Some(u64::from(array.nelems))
     } else {
         None
     }

@@ -74,6 +74,7 @@ fn push_audit(text: &mut String, audit: &Audit) -> Result<(), AllocError> {
             shape.first, shape.next, shape.pprev
         )?,
         Kind::Rbtree(shape) => write!(text, " rbtree {shape:?}")?,
+        Kind::Xarray(shape) => write!(text, " xarray {shape:?}")?,
     }
     push_start(text, &audit.start)?;
     write!(text, " element {:?} {} each", audit.element, audit.link)?;
@@ -132,7 +133,7 @@ fn run_cases(rt: &(impl Abort + AllocGlobal), text: &str) -> Result<usize, Fail>
 
 #[test]
 fn the_first_fault_is_told(rt: HostRuntime) -> Result<(), Fail> {
-    assert_eq!(rt; run_cases(&rt, faults::FAULTS)?, 40);
+    assert_eq!(rt; run_cases(&rt, faults::FAULTS)?, 42);
     assert_eq!(rt; run_cases(&rt, faults::KEYS)?, 32);
     assert_eq!(rt; run_cases(&rt, faults::PLACES)?, 15);
     let answer = told(rt.alloc(), b"# \xff", "", "")?;
@@ -142,6 +143,6 @@ fn the_first_fault_is_told(rt: HostRuntime) -> Result<(), Fail> {
 
 #[test]
 fn plans_have_numbers(rt: HostRuntime) -> Result<(), Fail> {
-    assert_eq!(rt; run_cases(&rt, plans::PLANS)?, 24);
+    assert_eq!(rt; run_cases(&rt, plans::PLANS)?, 34);
     Ok(())
 }

@@ -1,3 +1,4 @@
+mod Arrays
 mod ChainsShown
 mod Counting
 mod Going

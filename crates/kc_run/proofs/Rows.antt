@@ -11,7 +11,7 @@ use Rattle.kc_found.specs.Rings.{ring_chain}
 use Rattle.kc_found.specs.Trials.{Reader, judged}
 use Rattle.kc_found.specs.Violations.{Violation, breaks, missed}
 use Rattle.kc_plan.specs.declared.kind.Kind.{Kind}
-use Rattle.kc_plan.specs.declared.kind.Kind.TheVariants.{Ring, Hlist, Rbtree}
+use Rattle.kc_plan.specs.declared.kind.Kind.TheVariants.{Ring, Hlist, Rbtree, Xarray}
 use Rattle.kc_plan.specs.Planned.{AuditAt}
 use Rattle.kc_plan.specs.Planned.StartAt.{RootAt, FromAt}
 use Rattle.kc_plan.specs.Seen.{PathEnd, EndsAt, NullAt, World, null_pointer, seen}
@@ -40,6 +40,7 @@ abbrev nodes : List VWord → Kind → ℕ → ℕ → Result (List ℕ) Violati
 nodes ws (Ring shape) n start = judged (chain_sites (ring_chain (look ws) shape (record { audit = n; start = start })) 12)
 nodes ws (Hlist shape) n start = Ok []
 nodes ws (Rbtree shape) n start = Ok []
+nodes ws (Xarray shape) n start = Ok []
 
 abbrev dump : List VWord → World
 dump ws = record { paths = λ to at. path ws at to.hops to.byte; walks = nodes ws }

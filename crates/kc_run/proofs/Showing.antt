@@ -11,13 +11,15 @@ use Rattle.kc_view.specs.Typed.{bytes_on}
 use Rattle.kc_memory.specs.Translation.{and_then}
 use Rattle.kc_found.specs.Violations.{Violation}
 use Rattle.kc_plan.specs.declared.kind.Kind.{Kind}
-use Rattle.kc_plan.specs.declared.kind.Kind.TheVariants.{Ring, Hlist, Rbtree}
+use Rattle.kc_plan.specs.declared.kind.Kind.TheVariants.{Ring, Hlist, Rbtree, Xarray}
 use Rattle.kc_plan.specs.Events.{Event, Walk, Wrong, first_wrong, verdict_of}
 use Rattle.kc_plan.specs.Planned.{AuditAt}
 use Rattle.kc_plan.specs.Seen.{PathEnd, EndsAt, NullAt, world, nodes_of, path_end, path_of, is_optional, unless_null, container_of, in_turn, at_element, walked, entered, seen, roots, all_seen}
 use Rattle.kc_plan.specs.Verdicts.{verdict_places}
 use Rattle.kc_rb.specs.Laws.{TreePlacesStand}
+use Rattle.kc_xa.specs.Laws.{XarrayPlacesStand}
 use Rattle.kc_run.specs.Laws.{VerdictsStand}
+use Rattle.kc_run.proofs.Arrays.{array_shows}
 use Rattle.kc_run.proofs.ChainsShown.{hash_walk_shows, ring_walk_shows}
 
 -- the violations that are seen do
@@ -63,11 +65,12 @@ end_stands numbers image at (offset ∷ offsets) byte =
     on_stands image (bytes_on at offset) (pointer image at offset) (λ next. path_end image next offsets byte)
     (numbers image (bytes_on at offset) 0 64 false) (λ next. end_stands numbers image next offsets byte)
 
-nodes_show : PlacesStand → TreePlacesStand → (image : Image) (kind : Kind) (n start : ℕ) (v : Violation) → nodes_of image kind n start ≡ Err v → AllStandIn image v.places
+nodes_show : PlacesStand → TreePlacesStand → XarrayPlacesStand → (image : Image) (kind : Kind) (n start : ℕ) (v : Violation) → nodes_of image kind n start ≡ Err v → AllStandIn image v.places
 unfolding nodes_of
-nodes_show places trees image (Ring shape) n start v is = ring_walk_shows places image shape n start v is
-nodes_show places trees image (Hlist shape) n start v is = hash_walk_shows places image shape n start v is
-nodes_show places trees image (Rbtree shape) n start v is = trees image shape n start v is
+nodes_show places trees arrays image (Ring shape) n start v is = ring_walk_shows places image shape n start v is
+nodes_show places trees arrays image (Hlist shape) n start v is = hash_walk_shows places image shape n start v is
+nodes_show places trees arrays image (Rbtree shape) n start v is = trees image shape n start v is
+nodes_show places trees arrays image (Xarray shape) n start v is = array_shows arrays image shape n start v is
 
 walked_shows : (image : Image) (n : ℕ) (a : AuditAt) (start : ℕ) (go : ℕ → ℕ → List Event) (r : Result (List ℕ) Violation) → ((v : Violation) → r ≡ Err v → AllStandIn image v.places) → ((m x : ℕ) → AllSeen image (go m x)) →
     AllSeen image (walked (world image) n a start go r)
@@ -76,21 +79,21 @@ walked_shows image n a start go (Err v) here below = (here v refl, tt)
 walked_shows image n a start go (Ok nodes) here below =
     turn_shows image (λ node. at_element (world image) n a start go (container_of a.link node)) nodes (λ node. turn_shows image (λ m. go m (container_of a.link node)) a.each (λ m. below m (container_of a.link node)))
 
-entered_shows : PlacesStand → TreePlacesStand → (image : Image) (n : ℕ) (a : AuditAt) (go : ℕ → ℕ → List Event) (base : ℕ) (r : Result PathEnd Stopped) → EndStands image r → ((m x : ℕ) → AllSeen image (go m x)) →
+entered_shows : PlacesStand → TreePlacesStand → XarrayPlacesStand → (image : Image) (n : ℕ) (a : AuditAt) (go : ℕ → ℕ → List Event) (base : ℕ) (r : Result PathEnd Stopped) → EndStands image r → ((m x : ℕ) → AllSeen image (go m x)) →
     AllSeen image (entered (world image) n a go base r)
 unfolding AllSeen EndStands
-entered_shows places trees image n a go base (Err s) here below = (here, tt)
-entered_shows places trees image n a go base (Ok (NullAt place at)) here below = one_of image (is_optional a.start) [] _ tt ((here, tt), tt)
-entered_shows places trees image n a go base (Ok (EndsAt start)) here below =
-    walked_shows image n a start go (nodes_of image a.kind n start) (nodes_show places trees image a.kind n start) below
+entered_shows places trees arrays image n a go base (Err s) here below = (here, tt)
+entered_shows places trees arrays image n a go base (Ok (NullAt place at)) here below = one_of image (is_optional a.start) [] _ tt ((here, tt), tt)
+entered_shows places trees arrays image n a go base (Ok (EndsAt start)) here below =
+    walked_shows image n a start go (nodes_of image a.kind n start) (nodes_show places trees arrays image a.kind n start) below
 
-seen_shows : PlacesStand → TreePlacesStand → NumbersStand → (image : Image) (audits : List AuditAt) (k m base : ℕ) → AllSeen image (seen (world image) audits k m base)
+seen_shows : PlacesStand → TreePlacesStand → XarrayPlacesStand → NumbersStand → (image : Image) (audits : List AuditAt) (k m base : ℕ) → AllSeen image (seen (world image) audits k m base)
 unfolding AllSeen seen
-seen_shows places trees numbers image [] k m base = tt
-seen_shows places trees numbers image (a ∷ later) k m base =
+seen_shows places trees arrays numbers image [] k m base = tt
+seen_shows places trees arrays numbers image (a ∷ later) k m base =
     one_of image (nat_eq m k) _ _
-    (entered_shows places trees image k a (λ n x. seen (world image) later (suc k) n x) base (path_end image base (path_of a.start).hops (path_of a.start).byte) (end_stands numbers image base (path_of a.start).hops (path_of a.start).byte) (λ n x. seen_shows places trees numbers image later (suc k) n x))
-    (seen_shows places trees numbers image later (suc k) m base)
+    (entered_shows places trees arrays image k a (λ n x. seen (world image) later (suc k) n x) base (path_end image base (path_of a.start).hops (path_of a.start).byte) (end_stands numbers image base (path_of a.start).hops (path_of a.start).byte) (λ n x. seen_shows places trees arrays numbers image later (suc k) n x))
+    (seen_shows places trees arrays numbers image later (suc k) m base)
 
 first_shows : (image : Image) (n : ℕ) (all es : List Event) → AllSeen image es → AllStandIn image (verdict_places (verdict_of n all (first_wrong es)))
 unfolding AllSeen
@@ -98,7 +101,7 @@ first_shows image n all [] a = tt
 first_shows image n all (Walk m size ∷ es) a = first_shows image n all es a
 first_shows image n all (Wrong v ∷ es) a = a.0
 
-pub verdicts_stand : PlacesStand → TreePlacesStand → NumbersStand → VerdictsStand
-verdicts_stand places trees numbers image audits =
+pub verdicts_stand : PlacesStand → TreePlacesStand → XarrayPlacesStand → NumbersStand → VerdictsStand
+verdicts_stand places trees arrays numbers image audits =
     first_shows image (length audits) (all_seen (world image) audits) (all_seen (world image) audits)
-    (turn_shows image (λ r. seen (world image) audits 0 r.0 r.1) (roots 0 audits) (λ r. seen_shows places trees numbers image audits 0 r.0 r.1))
+    (turn_shows image (λ r. seen (world image) audits 0 r.0 r.1) (roots 0 audits) (λ r. seen_shows places trees arrays numbers image audits 0 r.0 r.1))

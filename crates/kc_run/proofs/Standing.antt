@@ -7,14 +7,16 @@ use Rattle.kc_memory.specs.Stopped.{Stopped}
 use Rattle.kc_found.specs.Violations.{Violation}
 use Rattle.kc_list.specs.Laws.{HashChainsAreWalked, RingsAreWalked}
 use Rattle.kc_plan.specs.declared.kind.Kind.{Kind}
-use Rattle.kc_plan.specs.declared.kind.Kind.TheVariants.{Ring, Hlist, Rbtree}
+use Rattle.kc_plan.specs.declared.kind.Kind.TheVariants.{Ring, Hlist, Rbtree, Xarray}
 use Rattle.kc_plan.specs.Events.{Event, Walk, Wrong, first_wrong, verdict_of}
 use Rattle.kc_plan.specs.Planned.{AuditAt}
 use Rattle.kc_plan.specs.Seen.{PathEnd, EndsAt, NullAt, world, nodes_of, path_end, path_of, is_optional, container_of, in_turn, at_element, walked, entered, seen, roots, all_seen}
 use Rattle.kc_plan.specs.Stands.{Holds, ElementStands, WalkStands, EnterStands, Stands}
 use Rattle.kc_plan.specs.Verdicts.{IsClean}
 use Rattle.kc_rb.specs.Laws.{TreesAreWalked}
+use Rattle.kc_xa.specs.Laws.{XarraysAreWalked}
 use Rattle.kc_run.specs.Laws.{CleanWhereStanding}
+use Rattle.kc_run.proofs.Arrays.{array_complete, array_sound}
 
 -- no violation is seen
 NoneWrong : List Event → Type 0
@@ -133,23 +135,25 @@ is_none n all (Walk m size ∷ es) c = is_none n all es c
 is_none n all (Wrong v ∷ es) c = absurd c
 
 -- the law of each kind
-kinds_of : RingsAreWalked → HashChainsAreWalked → TreesAreWalked → (image : Image) → Kinds image
+kinds_of : RingsAreWalked → HashChainsAreWalked → TreesAreWalked → XarraysAreWalked → (image : Image) → Kinds image
 unfolding nodes_of Holds
-kinds_of rings chains trees image = record { sound = sound; complete = complete }
+kinds_of rings chains trees arrays image = record { sound = sound; complete = complete }
   where
     sound : (kind : Kind) (n start : ℕ) (nodes : List ℕ) → nodes_of image kind n start ≡ Ok nodes → Holds image kind start nodes
     sound (Ring shape) n start nodes is = (rings image shape n start nodes).1 is
     sound (Hlist shape) n start nodes is = (chains image shape n start nodes).1 is
     sound (Rbtree shape) n start nodes is = (trees image shape n start nodes).1 is
+    sound (Xarray shape) n start nodes is = array_sound arrays image shape n start nodes is
 
     complete : (kind : Kind) (n start : ℕ) (nodes : List ℕ) → Holds image kind start nodes → nodes_of image kind n start ≡ Ok nodes
     complete (Ring shape) n start nodes holds = (rings image shape n start nodes).0 holds
     complete (Hlist shape) n start nodes holds = (chains image shape n start nodes).0 holds
     complete (Rbtree shape) n start nodes holds = (trees image shape n start nodes).0 holds
+    complete (Xarray shape) n start nodes holds = array_complete arrays image shape n start nodes holds
 
-pub clean_where_standing : RingsAreWalked → HashChainsAreWalked → TreesAreWalked → CleanWhereStanding
-clean_where_standing rings chains trees image plan =
-    let kinds = kinds_of rings chains trees image in
+pub clean_where_standing : RingsAreWalked → HashChainsAreWalked → TreesAreWalked → XarraysAreWalked → CleanWhereStanding
+clean_where_standing rings chains trees arrays image plan =
+    let kinds = kinds_of rings chains trees arrays image in
     let see = λ (r : ℕ × ℕ). seen (world image) plan 0 r.0 r.1 in
     let Stand = λ (r : ℕ × ℕ). Stands image plan 0 r.0 r.1 in (
       λ c. turn_stands see Stand (roots 0 plan) (λ r d. clean_stands image plan 0 r.0 r.1 kinds d) (none_is (length plan) (all_seen (world image) plan) (all_seen (world image) plan) c),

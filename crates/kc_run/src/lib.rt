@@ -3,6 +3,7 @@
 
 mod begin;
 mod counts;
+mod entries;
 mod laws;
 mod nest;
 mod roots;

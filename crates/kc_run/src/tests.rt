@@ -23,8 +23,9 @@ const DIRECT: u64 = 0xffff_8880_0000_0000;
 // A physical address, and the word there.
 type Word = (u64, u64);
 
-// A ring of one task, whose signal has a ring of two threads; and a tree of three items.
-const WORDS: [Word; 24] = [
+// A ring of one task, whose signal has a ring of two threads; a tree of three items; and an xarray's
+// head and the words of its node but the empty slots.
+const WORDS: [Word; 30] = [
     (0xb008, DIRECT + 0xd008),
     (0xb010, DIRECT + 0xd008),
     (0xd008, IMAGE + 0xb008),
@@ -49,7 +50,16 @@ const WORDS: [Word; 24] = [
     (0x110a8, DIRECT + 0x11068),
     (0x110b0, 0),
     (0x110b8, 0),
+    (0xb118, DIRECT + 0x10002),
+    (0x10000, 0x0102_0000),
+    (0x10008, 0),
+    (0x10010, IMAGE + 0xb110),
+    (0x10020, DIRECT + 0x11000),
+    (0x10028, 0xb),
 ];
+
+// Where a node of an xarray has its 16 slots.
+const SLOTS: u64 = 0x10018;
 
 // The tasks, and the threads of each.
 const NEST: &str = "version = 1
@@ -81,8 +91,17 @@ link = 'rb'
 key = 'key'
 ";
 
+// An xarray of one pointer.
+const IDS: &str = "version = 1
+[[audit]]
+name = 'ids'
+kind = 'xarray'
+root = 'my_xa'
+element = 'item'
+";
+
 // The plan, what is added to it, the words that are changed, and the verdict.
-const ROWS: [(&str, &str, &[Word], &str); 8] = [
+const ROWS: [(&str, &str, &[Word], &str); 12] = [
     (NEST, "", &[], "clean 1 1 1 2"),
     (
         NEST,
@@ -119,6 +138,23 @@ const ROWS: [(&str, &str, &[Word], &str); 8] = [
         &[(0x11070, DIRECT + 0x11028)],
         "broken 0 ffffffff8000b130 A ffff888000011028 none ffff888000011028 11028 13028 ffff888000011068",
     ),
+    (IDS, "", &[], "clean 1 1"),
+    // A sibling of a slot with nothing in it.
+    (
+        IDS,
+        "",
+        &[(0x10000, 0x0103_0000), (0x10030, 2)],
+        "broken 0 ffffffff8000b110 X8 ffff888000010030 none ffff888000010030 10030 12030 2",
+    ),
+    // An error.
+    (
+        IDS,
+        "",
+        &[(0x10020, 0xffff_ffff_ffff_c006)],
+        "broken 0 ffffffff8000b110 X7 ffff888000010020 none ffff888000010020 10020 12020 ffffffffffffc006",
+    ),
+    // No node: the head is the pointer.
+    (IDS, "", &[(0xb118, DIRECT + 0x11000)], "clean 1 1"),
 ];
 
 const INFO: Info = Info {
@@ -129,20 +165,29 @@ const INFO: Info = Info {
     phys_base: 0,
 };
 
-// The changed words, and then the others, each by its two addresses. The first word with an address counts.
+// Adds a word by its two addresses.
+fn push_word(all: &mut Vec<VWord>, pa: u64, value: u64) -> Result<(), AllocError> {
+    for map in [IMAGE, DIRECT] {
+        all.push(VWord {
+            va: pa.wrapping_add(map),
+            pa,
+            off: pa.wrapping_add(0x2000),
+            value,
+        })?;
+    }
+    Ok(())
+}
+
+// The changed words, then the others, and then empty slots. The first word with an address counts.
 fn space_of(alloc: Global, changed: &[Word]) -> Result<ListSpace, AllocError> {
     let mut all = Vec::new(alloc);
     for list in [changed, &WORDS[..]] {
         for (pa, value) in list {
-            for map in [IMAGE, DIRECT] {
-                all.push(VWord {
-                    va: pa.wrapping_add(map),
-                    pa: *pa,
-                    off: pa.wrapping_add(0x2000),
-                    value: *value,
-                })?;
-            }
+            push_word(&mut all, *pa, *value)?;
         }
+    }
+    for slot in 0..16u64 {
+        push_word(&mut all, SLOTS.wrapping_add(slot.wrapping_mul(8)), 0)?;
     }
     Ok(ListSpace::new(all))
 }

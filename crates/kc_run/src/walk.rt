@@ -3,6 +3,7 @@ ghost use Rattle.kc_memory.specs.Stays.{SpaceStays};
 ghost use Rattle.kc_found.specs.Walks.{CountsWalkFaults, IsNamed, WalksAs};
 ghost use Rattle.kc_plan.specs.Seen.{nodes_of};
 
+use crate::entries::xarray;
 use kc_found::{Asked, Space, WalkStop, Walked};
 use kc_list::{hchain, ring};
 use kc_plan::Kind;
@@ -30,5 +31,6 @@ pub(crate) fn walk<S: Space, L: Ledger>(
         Kind::Ring(shape) => ring(alloc, space, shape, asked.start, asked.audit, steps),
         Kind::Hlist(shape) => hchain(alloc, space, shape, asked.start, asked.audit, steps),
         Kind::Rbtree(shape) => rb_walk(alloc, space, shape, asked.start, asked.audit, steps),
+        Kind::Xarray(shape) => xarray(alloc, space, shape, asked, steps),
     }
 }

@@ -38,7 +38,15 @@ audit = [{ kind = 'heap', extra = 1 }]
 
 P13 0 Kind
 version = 1
-audit = [{ name = 'x', kind = 'xarray', root = 'my_xa', element = 'item' }]
+audit = [{ name = 's', kind = 'slub', root = 'my_xa', element = 'item' }]
+
+P3 0 Link
+version = 1
+audit = [{ name = 'x', kind = 'xarray', root = 'my_xa', element = 'item', link = 'rb', key = 5 }]
+
+P3 0 Element
+version = 1
+audit = [{ name = 'x', kind = 'xarray', root = 'my_xa', link = 'rb', each = [] }]
 
 P3 0 Other
 version = 1

@@ -42,6 +42,18 @@ element = 'item'
 link = 'rb'
 cached = true
 
+plan ids xarray XaShape { head: 8, shift: 0, offset: 1, count: 2, nr_values: 3, parent: 8, array: 16, slots: 24, chunk: 16, idr: false } root ffffffff8000c110 18 hops 0 0 0 byte 0 type 18 element Some(32) 0 each;
+version = 1
+[[audit]]
+name = 'ids'
+kind = 'xarray'
+root = 'my_xa'
+element = 'item'
+
+plan ids xarray XaShape { head: 8, shift: 0, offset: 1, count: 2, nr_values: 3, parent: 8, array: 16, slots: 24, chunk: 16, idr: false } root ffffffff8000c110 18 hops 0 0 0 byte 0 type 18 element None 0 each;
+version = 1
+audit = [{ name = 'ids', kind = 'xarray', root = 'my_xa' }]
+
 plan g ring 0 8 root ffffffff8000c000 31 hops 0 0 0 byte 8 type 6 element Some(31) 8 each 1; t ring 0 8 from true hops 1 80 0 byte 0 type 6 element Some(31) 88 each;
 version = 1
 [[audit]]
@@ -127,4 +139,36 @@ audit = [{ kind = 'rbtree', name = 't', root = 'my_rb', root_type = 'rb_root', r
 
 P10 0 Link
 version = 1
-audit = [{ kind = 'rbtree', name = 't', root = 'my_rb', element = 'item', link = 'link' }]";
+audit = [{ kind = 'rbtree', name = 't', root = 'my_rb', element = 'item', link = 'link' }]
+
+P11 0 Kind|\0xa_tail\0 for \0xa_head\0
+version = 1
+audit = [{ kind = 'xarray', name = 'x', root = 'my_xa', element = 'item' }]
+
+P11 0 Kind|\0shaft\0 for \0shift\0
+version = 1
+audit = [{ kind = 'xarray', name = 'x', root = 'my_xa', element = 'item' }]
+
+P11 0 Kind|\0nr_valves\0 for \0nr_values\0
+version = 1
+audit = [{ kind = 'xarray', name = 'x', root = 'my_xa', element = 'item' }]
+
+P11 0 Kind|\0arrow\0 for \0array\0
+version = 1
+audit = [{ kind = 'xarray', name = 'x', root = 'my_xa', element = 'item' }]
+
+P11 0 Kind|\0slits\0 for \0slots\0
+version = 1
+audit = [{ kind = 'xarray', name = 'x', root = 'my_xa', element = 'item' }]
+
+P11 0 Kind|\0xa_mode\0 for \0xa_node\0
+version = 1
+audit = [{ kind = 'xarray', name = 'x', root = 'my_xa', element = 'item' }]
+
+P11 0 Kind|\0xarrow\0 for \0xarray\0
+version = 1
+audit = [{ kind = 'xarray', name = 'x', root = 'my_xa', element = 'item' }]
+
+P10 0 RootPath
+version = 1
+audit = [{ kind = 'xarray', name = 'x', root = 'my_xa', root_type = 'item', root_path = 'link' }]";
