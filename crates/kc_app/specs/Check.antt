@@ -8,6 +8,7 @@ use Rattle.kc_notes.specs.Info.{info}
 use Rattle.kc_found.specs.declared.verdict.Verdict.{Verdict}
 use Rattle.kc_found.specs.declared.verdict.Verdict.TheVariants.{Clean, Broken}
 use Rattle.kc_plan.specs.Planned.{AuditAt}
+use Rattle.kc_plan.specs.Stands.{PlanStands}
 use Rattle.kc_plan.specs.Verdicts.{verdict, verdict_places}
 use Rattle.kc_report.specs.Copies.{counted, told_stop}
 use Rattle.kc_input.specs.declared.halt.Halt.{Halt}
@@ -20,7 +21,8 @@ use Rattle.kc_input.specs.Slots.{refused_slot}
 use Rattle.kc_run.specs.declared.roots.RunStop.{RunStop}
 use Rattle.kc_app.specs.declared.check.Asks.{Asks}
 use Rattle.kc_app.specs.Asked.{Asked, Form}
-use Rattle.kc_app.specs.Shown.{Said, Sound, Unsound, Shown, Seen}
+use Rattle.kc_app.specs.declared.status.Status.TheVariants.{Done}
+use Rattle.kc_app.specs.Shown.{Said, Sound, Unsound, Shown, Seen, shown_status}
 use Rattle.kc_app.specs.Word.{bytes_of, image_of}
 
 -- what `check` asks: four files by their names
@@ -66,11 +68,15 @@ verdict_said names (Broken v) =
 abbrev pub verdict_shown : Image → List (List ℕ) → Verdict → Shown
 verdict_shown image names found = Seen (verdict_said names found) image (verdict_places found)
 
--- the verdict on the memory
+-- the verdict on the memory, with its words
+abbrev pub audited_shown : Audited → Shown
+audited_shown all = verdict_shown all.image (names_of all.audits) (verdict all.image all.audits)
+
+-- what `check` makes of its files
 abbrev pub check_made : Option (List ℕ) → Option (List ℕ) → Option (List ℕ) → Option (List ℕ) → Made Shown
 check_made dump btf map plan = do
   all ← audited dump btf map plan
-  gives (verdict_shown all.image (names_of all.audits) (verdict all.image all.audits))
+  gives (audited_shown all)
 
 abbrev pub check_asked : Files → Asked
 check_asked f = record {
@@ -92,6 +98,13 @@ files_view a = record { dump = a.dump.now; btf = a.btf.now; map = a.map.now; pla
 
 abbrev pub check_view : Asks → Asked
 check_view a = check_asked (files_view a)
+
+-- what `check` shows is clean exactly where every structure that the plan reaches stands
+abbrev pub ChecksStand : Type 0
+ChecksStand =
+    (all : Audited)
+    → (shown_status (audited_shown all) ≡ Done → PlanStands all.image all.audits)
+    × (PlanStands all.image all.audits → shown_status (audited_shown all) ≡ Done)
 
 -- the verdict is the one that a definition gives of the dump, where it is told
 abbrev pub FindsAs : {I : Type 0} → (I → Verdict) → Option I → Result Verdict RunStop → Type 0

@@ -312,6 +312,72 @@ fn plans_are_refused_with_audit_and_key(rt: HostRuntime) -> Result<(), Fail> {
     Ok(())
 }
 
+// How a run ended, and what the sinks took.
+#[derive(Drop)]
+struct Ran {
+    status: u8,
+    out: Vec<u8>,
+    err: Vec<u8>,
+}
+
+// Runs a case whose standard output takes so many bytes.
+fn ran(alloc: Global, case: &Case, limit: usize) -> Result<Ran, Fail> {
+    let mut store = make_store(alloc, case)?;
+    let mut out = MemSink::new(alloc, limit)?;
+    let mut err = MemSink::new(alloc, ENOUGH)?;
+    let status = kaudit(alloc, &case.words, &mut store, &mut out, &mut err);
+    Ok(Ran {
+        status: u8::from(status),
+        out: out.bytes().to_vec(alloc)?,
+        err: err.bytes().to_vec(alloc)?,
+    })
+}
+
+#[test]
+fn each_failing_call_of_a_check_is_told(rt: HostRuntime) -> Result<(), Fail> {
+    let mut case = read_case(rt.alloc(), checks::SOUND_KIN)?;
+    let mut failed: u64 = 0;
+    for call in 1..400 {
+        case.fails = call;
+        let ran = ran(rt.alloc(), &case, ENOUGH)?;
+        if ran.status != 0 {
+            assert_eq!(rt; ran.status, 3, "{call}");
+            assert_eq!(rt; &ran.out[..], b"", "{call}");
+            assert_eq!(rt; &ran.err[..], b"store failed\n", "{call}");
+            assert_eq!(rt; failed, call - 1, "{call}");
+            failed = call;
+        }
+    }
+    assert!(rt; failed > 100);
+    assert!(rt; failed < 399);
+    Ok(())
+}
+
+#[test]
+fn a_sink_of_each_length_takes_the_front_of_a_report(rt: HostRuntime) -> Result<(), Fail> {
+    let case = read_case(rt.alloc(), checks::SOUND_KIN)?;
+    let whole = ran(rt.alloc(), &case, ENOUGH)?;
+    for limit in 0..whole.out.len() {
+        let ran = ran(rt.alloc(), &case, limit)?;
+        assert_eq!(rt; ran.status, 4, "{limit}");
+        assert_eq!(rt; &ran.out[..], taken(&whole.out, limit), "{limit}");
+        assert_eq!(rt; &ran.err[..], b"sink failed\n", "{limit}");
+    }
+    Ok(())
+}
+
+#[test]
+fn a_plan_above_1_mib_is_refused(rt: HostRuntime) -> Result<(), Fail> {
+    let mut case = read_case(rt.alloc(), checks::SOUND_KIN)?;
+    case.plan = vec![in rt.alloc(); b' '; 1 << 20]?;
+    let longest = ran(rt.alloc(), &case, ENOUGH)?;
+    assert_eq!(rt; &longest.err[..], b"refused plan P3 key version\n");
+    case.plan.push(b' ')?;
+    let longer = ran(rt.alloc(), &case, ENOUGH)?;
+    assert_eq!(rt; &longer.err[..], b"refused plan F1\n");
+    Ok(())
+}
+
 // A command over a file of types and a map is refused by a line. The call with a number fails, if there is one.
 fn is_refused(
     rt: &(impl Abort + AllocGlobal),

@@ -356,6 +356,12 @@ out at ffff88800000d160
 out expected ffff88800000d058
 out place ffff88800000d160 000000000000d160 000000000000f160 0000000000000000";
 
+/// Clean structures, three audits deep.
+pub const SOUND_KIN: &str = "words check z.core z.btf z.map z.plan
+planned kin
+put d138 ffff88800000d138
+put d140 ffff88800000d138";
+
 /// A path that stops below an element.
 pub const WAYS: &str = "words check z.core z.btf z.map z.plan
 planned way
