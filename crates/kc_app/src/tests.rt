@@ -300,6 +300,7 @@ fn numbers_are_shown_with_their_words(rt: HostRuntime) -> Result<(), Fail> {
 #[test]
 fn structures_are_clean_or_the_first_violation_is_told(rt: HostRuntime) -> Result<(), Fail> {
     assert_eq!(rt; run_cases(&rt, checks::CHAINS)?, 12);
+    assert_eq!(rt; run_cases(&rt, checks::TREES)?, 4);
     assert_eq!(rt; run_cases(&rt, checks::NESTED)?, 11);
     assert_eq!(rt; run_cases(&rt, checks::WAYS)?, 7);
     Ok(())
@@ -321,7 +322,7 @@ struct Ran {
 }
 
 // Runs a case whose standard output takes so many bytes.
-fn ran(alloc: Global, case: &Case, limit: usize) -> Result<Ran, Fail> {
+fn run_limited(alloc: Global, case: &Case, limit: usize) -> Result<Ran, Fail> {
     let mut store = make_store(alloc, case)?;
     let mut out = MemSink::new(alloc, limit)?;
     let mut err = MemSink::new(alloc, ENOUGH)?;
@@ -339,11 +340,11 @@ fn each_failing_call_of_a_check_is_told(rt: HostRuntime) -> Result<(), Fail> {
     let mut failed: u64 = 0;
     for call in 1..400 {
         case.fails = call;
-        let ran = ran(rt.alloc(), &case, ENOUGH)?;
+        let ran = run_limited(rt.alloc(), &case, ENOUGH)?;
         if ran.status != 0 {
             assert_eq!(rt; ran.status, 3, "{call}");
-            assert_eq!(rt; &ran.out[..], b"", "{call}");
-            assert_eq!(rt; &ran.err[..], b"store failed\n", "{call}");
+            assert_eq!(rt; &ran.out[..], b"".as_slice(), "{call}");
+            assert_eq!(rt; &ran.err[..], b"store failed\n".as_slice(), "{call}");
             assert_eq!(rt; failed, call - 1, "{call}");
             failed = call;
         }
@@ -356,12 +357,12 @@ fn each_failing_call_of_a_check_is_told(rt: HostRuntime) -> Result<(), Fail> {
 #[test]
 fn a_sink_of_each_length_takes_the_front_of_a_report(rt: HostRuntime) -> Result<(), Fail> {
     let case = read_case(rt.alloc(), checks::SOUND_KIN)?;
-    let whole = ran(rt.alloc(), &case, ENOUGH)?;
+    let whole = run_limited(rt.alloc(), &case, ENOUGH)?;
     for limit in 0..whole.out.len() {
-        let ran = ran(rt.alloc(), &case, limit)?;
+        let ran = run_limited(rt.alloc(), &case, limit)?;
         assert_eq!(rt; ran.status, 4, "{limit}");
         assert_eq!(rt; &ran.out[..], taken(&whole.out, limit), "{limit}");
-        assert_eq!(rt; &ran.err[..], b"sink failed\n", "{limit}");
+        assert_eq!(rt; &ran.err[..], b"sink failed\n".as_slice(), "{limit}");
     }
     Ok(())
 }
@@ -370,11 +371,11 @@ fn a_sink_of_each_length_takes_the_front_of_a_report(rt: HostRuntime) -> Result<
 fn a_plan_above_1_mib_is_refused(rt: HostRuntime) -> Result<(), Fail> {
     let mut case = read_case(rt.alloc(), checks::SOUND_KIN)?;
     case.plan = vec![in rt.alloc(); b' '; 1 << 20]?;
-    let longest = ran(rt.alloc(), &case, ENOUGH)?;
-    assert_eq!(rt; &longest.err[..], b"refused plan P3 key version\n");
+    let longest = run_limited(rt.alloc(), &case, ENOUGH)?;
+    assert_eq!(rt; &longest.err[..], b"refused plan P3 key version\n".as_slice());
     case.plan.push(b' ')?;
-    let longer = ran(rt.alloc(), &case, ENOUGH)?;
-    assert_eq!(rt; &longer.err[..], b"refused plan F1\n");
+    let longer = run_limited(rt.alloc(), &case, ENOUGH)?;
+    assert_eq!(rt; &longer.err[..], b"refused plan F1\n".as_slice());
     Ok(())
 }
 

@@ -235,6 +235,45 @@ plan version = 1
 plan audit = []
 out clean";
 
+/// Red-black trees.
+pub const TREES: &str = "words check z.core z.btf z.map z.plan
+planned tree
+out clean
+out audit t walks 1 elements 3
+
+words check z.core z.btf z.map z.plan
+planned tree
+row ffffffff8000b128 D my_ring
+out clean
+out audit t walks 1 elements 3
+
+words check z.core z.btf z.map z.plan
+planned tree
+put 11070 ffff888000011028
+status 1
+out broken
+out audit t
+out start ffffffff8000b130
+out rule A
+out at ffff888000011028
+out expected none
+out place ffff888000011028 0000000000011028 0000000000013028 ffff888000011068
+
+words check z.core z.btf z.map z.plan
+planned tree
+put 11028 ffff888000011069
+put 110b8 ffff8880000110e8
+put 110e0 a
+put 110e8 ffff8880000110a9
+status 1
+out broken
+out audit t
+out start ffffffff8000b130
+out rule R5
+out at ffff8880000110b0
+out expected 0000000000000002
+out place ffff8880000110b0 00000000000110b0 00000000000130b0 0000000000000000";
+
 /// Audits below audits.
 pub const NESTED: &str = "words check z.core z.btf z.map z.plan
 planned nest
