@@ -301,6 +301,7 @@ fn numbers_are_shown_with_their_words(rt: HostRuntime) -> Result<(), Fail> {
 fn structures_are_clean_or_the_first_violation_is_told(rt: HostRuntime) -> Result<(), Fail> {
     assert_eq!(rt; run_cases(&rt, checks::CHAINS)?, 12);
     assert_eq!(rt; run_cases(&rt, checks::TREES)?, 4);
+    assert_eq!(rt; run_cases(&rt, checks::XARRAYS)?, 4);
     assert_eq!(rt; run_cases(&rt, checks::NESTED)?, 11);
     assert_eq!(rt; run_cases(&rt, checks::WAYS)?, 7);
     Ok(())

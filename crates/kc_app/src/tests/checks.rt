@@ -21,6 +21,15 @@ link = \"rb\"
 key = \"key\"
 ";
 
+/// An xarray.
+const IDS: &str = "version = 1
+[[audit]]
+name = \"ids\"
+kind = \"xarray\"
+root = \"my_xa\"
+element = \"item\"
+";
+
 /// A hash chain.
 const HASH: &str = "version = 1
 [[audit]]
@@ -106,6 +115,7 @@ pub fn plan_named(name: &str) -> &'static str {
     match name {
         "ring" => RING,
         "tree" => TREE,
+        "ids" => IDS,
         "hash" => HASH,
         "nest" => NEST,
         "kin" => KIN,
@@ -273,6 +283,43 @@ out rule R5
 out at ffff8880000110b0
 out expected 0000000000000002
 out place ffff8880000110b0 00000000000110b0 00000000000130b0 0000000000000000";
+
+/// Xarrays.
+pub const XARRAYS: &str = "words check z.core z.btf z.map z.plan
+planned ids
+out clean
+out audit ids walks 1 elements 1
+
+words check z.core z.btf z.map z.plan
+planned ids
+put b118 ffff888000011000
+out clean
+out audit ids walks 1 elements 1
+
+words check z.core z.btf z.map z.plan
+planned ids
+put 10000 01030000
+put 10030 2
+status 1
+out broken
+out audit ids
+out start ffffffff8000b110
+out rule X8
+out at ffff888000010030
+out expected none
+out place ffff888000010030 0000000000010030 0000000000012030 0000000000000002
+
+words check z.core z.btf z.map z.plan
+planned ids
+put 10020 ffffffffffffc006
+status 1
+out broken
+out audit ids
+out start ffffffff8000b110
+out rule X7
+out at ffff888000010020
+out expected none
+out place ffff888000010020 0000000000010020 0000000000012020 ffffffffffffc006";
 
 /// Audits below audits.
 pub const NESTED: &str = "words check z.core z.btf z.map z.plan
