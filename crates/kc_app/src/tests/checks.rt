@@ -605,16 +605,16 @@ status 2
 err refused plan P10 audit 0 key element
 
 words check z.core z.btf z.map z.plan
-planned tree
-row ffffffff8000b128 D my_ring
-out clean
-out audit t walks 1 elements 3
-
-words check z.core z.btf z.map z.plan
 plan version = 1
 plan audit = [{ name = 's', kind = 'slub', root = 'an_item' }]
 status 2
-err refused plan P13 audit 0 key kind";
+err refused plan P13 audit 0 key kind
+
+words check z.core z.btf z.map z.plan
+plan version = 1
+plan audit = [{ name = 'r', kind = 'ring', root = 'my_ring', element = 'item', link = 'link', check = [] }]
+status 2
+err refused plan P13 audit 0 key check";
 
 /// Where the store or a sink fails.
 pub const FAILING: &str = "words check z.core z.btf z.map z.plan
