@@ -373,7 +373,10 @@ fn a_plan_above_1_mib_is_refused(rt: HostRuntime) -> Result<(), Fail> {
     let mut case = read_case(rt.alloc(), checks::SOUND_KIN)?;
     case.plan = vec![in rt.alloc(); b' '; 1 << 20]?;
     let longest = run_limited(rt.alloc(), &case, ENOUGH)?;
-    assert_eq!(rt; &longest.err[..], b"refused plan P3 key version\n".as_slice());
+    assert_eq!(rt;
+        &longest.err[..],
+        b"refused plan P3 key version\n".as_slice()
+    );
     case.plan.push(b' ')?;
     let longer = run_limited(rt.alloc(), &case, ENOUGH)?;
     assert_eq!(rt; &longer.err[..], b"refused plan F1\n".as_slice());

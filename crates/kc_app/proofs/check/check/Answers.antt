@@ -27,4 +27,4 @@ returns-clause-output g c =
     c.in_ok-core.ensures.told c.in_ok-info.ensures.made (rw c.in_ok-core.ensures.files at c.in_ok-types.ensures.told)
     (rw (c.in_ok-types.ensures.files, c.in_ok-core.ensures.files) at c.in_ok-plan.ensures.told)
     (rw (c.in_ok-plan.ensures.files, c.in_ok-types.ensures.files, c.in_ok-plan.ensures.dump_opened, c.in_ok-types.ensures.others_opened slot.Dump refl, c.in_ok-core.ensures.content)
-        at c.judge.ensures.output)
+    at c.judge.ensures.output)
