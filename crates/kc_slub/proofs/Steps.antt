@@ -14,11 +14,12 @@ use Rattle.kc_found.specs.FreeLists.{free_list}
 use Rattle.kc_found.specs.Trials.{and_then}
 use Rattle.kc_found.specs.Violations.{Violation}
 use Rattle.kc_found.specs.Walks.{IsBroken, WalksAs}
+use Rattle.kc_view.specs.declared.fields.FieldNumber.{FieldNumber}
 use Rattle.kc_view.specs.declared.slub.SlubShape.{SlubShape}
+use Rattle.kc_view.specs.Fields.{breaks_at, unless}
 use Rattle.kc_slub.specs.declared.cache.Bases.{Bases}
 use Rattle.kc_slub.specs.declared.cache.Objects.{Objects}
-use Rattle.kc_slub.specs.declared.fields.FieldNumber.{FieldNumber}
-use Rattle.kc_slub.specs.Caches.{breaks_at, list_checked, node_checked, nodes_checked, slab_checked, slab_of, slabs_checked, unless}
+use Rattle.kc_slub.specs.Caches.{list_checked, node_checked, nodes_checked, slab_checked, slab_of, slabs_checked}
 use Rattle.kc_memory.specs.declared.rule.Rule.TheVariants.{U6}
 
 -- the first of two steps stops

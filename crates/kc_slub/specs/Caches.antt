@@ -3,59 +3,25 @@
 use Rattle.std.specs.Prelude.{◌≡◌, ◌≤◌, ℕ, zero, suc, ◌+◌, ◌-◌, ◌*◌, ◌/◌, ◌%◌, ◌^◌, Bool, ◌&&◌, ◌||◌, nat_eq, nat_lt, not, min, if◌then◌else◌, List, [], ◌∷◌, ◌++◌, length, Option, Some, None, Result, Ok, Err, false}
 use Rattle.std.specs.Option.{unwrap_or}
 use Rattle.kc_btf.specs.Btf.{Types}
-use Rattle.kc_memory.specs.declared.rule.Rule.{Rule}
 use Rattle.kc_memory.specs.declared.rule.Rule.TheVariants.{U1, U2, U3, U4, U6, U7}
 use Rattle.kc_memory.specs.Bits.{Number, bits}
 use Rattle.kc_memory.specs.Image.{Image}
-use Rattle.kc_memory.specs.Stopped.{Stopped}
 use Rattle.kc_memory.specs.Translation.{vword}
-use Rattle.kc_memory.specs.Translation as memory
 use Rattle.kc_layout.specs.declared.place.Field.{Field}
-use Rattle.kc_layout.specs.HopList.{hop_list}
+use Rattle.kc_view.specs.declared.fields.FieldNumber.{FieldNumber}
 use Rattle.kc_view.specs.declared.slub.Base.{Base}
 use Rattle.kc_view.specs.declared.slub.Base.TheVariants.{At, Is}
 use Rattle.kc_view.specs.declared.slub.SlubShape.{SlubShape}
-use Rattle.kc_view.specs.Pointers.{behind}
-use Rattle.kc_view.specs.Typed.{bytes_on}
+use Rattle.kc_view.specs.Fields.{breaks_at, or_missed, read_field, started_at, unless, value_of}
 use Rattle.kc_found.specs.declared.asked.Asked.{Asked}
-use Rattle.kc_found.specs.declared.found.WalkStop.{WalkStop}
-use Rattle.kc_found.specs.declared.found.WalkStop.TheVariants as ends
 use Rattle.kc_found.specs.declared.free.Grid.{Grid}
 use Rattle.kc_found.specs.FreeLists.{free_list, low_word, number_in}
 use Rattle.kc_found.specs.Nodes.{at_offset}
 use Rattle.kc_found.specs.Rings.{ring_walk}
 use Rattle.kc_found.specs.Trials.{and_then}
-use Rattle.kc_found.specs.Violations.{Violation, breaks_field, missed}
-use Rattle.kc_slub.specs.declared.fields.FieldNumber.{FieldNumber}
+use Rattle.kc_found.specs.Violations.{Violation, breaks_field}
 use Rattle.kc_slub.specs.declared.cache.Bases.{Bases}
 use Rattle.kc_slub.specs.declared.cache.Objects.{Objects}
-
--- a field of a struct at an address: its number, and the address of its first byte
-abbrev pub field_of : Image → ℕ → Field → Result FieldNumber Stopped
-field_of image at f =
-    memory.and_then (behind image at (hop_list f.hops)) (λ end.
-    memory.and_then (bits image end f.bits.bit f.bits.width f.bits.signed) (λ n.
-    Ok (record { number = n; at = bytes_on end (f.bits.bit / 8) })))
-
--- its number modulo 2^64
-abbrev pub value_of : FieldNumber → ℕ
-value_of f = low_word f.number.value
-
--- what was read, or the violation by the stop
-abbrev pub or_missed : {A : Type 0} → Asked → Result A Stopped → Result A Violation
-or_missed asked (Ok a) = Ok a
-or_missed asked (Err s) = Err (missed asked None s)
-
--- a field is read, or the violation by the stop
-abbrev pub read_field : Image → Asked → ℕ → Field → Result FieldNumber Violation
-read_field image asked at f = or_missed asked (field_of image at f)
-
--- a rule, broken where a test is true: a field shows it
-abbrev pub unless : {A : Type 0} → Bool → Violation → Result A Violation → Result A Violation
-unless broken v go = if broken then Err v else go
-
-abbrev pub breaks_at : Asked → Rule → FieldNumber → Option ℕ → Violation
-breaks_at asked rule f expected = breaks_field asked rule f.at f.number expected
 
 -- a base, which may be a word of memory
 abbrev pub base_of : Image → Asked → Base → Result ℕ Violation
@@ -149,22 +115,6 @@ slabs_checked image asked shape b o slabs [] = Ok slabs
 slabs_checked image asked shape b o slabs (n ∷ ns) =
     and_then (slab_checked image asked shape b o (slab_of shape n)) (λ s. slabs_checked image asked shape b o (slabs ++ s ∷ []) ns)
 
--- an inner walk's violation is one of this walk
-abbrev pub started : Violation → ℕ → Violation
-started v start = record {
-  audit = v.audit;
-  start = start;
-  rule = v.rule;
-  at = v.at;
-  expected = v.expected;
-  stop = v.stop;
-  places = v.places;
-}
-
-abbrev pub started_at : {A : Type 0} → ℕ → Result A Violation → Result A Violation
-started_at start (Ok a) = Ok a
-started_at start (Err v) = Err (started v start)
-
 -- the ring of a node's partial slabs
 abbrev pub partial_of : Image → Asked → SlubShape → ℕ → Result (List ℕ) Violation
 partial_of image asked shape knode = started_at asked.start (ring_walk image shape.list asked.audit (at_offset knode shape.partial))
@@ -205,9 +155,3 @@ pub record IsInside (shape : SlubShape) (types : Types) : Type 0 where
   pub cache : shape.cache ≤ length types.records
   pub knode : shape.knode ≤ length types.records
   pub slab : shape.slab ≤ length types.records
-
--- the end of an inner walk is that of this one
-abbrev pub IsStartedAt : ℕ → WalkStop → WalkStop → Type 0
-IsStartedAt start (ends.Broken v) end = end ≡ ends.Broken (started v start)
-IsStartedAt start ends.Fault end = end ≡ ends.Fault
-IsStartedAt start ends.NoMemory end = end ≡ ends.NoMemory

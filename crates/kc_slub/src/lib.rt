@@ -2,7 +2,6 @@
 #![tactic(auto)]
 
 mod cache;
-mod fields;
 mod free;
 mod laws;
 mod slab;

@@ -6,10 +6,9 @@ ghost use Rattle.kc_found.specs.Walks.{CountsWalkFaults, IsNamed, WalksAs};
 ghost use Rattle.kc_slub.specs.Caches.{counts_checked, free_checked, grid_of, is_descriptor, list_checked, page_of, slab_checked};
 
 use crate::cache::{Bases, Objects};
-use crate::fields::{FieldNumber, read_field};
 use crate::free::free_walk;
 use kc_found::{Asked, Grid, Rule, Scalar, Space, WalkStop, broken_field};
-use kc_view::{SlubShape, View};
+use kc_view::{FieldNumber, SlubShape, View, read_field};
 use kc_word::Steps;
 use std::alloc::Global;
 use std::sync::ledger::Ledger;

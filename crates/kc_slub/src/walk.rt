@@ -2,17 +2,14 @@
 ghost use Rattle.std.specs.Prelude.{◌≡◌, ℕ, ◌∷◌, ◌++◌, [], ◌≤◌, ◌+◌, ◌^◌, ◌<◌, length, OnOk};
 ghost use Rattle.kc_memory.specs.Stays.{SpaceStays};
 ghost use Rattle.kc_found.specs.Walks.{CountsWalkFaults, IsNamed, OnBroken, OnWalkFault, WalksAs};
-ghost use Rattle.kc_slub.specs.Caches.{IsInside, cache_slabs, knode_checked, node_checked, nodes_checked, partial_of, slabs_checked, IsStartedAt};
+ghost use Rattle.kc_slub.specs.Caches.{IsInside, cache_slabs, knode_checked, node_checked, nodes_checked, partial_of, slabs_checked};
 
 use crate::cache::{Bases, Objects, read_bases, read_objects};
-use crate::fields::read_field;
 use crate::slab::check_slab;
 use kc_btf::Btf;
-use kc_found::{
-    Asked, Found, Rule, Space, WalkStop, Walked, broken_field, low_word, read_bits, stopped,
-};
+use kc_found::{Asked, Rule, Space, WalkStop, Walked, broken_field, low_word, read_bits, stopped};
 use kc_list::ring;
-use kc_view::{SlubShape, View};
+use kc_view::{SlubShape, View, read_field, started_at};
 use kc_word::{Bits, NoMemory, Steps};
 use std::alloc::Global;
 use std::sync::ledger::Ledger;
@@ -63,25 +60,6 @@ fn check_slabs<S: Space, L: Ledger>(
         i += 1;
     }
     Ok(())
-}
-
-// Names where this walk starts in the end of an inner one.
-fn started_at(stop: WalkStop, start: u64) -> WalkStop
-    ensures { IsStartedAt start stop result }
-{
-    match stop {
-        WalkStop::Broken(found) => WalkStop::Broken(Found {
-            audit: found.audit,
-            start,
-            rule: found.rule,
-            at: found.at,
-            expected: found.expected,
-            stop: found.stop,
-            places: found.places,
-        }),
-        WalkStop::Fault => WalkStop::Fault,
-        WalkStop::NoMemory => WalkStop::NoMemory,
-    }
 }
 
 // The ring of a node's partial slabs.

@@ -1,4 +1,5 @@
 pub mod Elements
+pub mod Fields
 pub mod Laws
 pub mod Paths
 pub mod Pointers

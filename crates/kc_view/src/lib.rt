@@ -1,13 +1,17 @@
 //! Typed views of a dump's memory: a type of the kernel's type information at a virtual address.
 #![tactic(auto)]
 
+mod fields;
 mod laws;
 mod pointers;
 mod slub;
+mod tasks;
 #[cfg(test)]
 mod tests;
 mod view;
 
+pub use fields::{FieldNumber, read_field, started_at};
 pub use laws::know_values;
 pub use slub::{Base, SlubShape};
+pub use tasks::TaskShape;
 pub use view::{Led, View};

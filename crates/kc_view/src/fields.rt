@@ -1,30 +1,30 @@
-// Fields of caches, nodes and slabs.
+// Fields that a walk reads, and the walks that stand within it.
 ghost use Rattle.std.specs.Prelude.{◌≡◌, ◌≤◌, length};
 ghost use Rattle.kc_memory.specs.Space.{AnswersAs};
 ghost use Rattle.kc_memory.specs.Stays.{CountsFaults, SpaceStays};
 ghost use Rattle.kc_found.specs.Walks.{CountsWalkFaults, IsNamed, WalksAs};
-ghost use Rattle.kc_slub.specs.Caches.{field_of, or_missed, value_of};
+ghost use Rattle.kc_view.specs.Fields.{IsStartedAt, field_of, or_missed, value_of};
 
-use kc_btf::Btf;
-use kc_found::{Asked, Scalar, Space, Stop, WalkStop, low_word, read_bits, stopped};
+use crate::view::View;
+use kc_found::{Asked, Found, WalkStop, low_word, stopped};
 use kc_layout::Field;
-use kc_view::View;
+use kc_memory::{Scalar, Space, Stop, read_bits};
 use kc_word::Steps;
 use std::alloc::Global;
 use std::sync::ledger::Ledger;
 
-// The number of a field.
+/// The number of a field.
 #[derive(Clone, Copy, Debug, PartialEq, Eq)]
-pub(crate) struct FieldNumber {
-    // The number, with its words.
+pub struct FieldNumber {
+    /// The number, with its words.
     pub number: Scalar,
-    // The virtual address of the field's first byte.
+    /// The virtual address of the field's first byte: of a bit-field, of the byte that holds its first bit.
     pub at: u64,
 }
 
 impl FieldNumber {
-    // The number modulo 2^64.
-    pub(crate) fn value(&self) -> u64
+    /// The number modulo 2^64.
+    pub fn value(&self) -> u64
         ensures { result ≡ value_of self.now }
     {
         low_word(&self.number)
@@ -51,8 +51,12 @@ fn field_of<S: Space, L: Ledger>(
     })
 }
 
-// A field of a struct of this type, or the violation by the stop.
-pub(crate) fn read_field<S: Space, L: Ledger>(
+/// A field of a struct of this type, which a walk reads. It takes memory for the place of a refused paging entry alone.
+///
+/// # Errors
+///
+/// The violation by the first stop, a failure of the space, or out of memory.
+pub fn read_field<S: Space, L: Ledger>(
     alloc: Global,
     space: &mut S,
     asked: &Asked,
@@ -69,5 +73,24 @@ pub(crate) fn read_field<S: Space, L: Ledger>(
     match field_of(space, view, field, steps) {
         Ok(number) => Ok(number),
         Err(stop) => Err(stopped(alloc, asked, stop, None)),
+    }
+}
+
+/// The end of an inner walk, as that of a walk which starts here.
+pub fn started_at(stop: WalkStop, start: u64) -> WalkStop
+    ensures { IsStartedAt start stop result }
+{
+    match stop {
+        WalkStop::Broken(found) => WalkStop::Broken(Found {
+            audit: found.audit,
+            start,
+            rule: found.rule,
+            at: found.at,
+            expected: found.expected,
+            stop: found.stop,
+            places: found.places,
+        }),
+        WalkStop::Fault => WalkStop::Fault,
+        WalkStop::NoMemory => WalkStop::NoMemory,
     }
 }
