@@ -1,0 +1,23 @@
+use Rattle.std.proofs.Common.{rules, arith, ◌∙◌}
+use Rattle.kc_memory.proofs.StaysLaws.{stays_on}
+use Rattle.kc_task.specs.TaskLists.{thread_checked}
+use Rattle.kc_task.proofs.Passing.{pass_stop, pass_go, pass_end}
+use Rattle.kc_task.proofs.group.check_all.Goals as goal
+
+pub returns-in-Err-clause-exact : goal.returns-in-Err-clause-exact
+returns-in-Err-clause-exact g c =
+    pass_stop (λ (x : Unit {0}). tt) (λ (x : Unit {0}). tt) (g.S.Space.image c.args.space.now) (λ i. thread_checked i c.args.asked.now c.args.shape.now c.args.group.now) c.args.threads.now c.loop-i.i c.get-at.result.now c.in-Err.stop
+    c.loop-i.invariant.same c.get-at.ensures (rw c.loop-i.invariant.stays.same_image at c.in-Err.ensures.exact)
+
+pub loop-i-preserved : goal.loop-i-preserved
+loop-i-preserved g c = record {
+  same = pass_go (λ (x : Unit {0}). tt) (g.S.Space.image c.args.space.now) (λ i. thread_checked i c.args.asked.now c.args.shape.now c.args.group.now) c.args.threads.now c.loop-i.i _ c.get-at.result.now tt
+      (omega arith) c.loop-i.invariant.same c.get-at.ensures (rw c.loop-i.invariant.stays.same_image at c.in-Ok.ensures.exact);
+  inside = search rules;
+  stays = stays_on g.S.Space.image g.S.Space.files g.S.Space.through g.S.Space.most _ _ _ c.loop-i.invariant.stays c.in-Ok.ensures.stays;
+  quiet = c.in-Ok.ensures.cause ∙ c.loop-i.invariant.quiet;
+}
+
+pub returns-clause-exact : goal.returns-clause-exact
+returns-clause-exact g c =
+    pass_end (λ (x : Unit {0}). tt) (g.S.Space.image c.args.space.now) (λ i. thread_checked i c.args.asked.now c.args.shape.now c.args.group.now) c.args.threads.now c.loop-i.i _ c.loop-i.invariant.same (search rules)

@@ -1,0 +1,124 @@
+-- The walk of the task list, step by step. Source: the kernel's include/linux/sched.h, `struct task_struct`,
+-- include/linux/sched/signal.h, `struct signal_struct`, and kernel/fork.c; the order is this project's.
+use Rattle.std.specs.Prelude.{◌≤◌, ℕ, ◌+◌, ◌-◌, ◌%◌, ◌^◌, Bool, nat_eq, not, if◌then◌else◌, List, [], ◌∷◌, ◌++◌, map, length, Some, Result, Ok, Err, ⊤}
+use Rattle.std.specs.List.{list_any}
+use Rattle.kc_btf.specs.Btf.{Types}
+use Rattle.kc_memory.specs.declared.rule.Rule.{Rule}
+use Rattle.kc_memory.specs.declared.rule.Rule.TheVariants.{T1, T2, T3, T4, T5, T6, T7}
+use Rattle.kc_memory.specs.Image.{Image}
+use Rattle.kc_memory.specs.Translation.{vword}
+use Rattle.kc_layout.specs.declared.place.Field.{Field}
+use Rattle.kc_view.specs.declared.tasks.TaskShape.{TaskShape}
+use Rattle.kc_view.specs.Fields.{breaks_at, or_missed, read_field, started_at, unless, value_of}
+use Rattle.kc_found.specs.declared.asked.Asked.{Asked}
+use Rattle.kc_found.specs.Nodes.{at_offset}
+use Rattle.kc_found.specs.Rings.{ring_walk}
+use Rattle.kc_found.specs.Trials.{and_then}
+use Rattle.kc_found.specs.Violations.{Violation, breaks}
+use Rattle.kc_task.specs.declared.group.Group.{Group}
+
+-- the task that has a node at an offset: addresses wrap at 2^64
+abbrev pub task_of : ℕ → ℕ → ℕ
+task_of offset node = (node + (2 ^ 64 - offset)) % 2 ^ 64
+
+-- the tasks that the nodes of a ring stand in, by the ring's head, or the ring's first violation
+abbrev pub tasks_on : Image → Asked → TaskShape → ℕ → ℕ → Result (List ℕ) Violation
+tasks_on image asked shape head offset =
+    and_then (started_at asked.start (ring_walk image shape.list asked.audit head)) (λ ns. Ok (map (task_of offset) ns))
+
+-- a field of a task holds a number, or the rule of it is broken
+abbrev pub holds : Image → Asked → Rule → ℕ → Field → ℕ → Result ⊤ Violation
+holds image asked rule task f wanted =
+    and_then (read_field image asked task f) (λ n.
+    unless (not (nat_eq (value_of n) wanted)) (breaks_at asked rule n (Some wanted)) (Ok tt))
+
+-- each of some tasks passes, or the first violation
+unfoldable pub all_pass : (ℕ → Result ⊤ Violation) → List ℕ → Result ⊤ Violation
+all_pass go [] = Ok tt
+all_pass go (t ∷ ts) = and_then (go t) (λ _. all_pass go ts)
+
+-- the children of a task, and T5 of each
+abbrev pub children_checked : Image → Asked → TaskShape → ℕ → Result ⊤ Violation
+children_checked image asked shape owner =
+    and_then (tasks_on image asked shape (at_offset owner shape.children) shape.sibling) (λ children.
+    all_pass (λ child. holds image asked T5 child shape.real_parent owner) children)
+
+-- the word at the end of a kernel stack (STACK_END_MAGIC of include/uapi/linux/magic.h)
+abbrev pub stack_end : ℕ
+stack_end = 0x57ac6e9d
+
+-- T6, unless there is no stack
+abbrev pub end_checked : Image → Asked → ℕ → Result ⊤ Violation
+end_checked image asked stack =
+    if nat_eq stack 0 then Ok tt else
+    (and_then (or_missed asked (vword image stack)) (λ w.
+    unless (not (nat_eq w.value stack_end)) (breaks asked T6 w (Some stack_end)) (Ok tt)))
+
+abbrev pub stack_checked : Image → Asked → TaskShape → ℕ → Result ⊤ Violation
+stack_checked image asked shape task = and_then (read_field image asked task shape.stack) (λ s. end_checked image asked (value_of s))
+
+-- step 3: T1, T3 and T4 of a thread, its children, and its stack
+abbrev pub thread_checked : Image → Asked → TaskShape → Group → ℕ → Result ⊤ Violation
+thread_checked image asked shape g thread =
+    and_then (holds image asked T1 thread shape.group_leader g.leader) (λ _.
+    and_then (holds image asked T3 thread shape.signal g.signal) (λ _.
+    and_then (holds image asked T4 thread shape.tgid g.tgid) (λ _.
+    and_then (children_checked image asked shape thread) (λ _.
+    stack_checked image asked shape thread))))
+
+-- the head of the ring of a group's threads
+abbrev pub thread_head : TaskShape → Group → ℕ
+thread_head shape g = at_offset g.signal shape.thread_head
+
+-- a task is one of these
+abbrev pub is_among : List ℕ → ℕ → Bool
+is_among tasks task = list_any (λ t. nat_eq t task) tasks
+
+-- T7: it shows the head's `next`, which the walk of the ring could read
+abbrev pub among_checked : Image → Asked → TaskShape → Group → List ℕ → Result ⊤ Violation
+among_checked image asked shape g threads =
+    if is_among threads g.leader then Ok tt else
+    (and_then (or_missed asked (vword image (at_offset (thread_head shape g) shape.list.next))) (λ w.
+    Err (breaks asked T7 w (Some g.leader))))
+
+-- T2 of a leader: the number of its group, which is its own
+abbrev pub tgid_checked : Image → Asked → TaskShape → ℕ → Result ℕ Violation
+tgid_checked image asked shape leader =
+    and_then (read_field image asked leader shape.pid) (λ p.
+    and_then (read_field image asked leader shape.tgid) (λ t.
+    unless (not (nat_eq (value_of p) (value_of t))) (breaks_at asked T2 p (Some (value_of t))) (Ok (value_of t))))
+
+-- step 2, up to the ring: T1 and T2 of a leader, and what its group shares
+abbrev pub group_of : Image → Asked → TaskShape → ℕ → Result Group Violation
+group_of image asked shape leader =
+    and_then (holds image asked T1 leader shape.group_leader leader) (λ _.
+    and_then (tgid_checked image asked shape leader) (λ t.
+    and_then (read_field image asked leader shape.signal) (λ s.
+    Ok (record { leader = leader; signal = value_of s; tgid = t }))))
+
+-- step 2, from the ring on: a group's threads, T7, and step 3 of each
+abbrev pub threads_checked : Image → Asked → TaskShape → Group → Result (List ℕ) Violation
+threads_checked image asked shape g =
+    and_then (tasks_on image asked shape (thread_head shape g) shape.thread_node) (λ threads.
+    and_then (among_checked image asked shape g threads) (λ _.
+    and_then (all_pass (thread_checked image asked shape g) threads) (λ _. Ok threads)))
+
+-- step 2 whole
+abbrev pub leader_checked : Image → Asked → TaskShape → ℕ → Result (List ℕ) Violation
+leader_checked image asked shape leader = and_then (group_of image asked shape leader) (λ g. threads_checked image asked shape g)
+
+-- what each leader gives, in order, or the first violation
+unfoldable pub gathered : (ℕ → Result (List ℕ) Violation) → List ℕ → Result (List ℕ) Violation
+gathered go [] = Ok []
+gathered go (l ∷ ls) = and_then (go l) (λ threads. and_then (gathered go ls) (λ more. Ok (threads ++ more)))
+
+-- Steps 1 to 3: the threads of all groups, or the first violation. The task at the start is the first leader, and those
+-- of its ring are the others.
+abbrev pub task_list : Image → TaskShape → Asked → Result (List ℕ) Violation
+task_list image shape asked =
+    and_then (tasks_on image asked shape (at_offset asked.start shape.tasks) shape.tasks) (λ leaders.
+    gathered (leader_checked image asked shape) (asked.start ∷ leaders))
+
+-- the number of the type of a shape is one of these types
+abbrev pub IsInside : TaskShape → Types → Type 0
+IsInside shape types = shape.task ≤ length types.records

@@ -1,0 +1,217 @@
+// A thread group: its leader, what its threads share, and its threads.
+ghost use Rattle.std.specs.Prelude.{◌≡◌};
+ghost use Rattle.kc_memory.specs.Stays.{SpaceStays};
+ghost use Rattle.kc_found.specs.Walks.{CountsWalkFaults, IsNamed, WalksAs};
+ghost use Rattle.kc_task.specs.TaskLists.{IsInside, all_pass, among_checked, group_of, is_among, leader_checked, tgid_checked, thread_checked, thread_head, threads_checked};
+
+use crate::fields::check_field;
+use crate::rings::tasks_on;
+use crate::thread::check_thread;
+use kc_btf::Btf;
+use kc_found::{Asked, Rule, Space, WalkStop, Walked, broken_at, broken_field, stopped};
+use kc_view::{TaskShape, View, read_field};
+use kc_word::Steps;
+use std::alloc::Global;
+use std::sync::ledger::Ledger;
+
+// What the threads of a group have in common.
+#[derive(Clone, Copy, Debug, PartialEq, Eq)]
+pub(crate) struct Group {
+    // The virtual address of the leader's task.
+    pub leader: u64,
+    // The virtual address of what they share (`struct signal_struct`).
+    pub signal: u64,
+    // The number of the group, in 64 bits.
+    pub tgid: u64,
+}
+
+// The head of the ring of a group's threads.
+fn thread_head(shape: &TaskShape, group: &Group) -> u64
+    ensures { result ≡ thread_head shape.now group.now }
+{
+    group.signal.wrapping_add(shape.thread_head)
+}
+
+// Looks at the numbers of a leader, and gives that of its group.
+fn check_tgid<S: Space, L: Ledger>(
+    alloc: Global,
+    space: &mut S,
+    asked: &Asked,
+    shape: &TaskShape,
+    leader: &View<'_>,
+    steps: &mut Steps<L>,
+) -> Result<u64, WalkStop>
+    ensures exact { WalksAs (λ n. n) (λ i. tgid_checked i asked.now shape.now leader.now.at) (S.image space.old) result }
+    ensures named { IsNamed result asked.now.audit asked.now.start }
+
+    ensures stays { SpaceStays S.image S.files S.through S.most space.old space.new }
+    ensures cause { CountsWalkFaults result (S.faults space.old) (S.faults space.new) }
+{
+    let pid = match read_field(alloc, space, asked, leader, &shape.pid, steps) {
+        Ok(pid) => pid,
+        Err(stop) => return Err(stop),
+    };
+    let tgid = match read_field(alloc, space, asked, leader, &shape.tgid, steps) {
+        Ok(tgid) => tgid.value(),
+        Err(stop) => return Err(stop),
+    };
+    if pid.value() != tgid {
+        return Err(broken_field(alloc, asked, Rule::T2, pid.at, &pid.number, Some(tgid)));
+    }
+    Ok(tgid)
+}
+
+// Looks at a leader, and gives what its group shares.
+fn read_group<S: Space, L: Ledger>(
+    alloc: Global,
+    space: &mut S,
+    asked: &Asked,
+    btf: &Btf,
+    shape: &TaskShape,
+    leader: u64,
+    steps: &mut Steps<L>,
+) -> Result<Group, WalkStop>
+    requires { IsInside shape.now btf.now }
+    ensures exact { WalksAs (λ g. g) (λ i. group_of i asked.now shape.now leader) (S.image space.old) result }
+    ensures named { IsNamed result asked.now.audit asked.now.start }
+
+    ensures stays { SpaceStays S.image S.files S.through S.most space.old space.new }
+    ensures cause { CountsWalkFaults result (S.faults space.old) (S.faults space.new) }
+{
+    let task = View::new(btf, shape.task, leader);
+    let field = &shape.group_leader;
+    match check_field(alloc, space, asked, Rule::T1, &task, field, leader, steps) {
+        Ok(()) => {}
+        Err(stop) => return Err(stop),
+    }
+    let tgid = match check_tgid(alloc, space, asked, shape, &task, steps) {
+        Ok(tgid) => tgid,
+        Err(stop) => return Err(stop),
+    };
+    match read_field(alloc, space, asked, &task, &shape.signal, steps) {
+        Ok(signal) => Ok(Group {
+            leader,
+            signal: signal.value(),
+            tgid,
+        }),
+        Err(stop) => Err(stop),
+    }
+}
+
+// Whether a task is among these.
+fn is_among(tasks: &Walked, task: u64) -> bool
+    ensures { result ≡ is_among tasks.now task }
+{
+    tasks.as_slice().contains(&task)
+}
+
+// Looks at whether the leader of a group is among its threads.
+fn check_among<S: Space, L: Ledger>(
+    alloc: Global,
+    space: &mut S,
+    asked: &Asked,
+    shape: &TaskShape,
+    group: &Group,
+    threads: &Walked,
+    steps: &mut Steps<L>,
+) -> Result<(), WalkStop>
+    ensures exact { WalksAs (λ _. tt) (λ i. among_checked i asked.now shape.now group.now threads.now) (S.image space.old) result }
+    ensures named { IsNamed result asked.now.audit asked.now.start }
+
+    ensures stays { SpaceStays S.image S.files S.through S.most space.old space.new }
+    ensures cause { CountsWalkFaults result (S.faults space.old) (S.faults space.new) }
+{
+    if is_among(threads, group.leader) {
+        return Ok(());
+    }
+    let next = thread_head(shape, group).wrapping_add(shape.list.next);
+    match space.word(next, steps) {
+        Ok(word) => Err(broken_at(alloc, asked, Rule::T7, &word, Some(group.leader))),
+        Err(stop) => Err(stopped(alloc, asked, stop, None)),
+    }
+}
+
+// Looks at the threads of a group, one by one.
+fn check_all<S: Space, L: Ledger>(
+    alloc: Global,
+    space: &mut S,
+    asked: &Asked,
+    btf: &Btf,
+    shape: &TaskShape,
+    group: &Group,
+    threads: &Walked,
+    steps: &mut Steps<L>,
+) -> Result<(), WalkStop>
+    requires { IsInside shape.now btf.now }
+    ensures exact { WalksAs (λ _. tt) (λ i. all_pass (thread_checked i asked.now shape.now group.now) threads.now) (S.image space.old) result }
+    ensures named { IsNamed result asked.now.audit asked.now.start }
+
+    ensures stays { SpaceStays S.image S.files S.through S.most space.old space.new }
+    ensures cause { CountsWalkFaults result (S.faults space.old) (S.faults space.new) }
+{
+    let mut i = 0;
+    while i < threads.len() {
+        let at = *threads.get(i);
+        match check_thread(alloc, space, asked, btf, shape, group, at, steps) {
+            Ok(()) => {}
+            Err(stop) => return Err(stop),
+        }
+        i += 1;
+    }
+    Ok(())
+}
+
+// Looks at the threads of a group, and gives them.
+fn check_threads<S: Space, L: Ledger>(
+    alloc: Global,
+    space: &mut S,
+    asked: &Asked,
+    btf: &Btf,
+    shape: &TaskShape,
+    group: &Group,
+    steps: &mut Steps<L>,
+) -> Result<Walked, WalkStop>
+    requires { IsInside shape.now btf.now }
+    ensures exact { WalksAs (λ threads. threads) (λ i. threads_checked i asked.now shape.now group.now) (S.image space.old) result }
+    ensures named { IsNamed result asked.now.audit asked.now.start }
+
+    ensures stays { SpaceStays S.image S.files S.through S.most space.old space.new }
+    ensures cause { CountsWalkFaults result (S.faults space.old) (S.faults space.new) }
+{
+    let head = thread_head(shape, group);
+    let threads = match tasks_on(alloc, space, asked, shape, head, shape.thread_node, steps) {
+        Ok(threads) => threads,
+        Err(stop) => return Err(stop),
+    };
+    match check_among(alloc, space, asked, shape, group, &threads, steps) {
+        Ok(()) => {}
+        Err(stop) => return Err(stop),
+    }
+    match check_all(alloc, space, asked, btf, shape, group, &threads, steps) {
+        Ok(()) => Ok(threads),
+        Err(stop) => Err(stop),
+    }
+}
+
+// Looks at the group of a leader, and gives its threads.
+pub(crate) fn check_leader<S: Space, L: Ledger>(
+    alloc: Global,
+    space: &mut S,
+    asked: &Asked,
+    btf: &Btf,
+    shape: &TaskShape,
+    leader: u64,
+    steps: &mut Steps<L>,
+) -> Result<Walked, WalkStop>
+    requires { IsInside shape.now btf.now }
+    ensures exact { WalksAs (λ threads. threads) (λ i. leader_checked i asked.now shape.now leader) (S.image space.old) result }
+    ensures named { IsNamed result asked.now.audit asked.now.start }
+
+    ensures stays { SpaceStays S.image S.files S.through S.most space.old space.new }
+    ensures cause { CountsWalkFaults result (S.faults space.old) (S.faults space.new) }
+{
+    match read_group(alloc, space, asked, btf, shape, leader, steps) {
+        Ok(group) => check_threads(alloc, space, asked, btf, shape, &group, steps),
+        Err(stop) => Err(stop),
+    }
+}

@@ -1,0 +1,10 @@
+//! The walk of the kernel's task list: thread groups, their threads, children and stacks (`struct task_struct`).
+#![tactic(auto)]
+
+mod fields;
+mod group;
+mod rings;
+mod thread;
+mod walk;
+
+pub use walk::tasks_walk;

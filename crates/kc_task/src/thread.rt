@@ -1,0 +1,190 @@
+// A thread: what it shares with its group, its children, and its stack.
+ghost use Rattle.std.specs.Prelude.{◌≡◌};
+ghost use Rattle.kc_memory.specs.declared.rule.Rule.TheVariants.{T5};
+ghost use Rattle.kc_memory.specs.Stays.{SpaceStays};
+ghost use Rattle.kc_found.specs.Walks.{CountsWalkFaults, IsNamed, WalksAs};
+ghost use Rattle.kc_task.specs.TaskLists.{IsInside, all_pass, children_checked, end_checked, holds, stack_checked, thread_checked};
+
+use crate::fields::check_field;
+use crate::group::Group;
+use crate::rings::tasks_on;
+use kc_btf::Btf;
+use kc_found::{Asked, Rule, Space, WalkStop, Walked, broken_at, stopped};
+use kc_view::{TaskShape, View, read_field};
+use kc_word::Steps;
+use std::alloc::Global;
+use std::sync::ledger::Ledger;
+
+// The word at the end of a kernel stack.
+const STACK_END: u64 = 0x57ac_6e9d;
+
+// Looks at the parent of each of these children.
+fn check_parents<S: Space, L: Ledger>(
+    alloc: Global,
+    space: &mut S,
+    asked: &Asked,
+    btf: &Btf,
+    shape: &TaskShape,
+    owner: u64,
+    children: &Walked,
+    steps: &mut Steps<L>,
+) -> Result<(), WalkStop>
+    requires { IsInside shape.now btf.now }
+    ensures exact { WalksAs (λ _. tt) (λ i. all_pass (λ child. holds i asked.now T5 child shape.now.real_parent owner) children.now) (S.image space.old) result }
+    ensures named { IsNamed result asked.now.audit asked.now.start }
+
+    ensures stays { SpaceStays S.image S.files S.through S.most space.old space.new }
+    ensures cause { CountsWalkFaults result (S.faults space.old) (S.faults space.new) }
+{
+    let mut i = 0;
+    while i < children.len() {
+        let child = View::new(btf, shape.task, *children.get(i));
+        let parent = &shape.real_parent;
+        match check_field(alloc, space, asked, Rule::T5, &child, parent, owner, steps) {
+            Ok(()) => {}
+            Err(stop) => return Err(stop),
+        }
+        i += 1;
+    }
+    Ok(())
+}
+
+// Looks at the children of a task.
+fn check_children<S: Space, L: Ledger>(
+    alloc: Global,
+    space: &mut S,
+    asked: &Asked,
+    btf: &Btf,
+    shape: &TaskShape,
+    owner: u64,
+    steps: &mut Steps<L>,
+) -> Result<(), WalkStop>
+    requires { IsInside shape.now btf.now }
+    ensures exact { WalksAs (λ _. tt) (λ i. children_checked i asked.now shape.now owner) (S.image space.old) result }
+    ensures named { IsNamed result asked.now.audit asked.now.start }
+
+    ensures stays { SpaceStays S.image S.files S.through S.most space.old space.new }
+    ensures cause { CountsWalkFaults result (S.faults space.old) (S.faults space.new) }
+{
+    let head = owner.wrapping_add(shape.children);
+    let children = match tasks_on(alloc, space, asked, shape, head, shape.sibling, steps) {
+        Ok(children) => children,
+        Err(stop) => return Err(stop),
+    };
+    check_parents(alloc, space, asked, btf, shape, owner, &children, steps)
+}
+
+// Looks at the last word of a stack, unless there is no stack.
+fn check_end<S: Space, L: Ledger>(
+    alloc: Global,
+    space: &mut S,
+    asked: &Asked,
+    stack: u64,
+    steps: &mut Steps<L>,
+) -> Result<(), WalkStop>
+    ensures exact { WalksAs (λ _. tt) (λ i. end_checked i asked.now stack) (S.image space.old) result }
+    ensures named { IsNamed result asked.now.audit asked.now.start }
+
+    ensures stays { SpaceStays S.image S.files S.through S.most space.old space.new }
+    ensures cause { CountsWalkFaults result (S.faults space.old) (S.faults space.new) }
+{
+    if stack == 0 {
+        return Ok(());
+    }
+    let word = match space.word(stack, steps) {
+        Ok(word) => word,
+        Err(stop) => return Err(stopped(alloc, asked, stop, None)),
+    };
+    if word.value != STACK_END {
+        return Err(broken_at(alloc, asked, Rule::T6, &word, Some(STACK_END)));
+    }
+    Ok(())
+}
+
+// Looks at the stack of a task.
+fn check_stack<S: Space, L: Ledger>(
+    alloc: Global,
+    space: &mut S,
+    asked: &Asked,
+    shape: &TaskShape,
+    task: &View<'_>,
+    steps: &mut Steps<L>,
+) -> Result<(), WalkStop>
+    ensures exact { WalksAs (λ _. tt) (λ i. stack_checked i asked.now shape.now task.now.at) (S.image space.old) result }
+    ensures named { IsNamed result asked.now.audit asked.now.start }
+
+    ensures stays { SpaceStays S.image S.files S.through S.most space.old space.new }
+    ensures cause { CountsWalkFaults result (S.faults space.old) (S.faults space.new) }
+{
+    match read_field(alloc, space, asked, task, &shape.stack, steps) {
+        Ok(stack) => check_end(alloc, space, asked, stack.value(), steps),
+        Err(stop) => Err(stop),
+    }
+}
+
+// Looks at a thread of a group.
+pub(crate) fn check_thread<S: Space, L: Ledger>(
+    alloc: Global,
+    space: &mut S,
+    asked: &Asked,
+    btf: &Btf,
+    shape: &TaskShape,
+    group: &Group,
+    at: u64,
+    steps: &mut Steps<L>,
+) -> Result<(), WalkStop>
+    requires { IsInside shape.now btf.now }
+    ensures exact { WalksAs (λ _. tt) (λ i. thread_checked i asked.now shape.now group.now at) (S.image space.old) result }
+    ensures named { IsNamed result asked.now.audit asked.now.start }
+
+    ensures stays { SpaceStays S.image S.files S.through S.most space.old space.new }
+    ensures cause { CountsWalkFaults result (S.faults space.old) (S.faults space.new) }
+{
+    let task = View::new(btf, shape.task, at);
+    let leader = &shape.group_leader;
+    match check_field(
+        alloc,
+        space,
+        asked,
+        Rule::T1,
+        &task,
+        leader,
+        group.leader,
+        steps,
+    ) {
+        Ok(()) => {}
+        Err(stop) => return Err(stop),
+    }
+    let signal = &shape.signal;
+    match check_field(
+        alloc,
+        space,
+        asked,
+        Rule::T3,
+        &task,
+        signal,
+        group.signal,
+        steps,
+    ) {
+        Ok(()) => {}
+        Err(stop) => return Err(stop),
+    }
+    match check_field(
+        alloc,
+        space,
+        asked,
+        Rule::T4,
+        &task,
+        &shape.tgid,
+        group.tgid,
+        steps,
+    ) {
+        Ok(()) => {}
+        Err(stop) => return Err(stop),
+    }
+    match check_children(alloc, space, asked, btf, shape, at, steps) {
+        Ok(()) => {}
+        Err(stop) => return Err(stop),
+    }
+    check_stack(alloc, space, asked, shape, &task, steps)
+}
