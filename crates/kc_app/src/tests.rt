@@ -302,6 +302,9 @@ fn structures_are_clean_or_the_first_violation_is_told(rt: HostRuntime) -> Resul
     assert_eq!(rt; run_cases(&rt, checks::CHAINS)?, 12);
     assert_eq!(rt; run_cases(&rt, checks::TREES)?, 4);
     assert_eq!(rt; run_cases(&rt, checks::XARRAYS)?, 4);
+    assert_eq!(rt; run_cases(&rt, checks::SLABS)?, 6);
+    assert_eq!(rt; run_cases(&rt, checks::TASKS)?, 6);
+    assert_eq!(rt; run_cases(&rt, checks::CHECKS)?, 9);
     assert_eq!(rt; run_cases(&rt, checks::NESTED)?, 11);
     assert_eq!(rt; run_cases(&rt, checks::WAYS)?, 7);
     Ok(())
@@ -309,8 +312,8 @@ fn structures_are_clean_or_the_first_violation_is_told(rt: HostRuntime) -> Resul
 
 #[test]
 fn plans_are_refused_with_audit_and_key(rt: HostRuntime) -> Result<(), Fail> {
-    assert_eq!(rt; run_cases(&rt, checks::PLANS)?, 14);
-    assert_eq!(rt; run_cases(&rt, checks::FAILING)?, 2);
+    assert_eq!(rt; run_cases(&rt, checks::PLANS)?, 15);
+    assert_eq!(rt; run_cases(&rt, checks::FAILING)?, 3);
     Ok(())
 }
 
