@@ -2,6 +2,7 @@ pub mod Exprs
 pub mod Laws
 pub mod Lists
 pub mod Machine
+pub mod Spelling
 pub mod Told
 pub mod Tree
 pub mod Values

@@ -1,5 +1,6 @@
 // What holds of the definitions.
 ghost use Rattle.kc_expr.specs.Laws.{TokensAreRead, ReadTokens, PlacesAreLongest};
+ghost use Rattle.kc_expr.specs.Spelling.{ChecksAreSpelled, FaultsAreLongest, TextsAreOfOne};
 
 /// Does nothing, and tells a proof that tokens are read by the grammar: each tree of it with at most 16 parentheses
 /// and `!` open at once is read from its tokens, and the tree that tokens give is such a one, and they are its tokens.
@@ -13,4 +14,13 @@ pub fn know_trees()
 /// goes on to one that is read, however long that is.
 pub fn know_places()
     ensures { PlacesAreLongest }
+{}
+
+/// Does nothing, and tells a proof that `parsed` is the grammar over bytes: a text has a tree exactly where it is that
+/// tree's text, it has one tree at most, and a fault's place is the length of the longest front that begins the text
+/// of some tree.
+pub fn know_checks()
+    ensures spelled { ChecksAreSpelled }
+    ensures place { FaultsAreLongest }
+    ensures one { TextsAreOfOne }
 {}
