@@ -629,7 +629,7 @@ tokens-lead (t ∷ ts) s last r text h good is taken =
     subst (Reads last r) (append_assoc is.0 is.1 is.2 ∙ sym is.6)
     (more.0, more.1, leads-both r first.0 more.0 (is.0 ++ is.1) is.2 first.2 more.2)
 
-good-both : (ts us : List Token) → ArePaths ts → ArePaths us → ArePaths (ts ++ us)
+pub good-both : (ts us : List Token) → ArePaths ts → ArePaths us → ArePaths (ts ++ us)
 good-both [] us g h = h
 good-both (t ∷ ts) us g h = (g.0, good-both ts us g.1 h)
 

@@ -91,7 +91,7 @@ pub if-true : {A : Type 0} (b : Bool) (x y : A) → b ≡ true → (if b then x 
 if-true true x y is = refl
 if-true false x y is = let none : ⊥ = cc in absurd none
 
-if-false : {A : Type 0} (b : Bool) (x y : A) → b ≡ false → (if b then x else y) ≡ y
+pub if-false : {A : Type 0} (b : Bool) (x y : A) → b ≡ false → (if b then x else y) ≡ y
 if-false false x y is = refl
 if-false true x y is = let none : ⊥ = cc in absurd none
 

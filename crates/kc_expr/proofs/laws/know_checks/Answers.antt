@@ -1,5 +1,5 @@
-use Rattle.kc_expr.proofs.ReadLemmas.{text-read}
+use Rattle.kc_expr.proofs.FaultLemmas.{checks-spelled, faults-longest, texts-one}
 use Rattle.kc_expr.proofs.laws.know_checks.Goals as goal
 
 pub returns : goal.returns
-returns c = ?
+returns c = record { spelled = checks-spelled; place = faults-longest; one = texts-one }
