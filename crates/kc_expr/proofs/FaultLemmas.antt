@@ -1,11 +1,18 @@
 -- Over bytes the grammar gives at most one tree, and where it gives none, the place of the fault.
 use Rattle.std.proofs.Common.{◌≡◌, ℕ, ◌<◌, ◌≤◌, Bool, true, false, nat_lt, List, ◌++◌, Result, Ok, Err, refl, ap, sym, ◌∙◌, arith}
 use Rattle.std.proofs.lemmas.Bool.Decides.{nat_tests}
+use Rattle.std.specs.Prelude.{IfErr, IfSome}
+use Rattle.kc_word.specs.Answers.{GivesTold}
 use Rattle.kc_text.specs.Format.{IsPlace}
 use Rattle.kc_expr.specs.Tree.{Tree}
 use Rattle.kc_expr.specs.Machine.{parsed}
 use Rattle.kc_expr.specs.Laws.{GoesOn}
 use Rattle.kc_expr.specs.Spelling.{IsText, IsFault, BeginsText, ChecksAreSpelled, FaultsAreLongest, TextsAreOfOne}
+use Rattle.kc_expr.specs.Told.{place_of}
+use Rattle.kc_expr.specs.Exprs.{tree_of}
+use Rattle.kc_expr.specs.declared.expr.Expr.{Expr}
+use Rattle.kc_expr.specs.declared.stop.ExprStop.{ExprStop}
+use Rattle.kc_expr.specs.declared.stop.ExprStop.TheVariants.{X1, NoMemory}
 use Rattle.kc_expr.proofs.LiveLemmas.{places-longest}
 use Rattle.kc_expr.proofs.ReadLemmas.{text-read}
 use Rattle.kc_expr.proofs.SaidLemmas.{read-is-text}
@@ -45,3 +52,9 @@ fault-told text n h (Err m) is = let k = fault-at text m is in ap (λ (place : �
 
 pub faults-longest : FaultsAreLongest
 faults-longest text n = (fault-at text n, λ h. fault-told text n h (parsed text) refl)
+
+-- what a read check tells
+pub told-fault : (text : List ℕ) (read : Result Expr ExprStop) → GivesTold place_of tree_of read (parsed text) → IfErr read (λ stop. IfSome (place_of stop) (IsFault text))
+told-fault text (Ok expr) is = tt
+told-fault text (Err (X1 n)) is = fault-at text n is
+told-fault text (Err NoMemory) is = tt
