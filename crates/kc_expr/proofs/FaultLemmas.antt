@@ -1,5 +1,5 @@
 -- Over bytes the grammar gives at most one tree, and where it gives none, the place of the fault.
-use Rattle.std.proofs.Common.{◌≡◌, ℕ, ◌<◌, ◌≤◌, Bool, true, false, nat_lt, List, ◌++◌, Result, Ok, Err, refl, ap, sym, ◌∙◌, arith}
+use Rattle.std.proofs.Common.{◌≡◌, ℕ, Bool, true, false, nat_lt, List, Result, Ok, Err, refl, ap, sym, ◌∙◌, arith}
 use Rattle.std.proofs.lemmas.Bool.Decides.{nat_tests}
 use Rattle.std.specs.Prelude.{IfErr, IfSome}
 use Rattle.kc_word.specs.Answers.{GivesTold}
@@ -7,7 +7,7 @@ use Rattle.kc_text.specs.Format.{IsPlace}
 use Rattle.kc_expr.specs.Tree.{Tree}
 use Rattle.kc_expr.specs.Machine.{parsed}
 use Rattle.kc_expr.specs.Laws.{GoesOn}
-use Rattle.kc_expr.specs.Spelling.{IsText, IsFault, BeginsText, ChecksAreSpelled, FaultsAreLongest, TextsAreOfOne}
+use Rattle.kc_expr.specs.Spelling.{IsFault, BeginsText, ChecksAreSpelled, FaultsAreLongest, TextsAreOfOne}
 use Rattle.kc_expr.specs.Told.{place_of}
 use Rattle.kc_expr.specs.Exprs.{tree_of}
 use Rattle.kc_expr.specs.declared.expr.Expr.{Expr}

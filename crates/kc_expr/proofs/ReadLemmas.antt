@@ -1,5 +1,5 @@
 -- What a text spells is read: its bytes lead to where its tokens lead.
-use Rattle.std.proofs.Common.{◌≡◌, ℕ, zero, suc, ◌+◌, ◌-◌, ◌*◌, ◌^◌, ◌<◌, ◌≤◌, Bool, true, false, ◌&&◌, ◌==◌, nat_le, nat_lt, ◌⊎◌, List, [], ◌∷◌, ◌++◌, length, Option, Some, None, option_map, option_and_then, Result, Ok, Err, if◌then◌else◌, refl, ap, sym, ◌∙◌, subst, arith, append_assoc, append-nil, inl, inr}
+use Rattle.std.proofs.Common.{◌≡◌, ℕ, suc, ◌+◌, ◌-◌, ◌*◌, ◌^◌, ◌<◌, ◌≤◌, Bool, true, false, ◌&&◌, ◌==◌, nat_le, nat_lt, ◌⊎◌, List, [], ◌∷◌, ◌++◌, length, Some, None, option_map, option_and_then, Ok, if◌then◌else◌, refl, ap, sym, ◌∙◌, subst, arith, append_assoc, append-nil, inl, inr}
 use Rattle.std.specs.Prelude.{All, IsTrue}
 use Rattle.std.proofs.lemmas.Bool.Decides.{nat_tests}
 use Rattle.kc_word.specs.Decimal.{decimal_from, decimal_value}
@@ -10,7 +10,7 @@ use Rattle.kc_layout.specs.Spelling.{IsName, IsIndex, Writes as WritesStep, Spel
 use Rattle.kc_expr.specs.Tree.{Token, Tree, tokens, Fits, left_rank, rank_of}
 use Rattle.kc_expr.specs.Tree.Token.{bang, open_token, close_token, operator, number, path}
 use Rattle.kc_expr.specs.Tree.Tree.{literal, field, negation, group, binary}
-use Rattle.kc_expr.specs.Machine.{Stack, State, Mark, Piece, Reading, reduce, behind_open, take_token, take_tokens, with_operator, is_alone, compares, room, has_open, extend, settle, begin_token, begin_unit, begin_comparison, next_token, is_start, is_gap, step, more_decimal, more_hex, behind_step, tree_at, result_of, read, at_start, or_place, parsed}
+use Rattle.kc_expr.specs.Machine.{Stack, State, Mark, Piece, Reading, reduce, behind_open, take_token, take_tokens, with_operator, is_alone, compares, room, has_open, extend, settle, begin_token, begin_unit, begin_comparison, is_start, is_gap, step, more_decimal, more_hex, behind_step, tree_at, result_of, read, at_start, or_place, parsed}
 use Rattle.kc_expr.specs.Machine.Stack.{bottom, not_on, open_on, left_on}
 use Rattle.kc_expr.specs.Machine.State.{want, after}
 use Rattle.kc_expr.specs.Machine.Mark.{in_name, before_name, in_index, behind_index, behind_minus}
@@ -94,7 +94,7 @@ start-over s = over-plain s (at s start) refl (record { space = refl; not = refl
 whole-behind : (s next : State) (token : Token) → take_token s token ≡ Some next → Behind next (at s (whole token))
 whole-behind s next token is = record {
   over = over-plain next (at s (whole token)) is (whole-other token)
-  (record { space = refl; not = refl; and = refl; closes = refl; plus = refl; less = refl; equal = refl; greater = refl; xor = refl; or = refl }) refl;
+      (record { space = refl; not = refl; and = refl; closes = refl; plus = refl; less = refl; equal = refl; greater = refl; xor = refl; or = refl }) refl;
   settled = is;
   full = refl;
   begun = refl;
@@ -126,7 +126,7 @@ double s next r token p c d goes begins more is = (
   at s (whole token),
   whole-behind s next token is,
   leads-byte r (at s p) (at s (whole token)) c (d ∷ []) (goes ∙ ap (option_map (at s)) begins)
-  (leads-byte (at s p) (at s (whole token)) (at s (whole token)) d [] (step-on s p (whole token) d more) (leads-none (at s (whole token)))),
+      (leads-byte (at s p) (at s (whole token)) (at s (whole token)) d [] (step-on s p (whole token) d more) (leads-none (at s (whole token)))),
 )
 
 -- operators whose text begins another's
@@ -340,11 +340,11 @@ zero-goes stack n [] is small =
 zero-goes stack n (c ∷ cs) is small =
     let q = decimal-more 0 c n cs is in
     let here : extend zero_digit c ≡ Some (decimal_digits (10 * 0 + q.worth)) =
-        ap (λ (b : Bool). if b then Some hex_mark else more_decimal 0 c) (other-byte is_digit c 120 q.digit refl) ∙ decimal-goes 0 c n cs q small in (
+    ap (λ (b : Bool). if b then Some hex_mark else more_decimal 0 c) (other-byte is_digit c 120 q.digit refl) ∙ decimal-goes 0 c n cs q small in (
       decimal_digits n,
       decimal-piece n,
       leads-byte (at (want stack) zero_digit) (at (want stack) (decimal_digits (10 * 0 + q.worth))) (at (want stack) (decimal_digits n)) c cs
-      (step-on (want stack) zero_digit (decimal_digits (10 * 0 + q.worth)) c here) (decimals-lead cs (10 * 0 + q.worth) n (want stack) q.rest small),
+          (step-on (want stack) zero_digit (decimal_digits (10 * 0 + q.worth)) c here) (decimals-lead cs (10 * 0 + q.worth) n (want stack) q.rest small),
     )
 
 first-digit : (stack : Stack) (r : Reading) (c n : ℕ) (cs : List ℕ) (q : MoreDecimal 0 c n cs) → Goes (want stack) r c → n < 2 ^ 64 → ReadsNumber stack n r (c ∷ cs)
@@ -363,7 +363,7 @@ first-digit stack r c n cs q goes small = by (c == 48) refl (goes ∙ ap (option
           decimal_digits n,
           decimal-piece n,
           leads-byte r (at (want stack) (decimal_digits (c - 48))) (at (want stack) (decimal_digits n)) c cs there
-          (decimals-lead cs (c - 48) n (want stack) (subst (λ (k : ℕ). decimal_from k cs ≡ Some n) worth q.rest) small),
+              (decimals-lead cs (c - 48) n (want stack) (subst (λ (k : ℕ). decimal_from k cs ≡ Some n) worth q.rest) small),
         )
 
 hex-reads : (stack : Stack) (r : Reading) (n : ℕ) (digits : List ℕ) → Goes (want stack) r 48 → 0 < length digits → hex_from 0 digits ≡ Some n → n < 2 ^ 64 → ReadsNumber stack n r (48 ∷ 120 ∷ digits)
@@ -373,10 +373,10 @@ hex-reads stack r n (c ∷ cs) goes some is small =
       hex_digits n,
       hex-piece n,
       leads-byte r (at (want stack) zero_digit) (at (want stack) (hex_digits n)) 48 (120 ∷ c ∷ cs) goes
-      (leads-byte (at (want stack) zero_digit) (at (want stack) hex_mark) (at (want stack) (hex_digits n)) 120 (c ∷ cs) (step-on (want stack) zero_digit hex_mark 120 refl)
-      (leads-byte (at (want stack) hex_mark) (at (want stack) (hex_digits (16 * 0 + q.worth))) (at (want stack) (hex_digits n)) c cs
-      (step-on (want stack) hex_mark (hex_digits (16 * 0 + q.worth)) c (hex-goes 0 c n cs q small))
-      (hexes-lead cs (16 * 0 + q.worth) n (want stack) q.rest small))),
+          (leads-byte (at (want stack) zero_digit) (at (want stack) hex_mark) (at (want stack) (hex_digits n)) 120 (c ∷ cs) (step-on (want stack) zero_digit hex_mark 120 refl)
+          (leads-byte (at (want stack) hex_mark) (at (want stack) (hex_digits (16 * 0 + q.worth))) (at (want stack) (hex_digits n)) c cs
+          (step-on (want stack) hex_mark (hex_digits (16 * 0 + q.worth)) c (hex-goes 0 c n cs q small))
+          (hexes-lead cs (16 * 0 + q.worth) n (want stack) q.rest small))),
     )
 
 digit-goes : (stack : Stack) (r : Reading) (c : ℕ) → Over (want stack) r → is_digit c ≡ true → Goes (want stack) r c
@@ -451,21 +451,21 @@ named-step : (s : State) (ended : Bool) (text lead name : List ℕ) → IsName n
 named-step s ended text lead name is first = (
   true,
   subst (λ (bytes : List ℕ). Leads (at s (path_part (end_mark ended) text)) (lead ++ name) (at s (path_part in_name bytes))) (append_assoc text lead name)
-  (leads-both (at s (path_part (end_mark ended) text)) (at s (path_part before_name (text ++ lead))) (at s (path_part in_name ((text ++ lead) ++ name))) lead name first (name-lead name s (text ++ lead) is)),
+      (leads-both (at s (path_part (end_mark ended) text)) (at s (path_part before_name (text ++ lead))) (at s (path_part in_name ((text ++ lead) ++ name))) lead name first (name-lead name s (text ++ lead) is)),
 )
 
 element-step : (s : State) (ended : Bool) (text digits : List ℕ) (index : ℕ) → IsIndex index digits → ReadsStep s ended text (91 ∷ (digits ++ 93 ∷ []))
 element-step s ended text digits index is =
     let opened = text ++ 91 ∷ [] in
     let whole : ((text ++ 91 ∷ []) ++ digits) ++ 93 ∷ [] ≡ text ++ 91 ∷ (digits ++ 93 ∷ []) =
-        append_assoc (text ++ 91 ∷ []) digits (93 ∷ []) ∙ append_assoc text (91 ∷ []) (digits ++ 93 ∷ []) in (
+    append_assoc (text ++ 91 ∷ []) digits (93 ∷ []) ∙ append_assoc text (91 ∷ []) (digits ++ 93 ∷ []) in (
       false,
       subst (λ (bytes : List ℕ). Leads (at s (path_part (end_mark ended) text)) (91 ∷ (digits ++ 93 ∷ [])) (at s (path_part behind_index bytes))) whole
-      (leads-byte (at s (path_part (end_mark ended) text)) (at s (path_part (in_index 0) (text ++ 91 ∷ []))) (at s (path_part behind_index (((text ++ 91 ∷ []) ++ digits) ++ 93 ∷ []))) 91 (digits ++ 93 ∷ [])
-      (step-on s (path_part (end_mark ended) text) (path_part (in_index 0) (text ++ 91 ∷ [])) 91 (mark-goes ended text 91 refl))
-      (leads-both (at s (path_part (in_index 0) (text ++ 91 ∷ []))) (at s (path_part (in_index (0 + length digits)) ((text ++ 91 ∷ []) ++ digits))) (at s (path_part behind_index (((text ++ 91 ∷ []) ++ digits) ++ 93 ∷ []))) digits (93 ∷ [])
-      (index-lead digits s 0 (text ++ 91 ∷ []) (let few = is.few in omega (arith, few)) is.decimal)
-      (bracket-closes s (0 + length digits) ((text ++ 91 ∷ []) ++ digits) (let some = some-digits digits index is in omega (arith, some))))),
+          (leads-byte (at s (path_part (end_mark ended) text)) (at s (path_part (in_index 0) (text ++ 91 ∷ []))) (at s (path_part behind_index (((text ++ 91 ∷ []) ++ digits) ++ 93 ∷ []))) 91 (digits ++ 93 ∷ [])
+          (step-on s (path_part (end_mark ended) text) (path_part (in_index 0) (text ++ 91 ∷ [])) 91 (mark-goes ended text 91 refl))
+          (leads-both (at s (path_part (in_index 0) (text ++ 91 ∷ []))) (at s (path_part (in_index (0 + length digits)) ((text ++ 91 ∷ []) ++ digits))) (at s (path_part behind_index (((text ++ 91 ∷ []) ++ digits) ++ 93 ∷ []))) digits (93 ∷ [])
+          (index-lead digits s 0 (text ++ 91 ∷ []) (let few = is.few in omega (arith, few)) is.decimal)
+          (bracket-closes s (0 + length digits) ((text ++ 91 ∷ []) ++ digits) (let some = some-digits digits index is in omega (arith, some))))),
     )
 
 step-reads : (step : Step) (s : State) (ended : Bool) (text here : List ℕ) → WritesStep false step here → ReadsStep s ended text here
@@ -491,9 +491,11 @@ steps-read [] s ended text here is =
 steps-read (step ∷ steps) s ended text here is =
     let first = step-reads step s ended text is.0 is.2 in
     let more = steps-read steps s first.0 (text ++ is.0) is.1 is.3 in
-    subst (ReadsStep s ended text) (sym is.4)
-    (more.0, subst (λ (bytes : List ℕ). Leads (at s (path_part (end_mark ended) text)) (is.0 ++ is.1) (at s (path_part (end_mark more.0) bytes))) (append_assoc text is.0 is.1)
-    (leads-both (at s (path_part (end_mark ended) text)) (at s (path_part (end_mark first.0) (text ++ is.0))) (at s (path_part (end_mark more.0) ((text ++ is.0) ++ is.1))) is.0 is.1 first.1 more.1))
+    subst (ReadsStep s ended text) (sym is.4) (
+      more.0,
+      subst (λ (bytes : List ℕ). Leads (at s (path_part (end_mark ended) text)) (is.0 ++ is.1) (at s (path_part (end_mark more.0) bytes))) (append_assoc text is.0 is.1)
+          (leads-both (at s (path_part (end_mark ended) text)) (at s (path_part (end_mark first.0) (text ++ is.0))) (at s (path_part (end_mark more.0) ((text ++ is.0) ++ is.1))) is.0 is.1 first.1 more.1),
+    )
 
 -- a path, from where a unit is wanted
 abbrev ReadsPath : Stack → Reading → List ℕ → Type 0
@@ -666,7 +668,7 @@ unfolding read result_of
 reads-text last text t h is =
     let q = h.2 [] 0 in
     let ends : result_of h.0 ≡ Some t =
-        ap (λ (b : Bool). if b then None else option_and_then tree_at (settle h.0.state h.0.piece)) h.1.full ∙ ap (option_and_then tree_at) h.1.settled ∙ is in
+    ap (λ (b : Bool). if b then None else option_and_then tree_at (settle h.0.state h.0.piece)) h.1.full ∙ ap (option_and_then tree_at) h.1.settled ∙ is in
     ap (λ (bytes : List ℕ). read bytes 0 at_start) (sym (append-nil text)) ∙ q.1 ∙ ap (or_place q.0) ends
 
 -- a tree is read from its text
@@ -675,5 +677,5 @@ text-read text t h =
     let q = first-token t in
     let taken = then-some tree_at (take_tokens (tokens t) (want bottom)) t (tokens-read t h.fits h.shallow) in
     let leads = text-leads q.0 q.1 taken.0 text (subst ArePaths q.2 (good-tokens t h.fits)) (subst (λ (ts : List Token). Spells true ts text) q.2 h.spelled)
-        (subst (λ (ts : List Token). take_tokens ts (want bottom) ≡ Some taken.0) q.2 taken.1) in
+    (subst (λ (ts : List Token). take_tokens ts (want bottom) ≡ Some taken.0) q.2 taken.1) in
     reads-text taken.0 text t leads taken.2

@@ -1,5 +1,5 @@
 -- What is read was spelled: the bytes so far spell the tokens that led to a state, and the token that is begun.
-use Rattle.std.proofs.Common.{◌≡◌, ℕ, zero, suc, ◌+◌, ◌-◌, ◌*◌, ◌^◌, ◌<◌, ◌≤◌, Bool, true, false, ◌&&◌, ◌||◌, ◌==◌, nat_le, nat_lt, List, [], ◌∷◌, ◌++◌, length, Option, Some, None, option_map, option_and_then, Result, Ok, Err, ℤ, pos, if◌then◌else◌, refl, ap, sym, ◌∙◌, subst, arith, append_assoc, append-nil, inl, inr, mul_assoc, mul_left_comm, lit<}
+use Rattle.std.proofs.Common.{◌≡◌, ℕ, zero, suc, ◌+◌, ◌-◌, ◌*◌, ◌^◌, ◌<◌, ◌≤◌, Bool, true, false, ◌&&◌, ◌||◌, ◌==◌, nat_le, nat_lt, List, [], ◌∷◌, ◌++◌, length, Option, Some, None, option_map, option_and_then, Result, Ok, Err, pos, if◌then◌else◌, refl, ap, sym, ◌∙◌, subst, arith, append_assoc, append-nil, inl, inr, mul_assoc, mul_left_comm, lit<}
 use Rattle.std.specs.Prelude.{All, IsTrue}
 use Rattle.std.proofs.Math.Nat.{pow-le-pow_right}
 use Rattle.std.proofs.lemmas.Bool.Decides.{nat_tests}
@@ -10,9 +10,9 @@ use Rattle.kc_word.specs.Hex.{hex_from, digit_value}
 use Rattle.kc_layout.specs.Path.{Step, begins_name, is_digit, is_letter, is_word}
 use Rattle.kc_layout.specs.Path.Step.{Member, Element, Pointee}
 use Rattle.kc_layout.specs.Spelling.{IsName, IsIndex, Writes as WritesStep, Spells as SpellsPath}
-use Rattle.kc_expr.specs.Tree.{Token, Tree, tokens, Fits, IsPath, depth}
+use Rattle.kc_expr.specs.Tree.{Token, Tree, IsPath}
 use Rattle.kc_expr.specs.Tree.Token.{bang, open_token, close_token, operator, number, path}
-use Rattle.kc_expr.specs.Machine.{Stack, State, Mark, Piece, Reading, take_token, take_tokens, tree_at, compares, room, has_open, extend, extended_or, settle, settle_path, begin_token, begin_unit, begin_operator, begin_comparison, next_token, is_start, is_gap, step, result_of, read, parsed, at_start, or_place, more_decimal, more_hex, more_path, behind_step}
+use Rattle.kc_expr.specs.Machine.{Stack, State, Mark, Piece, Reading, take_token, take_tokens, tree_at, compares, room, has_open, extend, extended_or, settle, begin_token, begin_unit, begin_operator, begin_comparison, next_token, is_start, is_gap, step, result_of, read, parsed, at_start, or_place, more_decimal, more_hex, more_path, behind_step}
 use Rattle.kc_expr.specs.Machine.Stack.{bottom}
 use Rattle.kc_expr.specs.Machine.State.{want, after}
 use Rattle.kc_expr.specs.Machine.Mark.{in_name, before_name, in_index, behind_index, behind_minus}
@@ -21,7 +21,7 @@ use Rattle.kc_expr.specs.Spelling.{Writes, Spells, IsGap, IsDecimal, IsHex, IsTe
 use Rattle.kc_expr.specs.Laws.{IsGoodToken, ArePaths}
 use Rattle.kc_expr.specs.declared.tree.Operator.{Operator}
 use Rattle.kc_expr.specs.declared.tree.Operator.TheVariants.{Both, Either, Equal, NotEqual, LessEqual, GreaterEqual, Less, Greater, Plus, Minus, BitAnd, BitOr, BitXor}
-use Rattle.kc_expr.proofs.ByteLemmas.{same-byte, other-byte, less-true, true-less, given-some, then-some, at}
+use Rattle.kc_expr.proofs.ByteLemmas.{same-byte, other-byte, less-true, true-less, then-some, at}
 use Rattle.kc_expr.proofs.WeightLemmas.{Each}
 use Rattle.kc_expr.proofs.TokenLemmas.{if-true, if-false, le-true, take-append, read-tokens}
 use Rattle.kc_expr.proofs.ReadLemmas.{good-both}
@@ -235,9 +235,9 @@ index-number (c ∷ cs) some few all =
     let long : nat_le 1 (length (c ∷ cs)) ≡ true = le-true 1 (length (c ∷ cs)) some in
     let short : nat_le (length (c ∷ cs)) 19 ≡ true = le-true (length (c ∷ cs)) 19 (omega (arith, few)) in
     let of : decimal_of (c ∷ cs) ≡ Some q.number =
-        if-true (nat_le 1 (length (c ∷ cs)) && nat_le (length (c ∷ cs)) 19) (decimal_from 0 (c ∷ cs)) None (ap (λ (b : Bool). b && nat_le (length (c ∷ cs)) 19) long ∙ short) ∙ q.reads in
+    if-true (nat_le 1 (length (c ∷ cs)) && nat_le (length (c ∷ cs)) 19) (decimal_from 0 (c ∷ cs)) None (ap (λ (b : Bool). b && nat_le (length (c ∷ cs)) 19) long ∙ short) ∙ q.reads in
     let number : decimal_number (c ∷ cs) ≡ Some (pos q.number) =
-        if-false (c == 45) _ (option_and_then positive (decimal_of (c ∷ cs))) (other-byte is_digit c 45 digit refl) ∙ ap (option_and_then positive) of ∙ if-true (nat_lt q.number (2 ^ 63)) (Some (pos q.number)) None fits in
+    if-false (c == 45) _ (option_and_then positive (decimal_of (c ∷ cs))) (other-byte is_digit c 45 digit refl) ∙ ap (option_and_then positive) of ∙ if-true (nat_lt q.number (2 ^ 63)) (Some (pos q.number)) None fits in
     (q.number, record { few = few; decimal = all; number = number })
 
 closed-index : (k : ℕ) (text : List ℕ) → IndexPath k text → 0 < k → IsPath (text ++ 93 ∷ [])
