@@ -10,13 +10,14 @@ use Rattle.kc_found.specs.declared.free.FreeLed.{FreeLed}
 use Rattle.kc_found.specs.declared.free.Grid.{Grid}
 use Rattle.kc_found.specs.Chains.{ChainOf, chain_walk}
 use Rattle.kc_found.specs.FiniteLists.{FreeChain, NoFreeChain, pointer_words}
-use Rattle.kc_found.specs.FreeLists.{free_chain, free_next, free_site, number_in, pointer_at}
+use Rattle.kc_found.specs.FreeLists.{free_chain, free_first, free_next, free_site, number_in, pointer_at}
 use Rattle.kc_found.specs.Trials.{passed}
 use Rattle.kc_found.specs.Violations.{Violation}
 use Rattle.kc_found.specs.Walks.{OnBroken, WalksAs}
 use Rattle.kc_found.proofs.Told.{AreChains, Reaches, IsWalkOf, told_begins, told_goes, told_goes_broken, told_ends}
 use Rattle.kc_found.proofs.Whole.{whole_of_walk, walk_of_whole}
 use Rattle.kc_list.proofs.Stops.{if_some}
+use Rattle.kc_slub.specs.Laws.{FreeListsAreWalked}
 use Rattle.kc_slub.proofs.FreeLaw.{free_words, free_of_whole, whole_of_free}
 use Rattle.kc_slub.proofs.FreeSites.{free_is_chain, leads_on}
 
@@ -65,6 +66,10 @@ pub free_walked : (i : Image) (grid : Grid) (asked : Asked) (first : FreeLed) (o
 free_walked i grid asked first os some f =
     walk_of_whole i.physical (frees grid asked first i) (pointer_words (number_in i) grid) os (frees_are grid asked first i) (free_words (number_in i) grid asked first)
     (whole_of_free (number_in i) grid asked first os some f)
+
+pub free_lists_are_walked : FreeListsAreWalked
+free_lists_are_walked image grid first asked os is =
+    (free_walked image grid asked (free_first first) os is.some, λ e. free_finite (λ (xs : List ℕ). xs) (Some image) grid asked (free_first first) os e)
 
 unwalked : (i : Image) (grid : Grid) (asked : Asked) (first : FreeLed) (v : Violation) → 1 ≤ grid.size → chain_walk i.physical (frees grid asked first i) ≡ Err v → NoFreeChain (number_in i) grid first.to
 unwalked i grid asked first v some e os f = let ok = free_walked i grid asked first os some f in cc

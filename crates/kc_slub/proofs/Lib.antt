@@ -1,3 +1,4 @@
+mod CacheLaw
 mod FreeLaw
 mod FreeSites
 mod FreeWalk

@@ -56,14 +56,18 @@ objects_of image asked shape =
     unless (nat_eq (value_of s) 0 || nat_lt (value_of s) (value_of o + 8)) (breaks_at asked U3 s None)
     (Ok (record { size = value_of s; offset = value_of o; random = r; left_pad = unwrap_or p 0 }))))))
 
--- the number of the page that a slab's descriptor stands for, by the descriptor's offset in the array
+-- how far a slab's descriptor lies in the array of descriptors
+abbrev pub descriptor_offset : Bases → ℕ → ℕ
+descriptor_offset b slab = (slab + (2 ^ 64 - b.vmemmap)) % 2 ^ 64
+
+-- the number of the page that it stands for
 abbrev pub page_of : SlubShape → Bases → ℕ → ℕ
-page_of shape b slab = (slab + (2 ^ 64 - b.vmemmap)) % 2 ^ 64 / shape.page_size
+page_of shape b slab = descriptor_offset b slab / shape.page_size
 
 -- it is a page's descriptor: physical memory has less than 2^40 pages
 abbrev pub is_descriptor : SlubShape → Bases → ℕ → Bool
 is_descriptor shape b slab =
-    nat_eq ((slab + (2 ^ 64 - b.vmemmap)) % 2 ^ 64 % shape.page_size) 0 && nat_lt (page_of shape b slab) (2 ^ 40)
+    nat_eq (descriptor_offset b slab % shape.page_size) 0 && nat_lt (page_of shape b slab) (2 ^ 40)
 
 -- where a slab's objects lie
 abbrev pub grid_of : SlubShape → Bases → Objects → ℕ → ℕ → Grid

@@ -1,11 +1,16 @@
--- What the walk of a free list says of finite lists of objects.
-use Rattle.std.specs.Prelude.{◌≡◌, ℕ, List, Ok}
+-- What the walks of free lists and of slab caches say of finite lists of objects and of slabs.
+use Rattle.std.specs.Prelude.{◌≡◌, ℕ, List, Ok, Err}
 use Rattle.kc_memory.specs.Bits.{Number}
 use Rattle.kc_memory.specs.Image.{Image}
+use Rattle.kc_memory.specs.Places.{AllStandIn}
 use Rattle.kc_found.specs.declared.asked.Asked.{Asked}
 use Rattle.kc_found.specs.declared.free.Grid.{Grid}
 use Rattle.kc_found.specs.FiniteLists.{FreeChain}
 use Rattle.kc_found.specs.FreeLists.{IsGrid, free_list, low_word, number_in}
+use Rattle.kc_found.specs.Violations.{Violation}
+use Rattle.kc_view.specs.declared.slub.SlubShape.{SlubShape}
+use Rattle.kc_slub.specs.Caches.{cache_slabs}
+use Rattle.kc_slub.specs.FiniteCaches.{Slub}
 
 -- a free list of the definition is walked whole, and what is walked without a violation is one
 abbrev pub FreeListsAreWalked : Type 0
@@ -13,3 +18,10 @@ FreeListsAreWalked =
     (image : Image) (grid : Grid) (first : Number) (asked : Asked) (os : List ℕ) → IsGrid grid
     → (FreeChain (number_in image) grid (low_word first.value) os → free_list image grid first asked ≡ Ok os)
     × (free_list image grid first asked ≡ Ok os → FreeChain (number_in image) grid (low_word first.value) os)
+
+-- the slabs of a cache of the definition are walked whole, and what is walked without a violation are such slabs
+abbrev pub CachesAreWalked : Type 0
+CachesAreWalked =
+    (image : Image) (shape : SlubShape) (audit start : ℕ) (slabs : List ℕ)
+    → (Slub image shape start slabs → cache_slabs image shape (record { audit = audit; start = start }) ≡ Ok slabs)
+    × (cache_slabs image shape (record { audit = audit; start = start }) ≡ Ok slabs → Slub image shape start slabs)

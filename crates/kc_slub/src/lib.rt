@@ -8,7 +8,7 @@ mod slab;
 mod walk;
 
 pub use free::{decode, free_walk};
-pub use laws::know_free_lists;
+pub use laws::{know_caches, know_free_lists};
 pub use walk::cache_walk;
 
 #[cfg(test)]
