@@ -1,3 +1,4 @@
+pub mod ChainsShown
 pub mod Finite
 mod HashLaw
 mod HashSites

@@ -1,5 +1,4 @@
 mod Arrays
-mod ChainsShown
 mod Counting
 mod Going
 mod Rows

@@ -20,7 +20,7 @@ use Rattle.kc_rb.specs.Laws.{TreePlacesStand}
 use Rattle.kc_xa.specs.Laws.{XarrayPlacesStand}
 use Rattle.kc_run.specs.Laws.{VerdictsStand}
 use Rattle.kc_run.proofs.Arrays.{array_shows}
-use Rattle.kc_run.proofs.ChainsShown.{hash_walk_shows, ring_walk_shows}
+use Rattle.kc_list.proofs.ChainsShown.{hash_walk_shows, ring_walk_shows}
 
 -- the violations that are seen do
 AllSeen : Image → List Event → Type 0

@@ -1,38 +1,39 @@
 -- A cache is walked whole exactly where finite lists of its slabs make it up.
-use Rattle.std.proofs.Common.{◌≡◌, ℕ, zero, suc, ◌+◌, ◌-◌, ◌*◌, ◌%◌, ◌^◌, ◌<◌, ◌≤◌, nat_eq, Bool, true, false, List, [], ◌∷◌, ◌++◌, length, Option, None, Some, option_map, map, refl, sym, ◌∙◌, ap, subst, arith, eq-eqb}
-use Rattle.std.specs.Prelude.{Result, Ok, Err, MatchBool, not, nat_lt, ◌||◌, ◌&&◌, min, slice_get, if◌then◌else◌}
+use Rattle.std.proofs.Common.{◌≡◌, ℕ, zero, suc, ◌+◌, ◌-◌, ◌*◌, ◌^◌, ◌≤◌, nat_eq, Bool, true, false, List, [], ◌∷◌, ◌++◌, length, Option, None, Some, map, refl, sym, ◌∙◌, ap, subst, arith, eq-eqb}
+use Rattle.std.specs.Prelude.{Result, Ok, Err, MatchBool, not, nat_lt, ◌||◌, min, slice_get, if◌then◌else◌}
 use Rattle.std.specs.List.{AllByRecursion, concat}
 use Rattle.std.specs.Option.{unwrap_or}
-use Rattle.std.proofs.lemmas.Bool.{and_from, and_parts, or_parts, eqb-true, eqb-false, ltb-true, ltb-false, lt-ltb, le-ltb}
+use Rattle.std.proofs.lemmas.Bool.{and_from, and_parts, or_parts, eqb-true, ltb-true, ltb-false, lt-ltb, le-ltb}
 use Rattle.std.proofs.lemmas.List.{append-nil, append_assoc}
 use Rattle.std.proofs.Math.Dec.{eqb-suc-zero}
-use Rattle.kc_memory.specs.declared.rule.Rule.TheVariants.{U1, U2, U3, U4, U6, U7}
+use Rattle.kc_memory.specs.declared.rule.Rule.TheVariants.{U6}
 use Rattle.kc_memory.specs.declared.words.VWord.{VWord}
 use Rattle.kc_memory.specs.Bits.{Number, bits}
 use Rattle.kc_memory.specs.Image.{Image}
 use Rattle.kc_memory.specs.Stopped.{Stopped}
 use Rattle.kc_memory.specs.Translation.{vword}
 use Rattle.kc_layout.specs.declared.place.Field.{Field}
+use Rattle.kc_view.specs.declared.fields.FieldNumber.{FieldNumber}
 use Rattle.kc_view.specs.declared.slub.Base.{Base}
 use Rattle.kc_view.specs.declared.slub.Base.TheVariants.{At, Is}
 use Rattle.kc_view.specs.declared.slub.SlubShape.{SlubShape}
+use Rattle.kc_view.specs.Fields.{FieldIs, breaks_at, or_missed, read_field, started_at, unless, value_of}
+use Rattle.kc_view.proofs.FieldLaws.{field_is, field_read, is_some, missed_ok, some_of, started_ok, then_is, unless_is, unless_ok}
 use Rattle.kc_found.specs.declared.asked.Asked.{Asked}
 use Rattle.kc_found.specs.declared.free.Grid.{Grid}
 use Rattle.kc_found.specs.FiniteLists.{FreeChain, Ring}
 use Rattle.kc_found.specs.FiniteLists as lists
-use Rattle.kc_found.specs.FreeLists.{IsGrid, free_list, low_word, number_in}
-use Rattle.kc_found.specs.Nodes.{at_offset, readable}
+use Rattle.kc_found.specs.FreeLists.{free_list, low_word, number_in}
+use Rattle.kc_found.specs.Nodes.{at_offset}
 use Rattle.kc_found.specs.Rings.{ring_walk}
 use Rattle.kc_found.specs.Trials.{and_then}
-use Rattle.kc_found.specs.Violations.{Violation, breaks_field}
 use Rattle.kc_found.proofs.Known.{ok_after}
 use Rattle.kc_list.specs.Laws.{RingsAreWalked}
 use Rattle.kc_list.proofs.Finite.{not_false}
 use Rattle.kc_slub.specs.declared.cache.Bases.{Bases}
 use Rattle.kc_slub.specs.declared.cache.Objects.{Objects}
-use Rattle.kc_slub.specs.declared.fields.FieldNumber.{FieldNumber}
-use Rattle.kc_slub.specs.Caches.{base_of, bases_of, breaks_at, cache_slabs, count_of, counts_checked, descriptor_offset, field_of, free_checked, grid_of, is_descriptor, knode_checked, list_checked, node_checked, nodes_checked, objects_of, optional_of, or_missed, page_of, partial_of, read_field, slab_checked, slab_of, slabs_checked, started_at, unless, value_of}
-use Rattle.kc_slub.specs.FiniteCaches.{AreBases, AreListed, AreObjects, AreOfNode, BaseIs, CountIs, FieldIs, IsSlab, OptionalIs, Slub}
+use Rattle.kc_slub.specs.Caches.{base_of, bases_of, cache_slabs, count_of, grid_of, is_descriptor, knode_checked, list_checked, node_checked, nodes_checked, objects_of, optional_of, page_of, partial_of, slab_checked, slab_of, slabs_checked}
+use Rattle.kc_slub.specs.FiniteCaches.{AreBases, AreListed, AreObjects, AreOfNode, BaseIs, CountIs, IsSlab, OptionalIs, Slub}
 use Rattle.kc_slub.specs.Laws.{CachesAreWalked, FreeListsAreWalked}
 use Rattle.kc_slub.proofs.FreeWalk.{free_lists_are_walked}
 
@@ -40,48 +41,6 @@ use Rattle.kc_slub.proofs.FreeWalk.{free_lists_are_walked}
 one_answer : {A E : Type 0} (x y : A) (r : Result A E) → r ≡ Ok x → r ≡ Ok y → x ≡ y
 one_answer x y (Ok z) e is = cc
 one_answer x y (Err m) e is = absurd (cc)
-
--- a rule that isn't broken
-unless_ok : {A : Type 0} (b : Bool) (v : Violation) (r : Result A Violation) (x : A) → unless b v r ≡ Ok x → (b ≡ false) × (r ≡ Ok x)
-unless_ok true v r x e = absurd (cc)
-unless_ok false v r x e = (refl, e)
-
-unless_is : {A : Type 0} (b : Bool) (v : Violation) (r : Result A Violation) (x : A) → b ≡ false → r ≡ Ok x → unless b v r ≡ Ok x
-unless_is b v r x clean e = ap (λ c. unless c v r) clean ∙ e
-
--- a step after one that came to something
-then_is : {A B E : Type 0} (r : Result A E) (f : A → Result B E) (x : A) (y : B) → r ≡ Ok x → f x ≡ Ok y → and_then r f ≡ Ok y
-then_is r f x y e is = ap (λ q. and_then q f) e ∙ is
-
-missed_ok : {A : Type 0} (asked : Asked) (r : Result A Stopped) (x : A) → or_missed asked r ≡ Ok x → r ≡ Ok x
-missed_ok asked (Ok a) x e = let same : a ≡ x = cc in ap Ok same
-missed_ok asked (Err s) x e = absurd (cc)
-
-started_ok : {A : Type 0} (start : ℕ) (r : Result A Violation) (x : A) → started_at start r ≡ Ok x → r ≡ Ok x
-started_ok start (Ok a) x e = let same : a ≡ x = cc in ap Ok same
-started_ok start (Err v) x e = absurd (cc)
-
--- what can be read
-some_of : {A B : Type 0} (f : A → B) (r : Result A Stopped) (v : B) → option_map f (readable r) ≡ Some v → (x : A) × (r ≡ Ok x) × (f x ≡ v)
-some_of f (Ok a) v e = (a, refl, cc)
-some_of f (Err s) v e = absurd (cc)
-
-is_some : {A B : Type 0} (f : A → B) (r : Result A Stopped) (x : A) → r ≡ Ok x → option_map f (readable r) ≡ Some (f x)
-is_some f r x e = ap (λ q. option_map f (readable q)) e
-
--- a field
-field_is : (image : Image) (asked : Asked) (at : ℕ) (f : Field) (n : FieldNumber) → read_field image asked at f ≡ Ok n → FieldIs image at f (value_of n)
-field_is image asked at f n e = is_some value_of (field_of image at f) n (missed_ok asked (field_of image at f) n e)
-
-record Read (image : Image) (asked : Asked) (at : ℕ) (f : Field) (v : ℕ) : Type 0 where
-  pub field : FieldNumber
-  pub read : read_field image asked at f ≡ Ok field
-  pub value : value_of field ≡ v
-
-field_read : (image : Image) (asked : Asked) (at : ℕ) (f : Field) (v : ℕ) → FieldIs image at f v → Read image asked at f v
-field_read image asked at f v e =
-    let s = some_of value_of (field_of image at f) v e in
-    record { field = s.0; read = ap (or_missed asked) s.1; value = s.2 }
 
 -- steps 1 and 2
 base_is : (image : Image) (asked : Asked) (base : Base) (n : ℕ) → base_of image asked base ≡ Ok n → BaseIs image base n
@@ -183,12 +142,12 @@ objects_from image asked shape o a =
     let f = field_read image asked asked.start shape.offset o.offset a.offset in
     let s = field_read image asked asked.start shape.size o.size a.size in
     let clean : (nat_eq (value_of s.field) 0 || nat_lt (value_of s.field) (value_of f.field + 8)) ≡ false =
-        neither _ _ (not_null (value_of s.field) (rw s.value a.some)) (le-ltb (value_of s.field) (value_of f.field + 8) (rw (s.value, f.value) a.inside)) in
+    neither _ _ (not_null (value_of s.field) (rw s.value a.some)) (le-ltb (value_of s.field) (value_of f.field + 8) (rw (s.value, f.value) a.inside)) in
     let made : Objects = record { size = value_of s.field; offset = value_of f.field; random = o.random; left_pad = unwrap_or a.pad 0 } in
     let same : made ≡ o =
-        ap (λ n. record { size = n; offset = value_of f.field; random = o.random; left_pad = unwrap_or a.pad 0 }) s.value
-        ∙ ap (λ n. record { size = o.size; offset = n; random = o.random; left_pad = unwrap_or a.pad 0 }) f.value
-        ∙ ap (λ n. record { size = o.size; offset = o.offset; random = o.random; left_pad = n }) (sym a.left_pad) in
+    ap (λ n. record { size = n; offset = value_of f.field; random = o.random; left_pad = unwrap_or a.pad 0 }) s.value
+    ∙ ap (λ n. record { size = o.size; offset = n; random = o.random; left_pad = unwrap_or a.pad 0 }) f.value
+    ∙ ap (λ n. record { size = o.size; offset = o.offset; random = o.random; left_pad = n }) (sym a.left_pad) in
     then_is (read_field image asked asked.start shape.offset) _ f.field o f.read
     (then_is (read_field image asked asked.start shape.size) _ s.field o s.read
     (then_is (optional_of image asked shape.random) _ o.random o (optional_from image asked shape.random o.random a.random)
@@ -226,24 +185,26 @@ slab_is frees image asked shape b o slab s some inside e =
     let grid : Grid = grid_of shape b o slab (value_of n.0) in
     let l = list_is image asked grid slab (value_of n.0 - value_of u.0) u.0 f.0.number s four.1 in
     let counts = or_parts _ _ three.0 in
-    let page = and_parts _ _ (not_false _ four.0) in
-    (record {
-      slab_cache = subst (FieldIs image slab shape.slab_cache) (eqb-true _ _ (not_false _ one.0)) (field_is image asked slab shape.slab_cache c.0 c.1);
-      frozen = subst (FieldIs image slab shape.frozen) (eqb-true _ _ (not_false _ two.0)) (field_is image asked slab shape.frozen z.0 z.1);
-      objects = value_of n.0;
-      inuse = value_of u.0;
-      first = value_of f.0;
-      free = l.0;
-      counted = field_is image asked slab shape.objects n.0 n.1;
-      used = field_is image asked slab shape.inuse u.0 u.1;
-      leads = field_is image asked slab shape.freelist f.0 f.1;
-      some = positive (value_of n.0) counts.0;
-      within = ltb-false (value_of n.0) (value_of u.0) counts.1;
-      whole = eqb-true _ _ page.0;
-      page = ltb-true (page_of shape b slab) (2 ^ 40) page.1;
-      chain = (frees image grid f.0.number asked l.0 (record { some = some; inside = inside })).1 l.1;
-      length = l.2;
-    }, l.3)
+    let page = and_parts _ _ (not_false _ four.0) in (
+      record {
+        slab_cache = subst (FieldIs image slab shape.slab_cache) (eqb-true _ _ (not_false _ one.0)) (field_is image asked slab shape.slab_cache c.0 c.1);
+        frozen = subst (FieldIs image slab shape.frozen) (eqb-true _ _ (not_false _ two.0)) (field_is image asked slab shape.frozen z.0 z.1);
+        objects = value_of n.0;
+        inuse = value_of u.0;
+        first = value_of f.0;
+        free = l.0;
+        counted = field_is image asked slab shape.objects n.0 n.1;
+        used = field_is image asked slab shape.inuse u.0 u.1;
+        leads = field_is image asked slab shape.freelist f.0 f.1;
+        some = positive (value_of n.0) counts.0;
+        within = ltb-false (value_of n.0) (value_of u.0) counts.1;
+        whole = eqb-true _ _ page.0;
+        page = ltb-true (page_of shape b slab) (2 ^ 40) page.1;
+        chain = (frees image grid f.0.number asked l.0 (record { some = some; inside = inside })).1 l.1;
+        length = l.2;
+      },
+      l.3,
+    )
 
 slab_from : FreeListsAreWalked → (image : Image) (asked : Asked) (shape : SlubShape) (b : Bases) (o : Objects) (slab : ℕ) → 1 ≤ o.size → o.offset + 8 ≤ o.size → IsSlab image shape b o asked.start slab →
     slab_checked image asked shape b o slab ≡ Ok slab
@@ -255,13 +216,13 @@ slab_from frees image asked shape b o slab some inside h =
     let f = field_read image asked slab shape.freelist h.first h.leads in
     let grid : Grid = grid_of shape b o slab (value_of n.field) in
     let chain : FreeChain (number_in image) grid (low_word f.field.number.value) h.free =
-        rw (n.value, f.value) h.chain in
+    rw (n.value, f.value) h.chain in
     let walked : free_list image grid f.field.number asked ≡ Ok h.free =
-        (frees image grid f.field.number asked h.free (record { some = some; inside = inside })).0 chain in
+    (frees image grid f.field.number asked h.free (record { some = some; inside = inside })).0 chain in
     let counts : (nat_eq (value_of n.field) 0 || nat_lt (value_of n.field) (value_of u.field)) ≡ false =
-        neither _ _ (not_null (value_of n.field) (rw n.value h.some)) (le-ltb (value_of n.field) (value_of u.field) (rw (n.value, u.value) h.within)) in
+    neither _ _ (not_null (value_of n.field) (rw n.value h.some)) (le-ltb (value_of n.field) (value_of u.field) (rw (n.value, u.value) h.within)) in
     let page : is_descriptor shape b slab ≡ true =
-        and_from _ _ (eq-eqb _ _ h.whole) (lt-ltb (page_of shape b slab) (2 ^ 40) h.page) in
+    and_from _ _ (eq-eqb _ _ h.whole) (lt-ltb (page_of shape b slab) (2 ^ 40) h.page) in
     let all : length h.free ≡ value_of n.field - value_of u.field = rw (n.value, u.value) h.length in
     then_is (read_field image asked slab shape.slab_cache) _ c.field slab c.read (unless_is _ _ _ slab (ap not (eq-eqb _ _ c.value))
     (then_is (read_field image asked slab shape.frozen) _ z.field slab z.read (unless_is _ _ _ slab (ap not (eq-eqb _ _ z.value))
@@ -301,14 +262,17 @@ knode_is rings frees image asked shape b o before knode all some inside e =
     let u = unless_ok _ _ _ all m.2 in
     let s = slabs_are frees image asked shape b o before ns.0 m.0 some inside m.1 in
     let same : m.0 ≡ all = one_answer m.0 all (Ok m.0) refl u.1 in
-    let head = at_offset knode shape.partial in
-    (map (slab_of shape) ns.0, record {
-      nodes = ns.0;
-      ring = (rings image shape.list asked.audit head ns.0).1 (started_ok asked.start (ring_walk image shape.list asked.audit head) ns.0 ns.1);
-      are = refl;
-      members = s.1;
-      counted = subst (FieldIs image knode shape.nr_partial) (eqb-true _ _ (not_false _ u.0)) (field_is image asked knode shape.nr_partial p.0 p.1);
-    }, sym same ∙ s.0)
+    let head = at_offset knode shape.partial in (
+      map (slab_of shape) ns.0,
+      record {
+        nodes = ns.0;
+        ring = (rings image shape.list asked.audit head ns.0).1 (started_ok asked.start (ring_walk image shape.list asked.audit head) ns.0 ns.1);
+        are = refl;
+        members = s.1;
+        counted = subst (FieldIs image knode shape.nr_partial) (eqb-true _ _ (not_false _ u.0)) (field_is image asked knode shape.nr_partial p.0 p.1);
+      },
+      sym same ∙ s.0,
+    )
 
 knode_from : RingsAreWalked → FreeListsAreWalked → (image : Image) (asked : Asked) (shape : SlubShape) (b : Bases) (o : Objects) (before : List ℕ) (knode : ℕ) (ss : List ℕ) → 1 ≤ o.size → o.offset + 8 ≤ o.size →
     AreListed image shape b o asked.start knode ss → knode_checked image asked shape b o before knode ≡ Ok (before ++ ss)
@@ -343,19 +307,22 @@ node_is : RingsAreWalked → FreeListsAreWalked → (image : Image) (asked : Ask
 node_is rings frees image asked shape b o before i all some inside e =
     let p = ok_after (or_missed asked (pointer_in image asked shape i)) _ all e in
     let knode = low_word p.0.value in
-    let l = listed_is rings frees image asked shape b o before knode all (nat_eq knode 0) some inside p.2 in
-    (l.0, record {
-      knode = knode;
-      leads = is_some (λ (m : Number). low_word m.value) (pointer_in image asked shape i) p.0 (missed_ok asked (pointer_in image asked shape i) p.0 p.1);
-      listed = l.1;
-    }, l.2)
+    let l = listed_is rings frees image asked shape b o before knode all (nat_eq knode 0) some inside p.2 in (
+      l.0,
+      record {
+        knode = knode;
+        leads = is_some (λ (m : Number). low_word m.value) (pointer_in image asked shape i) p.0 (missed_ok asked (pointer_in image asked shape i) p.0 p.1);
+        listed = l.1;
+      },
+      l.2,
+    )
 
 node_from : RingsAreWalked → FreeListsAreWalked → (image : Image) (asked : Asked) (shape : SlubShape) (b : Bases) (o : Objects) (before : List ℕ) (i : ℕ) (ss : List ℕ) → 1 ≤ o.size → o.offset + 8 ≤ o.size →
     AreOfNode image shape b o asked.start i ss → node_checked image asked shape b o before i ≡ Ok (before ++ ss)
 node_from rings frees image asked shape b o before i ss some inside h =
     let s = some_of (λ (m : Number). low_word m.value) (pointer_in image asked shape i) h.knode h.leads in
     let listed : MatchBool (nat_eq (low_word s.0.value) 0) (ss ≡ []) (AreListed image shape b o asked.start (low_word s.0.value) ss) =
-        subst (λ k. MatchBool (nat_eq k 0) (ss ≡ []) (AreListed image shape b o asked.start k ss)) (sym s.2) h.listed in
+    subst (λ k. MatchBool (nat_eq k 0) (ss ≡ []) (AreListed image shape b o asked.start k ss)) (sym s.2) h.listed in
     then_is (or_missed asked (pointer_in image asked shape i)) _ s.0 (before ++ ss) (ap (or_missed asked) s.1)
     (listed_from rings frees image asked shape b o before (low_word s.0.value) ss (nat_eq (low_word s.0.value) 0) some inside listed)
 
@@ -413,7 +380,7 @@ slub_is rings frees image asked shape slabs e =
 slub_from : RingsAreWalked → FreeListsAreWalked → (image : Image) (asked : Asked) (shape : SlubShape) (slabs : List ℕ) → Slub image shape asked.start slabs → cache_slabs image shape asked ≡ Ok slabs
 slub_from rings frees image asked shape slabs h =
     let each : (j : ℕ) (ss : List ℕ) → slice_get h.by_node j ≡ Some ss → AreOfNode image shape h.bases h.objects asked.start (0 + j) ss =
-        λ j ss is. (let here : j ≡ 0 + j = omega arith in subst (λ k. AreOfNode image shape h.bases h.objects asked.start k ss) here (h.nodes j ss is)) in
+    λ j ss is. (let here : j ≡ 0 + j = omega arith in subst (λ k. AreOfNode image shape h.bases h.objects asked.start k ss) here (h.nodes j ss is)) in
     then_is (bases_of image asked shape) _ h.bases slabs (bases_from image asked shape h.bases h.stand)
     (then_is (objects_of image asked shape) _ h.objects slabs (objects_from image asked shape h.objects h.lie)
     (nodes_from rings frees image asked shape h.bases h.objects h.bases.nodes 0 [] h.by_node h.lie.some h.lie.inside h.all each ∙ ap Ok (sym h.are)))

@@ -1,5 +1,7 @@
 mod CacheLaw
+mod CacheShown
 mod FreeLaw
+mod FreeShown
 mod FreeSites
 mod FreeWalk
 mod Steps

@@ -1,6 +1,6 @@
 -- The walk of a slab cache, step by step. Source: the kernel's mm/slab.h, `struct kmem_cache` and `struct slab`, and
 -- mm/slub.c; the order is this project's.
-use Rattle.std.specs.Prelude.{◌≡◌, ◌≤◌, ℕ, zero, suc, ◌+◌, ◌-◌, ◌*◌, ◌/◌, ◌%◌, ◌^◌, Bool, ◌&&◌, ◌||◌, nat_eq, nat_lt, not, min, if◌then◌else◌, List, [], ◌∷◌, ◌++◌, length, Option, Some, None, Result, Ok, Err, false}
+use Rattle.std.specs.Prelude.{◌≤◌, ℕ, zero, suc, ◌+◌, ◌-◌, ◌*◌, ◌/◌, ◌%◌, ◌^◌, Bool, ◌&&◌, ◌||◌, nat_eq, nat_lt, not, min, if◌then◌else◌, List, [], ◌∷◌, ◌++◌, length, Option, Some, None, Result, Ok, false}
 use Rattle.std.specs.Option.{unwrap_or}
 use Rattle.kc_btf.specs.Btf.{Types}
 use Rattle.kc_memory.specs.declared.rule.Rule.TheVariants.{U1, U2, U3, U4, U6, U7}

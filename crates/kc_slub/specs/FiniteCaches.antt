@@ -1,5 +1,5 @@
 -- What the slabs of a cache have to meet, to be those on its partial lists. Source: the kernel's mm/slab.h and mm/slub.c.
-use Rattle.std.specs.Prelude.{◌≡◌, ℕ, ◌+◌, ◌-◌, ◌*◌, ◌%◌, ◌^◌, ◌<◌, ◌≤◌, nat_eq, min, List, [], ◌∷◌, map, length, slice_get, Option, Some, None, option_map, MatchBool, false, ⊤}
+use Rattle.std.specs.Prelude.{◌≡◌, ℕ, ◌+◌, ◌-◌, ◌*◌, ◌%◌, ◌^◌, ◌<◌, ◌≤◌, nat_eq, min, List, [], map, length, slice_get, Option, Some, None, option_map, MatchBool, false}
 use Rattle.std.specs.List.{AllByRecursion, concat}
 use Rattle.std.specs.Option.{unwrap_or}
 use Rattle.kc_memory.specs.Bits.{Number, bits}
@@ -9,19 +9,16 @@ use Rattle.kc_layout.specs.declared.place.Field.{Field}
 use Rattle.kc_view.specs.declared.slub.Base.{Base}
 use Rattle.kc_view.specs.declared.slub.Base.TheVariants.{At, Is}
 use Rattle.kc_view.specs.declared.slub.SlubShape.{SlubShape}
+use Rattle.kc_view.specs.Fields.{FieldIs}
 use Rattle.kc_found.specs.FiniteLists.{FreeChain, Ring}
 use Rattle.kc_found.specs.FiniteLists as lists
 use Rattle.kc_found.specs.FreeLists.{low_word, number_in}
 use Rattle.kc_found.specs.Nodes.{at_offset, readable}
-use Rattle.kc_slub.specs.Caches.{descriptor_offset, field_of, grid_of, page_of, slab_of, value_of}
+use Rattle.kc_slub.specs.Caches.{descriptor_offset, grid_of, page_of, slab_of}
 use Rattle.kc_slub.specs.declared.cache.Bases.{Bases}
 use Rattle.kc_slub.specs.declared.cache.Objects.{Objects}
 
--- a field of a struct at an address can be read, and is this number modulo 2^64
-abbrev pub FieldIs : Image → ℕ → Field → ℕ → Type 0
-FieldIs image at f n = option_map value_of (readable (field_of image at f)) ≡ Some n
-
--- and so is one that a kernel may not have
+-- a field that a kernel may not have can be read where it is there, and is this number modulo 2^64
 abbrev pub OptionalIs : Image → ℕ → Option Field → Option ℕ → Type 0
 OptionalIs image at None n = n ≡ None
 OptionalIs image at (Some f) n = (number : ℕ) × FieldIs image at f number × (n ≡ Some number)

@@ -1,3 +1,4 @@
+pub mod FieldLaws
 mod PointerLemmas
 mod ValueLaws
 mod WordLemmas

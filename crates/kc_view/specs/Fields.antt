@@ -1,5 +1,5 @@
 -- Fields that a walk of steps reads, and the rules that they break; and the walks that stand within it.
-use Rattle.std.specs.Prelude.{◌≡◌, ℕ, ◌/◌, Bool, if◌then◌else◌, Option, None, Result, Ok, Err}
+use Rattle.std.specs.Prelude.{◌≡◌, ℕ, ◌/◌, Bool, if◌then◌else◌, Option, Some, None, option_map, Result, Ok, Err}
 use Rattle.kc_memory.specs.declared.rule.Rule.{Rule}
 use Rattle.kc_memory.specs.Bits.{bits}
 use Rattle.kc_memory.specs.Image.{Image}
@@ -14,6 +14,7 @@ use Rattle.kc_found.specs.declared.asked.Asked.{Asked}
 use Rattle.kc_found.specs.declared.found.WalkStop.{WalkStop}
 use Rattle.kc_found.specs.declared.found.WalkStop.TheVariants as ends
 use Rattle.kc_found.specs.FreeLists.{low_word}
+use Rattle.kc_found.specs.Nodes.{readable}
 use Rattle.kc_found.specs.Violations.{Violation, breaks_field, missed}
 
 -- a field of a struct at an address: its number, and the address of its first byte
@@ -26,6 +27,10 @@ field_of image at f =
 -- its number modulo 2^64
 abbrev pub value_of : FieldNumber → ℕ
 value_of f = low_word f.number.value
+
+-- a field can be read, and is this number modulo 2^64
+abbrev pub FieldIs : Image → ℕ → Field → ℕ → Type 0
+FieldIs image at f n = option_map value_of (readable (field_of image at f)) ≡ Some n
 
 -- what was read, or the violation by the stop
 abbrev pub or_missed : {A : Type 0} → Asked → Result A Stopped → Result A Violation

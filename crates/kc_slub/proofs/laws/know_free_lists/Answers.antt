@@ -1,5 +1,9 @@
+use Rattle.kc_slub.proofs.FreeShown.{free_places_stand}
 use Rattle.kc_slub.proofs.FreeWalk.{free_lists_are_walked}
 use Rattle.kc_slub.proofs.laws.know_free_lists.Goals as goal
 
-pub returns : goal.returns
-returns c = free_lists_are_walked
+pub returns-clause-walked : goal.returns-clause-walked
+returns-clause-walked c = free_lists_are_walked
+
+pub returns-clause-places : goal.returns-clause-places
+returns-clause-places c = free_places_stand c.know_numbers.ensures.stand

@@ -21,14 +21,14 @@ use Rattle.kc_found.specs.Violations.{Violation, breaks}
 use Rattle.kc_found.proofs.Shown.{AllShow, all_whole, broken_shows, either_shows, judged_shows, show_whole}
 
 -- A chain whose sites show words of the dump alone, where what leads to them does.
-record Showing {S : Type 0} (image : Image) (k : ChainOf S) (P : S → Type 0) : Type 0 where
-  head : AllShow image k.head
-  start : (s : S) → k.start ≡ Some s → P s
-  last : (s : S) → P s → AllShow image (k.last s)
-  site : (s : S) → P s → AllShow image (k.site s)
-  next : (s t : S) → P s → k.next s ≡ Some t → P t
+pub record Showing {S : Type 0} (image : Image) (k : ChainOf S) (P : S → Type 0) : Type 0 where
+  pub head : AllShow image k.head
+  pub start : (s : S) → k.start ≡ Some s → P s
+  pub last : (s : S) → P s → AllShow image (k.last s)
+  pub site : (s : S) → P s → AllShow image (k.site s)
+  pub next : (s t : S) → P s → k.next s ≡ Some t → P t
 
-there_shows : {S X : Type 0} (image : Image) (o : Option S) (go : S → List (Trial X)) → ((s : S) → o ≡ Some s → AllShow image (go s)) → AllShow image (from_there o go)
+pub there_shows : {S X : Type 0} (image : Image) (o : Option S) (go : S → List (Trial X)) → ((s : S) → o ≡ Some s → AllShow image (go s)) → AllShow image (from_there o go)
 there_shows image None go next = tt
 there_shows image (Some s) go next = next s refl
 
@@ -40,7 +40,7 @@ chain_shows image k P (suc left) s show p =
     (show_whole image (k.site s) (from_there (k.next s) (λ t. Meet (k.element s) ∷ chain_trials k left t)) (show.site s p)
     (there_shows image (k.next s) (λ t. Meet (k.element s) ∷ chain_trials k left t) (λ t is. chain_shows image k P left t show (show.next s t p is))))
 
-walk_shows : {S : Type 0} (image : Image) (k : ChainOf S) (P : S → Type 0) (v : Violation) → Showing image k P → chain_walk image.physical k ≡ Err v → AllStandIn image v.places
+pub walk_shows : {S : Type 0} (image : Image) (k : ChainOf S) (P : S → Type 0) (v : Violation) → Showing image k P → chain_walk image.physical k ≡ Err v → AllStandIn image v.places
 walk_shows image k P v show is =
     let left = word_count image.physical + 1 in
     judged_shows image (chain_sites k left) v
