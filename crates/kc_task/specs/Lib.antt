@@ -1,1 +1,3 @@
+pub mod FiniteTasks
+pub mod Laws
 pub mod TaskLists

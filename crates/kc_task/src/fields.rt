@@ -24,7 +24,8 @@ pub(crate) fn check_field<S: Space, L: Ledger>(
     steps: &mut Steps<L>,
 ) -> Result<(), WalkStop>
     requires { is_of_reading rule ≡ false }
-    ensures exact { WalksAs (λ _. tt) (λ i. holds i asked.now rule task.now.at field.now wanted) (S.image space.old) result }
+    ensures exact { WalksAs (λ _. tt) (λ i. holds i asked.now rule task.now.at field.now wanted)
+        (S.image space.old) result }
     ensures named { IsNamed result asked.now.audit asked.now.start }
 
     ensures stays { SpaceStays S.image S.files S.through S.most space.old space.new }

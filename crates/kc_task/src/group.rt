@@ -41,7 +41,8 @@ fn check_tgid<S: Space, L: Ledger>(
     leader: &View<'_>,
     steps: &mut Steps<L>,
 ) -> Result<u64, WalkStop>
-    ensures exact { WalksAs (λ n. n) (λ i. tgid_checked i asked.now shape.now leader.now.at) (S.image space.old) result }
+    ensures exact { WalksAs (λ n. n) (λ i. tgid_checked i asked.now shape.now leader.now.at)
+        (S.image space.old) result }
     ensures named { IsNamed result asked.now.audit asked.now.start }
 
     ensures stays { SpaceStays S.image S.files S.through S.most space.old space.new }
@@ -115,7 +116,8 @@ fn check_among<S: Space, L: Ledger>(
     threads: &Walked,
     steps: &mut Steps<L>,
 ) -> Result<(), WalkStop>
-    ensures exact { WalksAs (λ _. tt) (λ i. among_checked i asked.now shape.now group.now threads.now) (S.image space.old) result }
+    ensures exact { WalksAs (λ _. tt) (λ i. among_checked i asked.now shape.now group.now threads.now)
+        (S.image space.old) result }
     ensures named { IsNamed result asked.now.audit asked.now.start }
 
     ensures stays { SpaceStays S.image S.files S.through S.most space.old space.new }
@@ -143,7 +145,8 @@ fn check_all<S: Space, L: Ledger>(
     steps: &mut Steps<L>,
 ) -> Result<(), WalkStop>
     requires { IsInside shape.now btf.now }
-    ensures exact { WalksAs (λ _. tt) (λ i. all_pass (thread_checked i asked.now shape.now group.now) threads.now) (S.image space.old) result }
+    ensures exact { WalksAs (λ _. tt) (λ i. all_pass (thread_checked i asked.now shape.now group.now) threads.now)
+        (S.image space.old) result }
     ensures named { IsNamed result asked.now.audit asked.now.start }
 
     ensures stays { SpaceStays S.image S.files S.through S.most space.old space.new }
@@ -172,7 +175,8 @@ fn check_threads<S: Space, L: Ledger>(
     steps: &mut Steps<L>,
 ) -> Result<Walked, WalkStop>
     requires { IsInside shape.now btf.now }
-    ensures exact { WalksAs (λ threads. threads) (λ i. threads_checked i asked.now shape.now group.now) (S.image space.old) result }
+    ensures exact { WalksAs (λ threads. threads) (λ i. threads_checked i asked.now shape.now group.now)
+        (S.image space.old) result }
     ensures named { IsNamed result asked.now.audit asked.now.start }
 
     ensures stays { SpaceStays S.image S.files S.through S.most space.old space.new }
@@ -204,7 +208,8 @@ pub(crate) fn check_leader<S: Space, L: Ledger>(
     steps: &mut Steps<L>,
 ) -> Result<Walked, WalkStop>
     requires { IsInside shape.now btf.now }
-    ensures exact { WalksAs (λ threads. threads) (λ i. leader_checked i asked.now shape.now leader) (S.image space.old) result }
+    ensures exact { WalksAs (λ threads. threads) (λ i. leader_checked i asked.now shape.now leader)
+        (S.image space.old) result }
     ensures named { IsNamed result asked.now.audit asked.now.start }
 
     ensures stays { SpaceStays S.image S.files S.through S.most space.old space.new }

@@ -3,8 +3,13 @@
 
 mod fields;
 mod group;
+mod laws;
 mod rings;
 mod thread;
 mod walk;
 
+pub use laws::know_tasks;
 pub use walk::tasks_walk;
+
+#[cfg(test)]
+mod tests;

@@ -32,7 +32,8 @@ pub(crate) fn tasks_on<S: Space, L: Ledger>(
     offset: u64,
     steps: &mut Steps<L>,
 ) -> Result<Walked, WalkStop>
-    ensures exact { WalksAs (λ tasks. tasks) (λ i. tasks_on i asked.now shape.now head offset) (S.image space.old) result }
+    ensures exact { WalksAs (λ tasks. tasks) (λ i. tasks_on i asked.now shape.now head offset)
+        (S.image space.old) result }
     ensures named { IsNamed result asked.now.audit asked.now.start }
 
     ensures stays { SpaceStays S.image S.files S.through S.most space.old space.new }

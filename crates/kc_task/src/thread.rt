@@ -30,7 +30,9 @@ fn check_parents<S: Space, L: Ledger>(
     steps: &mut Steps<L>,
 ) -> Result<(), WalkStop>
     requires { IsInside shape.now btf.now }
-    ensures exact { WalksAs (λ _. tt) (λ i. all_pass (λ child. holds i asked.now T5 child shape.now.real_parent owner) children.now) (S.image space.old) result }
+    ensures exact { WalksAs (λ _. tt)
+        (λ i. all_pass (λ child. holds i asked.now T5 child shape.now.real_parent owner) children.now)
+        (S.image space.old) result }
     ensures named { IsNamed result asked.now.audit asked.now.start }
 
     ensures stays { SpaceStays S.image S.files S.through S.most space.old space.new }
@@ -110,7 +112,8 @@ fn check_stack<S: Space, L: Ledger>(
     task: &View<'_>,
     steps: &mut Steps<L>,
 ) -> Result<(), WalkStop>
-    ensures exact { WalksAs (λ _. tt) (λ i. stack_checked i asked.now shape.now task.now.at) (S.image space.old) result }
+    ensures exact { WalksAs (λ _. tt) (λ i. stack_checked i asked.now shape.now task.now.at)
+        (S.image space.old) result }
     ensures named { IsNamed result asked.now.audit asked.now.start }
 
     ensures stays { SpaceStays S.image S.files S.through S.most space.old space.new }
@@ -134,7 +137,8 @@ pub(crate) fn check_thread<S: Space, L: Ledger>(
     steps: &mut Steps<L>,
 ) -> Result<(), WalkStop>
     requires { IsInside shape.now btf.now }
-    ensures exact { WalksAs (λ _. tt) (λ i. thread_checked i asked.now shape.now group.now at) (S.image space.old) result }
+    ensures exact { WalksAs (λ _. tt) (λ i. thread_checked i asked.now shape.now group.now at)
+        (S.image space.old) result }
     ensures named { IsNamed result asked.now.audit asked.now.start }
 
     ensures stays { SpaceStays S.image S.files S.through S.most space.old space.new }

@@ -1,14 +1,16 @@
 // The task list.
-ghost use Rattle.std.specs.Prelude.{◌≡◌, ◌∷◌, ◌++◌, IfOk, OnOk, Ok};
+ghost use Rattle.std.specs.Prelude.{◌≡◌, ◌∷◌, ◌++◌, IfOk, IfSome, OnOk, Ok};
 ghost use Rattle.kc_memory.specs.Stays.{SpaceStays};
 ghost use Rattle.kc_found.specs.Trials.{and_then};
-ghost use Rattle.kc_found.specs.Walks.{CountsWalkFaults, IsNamed, WalksAs};
+ghost use Rattle.kc_found.specs.Walks.{CountsWalkFaults, IsNamed, OnBroken, WalksAs};
+ghost use Rattle.kc_task.specs.FiniteTasks.{NoTasks, Tasks};
 ghost use Rattle.kc_task.specs.TaskLists.{IsInside, gathered, leader_checked, task_list};
 
 use crate::group::check_leader;
 use crate::rings::tasks_on;
 use kc_btf::Btf;
 use kc_found::{Asked, Space, WalkStop, Walked};
+use kc_list::know_lists;
 use kc_view::TaskShape;
 use kc_word::{NoMemory, Steps};
 use std::alloc::Global;
@@ -46,7 +48,9 @@ fn add_threads<S: Space, L: Ledger>(
     steps: &mut Steps<L>,
 ) -> Result<(), WalkStop>
     requires { IsInside shape.now btf.now }
-    ensures exact { WalksAs (λ _. threads.new) (λ i. and_then (leader_checked i asked.now shape.now leader) (λ more. Ok (threads.old ++ more))) (S.image space.old) result }
+    ensures exact { WalksAs (λ _. threads.new)
+        (λ i. and_then (leader_checked i asked.now shape.now leader) (λ more. Ok (threads.old ++ more)))
+        (S.image space.old) result }
     ensures named { IsNamed result asked.now.audit asked.now.start }
 
     ensures stays { SpaceStays S.image S.files S.through S.most space.old space.new }
@@ -73,7 +77,8 @@ fn walk_groups<S: Space, L: Ledger>(
     steps: &mut Steps<L>,
 ) -> Result<Walked, WalkStop>
     requires { IsInside shape.now btf.now }
-    ensures exact { WalksAs (λ threads. threads) (λ i. gathered (leader_checked i asked.now shape.now) leaders.now) (S.image space.old) result }
+    ensures exact { WalksAs (λ threads. threads) (λ i. gathered (leader_checked i asked.now shape.now) leaders.now)
+        (S.image space.old) result }
     ensures named { IsNamed result asked.now.audit asked.now.start }
 
     ensures stays { SpaceStays S.image S.files S.through S.most space.old space.new }
@@ -90,6 +95,34 @@ fn walk_groups<S: Space, L: Ledger>(
         i += 1;
     }
     Ok(threads)
+}
+
+// Walks the ring of leaders, and then looks at their groups.
+fn walk_list<S: Space, L: Ledger>(
+    alloc: Global,
+    space: &mut S,
+    asked: &Asked,
+    btf: &Btf,
+    shape: &TaskShape,
+    steps: &mut Steps<L>,
+) -> Result<Walked, WalkStop>
+    requires { IsInside shape.now btf.now }
+    ensures exact { WalksAs (λ tasks. tasks) (λ i. task_list i shape.now asked.now) (S.image space.old) result }
+    ensures named { IsNamed result asked.now.audit asked.now.start }
+
+    ensures stays { SpaceStays S.image S.files S.through S.most space.old space.new }
+    ensures cause { CountsWalkFaults result (S.faults space.old) (S.faults space.new) }
+{
+    let head = asked.start.wrapping_add(shape.tasks);
+    let others = match tasks_on(alloc, space, asked, shape, head, shape.tasks, steps) {
+        Ok(others) => others,
+        Err(stop) => return Err(stop),
+    };
+    let leaders = match all_leaders(alloc, asked.start, &others) {
+        Ok(leaders) => leaders,
+        Err(NoMemory) => return Err(WalkStop::NoMemory),
+    };
+    walk_groups(alloc, space, asked, btf, shape, &leaders, steps)
 }
 
 /// The threads of the task list (`struct task_struct`) that starts at virtual address `start`, group by group, each in
@@ -109,21 +142,16 @@ pub fn tasks_walk<S: Space, L: Ledger>(
     steps: &mut Steps<L>,
 ) -> Result<Walked, WalkStop>
     requires { IsInside shape.now btf.now }
-    ensures walk { WalksAs (λ tasks. tasks) (λ i. task_list i shape.now (record { audit = audit; start = start })) (S.image space.old) result }
+    ensures walk { WalksAs (λ tasks. tasks) (λ i. task_list i shape.now (record { audit = audit; start = start }))
+        (S.image space.old) result }
+    ensures finite { IfOk result (λ tasks. IfSome (S.image space.old) (λ i. Tasks i shape.now start tasks)) }
+    ensures none { OnBroken result (IfSome (S.image space.old) (λ i. NoTasks i shape.now start)) }
     ensures named { IsNamed result audit start }
 
     ensures stays { SpaceStays S.image S.files S.through S.most space.old space.new }
     ensures cause { CountsWalkFaults result (S.faults space.old) (S.faults space.new) }
 {
+    know_lists();
     let asked = Asked { audit, start };
-    let head = start.wrapping_add(shape.tasks);
-    let others = match tasks_on(alloc, space, &asked, shape, head, shape.tasks, steps) {
-        Ok(others) => others,
-        Err(stop) => return Err(stop),
-    };
-    let leaders = match all_leaders(alloc, start, &others) {
-        Ok(leaders) => leaders,
-        Err(NoMemory) => return Err(WalkStop::NoMemory),
-    };
-    walk_groups(alloc, space, &asked, btf, shape, &leaders, steps)
+    walk_list(alloc, space, &asked, btf, shape, steps)
 }
