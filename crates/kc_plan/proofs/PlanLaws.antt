@@ -1,5 +1,5 @@
 -- What holds of the audits of a plan.
-use Rattle.std.proofs.Common.{◌≡◌, ℕ, zero, suc, ◌+◌, ◌<◌, ◌≤◌, Bool, true, false, not, ◌&&◌, List, [], ◌∷◌, ◌++◌, length, Option, Some, None, Result, Ok, Err, refl, ap, sym, subst, ◌∙◌, arith, append_assoc, map, option_map, slice_get}
+use Rattle.std.proofs.Common.{◌≡◌, ℕ, zero, suc, ◌+◌, ◌<◌, ◌≤◌, Bool, true, false, not, ◌&&◌, List, [], ◌∷◌, ◌++◌, length, Option, Some, None, Result, Ok, refl, ap, sym, subst, ◌∙◌, arith, append_assoc, map, option_map, slice_get}
 use Rattle.std.proofs.lemmas.List.{length-map}
 use Rattle.std.proofs.lemmas.List.Sums.{sum_by-cons}
 use Rattle.std.proofs.lemmas.Option.{slice_get-map}
@@ -28,9 +28,9 @@ use Rattle.kc_plan.specs.Plans.{Kernel, address_in, addressed, all_planned, begu
 use Rattle.kc_plan.specs.Steps.{written_for}
 use Rattle.kc_plan.specs.Values.{◌>>=◌, at, refuse_if}
 use Rattle.kc_plan.specs.Views.{audit_text}
-use Rattle.kc_plan.proofs.LinkLaws.{AllLead, AreAllLinks, AreLinks, Leads, from_within, has_from, links_are, one_if, same_truth, times_linked}
+use Rattle.kc_plan.proofs.LinkLaws.{AllLead, AreAllLinks, Leads, from_within, has_from, links_are, one_if, same_truth, times_linked}
 use Rattle.kc_plan.proofs.StepLemmas.{bound, same_ok}
-use Rattle.kc_plan.proofs.WrittenLaws.{AreWritten, IsWritten, are_written}
+use Rattle.kc_plan.proofs.WrittenLaws.{AreWritten, are_written}
 
 -- an audit keeps its name, begins where it is written to, and names those to which links lead from it
 pub record IsPlanned (links : List Link) (n : ℕ) (text : AuditText) (audit : AuditAt) : Type 0 where
@@ -70,11 +70,11 @@ root_is kernel n (Some name) root e =
     subst (λ root. is_some root ≡ true) (same_ok (Some address.0) root address.2) refl
 
 planned_from : (links : List Link) (n : ℕ) (text : AuditText) (start : StartAt) (element : Option ℕ) (link : ℕ) (kind : Kind) (audit : AuditAt)
-    → ◌≡◌ {A = Result AuditAt PlanFault} (Ok (record { name = text.name; kind = kind; start = start; element = element; link = link; each = children links n })) (Ok audit)
+    → ◌≡◌ {A = Result AuditAt PlanFault} (Ok (record { name = text.name; kind = kind; start = start; element = element; link = link; checks = []; each = children links n })) (Ok audit)
     → is_from start ≡ not (is_some text.start.root) → IsPlanned links n text audit
 planned_from links n text start element link kind audit e from =
     subst (IsPlanned links n text)
-    (same_ok (record { name = text.name; kind = kind; start = start; element = element; link = link; each = children links n }) audit e)
+    (same_ok (record { name = text.name; kind = kind; start = start; element = element; link = link; checks = []; each = children links n }) audit e)
     (record { name = refl; start = from; each = refl })
 
 one_planned : (kernel : Kernel) (links : List Link) (before : List AuditAt) (n : ℕ) (text : AuditText) (audit : AuditAt) → planned kernel links before n text ≡ Ok audit → IsPlanned links n text audit
@@ -83,7 +83,7 @@ one_planned kernel links before n text audit e =
     let needs : Row = needs_in kernel text in
     let above : Option ℕ = element_above links before n in
     let tested : Result ⊤ PlanFault = at (Some n) key.Kind (refuse_if (not needs.clear) P9) in
-    let made : StartAt → Option ℕ → ℕ → Kind → AuditAt = λ start element link kind. record { name = text.name; kind = kind; start = start; element = element; link = link; each = children links n } in
+    let made : StartAt → Option ℕ → ℕ → Kind → AuditAt = λ start element link kind. record { name = text.name; kind = kind; start = start; element = element; link = link; checks = []; each = children links n } in
     let with_bits : StartAt → Option ℕ → ℕ → Option BitsAt → Result AuditAt PlanFault = λ start element link bits. at (Some n) key.Kind (ok_or (kind_in kernel text link bits) P11) >>= λ kind. Ok (made start element link kind) in
     let with_link : StartAt → Option ℕ → ℕ → Result AuditAt PlanFault = λ start element link. key_for kernel.types n element text.parts.tree.key >>= λ bits. with_bits start element link bits in
     let with_element : StartAt → Option ℕ → Result AuditAt PlanFault = λ start element. link_for kernel.types needs n element text.parts.link >>= λ link. with_link start element link in

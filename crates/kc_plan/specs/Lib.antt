@@ -1,5 +1,6 @@
 pub mod Answers
 pub mod Audits
+pub mod Checks
 pub mod Events
 pub mod Inside
 pub mod Kept

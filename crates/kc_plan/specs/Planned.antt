@@ -1,9 +1,12 @@
 -- An audit of a plan, and what contracts see as one.
 use Rattle.std.specs.Prelude.{ℕ, List, map, Bool, true, false, Option}
-use Rattle.kc_layout.specs.Ends.{ByteAt}
-use Rattle.kc_layout.specs.Views.{byte_view}
+use Rattle.kc_expr.specs.Exprs.{tree_of}
+use Rattle.kc_expr.specs.Tree.{Tree}
+use Rattle.kc_layout.specs.Ends.{ByteAt, NumberAt}
+use Rattle.kc_layout.specs.Views.{byte_view, number_view}
 use Rattle.kc_plan.specs.declared.kind.Kind.{Kind}
 use Rattle.kc_plan.specs.declared.planned.Audit.{Audit}
+use Rattle.kc_plan.specs.declared.planned.Check.{Check}
 use Rattle.kc_plan.specs.declared.planned.Start.{Start}
 use Rattle.kc_plan.specs.declared.planned.Start.TheVariants.{Root, From}
 
@@ -13,14 +16,20 @@ pub data StartAt : Type 0 where
   RootAt : (symbol : ℕ) (ty : ℕ) (to : ByteAt) → StartAt
   FromAt : (to : ByteAt) (optional : Bool) → StartAt
 
+-- A check of an element: its tree, and where its paths lead from the element, in the order of first appearance.
+pub record CheckAt : Type 0 where
+  pub tree : Tree
+  pub fields : List NumberAt
+
 -- An audit: its name, its kind with the places of its words, where it begins, the type of its elements, the
--- byte of the node in an element, and the numbers of the audits that are made at each element.
+-- byte of the node in an element, the checks of each element, and the numbers of the audits that are made there.
 pub record AuditAt : Type 0 where
   pub name : List ℕ
   pub kind : Kind
   pub start : StartAt
   pub element : Option ℕ
   pub link : ℕ
+  pub checks : List CheckAt
   pub each : List ℕ
 
 -- begins at a path from the element of the audit above
@@ -32,8 +41,11 @@ abbrev pub start_seen : Start → StartAt
 start_seen (Root address ty to) = RootAt address ty (byte_view to)
 start_seen (From to optional) = FromAt (byte_view to) optional
 
+abbrev pub check_seen : Check → CheckAt
+check_seen check = record { tree = tree_of check.expr; fields = map number_view check.fields }
+
 abbrev pub audit_seen : Audit → AuditAt
-audit_seen audit = record { name = audit.name; kind = audit.kind; start = start_seen audit.start; element = audit.element; link = audit.link; each = audit.each }
+audit_seen audit = record { name = audit.name; kind = audit.kind; start = start_seen audit.start; element = audit.element; link = audit.link; checks = map check_seen audit.checks; each = audit.each }
 
 abbrev pub audits_seen : List Audit → List AuditAt
 audits_seen audits = map audit_seen audits

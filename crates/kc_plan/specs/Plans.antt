@@ -21,7 +21,6 @@ use Rattle.kc_plan.specs.Kinds.{row, shape}
 use Rattle.kc_plan.specs.Links.{above_of, links_for}
 use Rattle.kc_plan.specs.Planned.{AuditAt, StartAt}
 use Rattle.kc_plan.specs.Planned.StartAt.{RootAt, FromAt}
-use Rattle.kc_plan.specs.Shapes.{OwnAt}
 use Rattle.kc_plan.specs.Steps.{document, parsed, written_for}
 use Rattle.kc_plan.specs.Values.{◌>>=◌, at, refuse_if}
 
@@ -159,7 +158,7 @@ planned kernel links before n audit = do
   link ← link_for kernel.types (needs_in kernel audit) n element audit.parts.link
   bits ← key_for kernel.types n element audit.parts.tree.key
   kind ← at (Some n) key.Kind (ok_or (kind_in kernel audit link bits) P11)
-  Ok (record { name = audit.name; kind = kind; start = start; element = element; link = link; each = children links n })
+  Ok (record { name = audit.name; kind = kind; start = start; element = element; link = link; checks = []; each = children links n })
 
 -- the audits, behind these
 abbrev pub all_planned : Kernel → List Link → List AuditAt → List AuditText → Result (List AuditAt) PlanFault

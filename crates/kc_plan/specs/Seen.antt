@@ -6,8 +6,8 @@ use Rattle.kc_memory.specs.Bits.{Number}
 use Rattle.kc_memory.specs.Image.{Image}
 use Rattle.kc_memory.specs.Stopped.{Stopped}
 use Rattle.kc_memory.specs.Translation.{and_then}
-use Rattle.kc_layout.specs.Ends.{ByteAt}
-use Rattle.kc_view.specs.Pointers.{pointer, target}
+use Rattle.kc_layout.specs.Ends.{ByteAt, NumberAt}
+use Rattle.kc_view.specs.Pointers.{pointer, target, value_at}
 use Rattle.kc_view.specs.Typed.{bytes_on}
 use Rattle.kc_found.specs.declared.asked.Asked.{Asked}
 use Rattle.kc_found.specs.declared.xarrays.XaItem.{XaItem}
@@ -18,8 +18,9 @@ use Rattle.kc_found.specs.Violations.{Violation, missed}
 use Rattle.kc_found.specs.XaSites.{xa_judged}
 use Rattle.kc_plan.specs.declared.kind.Kind.{Kind}
 use Rattle.kc_plan.specs.declared.kind.Kind.TheVariants.{Ring, Hlist, Rbtree, Xarray}
+use Rattle.kc_plan.specs.Checks.{checked, numbers_of}
 use Rattle.kc_plan.specs.Events.{Event, Walk, Wrong}
-use Rattle.kc_plan.specs.Planned.{AuditAt, StartAt}
+use Rattle.kc_plan.specs.Planned.{AuditAt, CheckAt, StartAt}
 use Rattle.kc_plan.specs.Planned.StartAt.{RootAt, FromAt}
 
 -- Where a path leads: to an address, or to the first null pointer, by the place of its first word and the address of its
@@ -53,14 +54,19 @@ nodes_of image (Hlist shape) audit start = hash_walk image shape audit start
 nodes_of image (Rbtree shape) audit start = tree_walk image shape audit start
 nodes_of image (Xarray shape) audit start = entries_in (xa_judged image shape audit start)
 
--- What a plan asks of a dump: where a path leads from an address, and what a walk of a kind gives, for an audit's number and
--- a start.
+-- the number of a field of an element
+abbrev pub number_at : Image → ℕ → NumberAt → Result Number Stopped
+number_at image element field = value_at image element field.hops field.bits
+
+-- What a plan asks of a dump: where a path leads from an address, what a walk of a kind gives, for an audit's number and
+-- a start, and the number of a field of an element.
 pub record World : Type 0 where
   pub paths : ByteAt → ℕ → Result PathEnd Stopped
   pub walks : Kind → ℕ → ℕ → Result (List ℕ) Violation
+  pub numbers : ℕ → NumberAt → Result Number Stopped
 
 abbrev pub world : Image → World
-world image = record { paths = λ to at. path_end image at to.hops to.byte; walks = nodes_of image }
+world image = record { paths = λ to at. path_end image at to.hops to.byte; walks = nodes_of image; numbers = number_at image }
 
 abbrev pub path_of : StartAt → ByteAt
 path_of (RootAt symbol ty to) = to
@@ -96,9 +102,13 @@ in_turn see (x ∷ xs) = see x ++ in_turn see xs
 abbrev pub below : AuditAt → (ℕ → ℕ → List Event) → ℕ → List Event
 below a go element = in_turn (λ m. go m element) a.each
 
--- what is seen at an element that audit n meets from a start
+-- what is seen of the checks of an element, one after the other
+abbrev pub checks_seen : World → Asked → List CheckAt → ℕ → List Event
+checks_seen w asked checks element = in_turn (λ (check : CheckAt). checked asked element check (numbers_of (w.numbers element) check.fields)) checks
+
+-- what is seen at an element that audit n meets from a start: its checks, and then what lies below
 abbrev pub at_element : World → ℕ → AuditAt → ℕ → (ℕ → ℕ → List Event) → ℕ → List Event
-at_element w n a start go element = below a go element
+at_element w n a start go element = checks_seen w (record { audit = n; start = start }) a.checks element ++ below a go element
 
 -- audit n from a start, by what it walks there: the walk is judged whole, and then its elements are, one by one
 abbrev pub walked : World → ℕ → AuditAt → ℕ → (ℕ → ℕ → List Event) → Result (List ℕ) Violation → List Event

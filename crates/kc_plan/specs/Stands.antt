@@ -13,8 +13,9 @@ use Rattle.kc_found.specs.XaLayouts.{XaLayout}
 use Rattle.kc_found.specs.XaSites.{xa_course}
 use Rattle.kc_plan.specs.declared.kind.Kind.{Kind}
 use Rattle.kc_plan.specs.declared.kind.Kind.TheVariants.{Ring, Hlist, Rbtree, Xarray}
-use Rattle.kc_plan.specs.Planned.{AuditAt}
-use Rattle.kc_plan.specs.Seen.{PathEnd, EndsAt, NullAt, container_of, entries, is_optional, path_end, path_of, roots}
+use Rattle.kc_plan.specs.Checks.{CheckHolds, numbers_of}
+use Rattle.kc_plan.specs.Planned.{AuditAt, CheckAt}
+use Rattle.kc_plan.specs.Seen.{PathEnd, EndsAt, NullAt, container_of, entries, is_optional, number_at, path_end, path_of, roots}
 
 -- some addresses are the pointers of an xarray that starts here, by rising index. Which audit asks doesn't bear on it.
 abbrev pub XArrayOf : Image → XaLayout → ℕ → List ℕ → Type 0
@@ -28,14 +29,18 @@ Holds image (Hlist shape) start nodes = lists.HChain (vword image) shape start n
 Holds image (Rbtree shape) start nodes = RbTree (reads_of image) shape start nodes
 Holds image (Xarray shape) start nodes = XArrayOf image shape start nodes
 
--- each audit that is named there stands at an element, where `Go` says that one stands at an address
-abbrev pub ElementStands : AuditAt → (ℕ → ℕ → Type 0) → ℕ → Type 0
-ElementStands a Go element = AllByRecursion (λ m. Go m element) a.each
+-- each of these checks holds of an element
+abbrev pub ChecksHold : Image → List CheckAt → ℕ → Type 0
+ChecksHold image checks element = AllByRecursion (λ (check : CheckAt). CheckHolds check (numbers_of (number_at image element) check.fields)) checks
+
+-- its checks hold of an element, and each audit that is named stands there, where `Go` says that one stands at an address
+abbrev pub ElementStands : Image → AuditAt → (ℕ → ℕ → Type 0) → ℕ → Type 0
+ElementStands image a Go element = ChecksHold image a.checks element × AllByRecursion (λ m. Go m element) a.each
 
 -- some nodes make up the structure from a start, and each of their elements stands
 abbrev pub WalkStands : Image → AuditAt → (ℕ → ℕ → Type 0) → ℕ → Type 0
 WalkStands image a Go start =
-    (nodes : List ℕ) × Holds image a.kind start nodes × AllByRecursion (λ node. ElementStands a Go (container_of a.link node)) nodes
+    (nodes : List ℕ) × Holds image a.kind start nodes × AllByRecursion (λ node. ElementStands image a Go (container_of a.link node)) nodes
 
 -- The pointers of an audit's path can be read, up to the first that is null. Either one is, and the audit is optional, or
 -- none is, and the structure stands where they lead.

@@ -23,7 +23,7 @@ pub use keys::spelling;
 pub use kind::Kind;
 pub use laws::know_plans;
 pub use plan::Plan;
-pub use planned::{Audit, AuditList, Numbers, Start};
+pub use planned::{Audit, AuditList, Check, Checks, Fields, Numbers, Start};
 pub use read::read_plan;
 
 #[cfg(test)]

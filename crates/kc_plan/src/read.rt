@@ -111,6 +111,7 @@ fn planned(
         start,
         element,
         link,
+        checks: Items::new(alloc),
         each,
     })
 }
