@@ -26,7 +26,7 @@ use Rattle.kc_found.specs.Walks.{IsBroken, IsStopped, WalksAs}
 use Rattle.kc_plan.specs.Events.{Event, Wrong}
 use Rattle.kc_plan.specs.Kept.{are_between, are_later}
 use Rattle.kc_plan.specs.Planned.{AuditAt}
-use Rattle.kc_plan.specs.Seen.{PathEnd, EndsAt, NullAt, at_element, below, container_of, entered, in_turn, is_optional, nodes_of, null_pointer, path_end, path_of, root_of, roots, seen, walked, world}
+use Rattle.kc_plan.specs.Seen.{PathEnd, EndsAt, NullAt, at_element, below, checks_seen, container_of, entered, in_turn, is_optional, nodes_of, null_pointer, path_end, path_of, root_of, roots, seen, walked, world}
 use Rattle.kc_run.specs.Tally.{TalliesAs, added, tally}
 use Rattle.kc_run.proofs.Counting.{tally_goes, tally_stops}
 use Rattle.kc_run.proofs.Unrolling.{unrolled}
@@ -72,9 +72,25 @@ looked audits a n start = λ i. walked (world i) n a start (under i audits) (nod
 abbrev pub element_seen : List AuditAt → AuditAt → ℕ → ℕ → Image → ℕ → List Event
 element_seen audits a n start = λ i node. at_element (world i) n a start (under i audits) (container_of a.link node)
 
--- the audits below an element
-abbrev pub below_seen : List AuditAt → AuditAt → ℕ → Image → List Event
-below_seen audits a element = λ i. below a (under i audits) element
+-- an element, and the checks of it alone
+abbrev pub reached_seen : List AuditAt → AuditAt → ℕ → ℕ → ℕ → Image → List Event
+reached_seen audits a n start element = λ i. at_element (world i) n a start (under i audits) element
+
+abbrev pub checks_from : AuditAt → ℕ → ℕ → ℕ → Image → List Event
+checks_from a n start element = λ i. checks_seen (world i) (record { audit = n; start = start }) a.checks element
+
+-- the checks hold, and what lies below is left; or they stop
+pub checks_go : {A : Type 0} (image : Option Image) (audits : List AuditAt) (a : AuditAt) (n start element : ℕ) (counts : List AuditCount) (u : A) → TalliesAs (checks_from a n start element) counts counts image (Ok u) →
+    Left image counts (reached_seen audits a n start element) counts (λ i m. under i audits m element) a.each
+checks_go None audits a n start element counts u e = tt
+checks_go (Some i) audits a n start element counts u e = tally_goes counts counts (checks_from a n start element i) (below a (under i audits) element) e
+
+pub checks_stop : (A B : Type 0) (image : Option Image) (audits : List AuditAt) (a : AuditAt) (n start element : ℕ) (counts after : List AuditCount) (stop : WalkStop) → TalliesAs {A = B} (checks_from a n start element) counts counts image (Err stop) →
+    TalliesAs {A = A} (reached_seen audits a n start element) counts after image (Err stop)
+checks_stop A B None audits a n start element counts after stop e = tt
+checks_stop A B (Some i) audits a n start element counts after (ends.Broken v) e = tally_stops counts v (checks_from a n start element i) (below a (under i audits) element) e
+checks_stop A B (Some i) audits a n start element counts after ends.Fault e = tt
+checks_stop A B (Some i) audits a n start element counts after ends.NoMemory e = tt
 
 pub look_begins : (image : Option Image) (audits : List AuditAt) (a : AuditAt) (n start size : ℕ) (before now : List AuditCount) (nodes kept : List ℕ) → kept ≡ nodes → size ≡ length nodes → now ≡ added before n size →
     WalksAs (λ (xs : List ℕ). xs) (λ i. nodes_of i a.kind n start) image (Ok nodes) → Left image before (looked audits a n start) now (element_seen audits a n start) kept

@@ -1,4 +1,5 @@
 mod Arrays
+mod Checking
 mod Counting
 mod Going
 mod Rows

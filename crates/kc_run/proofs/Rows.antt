@@ -1,7 +1,8 @@
 -- Examples of the definition: audits in one another over a few words.
-use Rattle.std.proofs.Common.{◌≡◌, ℕ, ◌+◌, nat_eq, Bool, true, false, if◌then◌else◌, List, [], ◌∷◌, None, Some, Result, Ok, Err, refl}
+use Rattle.std.proofs.Common.{◌≡◌, ℕ, ◌+◌, ◌/◌, pos, nat_eq, Bool, true, false, if◌then◌else◌, List, [], ◌∷◌, None, Some, Result, Ok, Err, refl}
 use Rattle.kc_memory.specs.declared.rule.Rule.TheVariants.{M6, L1}
 use Rattle.kc_memory.specs.declared.words.VWord.{VWord}
+use Rattle.kc_memory.specs.Bits.{Number}
 use Rattle.kc_memory.specs.Places.{place_of}
 use Rattle.kc_memory.specs.Stopped.{Stopped}
 use Rattle.kc_view.specs.Typed.{bytes_on}
@@ -42,8 +43,13 @@ nodes ws (Hlist shape) n start = Ok []
 nodes ws (Rbtree shape) n start = Ok []
 nodes ws (Xarray shape) n start = Ok []
 
+-- a field of one word, which no pointer leads to
+abbrev number : Result VWord Stopped → Result Number Stopped
+number (Ok w) = Ok (record { value = pos w.value; first = place_of w; second = None })
+number (Err s) = Err s
+
 abbrev dump : List VWord → World
-dump ws = record { paths = λ to at. path ws at to.hops to.byte; walks = nodes ws }
+dump ws = record { paths = λ to at. path ws at to.hops to.byte; walks = nodes ws; numbers = λ element f. number (look ws (bytes_on element (f.bits.bit / 8))) }
 
 -- a ring of tasks, each with a ring of threads behind a pointer
 abbrev tasks : AuditAt
@@ -53,6 +59,7 @@ tasks = record {
   start = RootAt 0xb000 2 (record { hops = []; byte = 8; ty = 1 });
   element = Some 2;
   link = 8;
+  checks = [];
   each = 1 ∷ [];
 }
 
@@ -63,6 +70,7 @@ threads optional = record {
   start = FromAt (record { hops = 0x50 ∷ []; byte = 0; ty = 1 }) optional;
   element = Some 2;
   link = 0x58;
+  checks = [];
   each = [];
 }
 

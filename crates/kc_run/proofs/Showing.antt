@@ -1,20 +1,26 @@
 -- The words that a verdict shows are true of the dump.
 use Rattle.std.proofs.Common.{◌≡◌, ℕ, suc, Bool, true, false, nat_eq, List, [], ◌∷◌, ◌++◌, length, refl}
-use Rattle.std.specs.Prelude.{Result, Ok, Err, ⊤, if◌then◌else◌}
+use Rattle.std.specs.Prelude.{Option, Some, None, option_to_list, Result, Ok, Err, ⊤, if◌then◌else◌}
+use Rattle.kc_memory.specs.declared.words.Place.{Place}
 use Rattle.kc_memory.specs.Bits.{Number, number_places}
 use Rattle.kc_memory.specs.Image.{Image}
 use Rattle.kc_memory.specs.Laws.{NumbersStand, PlacesStand}
 use Rattle.kc_memory.specs.Places.{AllStandIn, StandsIn, entry_places}
 use Rattle.kc_memory.specs.Stopped.{Stopped}
+use Rattle.kc_layout.specs.Ends.{NumberAt}
+use Rattle.kc_expr.specs.Values.{is_true}
+use Rattle.kc_view.specs.Laws.{ValuesStand}
 use Rattle.kc_view.specs.Pointers.{pointer, target}
 use Rattle.kc_view.specs.Typed.{bytes_on}
 use Rattle.kc_memory.specs.Translation.{and_then}
+use Rattle.kc_found.specs.declared.asked.Asked.{Asked}
 use Rattle.kc_found.specs.Violations.{Violation}
 use Rattle.kc_plan.specs.declared.kind.Kind.{Kind}
 use Rattle.kc_plan.specs.declared.kind.Kind.TheVariants.{Ring, Hlist, Rbtree, Xarray}
+use Rattle.kc_plan.specs.Checks.{checked, numbers_of, value_of, words_of}
 use Rattle.kc_plan.specs.Events.{Event, Walk, Wrong, first_wrong, verdict_of}
-use Rattle.kc_plan.specs.Planned.{AuditAt}
-use Rattle.kc_plan.specs.Seen.{PathEnd, EndsAt, NullAt, world, nodes_of, path_end, path_of, is_optional, unless_null, container_of, in_turn, at_element, walked, entered, seen, roots, all_seen}
+use Rattle.kc_plan.specs.Planned.{AuditAt, CheckAt}
+use Rattle.kc_plan.specs.Seen.{PathEnd, EndsAt, NullAt, world, nodes_of, path_end, path_of, is_optional, unless_null, container_of, in_turn, below, checks_seen, number_at, at_element, walked, entered, seen, roots, all_seen}
 use Rattle.kc_plan.specs.Verdicts.{verdict_places}
 use Rattle.kc_rb.specs.Laws.{TreePlacesStand}
 use Rattle.kc_xa.specs.Laws.{XarrayPlacesStand}
@@ -72,28 +78,62 @@ nodes_show places trees arrays image (Hlist shape) n start v is = hash_walk_show
 nodes_show places trees arrays image (Rbtree shape) n start v is = trees image shape n start v is
 nodes_show places trees arrays image (Xarray shape) n start v is = array_shows arrays image shape n start v is
 
-walked_shows : (image : Image) (n : ℕ) (a : AuditAt) (start : ℕ) (go : ℕ → ℕ → List Event) (r : Result (List ℕ) Violation) → ((v : Violation) → r ≡ Err v → AllStandIn image v.places) → ((m x : ℕ) → AllSeen image (go m x)) →
+-- the numbers of fields
+NumbersShow : Image → Result (List Number) Stopped → Type 0
+NumbersShow image (Ok numbers) = AllStandIn image (words_of numbers)
+NumbersShow image (Err s) = AllStandIn image (entry_places s.pa s.entry)
+
+second_shows : (image : Image) (second : Option Place) (numbers : List Number) → AllStandIn image (option_to_list second) → AllStandIn image (words_of numbers) → AllStandIn image (option_to_list second ++ words_of numbers)
+second_shows image None numbers a b = b
+second_shows image (Some p) numbers a b = (a.0, b)
+
+first_number_shows : (image : Image) (r : Result Number Stopped) (rest : Result (List Number) Stopped) → AllStandIn image (number_places r) → NumbersShow image rest → NumbersShow image (and_then r (λ n. and_then rest (λ ns. Ok (n ∷ ns))))
+unfolding NumbersShow
+first_number_shows image (Err s) rest a b = a
+first_number_shows image (Ok n) (Err s) a b = b
+first_number_shows image (Ok n) (Ok ns) a b = (a.0, second_shows image n.second ns a.1 b)
+
+numbers_show : ValuesStand → (image : Image) (element : ℕ) (fields : List NumberAt) → NumbersShow image (numbers_of (number_at image element) fields)
+unfolding NumbersShow
+numbers_show values image element [] = tt
+numbers_show values image element (f ∷ fields) =
+    first_number_shows image (number_at image element f) (numbers_of (number_at image element) fields) (values image element f.hops f.bits) (numbers_show values image element fields)
+
+check_shows : (image : Image) (asked : Asked) (element : ℕ) (check : CheckAt) (r : Result (List Number) Stopped) → NumbersShow image r → AllSeen image (checked asked element check r)
+unfolding AllSeen NumbersShow
+check_shows image asked element check (Err s) here = (here, tt)
+check_shows image asked element check (Ok numbers) here = one_of image (is_true (value_of check numbers)) [] _ tt (here, tt)
+
+element_shows : ValuesStand → (image : Image) (n : ℕ) (a : AuditAt) (start : ℕ) (go : ℕ → ℕ → List Event) (element : ℕ) → ((m x : ℕ) → AllSeen image (go m x)) → AllSeen image (at_element (world image) n a start go element)
+element_shows values image n a start go element further =
+    let asked : Asked = record { audit = n; start = start } in
+    let there = λ (check : CheckAt). numbers_of (number_at image element) check.fields in
+    seen_whole image (checks_seen (world image) asked a.checks element) (below a go element)
+    (turn_shows image (λ check. checked asked element check (there check)) a.checks (λ check. check_shows image asked element check (there check) (numbers_show values image element check.fields)))
+    (turn_shows image (λ m. go m element) a.each (λ m. further m element))
+
+walked_shows : ValuesStand → (image : Image) (n : ℕ) (a : AuditAt) (start : ℕ) (go : ℕ → ℕ → List Event) (r : Result (List ℕ) Violation) → ((v : Violation) → r ≡ Err v → AllStandIn image v.places) → ((m x : ℕ) → AllSeen image (go m x)) →
     AllSeen image (walked (world image) n a start go r)
 unfolding AllSeen
-walked_shows image n a start go (Err v) here below = (here v refl, tt)
-walked_shows image n a start go (Ok nodes) here below =
-    turn_shows image (λ node. at_element (world image) n a start go (container_of a.link node)) nodes (λ node. turn_shows image (λ m. go m (container_of a.link node)) a.each (λ m. below m (container_of a.link node)))
+walked_shows values image n a start go (Err v) here further = (here v refl, tt)
+walked_shows values image n a start go (Ok nodes) here further =
+    turn_shows image (λ node. at_element (world image) n a start go (container_of a.link node)) nodes (λ node. element_shows values image n a start go (container_of a.link node) further)
 
-entered_shows : PlacesStand → TreePlacesStand → XarrayPlacesStand → (image : Image) (n : ℕ) (a : AuditAt) (go : ℕ → ℕ → List Event) (base : ℕ) (r : Result PathEnd Stopped) → EndStands image r → ((m x : ℕ) → AllSeen image (go m x)) →
+entered_shows : PlacesStand → TreePlacesStand → XarrayPlacesStand → ValuesStand → (image : Image) (n : ℕ) (a : AuditAt) (go : ℕ → ℕ → List Event) (base : ℕ) (r : Result PathEnd Stopped) → EndStands image r → ((m x : ℕ) → AllSeen image (go m x)) →
     AllSeen image (entered (world image) n a go base r)
 unfolding AllSeen EndStands
-entered_shows places trees arrays image n a go base (Err s) here below = (here, tt)
-entered_shows places trees arrays image n a go base (Ok (NullAt place at)) here below = one_of image (is_optional a.start) [] _ tt ((here, tt), tt)
-entered_shows places trees arrays image n a go base (Ok (EndsAt start)) here below =
-    walked_shows image n a start go (nodes_of image a.kind n start) (nodes_show places trees arrays image a.kind n start) below
+entered_shows places trees arrays values image n a go base (Err s) here further = (here, tt)
+entered_shows places trees arrays values image n a go base (Ok (NullAt place at)) here further = one_of image (is_optional a.start) [] _ tt ((here, tt), tt)
+entered_shows places trees arrays values image n a go base (Ok (EndsAt start)) here further =
+    walked_shows values image n a start go (nodes_of image a.kind n start) (nodes_show places trees arrays image a.kind n start) further
 
-seen_shows : PlacesStand → TreePlacesStand → XarrayPlacesStand → NumbersStand → (image : Image) (audits : List AuditAt) (k m base : ℕ) → AllSeen image (seen (world image) audits k m base)
+seen_shows : PlacesStand → TreePlacesStand → XarrayPlacesStand → NumbersStand → ValuesStand → (image : Image) (audits : List AuditAt) (k m base : ℕ) → AllSeen image (seen (world image) audits k m base)
 unfolding AllSeen seen
-seen_shows places trees arrays numbers image [] k m base = tt
-seen_shows places trees arrays numbers image (a ∷ later) k m base =
+seen_shows places trees arrays numbers values image [] k m base = tt
+seen_shows places trees arrays numbers values image (a ∷ later) k m base =
     one_of image (nat_eq m k) _ _
-    (entered_shows places trees arrays image k a (λ n x. seen (world image) later (suc k) n x) base (path_end image base (path_of a.start).hops (path_of a.start).byte) (end_stands numbers image base (path_of a.start).hops (path_of a.start).byte) (λ n x. seen_shows places trees arrays numbers image later (suc k) n x))
-    (seen_shows places trees arrays numbers image later (suc k) m base)
+    (entered_shows places trees arrays values image k a (λ n x. seen (world image) later (suc k) n x) base (path_end image base (path_of a.start).hops (path_of a.start).byte) (end_stands numbers image base (path_of a.start).hops (path_of a.start).byte) (λ n x. seen_shows places trees arrays numbers values image later (suc k) n x))
+    (seen_shows places trees arrays numbers values image later (suc k) m base)
 
 first_shows : (image : Image) (n : ℕ) (all es : List Event) → AllSeen image es → AllStandIn image (verdict_places (verdict_of n all (first_wrong es)))
 unfolding AllSeen
@@ -101,7 +141,7 @@ first_shows image n all [] a = tt
 first_shows image n all (Walk m size ∷ es) a = first_shows image n all es a
 first_shows image n all (Wrong v ∷ es) a = a.0
 
-pub verdicts_stand : PlacesStand → TreePlacesStand → XarrayPlacesStand → NumbersStand → VerdictsStand
-verdicts_stand places trees arrays numbers image audits =
+pub verdicts_stand : PlacesStand → TreePlacesStand → XarrayPlacesStand → NumbersStand → ValuesStand → VerdictsStand
+verdicts_stand places trees arrays numbers values image audits =
     first_shows image (length audits) (all_seen (world image) audits) (all_seen (world image) audits)
-    (turn_shows image (λ r. seen (world image) audits 0 r.0 r.1) (roots 0 audits) (λ r. seen_shows places trees arrays numbers image audits 0 r.0 r.1))
+    (turn_shows image (λ r. seen (world image) audits 0 r.0 r.1) (roots 0 audits) (λ r. seen_shows places trees arrays numbers values image audits 0 r.0 r.1))

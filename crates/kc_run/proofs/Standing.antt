@@ -2,15 +2,19 @@
 use Rattle.std.proofs.Common.{◌≡◌, ℕ, suc, Bool, true, false, nat_eq, List, [], ◌∷◌, ◌++◌, length, refl}
 use Rattle.std.specs.Prelude.{Result, Ok, Err, ⊤, MatchBool, IsTrue, if◌then◌else◌}
 use Rattle.std.specs.List.{AllByRecursion}
+use Rattle.kc_memory.specs.Bits.{Number}
 use Rattle.kc_memory.specs.Image.{Image}
 use Rattle.kc_memory.specs.Stopped.{Stopped}
+use Rattle.kc_found.specs.declared.asked.Asked.{Asked}
 use Rattle.kc_found.specs.Violations.{Violation}
+use Rattle.kc_expr.specs.Values.{is_true}
 use Rattle.kc_list.specs.Laws.{HashChainsAreWalked, RingsAreWalked}
 use Rattle.kc_plan.specs.declared.kind.Kind.{Kind}
 use Rattle.kc_plan.specs.declared.kind.Kind.TheVariants.{Ring, Hlist, Rbtree, Xarray}
+use Rattle.kc_plan.specs.Checks.{CheckHolds, checked, numbers_of, value_of}
 use Rattle.kc_plan.specs.Events.{Event, Walk, Wrong, first_wrong, verdict_of}
-use Rattle.kc_plan.specs.Planned.{AuditAt}
-use Rattle.kc_plan.specs.Seen.{PathEnd, EndsAt, NullAt, world, nodes_of, path_end, path_of, is_optional, container_of, in_turn, at_element, walked, entered, seen, roots, all_seen}
+use Rattle.kc_plan.specs.Planned.{AuditAt, CheckAt}
+use Rattle.kc_plan.specs.Seen.{PathEnd, EndsAt, NullAt, world, nodes_of, path_end, path_of, is_optional, container_of, in_turn, below, checks_seen, number_at, at_element, walked, entered, seen, roots, all_seen}
 use Rattle.kc_plan.specs.Stands.{Holds, ElementStands, WalkStands, EnterStands, Stands}
 use Rattle.kc_plan.specs.Verdicts.{IsClean}
 use Rattle.kc_rb.specs.Laws.{TreesAreWalked}
@@ -57,46 +61,75 @@ Going = ℕ → ℕ → List Event
 abbrev Standing : Type 1
 Standing = ℕ → ℕ → Type 0
 
+-- a violation unless something is true
+unless_stands : (b : Bool) (v : Violation) → NoneWrong (if b then [] else (Wrong v ∷ [])) → IsTrue b
+unfolding NoneWrong
+unless_stands true v c = refl
+unless_stands false v c = absurd c
+
+unless_clean : (b : Bool) (v : Violation) → IsTrue b → NoneWrong (if b then [] else (Wrong v ∷ []))
+unfolding NoneWrong
+unless_clean true v s = tt
+unless_clean false v s = absurd (cc)
+
+check_stands : (asked : Asked) (element : ℕ) (check : CheckAt) (there : Result (List Number) Stopped) → NoneWrong (checked asked element check there) → CheckHolds check there
+unfolding NoneWrong
+check_stands asked element check (Err s) c = absurd c
+check_stands asked element check (Ok numbers) c = unless_stands (is_true (value_of check numbers)) _ c
+
+check_clean : (asked : Asked) (element : ℕ) (check : CheckAt) (there : Result (List Number) Stopped) → CheckHolds check there → NoneWrong (checked asked element check there)
+check_clean asked element check (Err s) h = absurd h
+check_clean asked element check (Ok numbers) h = unless_clean (is_true (value_of check numbers)) _ h
+
+element_stands : (image : Image) (n : ℕ) (a : AuditAt) (start : ℕ) (go : Going) (Go : Standing) (element : ℕ) → ((m x : ℕ) → NoneWrong (go m x) → Go m x) →
+    NoneWrong (at_element (world image) n a start go element) → ElementStands image a Go element
+element_stands image n a start go Go element further c =
+    let asked : Asked = record { audit = n; start = start } in
+    let there = λ (check : CheckAt). numbers_of (number_at image element) check.fields in
+    let parts = none_parts (checks_seen (world image) asked a.checks element) (below a go element) c in (
+      turn_stands (λ check. checked asked element check (there check)) (λ check. CheckHolds check (there check)) a.checks (λ check d. check_stands asked element check (there check) d) parts.0,
+      turn_stands (λ m. go m element) (λ m. Go m element) a.each (λ m d. further m element d) parts.1,
+    )
+
+element_clean : (image : Image) (n : ℕ) (a : AuditAt) (start : ℕ) (go : Going) (Go : Standing) (element : ℕ) → ((m x : ℕ) → Go m x → NoneWrong (go m x)) →
+    ElementStands image a Go element → NoneWrong (at_element (world image) n a start go element)
+element_clean image n a start go Go element further st =
+    let asked : Asked = record { audit = n; start = start } in
+    let there = λ (check : CheckAt). numbers_of (number_at image element) check.fields in
+    none_whole (checks_seen (world image) asked a.checks element) (below a go element)
+    (turn_clean (λ check. checked asked element check (there check)) (λ check. CheckHolds check (there check)) a.checks (λ check h. check_clean asked element check (there check) h) st.0)
+    (turn_clean (λ m. go m element) (λ m. Go m element) a.each (λ m s. further m element s) st.1)
+
 walk_stands : (image : Image) (n : ℕ) (a : AuditAt) (go : Going) (Go : Standing) (start : ℕ) (there : Result (List ℕ) Violation) → Kinds image → ((m x : ℕ) → NoneWrong (go m x) → Go m x) →
     nodes_of image a.kind n start ≡ there → NoneWrong (walked (world image) n a start go there) → WalkStands image a Go start
 unfolding NoneWrong
-walk_stands image n a go Go start (Err v) kinds below is c = absurd c
-walk_stands image n a go Go start (Ok nodes) kinds below is c = (
+walk_stands image n a go Go start (Err v) kinds further is c = absurd c
+walk_stands image n a go Go start (Ok nodes) kinds further is c = (
   nodes,
   kinds.sound a.kind n start nodes is,
-  turn_stands (λ node. at_element (world image) n a start go (container_of a.link node)) (λ node. ElementStands a Go (container_of a.link node)) nodes
-      (λ node d. turn_stands (λ m. go m (container_of a.link node)) (λ m. Go m (container_of a.link node)) a.each (λ m e. below m (container_of a.link node) e) d) c,
+  turn_stands (λ node. at_element (world image) n a start go (container_of a.link node)) (λ node. ElementStands image a Go (container_of a.link node)) nodes
+      (λ node d. element_stands image n a start go Go (container_of a.link node) further d) c,
 )
 
 walk_clean : (image : Image) (n : ℕ) (a : AuditAt) (go : Going) (Go : Standing) (start : ℕ) → Kinds image → ((m x : ℕ) → Go m x → NoneWrong (go m x)) →
     WalkStands image a Go start → NoneWrong (walked (world image) n a start go (nodes_of image a.kind n start))
 unfolding NoneWrong
-walk_clean image n a go Go start kinds below st =
-    rw (kinds.complete a.kind n start st.0 st.1) (turn_clean (λ node. at_element (world image) n a start go (container_of a.link node)) (λ node. ElementStands a Go (container_of a.link node)) st.0
-    (λ node d. turn_clean (λ m. go m (container_of a.link node)) (λ m. Go m (container_of a.link node)) a.each (λ m e. below m (container_of a.link node) e) d) st.2)
-
-null_stands : (b : Bool) (v : Violation) → NoneWrong (if b then [] else (Wrong v ∷ [])) → IsTrue b
-unfolding NoneWrong
-null_stands true v c = refl
-null_stands false v c = absurd c
-
-null_clean : (b : Bool) (v : Violation) → IsTrue b → NoneWrong (if b then [] else (Wrong v ∷ []))
-unfolding NoneWrong
-null_clean true v s = tt
-null_clean false v s = absurd (cc)
+walk_clean image n a go Go start kinds further st =
+    rw (kinds.complete a.kind n start st.0 st.1) (turn_clean (λ node. at_element (world image) n a start go (container_of a.link node)) (λ node. ElementStands image a Go (container_of a.link node)) st.0
+    (λ node d. element_clean image n a start go Go (container_of a.link node) further d) st.2)
 
 enter_stands : (image : Image) (n : ℕ) (a : AuditAt) (go : Going) (Go : Standing) (base : ℕ) (there : Result PathEnd Stopped) → Kinds image → ((m x : ℕ) → NoneWrong (go m x) → Go m x) →
     NoneWrong (entered (world image) n a go base there) → EnterStands image a Go there
 unfolding NoneWrong
-enter_stands image n a go Go base (Err s) kinds below c = absurd c
-enter_stands image n a go Go base (Ok (NullAt place at)) kinds below c = null_stands (is_optional a.start) _ c
-enter_stands image n a go Go base (Ok (EndsAt start)) kinds below c = walk_stands image n a go Go start _ kinds below refl c
+enter_stands image n a go Go base (Err s) kinds further c = absurd c
+enter_stands image n a go Go base (Ok (NullAt place at)) kinds further c = unless_stands (is_optional a.start) _ c
+enter_stands image n a go Go base (Ok (EndsAt start)) kinds further c = walk_stands image n a go Go start _ kinds further refl c
 
 enter_clean : (image : Image) (n : ℕ) (a : AuditAt) (go : Going) (Go : Standing) (base : ℕ) (there : Result PathEnd Stopped) → Kinds image → ((m x : ℕ) → Go m x → NoneWrong (go m x)) →
     EnterStands image a Go there → NoneWrong (entered (world image) n a go base there)
-enter_clean image n a go Go base (Err s) kinds below st = absurd st
-enter_clean image n a go Go base (Ok (NullAt place at)) kinds below st = null_clean (is_optional a.start) _ st
-enter_clean image n a go Go base (Ok (EndsAt start)) kinds below st = walk_clean image n a go Go start kinds below st
+enter_clean image n a go Go base (Err s) kinds further st = absurd st
+enter_clean image n a go Go base (Ok (NullAt place at)) kinds further st = unless_clean (is_optional a.start) _ st
+enter_clean image n a go Go base (Ok (EndsAt start)) kinds further st = walk_clean image n a go Go start kinds further st
 
 pick_stands : (b : Bool) (es us : List Event) (P Q : Type 0) → (NoneWrong es → P) → (NoneWrong us → Q) → NoneWrong (if b then es else us) → MatchBool b P Q
 pick_stands true es us P Q p q c = p c

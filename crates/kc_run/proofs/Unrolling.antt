@@ -7,7 +7,7 @@ use Rattle.kc_found.specs.Violations.{Violation}
 use Rattle.kc_plan.specs.Events.{Event, Walk}
 use Rattle.kc_plan.specs.Kept.{are_between, are_later}
 use Rattle.kc_plan.specs.Planned.{AuditAt}
-use Rattle.kc_plan.specs.Seen.{PathEnd, EndsAt, NullAt, World, path_of, in_turn, walked, at_element, entered, seen, container_of}
+use Rattle.kc_plan.specs.Seen.{PathEnd, EndsAt, NullAt, World, path_of, in_turn, walked, at_element, checks_seen, entered, seen, container_of}
 
 -- two ways to go on that agree behind number k
 Agree : ℕ → (ℕ → ℕ → List Event) → (ℕ → ℕ → List Event) → Type 0
@@ -25,7 +25,7 @@ elements_same : (w : World) (k count start : ℕ) (a : AuditAt) (go run : ℕ �
     in_turn (λ node. at_element w k a start go (container_of a.link node)) nodes ≡ in_turn (λ node. at_element w k a start run (container_of a.link node)) nodes
 elements_same w k count start a go run [] are same = refl
 elements_same w k count start a go run (node ∷ nodes) are same =
-    ap (λ es. es ++ in_turn (λ n. at_element w k a start go (container_of a.link n)) nodes) (below_same k count a.each go run (container_of a.link node) are same)
+    ap (λ es. (checks_seen w (record { audit = k; start = start }) a.checks (container_of a.link node) ++ es) ++ in_turn (λ n. at_element w k a start go (container_of a.link n)) nodes) (below_same k count a.each go run (container_of a.link node) are same)
     ∙ ap (λ es. at_element w k a start run (container_of a.link node) ++ es) (elements_same w k count start a go run nodes are same)
 
 walked_same : (w : World) (k count start : ℕ) (a : AuditAt) (go run : ℕ → ℕ → List Event) (there : Result (List ℕ) Violation) → are_between k count a.each ≡ true → Agree k go run → walked w k a start go there ≡ walked w k a start run there

@@ -4,6 +4,7 @@ ghost use Rattle.kc_run.specs.Laws.{CleanWhereStanding, VerdictsStand};
 use kc_list::know_lists;
 use kc_memory::{know_numbers, know_places};
 use kc_rb::know_trees;
+use kc_view::know_values;
 use kc_xa::know_xarrays;
 
 /// Does nothing. The verdict on a plan is clean exactly where every root audit stands, and the words that it shows are
@@ -17,4 +18,5 @@ pub fn know_verdicts()
     know_xarrays();
     know_places();
     know_numbers();
+    know_values();
 }

@@ -2,6 +2,7 @@
 #![tactic(auto)]
 
 mod begin;
+mod checks;
 mod counts;
 mod entries;
 mod laws;

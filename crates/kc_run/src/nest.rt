@@ -10,6 +10,7 @@ ghost use Rattle.kc_plan.specs.Views.{plan_seen};
 ghost use Rattle.kc_run.specs.Tally.{NamesBelow, TalliesAs};
 
 use crate::begin::{container_of, is_optional, null_pointer, path_of};
+use crate::checks::look_checks;
 use crate::counts::count_walk;
 use crate::walk::walk;
 use kc_btf::Btf;
@@ -113,7 +114,7 @@ fn look<S: Space, L: Ledger>(
     Ok(())
 }
 
-// Makes the audits below an element that an audit met from its start.
+// Looks at the checks of an element that an audit met from its start, and then makes the audits below it.
 #[cycle(nested)]
 fn look_below<S: Space, L: Ledger>(
     alloc: Global,
@@ -139,6 +140,18 @@ fn look_below<S: Space, L: Ledger>(
     ensures stays { SpaceStays S.image S.files S.through S.most space.old space.new }
     ensures cause { CountsWalkFaults result (S.faults space.old) (S.faults space.new) }
 {
+    match look_checks(
+        alloc,
+        known.btf,
+        space,
+        asked,
+        &audit.checks,
+        element,
+        steps,
+    ) {
+        Ok(()) => {}
+        Err(stop) => return Err(stop),
+    }
     for i in 0..audit.each.len() {
         let base = Asked {
             audit: *audit.each.get(i),

@@ -6,4 +6,4 @@ pub returns-clause-clean : goal.returns-clause-clean
 returns-clause-clean c = clean_where_standing c.know_lists.ensures.rings c.know_lists.ensures.hash_chains c.know_trees.ensures.trees c.know_xarrays.ensures.walked
 
 pub returns-clause-places : goal.returns-clause-places
-returns-clause-places c = verdicts_stand c.know_places.ensures c.know_trees.ensures.places c.know_xarrays.ensures.places c.know_numbers.ensures.stand
+returns-clause-places c = verdicts_stand c.know_places.ensures c.know_trees.ensures.places c.know_xarrays.ensures.places c.know_numbers.ensures.stand c.know_values.ensures.values

@@ -1,9 +1,9 @@
-use Rattle.std.proofs.Common.{arith, ◌∙◌, length, sym, ap, List, ℕ, slice_get}
+use Rattle.std.proofs.Common.{arith, ◌∙◌, length, refl, sym, ap, List, ℕ, slice_get}
 use Rattle.kc_memory.proofs.StaysLaws.{stays_on}
 use Rattle.kc_view.specs.Typed.{Typed}
 use Rattle.kc_plan.specs.Planned.{audit_seen}
 use Rattle.kc_plan.specs.Views.{plan_seen}
-use Rattle.kc_run.proofs.Going.{below_seen, between_goes, between_here, element_seen, enter_breaks, enter_goes, enter_skips, enter_stops, look_begins, looked, turn_goes, turn_stops, under}
+use Rattle.kc_run.proofs.Going.{between_goes, between_here, checks_go, checks_stop, element_seen, enter_breaks, enter_goes, enter_skips, enter_stops, look_begins, looked, reached_seen, turn_goes, turn_stops, under}
 use Rattle.kc_run.proofs.nest.+nested.Goals as goal
 
 pub enter-returns-in-Ok-At-clause-tally : goal.enter-returns-in-Ok-At-clause-tally
@@ -48,18 +48,18 @@ look-loop-i-preserved g t c = (
   c.in-Ok-look_below.ensures.size ∙ c.loop-i.invariant.3,
 )
 
-pub look_below-returns-in-Err-clause-tally : goal.look_below-returns-in-Err-clause-tally
-look_below-returns-in-Err-clause-tally g t c =
-    turn_stops _ _ (g.S.Space.image c.args.space.now) c.args.counts.now c.loop-i.counts c.enter.new.counts c.enter.new.counts (below_seen (plan_seen c.args.known.now.plan.now) (audit_seen c.args.audit.now) c.args.element) (λ m n. under m (plan_seen c.args.known.now.plan.now) n c.args.element) c.args.audit.now.each c.loop-i.i c.get.result.now c.in-Err.stop
-    c.get.ensures c.loop-i.invariant.0 (rw c.loop-i.invariant.1.same_image at c.in-Err.ensures.tally)
+pub look_below-returns-in-Err-enter-clause-tally : goal.look_below-returns-in-Err-enter-clause-tally
+look_below-returns-in-Err-enter-clause-tally g t c =
+    turn_stops _ _ (g.S.Space.image c.args.space.now) c.args.counts.now c.loop-i.counts c.enter.new.counts c.enter.new.counts (reached_seen (plan_seen c.args.known.now.plan.now) (audit_seen c.args.audit.now) c.args.asked.now.audit c.args.asked.now.start c.args.element) (λ m n. under m (plan_seen c.args.known.now.plan.now) n c.args.element) c.args.audit.now.each c.loop-i.i c.get.result.now c.in-Err-enter.stop
+    c.get.ensures c.loop-i.invariant.0 (rw c.loop-i.invariant.1.same_image at c.in-Err-enter.ensures.tally)
 
 pub look_below-loop-i-preserved : goal.look_below-loop-i-preserved
 look_below-loop-i-preserved g t c = (
-  turn_goes (g.S.Space.image c.args.space.now) c.args.counts.now c.loop-i.counts c.enter.new.counts (below_seen (plan_seen c.args.known.now.plan.now) (audit_seen c.args.audit.now) c.args.element) (λ m n. under m (plan_seen c.args.known.now.plan.now) n c.args.element) c.args.audit.now.each c.loop-i.i c.get.result.now c.in-Ok.field-0
-      c.get.ensures c.loop-i.invariant.0 (rw c.loop-i.invariant.1.same_image at c.in-Ok.ensures.tally),
-  stays_on _ _ _ _ c.args.space.now c.loop-i.space c.enter.new.space c.loop-i.invariant.1 c.in-Ok.ensures.stays,
-  c.in-Ok.ensures.cause ∙ c.loop-i.invariant.2,
-  c.in-Ok.ensures.size ∙ c.loop-i.invariant.3,
+  turn_goes (g.S.Space.image c.args.space.now) c.args.counts.now c.loop-i.counts c.enter.new.counts (reached_seen (plan_seen c.args.known.now.plan.now) (audit_seen c.args.audit.now) c.args.asked.now.audit c.args.asked.now.start c.args.element) (λ m n. under m (plan_seen c.args.known.now.plan.now) n c.args.element) c.args.audit.now.each c.loop-i.i c.get.result.now c.in-Ok-enter.field-0
+      c.get.ensures c.loop-i.invariant.0 (rw c.loop-i.invariant.1.same_image at c.in-Ok-enter.ensures.tally),
+  stays_on _ _ _ _ c.args.space.now c.loop-i.space c.enter.new.space c.loop-i.invariant.1 c.in-Ok-enter.ensures.stays,
+  c.in-Ok-enter.ensures.cause ∙ c.loop-i.invariant.2,
+  c.in-Ok-enter.ensures.size ∙ c.loop-i.invariant.3,
   between_goes c.args.asked.now.audit (length c.args.known.now.plan.now.audits) c.args.audit.now.each c.loop-i.i c.get.result.now c.get.ensures c.loop-i.invariant.4,
 )
 
@@ -67,3 +67,17 @@ pub look_below-enter-requires : goal.look_below-enter-requires
 look_below-enter-requires g t c κs within =
     let here = between_here c.args.asked.now.audit (length c.args.known.now.plan.now.audits) c.args.audit.now.each c.loop-i.i c.get.result.now c.get.ensures c.loop-i.invariant.4 in
     (omega (arith, c.decreases, here.0, here.1), (within.0, (within.1, (here.1, (c.requires.types, c.loop-i.invariant.3 ∙ c.requires.counted)))))
+
+pub look_below-returns-in-Err-clause-tally : goal.look_below-returns-in-Err-clause-tally
+look_below-returns-in-Err-clause-tally g t c =
+    checks_stop _ _ (g.S.Space.image c.args.space.now) (plan_seen c.args.known.now.plan.now) (audit_seen c.args.audit.now) c.args.asked.now.audit c.args.asked.now.start c.args.element c.args.counts.now c.args.counts.now c.in-Err.stop
+    (c.in-Err.ensures.tally c.args.counts.now)
+
+pub look_below-loop-i-init : goal.look_below-loop-i-init
+look_below-loop-i-init g t c = (
+  checks_go (g.S.Space.image c.args.space.now) (plan_seen c.args.known.now.plan.now) (audit_seen c.args.audit.now) c.args.asked.now.audit c.args.asked.now.start c.args.element c.args.counts.now c.in-Ok.field-0 (c.in-Ok.ensures.tally c.args.counts.now),
+  c.in-Ok.ensures.stays,
+  c.in-Ok.ensures.cause,
+  refl,
+  c.requires.later,
+)

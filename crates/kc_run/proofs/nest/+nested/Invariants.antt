@@ -3,7 +3,7 @@ use Rattle.kc_plan.specs.Kept.{are_between}
 use Rattle.kc_plan.specs.Planned.{audit_seen}
 use Rattle.kc_plan.specs.Views.{plan_seen}
 use Rattle.kc_memory.specs.Stays.{SpaceStays}
-use Rattle.kc_run.proofs.Going.{Left, looked, element_seen, under, below_seen}
+use Rattle.kc_run.proofs.Going.{Left, looked, element_seen, reached_seen, under}
 use Rattle.kc_run.proofs.nest.+nested.Given as goal
 
 abbrev pub decreases-enter : goal.decreases-enter
@@ -24,7 +24,7 @@ invariant-look-loop-i g l =
 
 abbrev pub invariant-look_below-loop-i : goal.invariant-look_below-loop-i
 invariant-look_below-loop-i g l =
-    Left (g.S.Space.image l.fn.space) l.fn.counts (below_seen (plan_seen l.known.plan.now) (audit_seen l.audit) l.element) l.counts (λ m n. under m (plan_seen l.known.plan.now) n l.element) (drop l.i l.audit.each)
+    Left (g.S.Space.image l.fn.space) l.fn.counts (reached_seen (plan_seen l.known.plan.now) (audit_seen l.audit) l.asked.audit l.asked.start l.element) l.counts (λ m n. under m (plan_seen l.known.plan.now) n l.element) (drop l.i l.audit.each)
     × SpaceStays g.S.Space.image g.S.Space.files g.S.Space.through g.S.Space.most l.fn.space l.space
     × (g.S.Space.faults l.space ≡ g.S.Space.faults l.fn.space)
     × (length l.counts ≡ length l.fn.counts)
