@@ -1,10 +1,16 @@
-// Checks that are read, refused and evaluated.
-ghost use Rattle.std.specs.Prelude.{◌≡◌, length};
+// Checks that are read, refused and evaluated. The files beside this one have the cases.
+mod texts;
+mod values;
+
+ghost use Rattle.std.specs.Prelude.{◌≡◌, ◌≤◌, length};
+ghost use Rattle.kc_expr.specs.Values.{IsWord};
 
 use crate::{ExprStop, eval, parse};
 use std::alloc::Global;
 use std::process::Abort;
 use std::test::Fail;
+use texts::{FRONTS, GAPS, OPERATORS, TEXTS, UNITS};
+use values::{PATHS, VALUES};
 
 // The place at which a text is no check any more, or none where it is one.
 fn refused_at(alloc: Global, text: &[u8]) -> Result<Option<u32>, Fail> {
@@ -27,102 +33,6 @@ fn wanted_place(wanted: &str) -> Option<u32> {
     }
 }
 
-// A line is `ok` or a place, a space, and a text.
-const TEXTS: &str = "ok a->b
-ok a - b
-ok a-b
-ok a.b[3]->c[0]
-ok a[0000000001]
-ok _a9
-ok a&&b
-ok a&b
-ok a& b
-ok a||b
-ok a|b
-ok a<=b
-ok a<b
-ok a< b
-ok a>=b
-ok a>b
-ok a==b
-ok a!=b
-ok (a<b)<c
-ok a<b&&c<d
-ok a + b - c & d | e ^ f
-ok 0
-ok 18446744073709551615
-ok 0x0
-ok 0xffffffffffffffff
-ok 0x00000000000000000001
-ok 00000000000000000018446744073709551615
-ok 007
-ok 0xAbCdEf
-ok !a
-ok ! a
-ok !!a
-ok ((((((((((((((((1))))))))))))))))
-ok !!!!!!!!!!!!!!!!1
-ok !(!(!(!(!(!(!(!(1))))))))
-ok !1 + !1 + !1 + !1 + !1 + !1 + !1 + !1 + !1 + !1 + !1 + !1 + !1 + !1 + !1 + !1 + !1
-ok (a)
-ok ( a )
-ok a  ==  ( ! b  +  1 )  &&  c
-ok a->b->c-d
-ok 1-2
-ok a[1]-b
-ok a-1
-0 
-0  a
-2 a 
-1 a\t
-3 a->
-3 a- >b
-3 a->1
-2 a[]
-12 a[1234567890
-12 a[12345678901]
-2 a..b
-2 a[-1]
-1 a]
-3 a&&&b
-3 a& &b
-3 a|||b
-3 a<=<b
-3 a< =b
-3 a<==b
-2 a=b
-2 a= =b
-2 a!b
-2 a! =b
-3 a<b<c
-3 a<b==c
-4 a<b =c
-5 a<b+c<d
-2 a b
-19 18446744073709551616
-2 0x
-2 0xg
-18 0x10000000000000000
-1 1x
-1 0X1
-1 !=a
-1 !)
-16 (((((((((((((((((1
-16 !!!!!!!!!!!!!!!!!1
-16 !(!(!(!(!(!(!(!(!(1
-0 )
-1 ()
-2 (a
-3 (a))
-0 +a
-2 a+
-2 a.
-3 a->
-1 a,b
-2 1->b
-4 (a)->b
-3 1 +*";
-
 #[test]
 fn texts_are_read_or_refused_at_their_place(rt: HostRuntime) -> Result<(), Fail> {
     for line in TEXTS.lines() {
@@ -133,36 +43,94 @@ fn texts_are_read_or_refused_at_their_place(rt: HostRuntime) -> Result<(), Fail>
     Ok(())
 }
 
-// Checks with each kind of token.
-const CHECKS: &str = "a->b[12].c != 0x1F
-( ! a + 0 ) == 18446744073709551615
-a&b|c^d-e+1
-a<=b&&c>=d||e<f
-!(!(a->b->c))
-a == b  ||  c
-x.y.z - 007 > 1
-((a))
-a[1]-b[2]
-a-b->c
-0x0 | 0xabcDEF
-(a != b) & (c == 1)";
-
-// Where a byte of a check gives way to one that no check has, the check is refused there.
-fn try_each_byte(rt: &(impl Abort + AllocGlobal), check: &str) -> Result<(), Fail> {
+// In place of each byte of a check one that no check has: the check is refused there. A front of it is a check or
+// begins one.
+fn try_each_byte(rt: &(impl Abort + AllocGlobal), check: &str, fronts: &str) -> Result<(), Fail> {
     for (i, _) in check.as_bytes().iter().enumerate() {
         let mut text = check.as_bytes()[..i].to_vec(rt.alloc())?;
-        text.push(b'#')?;
-        let refused = refused_at(rt.alloc(), text.as_slice())?;
         let place = u32::try_from(i).unwrap_or(u32::MAX);
-        assert_eq!(rt; refused, Some(place), "{check}");
+        let whole = fronts.as_bytes().get(i) == Some(&b'y');
+        let wanted = if whole { None } else { Some(place) };
+        assert_eq!(rt; refused_at(rt.alloc(), text.as_slice())?, wanted, "{check}");
+        text.push(b'#')?;
+        assert_eq!(rt;
+            refused_at(rt.alloc(), text.as_slice())?,
+            Some(place),
+            "{check}"
+        );
     }
     Ok(())
 }
 
 #[test]
-fn a_foreign_byte_is_refused_at_its_place(rt: HostRuntime) -> Result<(), Fail> {
-    for check in CHECKS.lines() {
-        try_each_byte(&rt, check)?;
+fn a_text_is_refused_at_the_byte_that_no_check_has_there(rt: HostRuntime) -> Result<(), Fail> {
+    for line in FRONTS.lines() {
+        let (fronts, check) = line.split_once(' ').unwrap_or((line, ""));
+        try_each_byte(&rt, check, fronts)?;
+    }
+    Ok(())
+}
+
+// A check stays one where a gap has one space more, or none.
+fn try_each_gap(rt: &(impl Abort + AllocGlobal), check: &str) -> Result<(), Fail> {
+    let mut close = Vec::new(rt.alloc());
+    for (i, c) in check.as_bytes().iter().enumerate() {
+        if *c == b' ' {
+            let mut wide = check.as_bytes()[..i].to_vec(rt.alloc())?;
+            wide.push(b' ')?;
+            wide.extend_from_slice(&check.as_bytes()[i..])?;
+            assert_eq!(rt; refused_at(rt.alloc(), wide.as_slice())?, None, "{check}");
+        } else {
+            close.push(*c)?;
+        }
+    }
+    assert_eq!(rt; refused_at(rt.alloc(), close.as_slice())?, None, "{check}");
+    Ok(())
+}
+
+#[test]
+fn spaces_may_stand_in_each_gap(rt: HostRuntime) -> Result<(), Fail> {
+    for check in GAPS.lines() {
+        try_each_gap(&rt, check)?;
+    }
+    Ok(())
+}
+
+// An operator between two units, with spaces and without.
+fn try_between_units(rt: &(impl Abort + AllocGlobal), op: &str) -> Result<(), Fail> {
+    for line in UNITS.lines() {
+        let (left, right) = line.split_once(' ').unwrap_or((line, ""));
+        let close = format!(in rt.alloc(); "{left}{op}{right}")?;
+        assert_eq!(rt; refused_at(rt.alloc(), close.as_bytes())?, None, "{close}");
+        let wide = format!(in rt.alloc(); "{left} {op} {right}")?;
+        assert_eq!(rt; refused_at(rt.alloc(), wide.as_bytes())?, None, "{wide}");
+    }
+    Ok(())
+}
+
+fn is_comparison(op: &str) -> bool {
+    matches!(op.as_bytes().first(), Some(b'=' | b'!' | b'<' | b'>'))
+}
+
+// An operator and each one behind it: only comparisons don't follow one another, and the second is refused at its
+// first byte.
+fn try_behind(rt: &(impl Abort + AllocGlobal), first: &str, place: u32) -> Result<(), Fail> {
+    for second in OPERATORS.lines() {
+        let text = format!(in rt.alloc(); "a{first}b{second}c")?;
+        let alone = is_comparison(first) && is_comparison(second);
+        let wanted = if alone { Some(place) } else { None };
+        assert_eq!(rt; refused_at(rt.alloc(), text.as_bytes())?, wanted, "{text}");
+    }
+    Ok(())
+}
+
+#[test]
+fn each_operator_stands_between_units_and_beside_each_operator(
+    rt: HostRuntime,
+) -> Result<(), Fail> {
+    for op in OPERATORS.lines() {
+        try_between_units(&rt, op)?;
+        try_behind(&rt, op, if op.len() == 1 { 3 } else { 4 })?;
     }
     Ok(())
 }
@@ -197,56 +165,6 @@ fn value_text(alloc: Global, text: &[u8]) -> Result<String, Fail> {
     Ok(format!(in alloc; "{value}")?)
 }
 
-// A line is a value, a space, and a text.
-const VALUES: &str = "3 1 + 2
--4 1 - 2 - 3
-2 1 - 2 + 3
-0 1 + 2 < 3
-1 1 < 1 + 2
-1 2 == 1 || 1
-0 2 == 1 && 1
-1 1 || 0 && 0
-1 0 && 0 || 1
-1 1 < 2 && 2 < 3
--1 0 - 1 | 0
-3 0 - 1 & 3
--2 0 - 1 ^ 1
--3 0 - 7 | 4
--8 0 - 7 & (0 - 2)
-7 0 - 7 ^ (0 - 2)
--1 0 - 7 | (0 - 2)
-4 4 & (0 - 2)
--1 1 | (0 - 2)
--1 1 ^ (0 - 2)
-6 5 ^ 3
-1 5 & 3
-7 5 | 3
-8 5 & (0 - 8) | 8
-18446744073709551615 18446744073709551615
-36893488147419103230 18446744073709551615 + 0xFFffFFffFFffFFff
--18446744073709551615 0 - 18446744073709551615
-0 0 - 18446744073709551615 & 0
-1 !0
-0 !5
-1 !!5
-0 !(0 - 1)
-0 !18446744073709551615
-2 !0 + 1
-1 2 <= 2
-0 2 < 2
-0 2 >= 3
-1 3 > 2
-0 3 != 3
-1 3 == 3
-2 (1 + 2) & 2
-2 1 + (2 & 3) - 1
-1 0 - 18446744073709551615 < 0
-1 0 || 0 - 1
-0 7 && 0
-1 7 && 8
-24 0x18
-18 0x0 + 0018";
-
 #[test]
 fn checks_have_their_values(rt: HostRuntime) -> Result<(), Fail> {
     for line in VALUES.lines() {
@@ -272,14 +190,6 @@ fn paths_text(alloc: Global, text: &[u8]) -> Result<Vec<u8>, Fail> {
     Ok(paths)
 }
 
-// A line is the paths of a text, a space, and the text.
-const PATHS: &str = "a, a
-a,b, a + b
-b,a, b + a + b + a
-a,b->c,d[1], a + b->c + a + d[1] + b->c
-a.b,a, a.b == (a) && !a.b
- 1 + 2";
-
 #[test]
 fn paths_stand_once_in_the_order_of_their_appearance(rt: HostRuntime) -> Result<(), Fail> {
     for line in PATHS.lines() {
@@ -291,7 +201,9 @@ fn paths_stand_once_in_the_order_of_their_appearance(rt: HostRuntime) -> Result<
 }
 
 // The value of a check with one path, where it has this value.
-fn value_with(alloc: Global, text: &[u8], x: i64) -> Result<Option<i128>, Fail> {
+fn value_with(alloc: Global, text: &[u8], x: i128) -> Result<Option<i128>, Fail>
+    requires { IsWord x }
+{
     if text.len() > 256 {
         return Ok(None);
     }
@@ -301,17 +213,42 @@ fn value_with(alloc: Global, text: &[u8], x: i64) -> Result<Option<i128>, Fail> 
     if expr.fields() != 1 {
         return Ok(None);
     }
-    Ok(Some(eval(&expr, &[i128::from(x)])))
+    Ok(Some(eval(&expr, &[x])))
+}
+
+// A text, and then another one 127 times.
+fn repeated(alloc: Global, first: &[u8], more: &[u8]) -> Result<Vec<u8>, Fail> {
+    let mut text = first.to_vec(alloc)?;
+    for _ in 0..127 {
+        text.extend_from_slice(more)?;
+    }
+    Ok(text)
 }
 
 #[test]
 fn a_path_has_the_value_that_is_given(rt: HostRuntime) -> Result<(), Fail> {
     let alloc = rt.alloc();
+    let least = -9_223_372_036_854_775_808;
+    let greatest = 18_446_744_073_709_551_615;
     assert_eq!(rt;
-        value_with(alloc, b"a - 1", i64::MIN)?,
+        value_with(alloc, b"a - 1", least)?,
         Some(-9_223_372_036_854_775_809)
     );
     assert_eq!(rt; value_with(alloc, b"a & 0xff", -1)?, Some(255));
     assert_eq!(rt; value_with(alloc, b"a + a == 6 && !(a < 3)", 3)?, Some(1));
+    let sum = repeated(alloc, b"a", b"+a")?;
+    assert_eq!(rt;
+        value_with(alloc, sum.as_slice(), greatest)?,
+        Some(2_361_183_241_434_822_606_720)
+    );
+    assert_eq!(rt;
+        value_with(alloc, sum.as_slice(), least)?,
+        Some(-1_180_591_620_717_411_303_424)
+    );
+    let difference = repeated(alloc, b"0", b"-a")?;
+    assert_eq!(rt;
+        value_with(alloc, difference.as_slice(), greatest)?,
+        Some(-2_342_736_497_361_113_055_105)
+    );
     Ok(())
 }
