@@ -24,11 +24,11 @@ use Rattle.kc_found.specs.Violations.{Violation, breaks}
 use Rattle.kc_found.specs.Walks.{OnBroken, WalksAs}
 use Rattle.kc_found.proofs.Known.{ok_after}
 use Rattle.kc_list.specs.Laws.{RingsAreWalked}
-use Rattle.kc_list.proofs.Finite.{not_false}
+use Rattle.kc_list.proofs.Finite.{first_of, not_false, some_word}
 use Rattle.kc_task.specs.declared.group.Group.{Group}
 use Rattle.kc_task.specs.FiniteTasks.{AreGroups, AreOn, IsGroup, IsStack, IsThread, NoTasks, Tasks}
-use Rattle.kc_task.specs.Laws.{TasksAreWalked}
-use Rattle.kc_task.specs.TaskLists.{all_pass, among_checked, children_checked, end_checked, gathered, group_of, holds, is_among, leader_checked, stack_checked, stack_end, task_list, task_of, tasks_on, tgid_checked, thread_checked, thread_head, threads_checked}
+use Rattle.kc_task.specs.Laws.{HeadIsRead, TasksAreWalked}
+use Rattle.kc_task.specs.TaskLists.{all_pass, among_checked, children_checked, end_checked, gathered, group_of, holds, is_among, leader_checked, shared_checked, stack_checked, stack_end, task_list, task_of, tasks_on, tgid_checked, thread_checked, thread_head, threads_checked}
 
 -- two numbers that have to be equal
 equal_of : (n m : ℕ) → not (nat_eq n m) ≡ false → n ≡ m
@@ -147,16 +147,16 @@ of_stack image asked stack (inr some) = else_same (nat_eq stack 0) (last_word as
 -- threads
 thread_of : RingsAreWalked → (image : Image) (asked : Asked) (shape : TaskShape) (g : Group) (thread : ℕ) → thread_checked image asked shape g thread ≡ Ok tt → IsThread image shape g thread
 thread_of rings image asked shape g thread e =
-    let a = ok_after (holds image asked T1 thread shape.group_leader g.leader) _ tt e in
-    let b = ok_after (holds image asked T3 thread shape.signal g.signal) _ tt a.2 in
-    let c = ok_after (holds image asked T4 thread shape.tgid g.tgid) _ tt b.2 in
-    let d = ok_after (children_checked image asked shape thread) (λ _. stack_checked image asked shape thread) tt c.2 in
+    let shared = ok_after (shared_checked image asked shape g thread) (λ _. and_then (children_checked image asked shape thread) (λ _. stack_checked image asked shape thread)) tt e in
+    let a = ok_after (holds image asked T1 thread shape.group_leader g.leader) (λ _. and_then (holds image asked T3 thread shape.signal g.signal) (λ _. holds image asked T4 thread shape.tgid g.tgid)) tt shared.1 in
+    let b = ok_after (holds image asked T3 thread shape.signal g.signal) (λ _. holds image asked T4 thread shape.tgid g.tgid) tt a.2 in
+    let d = ok_after (children_checked image asked shape thread) (λ _. stack_checked image asked shape thread) tt shared.2 in
     let s = ok_after (read_field image asked thread shape.stack) (λ n. end_checked image asked (value_of n)) tt d.2 in
     let children = children_of rings image asked shape thread d.1 in
     record {
       leader = held image asked T1 thread shape.group_leader g.leader a.1;
       signal = held image asked T3 thread shape.signal g.signal b.1;
-      tgid = held image asked T4 thread shape.tgid g.tgid c.1;
+      tgid = held image asked T4 thread shape.tgid g.tgid b.2;
       children = children.0;
       born = children.1;
       parents = children.2;
@@ -168,12 +168,13 @@ thread_of rings image asked shape g thread e =
 of_thread : RingsAreWalked → (image : Image) (asked : Asked) (shape : TaskShape) (g : Group) (thread : ℕ) → IsThread image shape g thread → thread_checked image asked shape g thread ≡ Ok tt
 of_thread rings image asked shape g thread t =
     let s = field_read image asked thread shape.stack t.stack t.stacked in
-    then_is (holds image asked T1 thread shape.group_leader g.leader) _ tt tt (holding image asked T1 thread shape.group_leader g.leader t.leader)
-    (then_is (holds image asked T3 thread shape.signal g.signal) _ tt tt (holding image asked T3 thread shape.signal g.signal t.signal)
-    (then_is (holds image asked T4 thread shape.tgid g.tgid) _ tt tt (holding image asked T4 thread shape.tgid g.tgid t.tgid)
+    let shared : shared_checked image asked shape g thread ≡ Ok tt =
+    then_is (holds image asked T1 thread shape.group_leader g.leader) (λ _. and_then (holds image asked T3 thread shape.signal g.signal) (λ _. holds image asked T4 thread shape.tgid g.tgid)) tt tt (holding image asked T1 thread shape.group_leader g.leader t.leader)
+    (then_is (holds image asked T3 thread shape.signal g.signal) (λ _. holds image asked T4 thread shape.tgid g.tgid) tt tt (holding image asked T3 thread shape.signal g.signal t.signal) (holding image asked T4 thread shape.tgid g.tgid t.tgid)) in
+    then_is (shared_checked image asked shape g thread) (λ _. and_then (children_checked image asked shape thread) (λ _. stack_checked image asked shape thread)) tt tt shared
     (then_is (children_checked image asked shape thread) (λ _. stack_checked image asked shape thread) tt tt (of_children rings image asked shape thread t.children t.born t.parents)
     (then_is (read_field image asked thread shape.stack) (λ n. end_checked image asked (value_of n)) s.field tt s.read
-    (ap (end_checked image asked) s.value ∙ of_stack image asked t.stack t.whole)))))
+    (ap (end_checked image asked) s.value ∙ of_stack image asked t.stack t.whole)))
 
 -- T7
 abbrev among_or : Bool → Result VWord Violation → (VWord → Violation) → Result ⊤ Violation
@@ -339,6 +340,14 @@ tasks_are_walked rings image shape audit start tasks = (complete, sound)
           ring = on_ring rings image asked shape (at_offset start shape.tasks) shape.tasks s.0 s.1;
           groups = groups_are rings image asked shape (start ∷ s.0) tasks s.2;
         }
+
+pub head_is_read : RingsAreWalked → HeadIsRead
+head_is_read rings image asked shape g threads e =
+    let head = thread_head shape g in
+    let on = on_ring rings image asked shape head shape.thread_node threads e in
+    let one = first_of on.nodes head in
+    let w = some_word (vword image (at_offset head shape.list.next)) one.0 (lists.values (vword image) shape.list.next on.nodes) one.1 (on.ring.forward ∙ one.2) in
+    (w.0, w.1)
 
 pub finite_of : RingsAreWalked → (image : Option Image) (shape : TaskShape) (asked : Asked) (r : Result (List ℕ) WalkStop) → WalksAs (λ (tasks : List ℕ). tasks) (λ i. task_list i shape asked) image r →
     IfOk r (λ tasks. IfSome image (λ i. Tasks i shape asked.start tasks))

@@ -18,7 +18,7 @@ use Rattle.kc_found.specs.Violations.{Violation, breaks}
 use Rattle.kc_list.proofs.ChainsShown.{ring_walk_shows}
 use Rattle.kc_task.specs.declared.group.Group.{Group}
 use Rattle.kc_task.specs.Laws.{TaskPlacesStand}
-use Rattle.kc_task.specs.TaskLists.{all_pass, among_checked, children_checked, end_checked, gathered, group_of, holds, is_among, leader_checked, stack_end, task_list, task_of, tasks_on, tgid_checked, thread_checked, thread_head}
+use Rattle.kc_task.specs.TaskLists.{all_pass, among_checked, children_checked, end_checked, gathered, group_of, holds, is_among, leader_checked, shared_checked, stack_checked, stack_end, task_list, task_of, tasks_on, tgid_checked, thread_checked, thread_head}
 
 -- what the laws of the dump's words and fields say
 record Told : Type 0 where
@@ -64,12 +64,13 @@ end_shows told image asked stack =
 
 thread_shows : Told → (image : Image) (asked : Asked) (shape : TaskShape) (g : Group) (thread : ℕ) → Shows image (thread_checked image asked shape g thread)
 thread_shows told image asked shape g thread =
-    then_shows image (holds image asked T1 thread shape.group_leader g.leader) _ (holds_shows told image asked T1 thread shape.group_leader g.leader)
-    (λ a ai. then_shows image (holds image asked T3 thread shape.signal g.signal) _ (holds_shows told image asked T3 thread shape.signal g.signal)
-    (λ b bi. then_shows image (holds image asked T4 thread shape.tgid g.tgid) _ (holds_shows told image asked T4 thread shape.tgid g.tgid)
-    (λ c ci. then_shows image (children_checked image asked shape thread) _ (children_show told image asked shape thread)
-    (λ d di. then_shows image (read_field image asked thread shape.stack) _ (field_shows told.fields image asked thread shape.stack)
-    (λ s si. end_shows told image asked (value_of s))))))
+    then_shows image (shared_checked image asked shape g thread) _
+    (then_shows image (holds image asked T1 thread shape.group_leader g.leader) _ (holds_shows told image asked T1 thread shape.group_leader g.leader)
+    (λ a ai. then_shows image (holds image asked T3 thread shape.signal g.signal) (λ _. holds image asked T4 thread shape.tgid g.tgid) (holds_shows told image asked T3 thread shape.signal g.signal)
+    (λ b bi. holds_shows told image asked T4 thread shape.tgid g.tgid)))
+    (λ c ci. then_shows image (children_checked image asked shape thread) (λ _. stack_checked image asked shape thread) (children_show told image asked shape thread)
+    (λ d di. then_shows image (read_field image asked thread shape.stack) (λ s. end_checked image asked (value_of s)) (field_shows told.fields image asked thread shape.stack)
+    (λ s si. end_shows told image asked (value_of s))))
 
 among_shows : Told → (image : Image) (asked : Asked) (shape : TaskShape) (g : Group) (threads : List ℕ) → Shows image (among_checked image asked shape g threads)
 among_shows told image asked shape g threads =

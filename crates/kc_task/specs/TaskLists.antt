@@ -57,14 +57,19 @@ end_checked image asked stack =
 abbrev pub stack_checked : Image → Asked → TaskShape → ℕ → Result ⊤ Violation
 stack_checked image asked shape task = and_then (read_field image asked task shape.stack) (λ s. end_checked image asked (value_of s))
 
--- step 3: T1, T3 and T4 of a thread, its children, and its stack
-abbrev pub thread_checked : Image → Asked → TaskShape → Group → ℕ → Result ⊤ Violation
-thread_checked image asked shape g thread =
+-- T1, T3 and T4 of a thread
+abbrev pub shared_checked : Image → Asked → TaskShape → Group → ℕ → Result ⊤ Violation
+shared_checked image asked shape g thread =
     and_then (holds image asked T1 thread shape.group_leader g.leader) (λ _.
     and_then (holds image asked T3 thread shape.signal g.signal) (λ _.
-    and_then (holds image asked T4 thread shape.tgid g.tgid) (λ _.
+    holds image asked T4 thread shape.tgid g.tgid))
+
+-- step 3: what a thread shares with its group, its children, and its stack
+abbrev pub thread_checked : Image → Asked → TaskShape → Group → ℕ → Result ⊤ Violation
+thread_checked image asked shape g thread =
+    and_then (shared_checked image asked shape g thread) (λ _.
     and_then (children_checked image asked shape thread) (λ _.
-    stack_checked image asked shape thread))))
+    stack_checked image asked shape thread))
 
 -- the head of the ring of a group's threads
 abbrev pub thread_head : TaskShape → Group → ℕ

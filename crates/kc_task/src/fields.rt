@@ -31,10 +31,7 @@ pub(crate) fn check_field<S: Space, L: Ledger>(
     ensures stays { SpaceStays S.image S.files S.through S.most space.old space.new }
     ensures cause { CountsWalkFaults result (S.faults space.old) (S.faults space.new) }
 {
-    let number = match read_field(alloc, space, asked, task, field, steps) {
-        Ok(number) => number,
-        Err(stop) => return Err(stop),
-    };
+    let number = read_field(alloc, space, asked, task, field, steps)?;
     if number.value() != wanted {
         return Err(broken_field(alloc, asked, rule, number.at, &number.number, Some(wanted)));
     }

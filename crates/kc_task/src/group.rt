@@ -48,14 +48,8 @@ fn check_tgid<S: Space, L: Ledger>(
     ensures stays { SpaceStays S.image S.files S.through S.most space.old space.new }
     ensures cause { CountsWalkFaults result (S.faults space.old) (S.faults space.new) }
 {
-    let pid = match read_field(alloc, space, asked, leader, &shape.pid, steps) {
-        Ok(pid) => pid,
-        Err(stop) => return Err(stop),
-    };
-    let tgid = match read_field(alloc, space, asked, leader, &shape.tgid, steps) {
-        Ok(tgid) => tgid.value(),
-        Err(stop) => return Err(stop),
-    };
+    let pid = read_field(alloc, space, asked, leader, &shape.pid, steps)?;
+    let tgid = read_field(alloc, space, asked, leader, &shape.tgid, steps)?.value();
     if pid.value() != tgid {
         return Err(broken_field(alloc, asked, Rule::T2, pid.at, &pid.number, Some(tgid)));
     }
@@ -81,22 +75,14 @@ fn read_group<S: Space, L: Ledger>(
 {
     let task = View::new(btf, shape.task, leader);
     let field = &shape.group_leader;
-    match check_field(alloc, space, asked, Rule::T1, &task, field, leader, steps) {
-        Ok(()) => {}
-        Err(stop) => return Err(stop),
-    }
-    let tgid = match check_tgid(alloc, space, asked, shape, &task, steps) {
-        Ok(tgid) => tgid,
-        Err(stop) => return Err(stop),
-    };
-    match read_field(alloc, space, asked, &task, &shape.signal, steps) {
-        Ok(signal) => Ok(Group {
-            leader,
-            signal: signal.value(),
-            tgid,
-        }),
-        Err(stop) => Err(stop),
-    }
+    check_field(alloc, space, asked, Rule::T1, &task, field, leader, steps)?;
+    let tgid = check_tgid(alloc, space, asked, shape, &task, steps)?;
+    let signal = read_field(alloc, space, asked, &task, &shape.signal, steps)?.value();
+    Ok(Group {
+        leader,
+        signal,
+        tgid,
+    })
 }
 
 // Whether a task is among these.
@@ -183,18 +169,10 @@ fn check_threads<S: Space, L: Ledger>(
     ensures cause { CountsWalkFaults result (S.faults space.old) (S.faults space.new) }
 {
     let head = thread_head(shape, group);
-    let threads = match tasks_on(alloc, space, asked, shape, head, shape.thread_node, steps) {
-        Ok(threads) => threads,
-        Err(stop) => return Err(stop),
-    };
-    match check_among(alloc, space, asked, shape, group, &threads, steps) {
-        Ok(()) => {}
-        Err(stop) => return Err(stop),
-    }
-    match check_all(alloc, space, asked, btf, shape, group, &threads, steps) {
-        Ok(()) => Ok(threads),
-        Err(stop) => Err(stop),
-    }
+    let threads = tasks_on(alloc, space, asked, shape, head, shape.thread_node, steps)?;
+    check_among(alloc, space, asked, shape, group, &threads, steps)?;
+    check_all(alloc, space, asked, btf, shape, group, &threads, steps)?;
+    Ok(threads)
 }
 
 // Looks at the group of a leader, and gives its threads.
@@ -215,8 +193,6 @@ pub(crate) fn check_leader<S: Space, L: Ledger>(
     ensures stays { SpaceStays S.image S.files S.through S.most space.old space.new }
     ensures cause { CountsWalkFaults result (S.faults space.old) (S.faults space.new) }
 {
-    match read_group(alloc, space, asked, btf, shape, leader, steps) {
-        Ok(group) => check_threads(alloc, space, asked, btf, shape, &group, steps),
-        Err(stop) => Err(stop),
-    }
+    let group = read_group(alloc, space, asked, btf, shape, leader, steps)?;
+    check_threads(alloc, space, asked, btf, shape, &group, steps)
 }

@@ -3,7 +3,7 @@ ghost use Rattle.std.specs.Prelude.{◌≡◌};
 ghost use Rattle.kc_memory.specs.declared.rule.Rule.TheVariants.{T5};
 ghost use Rattle.kc_memory.specs.Stays.{SpaceStays};
 ghost use Rattle.kc_found.specs.Walks.{CountsWalkFaults, IsNamed, WalksAs};
-ghost use Rattle.kc_task.specs.TaskLists.{IsInside, all_pass, children_checked, end_checked, holds, stack_checked, thread_checked};
+ghost use Rattle.kc_task.specs.TaskLists.{IsInside, all_pass, children_checked, end_checked, holds, shared_checked, stack_checked, thread_checked};
 
 use crate::fields::check_field;
 use crate::group::Group;
@@ -69,10 +69,7 @@ fn check_children<S: Space, L: Ledger>(
     ensures cause { CountsWalkFaults result (S.faults space.old) (S.faults space.new) }
 {
     let head = owner.wrapping_add(shape.children);
-    let children = match tasks_on(alloc, space, asked, shape, head, shape.sibling, steps) {
-        Ok(children) => children,
-        Err(stop) => return Err(stop),
-    };
+    let children = tasks_on(alloc, space, asked, shape, head, shape.sibling, steps)?;
     check_parents(alloc, space, asked, btf, shape, owner, &children, steps)
 }
 
@@ -119,10 +116,38 @@ fn check_stack<S: Space, L: Ledger>(
     ensures stays { SpaceStays S.image S.files S.through S.most space.old space.new }
     ensures cause { CountsWalkFaults result (S.faults space.old) (S.faults space.new) }
 {
-    match read_field(alloc, space, asked, task, &shape.stack, steps) {
-        Ok(stack) => check_end(alloc, space, asked, stack.value(), steps),
-        Err(stop) => Err(stop),
-    }
+    let stack = read_field(alloc, space, asked, task, &shape.stack, steps)?.value();
+    check_end(alloc, space, asked, stack, steps)
+}
+
+// Looks at what a thread shares with its group.
+fn check_shared<S: Space, L: Ledger>(
+    alloc: Global,
+    space: &mut S,
+    asked: &Asked,
+    shape: &TaskShape,
+    group: &Group,
+    thread: &View<'_>,
+    steps: &mut Steps<L>,
+) -> Result<(), WalkStop>
+    ensures exact { WalksAs (λ _. tt) (λ i. shared_checked i asked.now shape.now group.now thread.now.at)
+        (S.image space.old) result }
+    ensures named { IsNamed result asked.now.audit asked.now.start }
+
+    ensures stays { SpaceStays S.image S.files S.through S.most space.old space.new }
+    ensures cause { CountsWalkFaults result (S.faults space.old) (S.faults space.new) }
+{
+    let Group {
+        leader,
+        signal,
+        tgid,
+    } = *group;
+    let field = &shape.group_leader;
+    check_field(alloc, space, asked, Rule::T1, thread, field, leader, steps)?;
+    let field = &shape.signal;
+    check_field(alloc, space, asked, Rule::T3, thread, field, signal, steps)?;
+    let field = &shape.tgid;
+    check_field(alloc, space, asked, Rule::T4, thread, field, tgid, steps)
 }
 
 // Looks at a thread of a group.
@@ -144,51 +169,8 @@ pub(crate) fn check_thread<S: Space, L: Ledger>(
     ensures stays { SpaceStays S.image S.files S.through S.most space.old space.new }
     ensures cause { CountsWalkFaults result (S.faults space.old) (S.faults space.new) }
 {
-    let task = View::new(btf, shape.task, at);
-    let leader = &shape.group_leader;
-    match check_field(
-        alloc,
-        space,
-        asked,
-        Rule::T1,
-        &task,
-        leader,
-        group.leader,
-        steps,
-    ) {
-        Ok(()) => {}
-        Err(stop) => return Err(stop),
-    }
-    let signal = &shape.signal;
-    match check_field(
-        alloc,
-        space,
-        asked,
-        Rule::T3,
-        &task,
-        signal,
-        group.signal,
-        steps,
-    ) {
-        Ok(()) => {}
-        Err(stop) => return Err(stop),
-    }
-    match check_field(
-        alloc,
-        space,
-        asked,
-        Rule::T4,
-        &task,
-        &shape.tgid,
-        group.tgid,
-        steps,
-    ) {
-        Ok(()) => {}
-        Err(stop) => return Err(stop),
-    }
-    match check_children(alloc, space, asked, btf, shape, at, steps) {
-        Ok(()) => {}
-        Err(stop) => return Err(stop),
-    }
-    check_stack(alloc, space, asked, shape, &task, steps)
+    let thread = View::new(btf, shape.task, at);
+    check_shared(alloc, space, asked, shape, group, &thread, steps)?;
+    check_children(alloc, space, asked, btf, shape, at, steps)?;
+    check_stack(alloc, space, asked, shape, &thread, steps)
 }

@@ -56,10 +56,7 @@ fn add_threads<S: Space, L: Ledger>(
     ensures stays { SpaceStays S.image S.files S.through S.most space.old space.new }
     ensures cause { CountsWalkFaults result (S.faults space.old) (S.faults space.new) }
 {
-    let more = match check_leader(alloc, space, asked, btf, shape, leader, steps) {
-        Ok(more) => more,
-        Err(stop) => return Err(stop),
-    };
+    let more = check_leader(alloc, space, asked, btf, shape, leader, steps)?;
     match append(threads, &more) {
         Ok(()) => Ok(()),
         Err(NoMemory) => Err(WalkStop::NoMemory),
@@ -114,10 +111,7 @@ fn walk_list<S: Space, L: Ledger>(
     ensures cause { CountsWalkFaults result (S.faults space.old) (S.faults space.new) }
 {
     let head = asked.start.wrapping_add(shape.tasks);
-    let others = match tasks_on(alloc, space, asked, shape, head, shape.tasks, steps) {
-        Ok(others) => others,
-        Err(stop) => return Err(stop),
-    };
+    let others = tasks_on(alloc, space, asked, shape, head, shape.tasks, steps)?;
     let leaders = match all_leaders(alloc, asked.start, &others) {
         Ok(leaders) => leaders,
         Err(NoMemory) => return Err(WalkStop::NoMemory),
