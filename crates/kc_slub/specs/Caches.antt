@@ -31,7 +31,8 @@ base_of image asked (At a) = and_then (or_missed asked (vword image a)) (λ w. O
 -- how many pointers of the array `node` are looked at
 abbrev pub count_of : Image → Asked → ℕ → Base → Result ℕ Violation
 count_of image asked nodes (Is n) = Ok (min nodes n)
-count_of image asked nodes (At a) = and_then (or_missed asked (bits image a 0 32 false)) (λ n. Ok (min nodes (low_word n.value)))
+count_of image asked nodes (At a) =
+    and_then (or_missed asked (bits image a 0 32 false)) (λ n. Ok (min nodes (low_word n.value)))
 
 -- steps 1 and 2: the two bases and the number of nodes
 abbrev pub bases_of : Image → Asked → SlubShape → Result Bases Violation
@@ -117,11 +118,13 @@ slab_of shape node = (node + (2 ^ 64 - shape.slab_list)) % 2 ^ 64
 unfoldable pub slabs_checked : Image → Asked → SlubShape → Bases → Objects → List ℕ → List ℕ → Result (List ℕ) Violation
 slabs_checked image asked shape b o slabs [] = Ok slabs
 slabs_checked image asked shape b o slabs (n ∷ ns) =
-    and_then (slab_checked image asked shape b o (slab_of shape n)) (λ s. slabs_checked image asked shape b o (slabs ++ s ∷ []) ns)
+    and_then (slab_checked image asked shape b o (slab_of shape n)) (λ s.
+    slabs_checked image asked shape b o (slabs ++ s ∷ []) ns)
 
 -- the ring of a node's partial slabs
 abbrev pub partial_of : Image → Asked → SlubShape → ℕ → Result (List ℕ) Violation
-partial_of image asked shape knode = started_at asked.start (ring_walk image shape.list asked.audit (at_offset knode shape.partial))
+partial_of image asked shape knode =
+    started_at asked.start (ring_walk image shape.list asked.audit (at_offset knode shape.partial))
 
 -- step 4 of a node: `nr_partial`, the ring, its slabs, and then U7
 abbrev pub knode_checked : Image → Asked → SlubShape → Bases → Objects → List ℕ → ℕ → Result (List ℕ) Violation
@@ -145,7 +148,8 @@ node_checked image asked shape b o slabs i =
 unfoldable pub nodes_checked : Image → Asked → SlubShape → Bases → Objects → ℕ → ℕ → List ℕ → Result (List ℕ) Violation
 nodes_checked image asked shape b o zero i slabs = Ok slabs
 nodes_checked image asked shape b o (suc left) i slabs =
-    and_then (node_checked image asked shape b o slabs i) (λ more. nodes_checked image asked shape b o left (suc i) more)
+    and_then (node_checked image asked shape b o slabs i) (λ more.
+    nodes_checked image asked shape b o left (suc i) more)
 
 -- the slabs on the partial lists of a cache, or the first violation
 abbrev pub cache_slabs : Image → SlubShape → Asked → Result (List ℕ) Violation

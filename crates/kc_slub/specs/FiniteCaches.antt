@@ -1,9 +1,11 @@
--- What the slabs of a cache have to meet, to be those on its partial lists. Source: the kernel's mm/slab.h and mm/slub.c.
-use Rattle.std.specs.Prelude.{◌≡◌, ℕ, ◌+◌, ◌-◌, ◌*◌, ◌%◌, ◌^◌, ◌<◌, ◌≤◌, nat_eq, min, List, [], map, length, slice_get, Option, Some, None, option_map, MatchBool, false}
+-- What the slabs of a cache have to meet, to be those on its partial lists. Source: the kernel's mm/slab.h and
+-- mm/slub.c.
+use Rattle.std.specs.Prelude.{◌≡◌, ℕ, ◌+◌, ◌-◌, ◌*◌, ◌%◌, ◌^◌, ◌<◌, ◌≤◌, nat_eq, min, List, [], map, length, slice_get, Option, Some, None, option_map, Result, MatchBool, false}
 use Rattle.std.specs.List.{AllByRecursion, concat}
 use Rattle.std.specs.Option.{unwrap_or}
 use Rattle.kc_memory.specs.Bits.{Number, bits}
 use Rattle.kc_memory.specs.Image.{Image}
+use Rattle.kc_memory.specs.Stopped.{Stopped}
 use Rattle.kc_memory.specs.Translation.{vword}
 use Rattle.kc_layout.specs.declared.place.Field.{Field}
 use Rattle.kc_view.specs.declared.slub.Base.{Base}
@@ -28,10 +30,14 @@ abbrev pub BaseIs : Image → Base → ℕ → Type 0
 BaseIs image (Is base) n = n ≡ base
 BaseIs image (At a) n = lists.value_of (vword image a) ≡ Some n
 
+-- a number can be read, and is this one modulo 2^64
+abbrev pub NumberIs : Result Number Stopped → ℕ → Type 0
+NumberIs r n = option_map (λ (m : Number). low_word m.value) (readable r) ≡ Some n
+
 -- so many nodes are there, or so says the unsigned number of 32 bits
 abbrev pub CountIs : Image → Base → ℕ → Type 0
 CountIs image (Is count) n = n ≡ count
-CountIs image (At a) n = option_map (λ (m : Number). low_word m.value) (readable (bits image a 0 32 false)) ≡ Some n
+CountIs image (At a) n = NumberIs (bits image a 0 32 false) n
 
 -- the bases, and how many pointers of the array `node` count
 pub record AreBases (image : Image) (shape : SlubShape) (b : Bases) : Type 0 where
@@ -52,8 +58,8 @@ pub record AreObjects (image : Image) (shape : SlubShape) (cache : ℕ) (o : Obj
   pub some : 1 ≤ o.size
   pub inside : o.offset + 8 ≤ o.size
 
--- A slab of a cache: it names the cache, no processor owns it, it is the descriptor of a page, and its free objects make
--- up a free list of as many objects as aren't in use.
+-- A slab of a cache: it names the cache, no processor owns it, it is a page's descriptor, and its free objects make up
+-- a free list, as many as aren't in use.
 pub record IsSlab (image : Image) (shape : SlubShape) (b : Bases) (o : Objects) (cache slab : ℕ) : Type 0 where
   pub slab_cache : FieldIs image slab shape.slab_cache cache
   pub frozen : FieldIs image slab shape.frozen 0
@@ -72,7 +78,8 @@ pub record IsSlab (image : Image) (shape : SlubShape) (b : Bases) (o : Objects) 
   pub length : length free ≡ objects - inuse
 
 -- the slabs of a node: its ring has them, each is one of the cache, and the node says how many they are
-pub record AreListed (image : Image) (shape : SlubShape) (b : Bases) (o : Objects) (cache knode : ℕ) (slabs : List ℕ) : Type 0 where
+pub record AreListed (image : Image) (shape : SlubShape) (b : Bases) (o : Objects) (cache knode : ℕ) (slabs : List ℕ)
+    : Type 0 where
   pub nodes : List ℕ
   pub ring : Ring (vword image) shape.list (at_offset knode shape.partial) nodes
   pub are : slabs ≡ map (slab_of shape) nodes
@@ -80,9 +87,10 @@ pub record AreListed (image : Image) (shape : SlubShape) (b : Bases) (o : Object
   pub counted : FieldIs image knode shape.nr_partial (length nodes)
 
 -- the pointer at an index of the array `node` can be read, and where it is null there are no slabs
-pub record AreOfNode (image : Image) (shape : SlubShape) (b : Bases) (o : Objects) (cache i : ℕ) (slabs : List ℕ) : Type 0 where
+pub record AreOfNode (image : Image) (shape : SlubShape) (b : Bases) (o : Objects) (cache i : ℕ) (slabs : List ℕ)
+    : Type 0 where
   pub knode : ℕ
-  pub leads : option_map (λ (m : Number). low_word m.value) (readable (number_in image (at_offset (at_offset cache shape.node) (8 * i)))) ≡ Some knode
+  pub leads : NumberIs (number_in image (at_offset (at_offset cache shape.node) (8 * i))) knode
   pub listed : MatchBool (nat_eq knode 0) (slabs ≡ []) (AreListed image shape b o cache knode slabs)
 
 -- The slabs of a cache, node by node.

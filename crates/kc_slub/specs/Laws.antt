@@ -22,7 +22,8 @@ FreeListsAreWalked =
 -- what a free list's violation shows is true of the dump, where that is what shows the slab's own pointer
 abbrev pub FreePlacesStand : Type 0
 FreePlacesStand =
-    (image : Image) (grid : Grid) (first : Number) (asked : Asked) (v : Violation) → AllStandIn image (places_by (Some first))
+    (image : Image) (grid : Grid) (first : Number) (asked : Asked) (v : Violation)
+    → AllStandIn image (places_by (Some first))
     → free_list image grid first asked ≡ Err v → AllStandIn image v.places
 
 -- the slabs of a cache of the definition are walked whole, and what is walked without a violation are such slabs

@@ -56,7 +56,8 @@ fn take_place(
     asked: &Asked,
     place: &Place,
 ) -> Result<(), WalkStop>
-    ensures taken { IsWalk (λ _. claims.new) (passed {X = ℕ} claims.old (places_taken asked.now (place.now ∷ []))) result }
+    ensures taken { IsWalk (λ _. claims.new)
+        (passed {X = ℕ} claims.old (places_taken asked.now (place.now ∷ []))) result }
     ensures named { IsNamed result asked.now.audit asked.now.start }
     ensures no_fault { OnWalkFault result ⊥ }
 {
@@ -76,7 +77,8 @@ fn take_number(
     asked: &Asked,
     number: &Scalar,
 ) -> Result<(), WalkStop>
-    ensures taken { IsWalk (λ _. claims.new) (passed {X = ℕ} claims.old (places_taken asked.now (places_by (Some number.now)))) result }
+    ensures taken { IsWalk (λ _. claims.new)
+        (passed {X = ℕ} claims.old (places_taken asked.now (places_by (Some number.now)))) result }
     ensures named { IsNamed result asked.now.audit asked.now.start }
     ensures no_fault { OnWalkFault result ⊥ }
 {
@@ -98,7 +100,8 @@ fn enter_number<S: Space, L: Ledger>(
     steps: &mut Steps<L>,
 ) -> Result<Scalar, WalkStop>
     ensures number { IfOk result (λ n. IfSome (S.image space.old) (λ i. number_in i at ≡ Ok n)) }
-    ensures site { TakesAs (λ i. number_taken asked.now (places_by led) (number_in i at)) claims.old claims.new (S.image space.old) result }
+    ensures site { TakesAs (λ i. number_taken asked.now (places_by led) (number_in i at)) claims.old claims.new
+        (S.image space.old) result }
     ensures named { IsNamed result asked.now.audit asked.now.start }
     ensures steps { steps.new ≤ steps.old + 2 * S.most space.old }
 
@@ -136,8 +139,10 @@ fn enter_object<S: Space, L: Ledger>(
     steps: &mut Steps<L>,
 ) -> Result<Scalar, WalkStop>
     requires { 1 ≤ grid.now.size }
-    ensures number { IfOk result (λ n. IfSome (S.image space.old) (λ i. number_in i (pointer_at grid.now led.now.to) ≡ Ok n)) }
-    ensures site { TakesAs (λ i. free_site asked.now grid.now (number_in i (pointer_at grid.now led.now.to)) led.now) claims.old claims.new (S.image space.old) result }
+    ensures number { IfOk result (λ n. IfSome (S.image space.old)
+        (λ i. number_in i (pointer_at grid.now led.now.to) ≡ Ok n)) }
+    ensures site { TakesAs (λ i. free_site asked.now grid.now (number_in i (pointer_at grid.now led.now.to)) led.now)
+        claims.old claims.new (S.image space.old) result }
     ensures named { IsNamed result asked.now.audit asked.now.start }
     ensures steps { steps.new ≤ steps.old + 2 * S.most space.old }
 
@@ -192,9 +197,12 @@ pub fn free_walk<S: Space, L: Ledger>(
     steps: &mut Steps<L>,
 ) -> Result<Walked, WalkStop>
     requires { IsGrid grid.now }
-    ensures walk { WalksAs (λ w. w) (λ i. free_list i grid.now first (record { audit = audit; start = start })) (S.image space.old) result }
-    ensures finite { IfOk result (λ os. IfSome (S.image space.old) (λ i. FreeChain (number_in i) grid.now (low_word first.value) os)) }
-    ensures none { OnBroken result (IfSome (S.image space.old) (λ i. NoFreeChain (number_in i) grid.now (low_word first.value))) }
+    ensures walk { WalksAs (λ w. w) (λ i. free_list i grid.now first (record { audit = audit; start = start }))
+        (S.image space.old) result }
+    ensures finite { IfOk result (λ os. IfSome (S.image space.old)
+        (λ i. FreeChain (number_in i) grid.now (low_word first.value) os)) }
+    ensures none { OnBroken result
+        (IfSome (S.image space.old) (λ i. NoFreeChain (number_in i) grid.now (low_word first.value))) }
     ensures named { IsNamed result audit start }
     ensures bound { WithinSteps (S.image space.old) (S.most space.old) steps.old steps.new }
 

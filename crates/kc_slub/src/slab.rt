@@ -60,7 +60,8 @@ fn check_list<S: Space, L: Ledger>(
     steps: &mut Steps<L>,
 ) -> Result<u64, WalkStop>
     requires { IsGrid grid.now }
-    ensures exact { WalksAs (λ s. s) (λ i. list_checked i asked.now grid.now slab wanted inuse.now first) (S.image space.old) result }
+    ensures exact { WalksAs (λ s. s) (λ i. list_checked i asked.now grid.now slab wanted inuse.now first)
+        (S.image space.old) result }
     ensures named { IsNamed result asked.now.audit asked.now.start }
 
     ensures stays { SpaceStays S.image S.files S.through S.most space.old space.new }
@@ -98,7 +99,9 @@ fn check_free<S: Space, L: Ledger>(
 ) -> Result<u64, WalkStop>
     requires some { 1 ≤ objects.now.size }
     requires inside { objects.now.offset + 8 ≤ objects.now.size }
-    ensures exact { WalksAs (λ s. s) (λ i. free_checked i asked.now shape.now bases.now objects.now slab.now.at count inuse.now) (S.image space.old) result }
+    ensures exact { WalksAs (λ s. s)
+        (λ i. free_checked i asked.now shape.now bases.now objects.now slab.now.at count inuse.now)
+        (S.image space.old) result }
     ensures named { IsNamed result asked.now.audit asked.now.start }
 
     ensures stays { SpaceStays S.image S.files S.through S.most space.old space.new }
@@ -139,7 +142,8 @@ fn check_counts<S: Space, L: Ledger>(
 ) -> Result<u64, WalkStop>
     requires some { 1 ≤ objects.now.size }
     requires inside { objects.now.offset + 8 ≤ objects.now.size }
-    ensures exact { WalksAs (λ s. s) (λ i. counts_checked i asked.now shape.now bases.now objects.now slab.now.at) (S.image space.old) result }
+    ensures exact { WalksAs (λ s. s) (λ i. counts_checked i asked.now shape.now bases.now objects.now slab.now.at)
+        (S.image space.old) result }
     ensures named { IsNamed result asked.now.audit asked.now.start }
 
     ensures stays { SpaceStays S.image S.files S.through S.most space.old space.new }
@@ -175,7 +179,8 @@ pub(crate) fn check_slab<S: Space, L: Ledger>(
 ) -> Result<u64, WalkStop>
     requires some { 1 ≤ objects.now.size }
     requires inside { objects.now.offset + 8 ≤ objects.now.size }
-    ensures exact { WalksAs (λ s. s) (λ i. slab_checked i asked.now shape.now bases.now objects.now slab.now.at) (S.image space.old) result }
+    ensures exact { WalksAs (λ s. s) (λ i. slab_checked i asked.now shape.now bases.now objects.now slab.now.at)
+        (S.image space.old) result }
     ensures named { IsNamed result asked.now.audit asked.now.start }
 
     ensures stays { SpaceStays S.image S.files S.through S.most space.old space.new }

@@ -42,7 +42,9 @@ fn check_slabs<S: Space, L: Ledger>(
     requires some { 1 ≤ objects.now.size }
     requires inside { objects.now.offset + 8 ≤ objects.now.size }
     requires types { IsInside shape.now btf.now }
-    ensures exact { WalksAs (λ _. slabs.new) (λ i. slabs_checked i asked.now shape.now bases.now objects.now slabs.old nodes.now) (S.image space.old) result }
+    ensures exact { WalksAs (λ _. slabs.new)
+        (λ i. slabs_checked i asked.now shape.now bases.now objects.now slabs.old nodes.now)
+        (S.image space.old) result }
     ensures named { IsNamed result asked.now.audit asked.now.start }
 
     ensures stays { SpaceStays S.image S.files S.through S.most space.old space.new }
@@ -100,7 +102,8 @@ fn check_knode<S: Space, L: Ledger>(
     requires some { 1 ≤ objects.now.size }
     requires inside { objects.now.offset + 8 ≤ objects.now.size }
     requires types { IsInside shape.now btf.now }
-    ensures exact { WalksAs (λ _. slabs.new) (λ i. knode_checked i asked.now shape.now bases.now objects.now slabs.old knode) (S.image space.old) result }
+    ensures exact { WalksAs (λ _. slabs.new)
+        (λ i. knode_checked i asked.now shape.now bases.now objects.now slabs.old knode) (S.image space.old) result }
     ensures named { IsNamed result asked.now.audit asked.now.start }
 
     ensures stays { SpaceStays S.image S.files S.through S.most space.old space.new }
@@ -145,7 +148,8 @@ fn check_node<S: Space, L: Ledger>(
     requires some { 1 ≤ objects.now.size }
     requires inside { objects.now.offset + 8 ≤ objects.now.size }
     requires types { IsInside shape.now btf.now }
-    ensures exact { WalksAs (λ _. slabs.new) (λ im. node_checked im asked.now shape.now bases.now objects.now slabs.old i) (S.image space.old) result }
+    ensures exact { WalksAs (λ _. slabs.new)
+        (λ im. node_checked im asked.now shape.now bases.now objects.now slabs.old i) (S.image space.old) result }
     ensures named { IsNamed result asked.now.audit asked.now.start }
 
     ensures stays { SpaceStays S.image S.files S.through S.most space.old space.new }
@@ -184,7 +188,9 @@ fn walk_nodes<S: Space, L: Ledger>(
     requires some { 1 ≤ objects.now.size }
     requires inside { objects.now.offset + 8 ≤ objects.now.size }
     requires types { IsInside shape.now btf.now }
-    ensures exact { WalksAs (λ w. w) (λ i. nodes_checked i asked.now shape.now bases.now objects.now bases.now.nodes 0 []) (S.image space.old) result }
+    ensures exact { WalksAs (λ w. w)
+        (λ i. nodes_checked i asked.now shape.now bases.now objects.now bases.now.nodes 0 [])
+        (S.image space.old) result }
     ensures named { IsNamed result asked.now.audit asked.now.start }
 
     ensures stays { SpaceStays S.image S.files S.through S.most space.old space.new }
@@ -221,7 +227,8 @@ pub fn cache_walk<S: Space, L: Ledger>(
     steps: &mut Steps<L>,
 ) -> Result<Walked, WalkStop>
     requires { IsInside shape.now btf.now }
-    ensures walk { WalksAs (λ w. w) (λ i. cache_slabs i shape.now (record { audit = audit; start = cache })) (S.image space.old) result }
+    ensures walk { WalksAs (λ w. w) (λ i. cache_slabs i shape.now (record { audit = audit; start = cache }))
+        (S.image space.old) result }
     ensures named { IsNamed result audit cache }
 
     ensures stays { SpaceStays S.image S.files S.through S.most space.old space.new }
