@@ -1,6 +1,6 @@
 -- A cache is walked whole exactly where finite lists of its slabs make it up.
 use Rattle.std.proofs.Common.{◌≡◌, ℕ, zero, suc, ◌+◌, ◌-◌, ◌*◌, ◌^◌, ◌≤◌, nat_eq, Bool, true, false, List, [], ◌∷◌, ◌++◌, length, Option, None, Some, map, refl, sym, ◌∙◌, ap, subst, arith, eq-eqb}
-use Rattle.std.specs.Prelude.{Result, Ok, Err, MatchBool, not, nat_lt, ◌||◌, min, slice_get, if◌then◌else◌}
+use Rattle.std.specs.Prelude.{Result, Ok, Err, IfOk, IfSome, MatchBool, not, nat_lt, ◌||◌, min, slice_get, if◌then◌else◌}
 use Rattle.std.specs.List.{AllByRecursion, concat}
 use Rattle.std.specs.Option.{unwrap_or}
 use Rattle.std.proofs.lemmas.Bool.{and_from, and_parts, or_parts, eqb-true, ltb-true, ltb-false, lt-ltb, le-ltb}
@@ -20,6 +20,8 @@ use Rattle.kc_view.specs.declared.slub.SlubShape.{SlubShape}
 use Rattle.kc_view.specs.Fields.{FieldIs, breaks_at, or_missed, read_field, started_at, unless, value_of}
 use Rattle.kc_view.proofs.FieldLaws.{field_is, field_read, is_some, missed_ok, some_of, started_ok, then_is, unless_is, unless_ok}
 use Rattle.kc_found.specs.declared.asked.Asked.{Asked}
+use Rattle.kc_found.specs.declared.found.WalkStop.{WalkStop}
+use Rattle.kc_found.specs.declared.found.WalkStop.TheVariants as ends
 use Rattle.kc_found.specs.declared.free.Grid.{Grid}
 use Rattle.kc_found.specs.FiniteLists.{FreeChain, Ring}
 use Rattle.kc_found.specs.FiniteLists as lists
@@ -27,13 +29,15 @@ use Rattle.kc_found.specs.FreeLists.{free_list, low_word, number_in}
 use Rattle.kc_found.specs.Nodes.{at_offset}
 use Rattle.kc_found.specs.Rings.{ring_walk}
 use Rattle.kc_found.specs.Trials.{and_then}
+use Rattle.kc_found.specs.Violations.{Violation}
+use Rattle.kc_found.specs.Walks.{OnBroken, WalksAs}
 use Rattle.kc_found.proofs.Known.{ok_after}
 use Rattle.kc_list.specs.Laws.{RingsAreWalked}
 use Rattle.kc_list.proofs.Finite.{not_false}
 use Rattle.kc_slub.specs.declared.cache.Bases.{Bases}
 use Rattle.kc_slub.specs.declared.cache.Objects.{Objects}
 use Rattle.kc_slub.specs.Caches.{base_of, bases_of, cache_slabs, count_of, grid_of, is_descriptor, knode_checked, list_checked, node_checked, nodes_checked, objects_of, optional_of, page_of, partial_of, slab_checked, slab_of, slabs_checked}
-use Rattle.kc_slub.specs.FiniteCaches.{AreBases, AreListed, AreObjects, AreOfNode, BaseIs, CountIs, IsSlab, OptionalIs, Slub}
+use Rattle.kc_slub.specs.FiniteCaches.{AreBases, AreListed, AreObjects, AreOfNode, BaseIs, CountIs, IsSlab, NoSlub, OptionalIs, Slub}
 use Rattle.kc_slub.specs.Laws.{CachesAreWalked, FreeListsAreWalked}
 use Rattle.kc_slub.proofs.FreeWalk.{free_lists_are_walked}
 
@@ -389,3 +393,22 @@ pub caches_are_walked : RingsAreWalked → CachesAreWalked
 caches_are_walked rings image shape audit start slabs =
     let asked : Asked = record { audit = audit; start = start } in
     (slub_from rings free_lists_are_walked image asked shape slabs, slub_is rings free_lists_are_walked image asked shape slabs)
+
+-- what a walk without a violation says, and one with a violation
+pub finite_of : RingsAreWalked → (image : Option Image) (shape : SlubShape) (asked : Asked) (r : Result (List ℕ) WalkStop) → WalksAs (λ (slabs : List ℕ). slabs) (λ i. cache_slabs i shape asked) image r →
+    IfOk r (λ slabs. IfSome image (λ i. Slub i shape asked.start slabs))
+finite_of rings None shape asked (Ok slabs) e = tt
+finite_of rings (Some i) shape asked (Ok slabs) e = slub_is rings free_lists_are_walked i asked shape slabs e
+finite_of rings image shape asked (Err stop) e = tt
+
+never : {A : Type 0} (r : Result A Violation) (x : A) (v : Violation) → r ≡ Ok x → r ≡ Err v → ⊥
+never (Ok y) x v is e = cc
+never (Err u) x v is e = cc
+
+pub none_of : RingsAreWalked → (image : Option Image) (shape : SlubShape) (asked : Asked) (r : Result (List ℕ) WalkStop) → WalksAs (λ (slabs : List ℕ). slabs) (λ i. cache_slabs i shape asked) image r →
+    OnBroken r (IfSome image (λ i. NoSlub i shape asked.start))
+none_of rings None shape asked (Err (ends.Broken f)) e = tt
+none_of rings (Some i) shape asked (Err (ends.Broken f)) e = λ slabs is. never (cache_slabs i shape asked) slabs f (slub_from rings free_lists_are_walked i asked shape slabs is) e
+none_of rings image shape asked (Ok slabs) e = tt
+none_of rings image shape asked (Err ends.Fault) e = tt
+none_of rings image shape asked (Err ends.NoMemory) e = tt

@@ -103,3 +103,7 @@ pub record Slub (image : Image) (shape : SlubShape) (cache : ℕ) (slabs : List 
   pub all : length by_node ≡ bases.nodes
   pub nodes : (i : ℕ) (ss : List ℕ) → slice_get by_node i ≡ Some ss → AreOfNode image shape bases objects cache i ss
   pub are : slabs ≡ concat by_node
+
+-- no list of slabs makes up the cache
+abbrev pub NoSlub : Image → SlubShape → ℕ → Type 0
+NoSlub image shape cache = (slabs : List ℕ) → Slub image shape cache slabs → ⊥

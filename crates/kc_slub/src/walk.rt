@@ -1,14 +1,15 @@
 // The partial lists of a cache.
-ghost use Rattle.std.specs.Prelude.{◌≡◌, ℕ, ◌∷◌, ◌++◌, [], ◌≤◌, ◌+◌, ◌^◌, ◌<◌, length, OnOk};
+ghost use Rattle.std.specs.Prelude.{◌≡◌, ℕ, ◌∷◌, ◌++◌, [], ◌≤◌, ◌+◌, ◌^◌, ◌<◌, length, IfOk, IfSome, OnOk};
 ghost use Rattle.kc_memory.specs.Stays.{SpaceStays};
 ghost use Rattle.kc_found.specs.Walks.{CountsWalkFaults, IsNamed, OnBroken, OnWalkFault, WalksAs};
 ghost use Rattle.kc_slub.specs.Caches.{IsInside, cache_slabs, knode_checked, node_checked, nodes_checked, partial_of, slabs_checked};
+ghost use Rattle.kc_slub.specs.FiniteCaches.{NoSlub, Slub};
 
 use crate::cache::{Bases, Objects, read_bases, read_objects};
 use crate::slab::check_slab;
 use kc_btf::Btf;
 use kc_found::{Asked, Rule, Space, WalkStop, Walked, broken_field, low_word, read_bits, stopped};
-use kc_list::ring;
+use kc_list::{know_lists, ring};
 use kc_view::{SlubShape, View, read_field, started_at};
 use kc_word::{Bits, NoMemory, Steps};
 use std::alloc::Global;
@@ -210,6 +211,34 @@ fn walk_nodes<S: Space, L: Ledger>(
     Ok(slabs)
 }
 
+// The slabs on the lists of a cache.
+fn walk_cache<S: Space, L: Ledger>(
+    alloc: Global,
+    space: &mut S,
+    asked: &Asked,
+    btf: &Btf,
+    shape: &SlubShape,
+    steps: &mut Steps<L>,
+) -> Result<Walked, WalkStop>
+    requires { IsInside shape.now btf.now }
+    ensures exact { WalksAs (λ w. w) (λ i. cache_slabs i shape.now asked.now) (S.image space.old) result }
+    ensures named { IsNamed result asked.now.audit asked.now.start }
+
+    ensures stays { SpaceStays S.image S.files S.through S.most space.old space.new }
+    ensures cause { CountsWalkFaults result (S.faults space.old) (S.faults space.new) }
+{
+    let bases = match read_bases(alloc, space, asked, shape, steps) {
+        Ok(bases) => bases,
+        Err(stop) => return Err(stop),
+    };
+    let view = View::new(btf, shape.cache, asked.start);
+    let objects = match read_objects(alloc, space, asked, shape, &view, steps) {
+        Ok(objects) => objects,
+        Err(stop) => return Err(stop),
+    };
+    walk_nodes(alloc, space, asked, btf, shape, &bases, &objects, steps)
+}
+
 /// The slabs on the partial lists of the cache at virtual address `cache`, node by node, each in the order of its ring.
 /// The audit's number is named where the cache breaks a rule.
 ///
@@ -229,23 +258,17 @@ pub fn cache_walk<S: Space, L: Ledger>(
     requires { IsInside shape.now btf.now }
     ensures walk { WalksAs (λ w. w) (λ i. cache_slabs i shape.now (record { audit = audit; start = cache }))
         (S.image space.old) result }
+    ensures finite { IfOk result (λ slabs. IfSome (S.image space.old) (λ i. Slub i shape.now cache slabs)) }
+    ensures none { OnBroken result (IfSome (S.image space.old) (λ i. NoSlub i shape.now cache)) }
     ensures named { IsNamed result audit cache }
 
     ensures stays { SpaceStays S.image S.files S.through S.most space.old space.new }
     ensures cause { CountsWalkFaults result (S.faults space.old) (S.faults space.new) }
 {
+    know_lists();
     let asked = Asked {
         audit,
         start: cache,
     };
-    let bases = match read_bases(alloc, space, &asked, shape, steps) {
-        Ok(bases) => bases,
-        Err(stop) => return Err(stop),
-    };
-    let view = View::new(btf, shape.cache, cache);
-    let objects = match read_objects(alloc, space, &asked, shape, &view, steps) {
-        Ok(objects) => objects,
-        Err(stop) => return Err(stop),
-    };
-    walk_nodes(alloc, space, &asked, btf, shape, &bases, &objects, steps)
+    walk_cache(alloc, space, &asked, btf, shape, steps)
 }
