@@ -48,13 +48,15 @@ one-place text m n h k = by (nat_lt m n) (nat_lt n m) refl refl
 
 fault-told : (text : List ℕ) (n : ℕ) → IsFault text n → (r : Result Tree ℕ) → parsed text ≡ r → r ≡ Err n
 fault-told text n h (Ok t) is = absurd (h.none t (read-is-text text t is))
-fault-told text n h (Err m) is = let k = fault-at text m is in ap (λ (place : ℕ). Err place) (one-place text m n k.place h.place)
+fault-told text n h (Err m) is = let k = fault-at text m is in ap (λ (place : ℕ). Err place)
+    (one-place text m n k.place h.place)
 
 pub faults-longest : FaultsAreLongest
 faults-longest text n = (fault-at text n, λ h. fault-told text n h (parsed text) refl)
 
 -- what a read check tells
-pub told-fault : (text : List ℕ) (read : Result Expr ExprStop) → GivesTold place_of tree_of read (parsed text) → IfErr read (λ stop. IfSome (place_of stop) (IsFault text))
+pub told-fault : (text : List ℕ) (read : Result Expr ExprStop) → GivesTold place_of tree_of read (parsed text) →
+    IfErr read (λ stop. IfSome (place_of stop) (IsFault text))
 told-fault text (Ok expr) is = tt
 told-fault text (Err (X1 n)) is = fault-at text n is
 told-fault text (Err NoMemory) is = tt

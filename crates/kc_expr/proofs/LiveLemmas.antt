@@ -16,7 +16,7 @@ use Rattle.kc_expr.specs.declared.tree.Operator.TheVariants.{Minus, Plus}
 use Rattle.kc_word.specs.Hex.{digit_value}
 use Rattle.kc_layout.specs.Path.{is_digit, is_letter, is_word}
 use Rattle.kc_expr.proofs.TokenLemmas.{if-true, le-true}
-use Rattle.kc_expr.proofs.WeightLemmas.{Each, each-pick}
+use Rattle.kc_expr.proofs.ByteLemmas.{Each, each-pick, read-step, step-after}
 
 abbrev IsWant : State → Type 0
 IsWant (want s) = Unit {0}
@@ -157,10 +157,6 @@ step-alive r c h = extended-alive r c (extend r.piece c) (extend-alive r.state r
 abbrev Completes : Reading → Type 0
 Completes r = (more : List ℕ) × (t : Tree) × ((n : ℕ) → read more n r ≡ Ok t)
 
-read-step : (r next : Reading) (c n : ℕ) (cs : List ℕ) → step r c ≡ Some next → read (c ∷ cs) n r ≡ read cs (n + 1) next
-unfolding read
-read-step r next c n cs is = ap (λ (o : Option Reading). elim o as (λ _. Result Tree ℕ) [ None ↦ Err n | Some next ↦ read cs (n + 1) next ]) is
-
 completes-step : (r next : Reading) (c : ℕ) → step r c ≡ Some next → Completes next → Completes r
 completes-step r next c is h = (c ∷ h.0, h.1, λ n. read-step r next c n h.0 is ∙ h.2 (n + 1))
 
@@ -203,11 +199,6 @@ some-of : {A : Type 0} (o : Option A) → is_some o ≡ true → (x : A) × (o �
 some-of None is = let none : ⊥ = cc in absurd none
 some-of (Some x) is = (x, refl)
 
--- a byte behind a token that ends
-step-behind : (r : Reading) (s : State) (c : ℕ) → extend r.piece c ≡ None → settle r.state r.piece ≡ Some s → step r c ≡ next_token (is_start r.piece) c s
-unfolding step
-step-behind r s c ends settled = ap (extended_or r c) ends ∙ ap (option_and_then (next_token (is_start r.piece) c)) settled
-
 result-at : (r : Reading) (s : State) → Ends r s → result_of r ≡ tree_at s
 unfolding result_of
 result-at r s h = ap (λ (b : Bool). if b then None else option_and_then tree_at (settle r.state r.piece)) h.full ∙ ap (option_and_then tree_at) h.settled
@@ -223,7 +214,7 @@ close-all zero r t s h is =
 close-all (suc k) r t s h is =
     let one = one-closed s t k is in
     let there : step r 41 ≡ Some (record { state = after t s; piece = whole close_token }) =
-    step-behind r (after t s) 41 h.closes h.settled
+    step-after r (after t s) 41 h.closes h.settled
     ∙ ap (option_map (λ (begun : Piece). record { state = after t s; piece = begun })) (if-true (has_open s) (Some (whole close_token)) None (open-there s k is)) in
     completes-step r (record { state = after t s; piece = whole close_token }) 41 there
     (close-all k (record { state = after t s; piece = whole close_token }) one.0 one.1 (record { settled = one.2; full = refl; closes = refl }) one.3)
@@ -233,7 +224,7 @@ unit-completes s = close-all (parens s) (record { state = want s; piece = zero_d
 
 settled-completes : (r : Reading) (s : State) → Ends r s → extend r.piece 48 ≡ None → Completes r
 settled-completes r (after t s) h goes = close-all (parens s) r t s h refl
-settled-completes r (want s) h goes = completes-step r (record { state = want s; piece = zero_digit }) 48 (step-behind r (want s) 48 goes h.settled) (unit-completes s)
+settled-completes r (want s) h goes = completes-step r (record { state = want s; piece = zero_digit }) 48 (step-after r (want s) 48 goes h.settled) (unit-completes s)
 
 whole-completes : (s : State) (token : Token) → Taken s token → Completes (record { state = s; piece = whole token })
 whole-completes s token h =

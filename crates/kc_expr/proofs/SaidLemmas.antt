@@ -21,14 +21,9 @@ use Rattle.kc_expr.specs.Spelling.{Writes, Spells, IsGap, IsDecimal, IsHex, IsTe
 use Rattle.kc_expr.specs.Laws.{IsGoodToken, ArePaths}
 use Rattle.kc_expr.specs.declared.tree.Operator.{Operator}
 use Rattle.kc_expr.specs.declared.tree.Operator.TheVariants.{Both, Either, Equal, NotEqual, LessEqual, GreaterEqual, Less, Greater, Plus, Minus, BitAnd, BitOr, BitXor}
-use Rattle.kc_expr.proofs.ByteLemmas.{same-byte, other-byte, less-true, true-less, then-some, at}
-use Rattle.kc_expr.proofs.WeightLemmas.{Each}
+use Rattle.kc_expr.proofs.ByteLemmas.{Each, each-if, same-byte, other-byte, less-true, true-less, then-some, at}
 use Rattle.kc_expr.proofs.TokenLemmas.{if-true, if-false, le-true, take-append, read-tokens}
 use Rattle.kc_expr.proofs.ReadLemmas.{good-both}
-
-each-if : {A : Type 0} (P : A → Type 0) (b : Bool) (x y : Option A) → (b ≡ true → Each P x) → (b ≡ false → Each P y) → Each P (if b then x else y)
-each-if P true x y p q = p refl
-each-if P false x y p q = q refl
 
 and-true : (a b : Bool) → (a && b) ≡ true → (a ≡ true) × (b ≡ true)
 and-true true b is = (refl, is)
@@ -48,11 +43,20 @@ behind-more [] x = refl
 behind-more (y ∷ ys) x = refl
 
 -- one token more
-spells-more : (first : Bool) (ts : List Token) (token : Token) (before spaces here : List ℕ) → Spells first ts before → IsGap (behind first ts) spaces → Writes token here →
+spells-more : (first : Bool) (ts : List Token) (token : Token) (before spaces here : List ℕ) →
+    Spells first ts before → IsGap (behind first ts) spaces → Writes token here →
     Spells first (ts ++ token ∷ []) (before ++ (spaces ++ here))
 unfolding Spells
-spells-more first [] token before spaces here is g w =
-    (spaces, here, [], g, w, refl, ap (λ (bytes : List ℕ). bytes ++ (spaces ++ here)) is ∙ ap (λ (bytes : List ℕ). spaces ++ bytes) (sym (append-nil here)))
+spells-more first [] token before spaces here is g w = (
+  spaces,
+  here,
+  [],
+  g,
+  w,
+  refl,
+  ap (λ (bytes : List ℕ). bytes ++ (spaces ++ here)) is ∙ ap
+      (λ (bytes : List ℕ). spaces ++ bytes) (sym (append-nil here)),
+)
 spells-more first (t ∷ ts) token before spaces here is g w = (
   is.0,
   is.1,
@@ -60,13 +64,22 @@ spells-more first (t ∷ ts) token before spaces here is g w = (
   is.3,
   is.4,
   spells-more false ts token is.2 spaces here is.5 (subst (λ (b : Bool). IsGap b spaces) (sym (behind-false ts)) g) w,
-  ap (λ (bytes : List ℕ). bytes ++ (spaces ++ here)) is.6 ∙ append_assoc is.0 (is.1 ++ is.2) (spaces ++ here) ∙ ap (λ (bytes : List ℕ). is.0 ++ bytes) (append_assoc is.1 is.2 (spaces ++ here)),
+  ap (λ (bytes : List ℕ). bytes ++ (spaces ++ here)) is.6 ∙ append_assoc is.0 (is.1 ++ is.2) (spaces ++ here) ∙ ap
+      (λ (bytes : List ℕ). is.0 ++ bytes) (append_assoc is.1 is.2 (spaces ++ here)),
 )
 
 -- one step of a path more
-path-more : (first : Bool) (steps : List Step) (step : Step) (front here : List ℕ) → SpellsPath first steps front → WritesStep (behind first steps) step here → SpellsPath first (steps ++ step ∷ []) (front ++ here)
+path-more : (first : Bool) (steps : List Step) (step : Step) (front here : List ℕ) → SpellsPath first steps front →
+    WritesStep (behind first steps) step here → SpellsPath first (steps ++ step ∷ []) (front ++ here)
 unfolding SpellsPath
-path-more first [] step front here is w = (here, [], w, refl, ap (λ (bytes : List ℕ). bytes ++ here) is ∙ sym (append-nil here))
+path-more first [] step front here is w = (
+  here,
+  [],
+  w,
+  refl,
+  ap (λ (bytes : List ℕ). bytes ++ here) is ∙ sym
+      (append-nil here),
+)
 path-more first (s ∷ steps) step front here is w = (
   is.0,
   is.1 ++ here,
@@ -116,7 +129,8 @@ record IndexPath (k : ℕ) (text : List ℕ) : Type 0 where
 named-path : (text : List ℕ) → NamedPath text → IsPath text
 named-path text h =
     let w = h.can h.name h.named in
-    path-of h.steps w.0 text (subst (SpellsPath true (h.steps ++ w.0 ∷ [])) (sym h.all) (path-more true h.steps w.0 h.front (h.lead ++ h.name) h.spelled w.1))
+    path-of h.steps w.0 text (subst (SpellsPath true (h.steps ++ w.0 ∷ [])) (sym h.all)
+    (path-more true h.steps w.0 h.front (h.lead ++ h.name) h.spelled w.1))
 
 begins-more : (name more : List ℕ) → begins_name name ≡ true → begins_name (name ++ more) ≡ true
 begins-more [] more is = let none : ⊥ = cc in absurd none
@@ -140,8 +154,13 @@ named-more text c h is = record {
   name = h.name ++ c ∷ [];
   spelled = h.spelled;
   can = h.can;
-  named = record { begins = begins-more h.name (c ∷ []) h.named.begins; words = All-push (λ c. IsTrue (is_word c)) h.name c h.named.words is };
-  all = ap (λ (bytes : List ℕ). bytes ++ c ∷ []) h.all ∙ append_assoc h.front (h.lead ++ h.name) (c ∷ []) ∙ ap (λ (bytes : List ℕ). h.front ++ bytes) (append_assoc h.lead h.name (c ∷ []));
+  named = record {
+    begins = begins-more h.name (c ∷ []) h.named.begins;
+    words = All-push (λ c. IsTrue
+        (is_word c)) h.name c h.named.words is;
+  };
+  all = ap (λ (bytes : List ℕ). bytes ++ c ∷ []) h.all ∙ append_assoc h.front (h.lead ++ h.name) (c ∷ []) ∙ ap
+      (λ (bytes : List ℕ). h.front ++ bytes) (append_assoc h.lead h.name (c ∷ []));
 }
 
 led-more : (text : List ℕ) (c : ℕ) → LedPath text → is_letter c ≡ true → NamedPath (text ++ c ∷ [])
@@ -156,7 +175,8 @@ led-more text c h is = record {
   all = ap (λ (bytes : List ℕ). bytes ++ c ∷ []) h.all ∙ append_assoc h.front h.lead (c ∷ []);
 }
 
-index-more : (k : ℕ) (text : List ℕ) (c : ℕ) → IndexPath k text → is_digit c ≡ true → k < 10 → IndexPath (k + 1) (text ++ c ∷ [])
+index-more : (k : ℕ) (text : List ℕ) (c : ℕ) → IndexPath k text → is_digit c ≡ true → k < 10 → IndexPath (k + 1)
+    (text ++ c ∷ [])
 index-more k text c h is room = record {
   steps = h.steps;
   front = h.front;
@@ -170,10 +190,26 @@ index-more k text c h is room = record {
 }
 
 dot-led : (text : List ℕ) → IsPath text → LedPath (text ++ 46 ∷ [])
-dot-led text h = record { steps = h.0 ∷ h.1; front = text; lead = 46 ∷ []; spelled = h.2; can = λ name is. (Member name, (is, refl)); all = refl }
+dot-led text h = record {
+  steps = h.0 ∷ h.1;
+  front = text;
+  lead = 46 ∷ [];
+  spelled = h.2;
+  can = λ name is.
+      (Member name, (is, refl));
+  all = refl;
+}
 
 arrow-led : (text : List ℕ) → IsPath text → LedPath (text ++ 45 ∷ 62 ∷ [])
-arrow-led text h = record { steps = h.0 ∷ h.1; front = text; lead = 45 ∷ 62 ∷ []; spelled = h.2; can = λ name is. (Pointee name, (is, refl)); all = refl }
+arrow-led text h = record {
+  steps = h.0 ∷ h.1;
+  front = text;
+  lead = 45 ∷ 62 ∷ [];
+  spelled = h.2;
+  can = λ name is.
+      (Pointee name, (is, refl));
+  all = refl;
+}
 
 bracket-led : (text : List ℕ) → IsPath text → IndexPath 0 (text ++ 91 ∷ [])
 bracket-led text h = record {
@@ -203,7 +239,8 @@ digit-worth c is = if-true (is_digit c) (Some (c - 48)) None is
 digit-less : (c : ℕ) → is_digit c ≡ true → c - 48 < 10
 digit-less c is = grind (arith, nat_tests)
 
-decimal-first : (m c : ℕ) (cs : List ℕ) → is_digit c ≡ true → decimal_from m (c ∷ cs) ≡ decimal_from (10 * m + (c - 48)) cs
+decimal-first : (m c : ℕ) (cs : List ℕ) → is_digit c ≡ true → decimal_from m (c ∷ cs) ≡ decimal_from (10 * m +
+    (c - 48)) cs
 unfolding decimal_from
 decimal-first m c cs is = ap (option_and_then (λ (d : ℕ). decimal_from (10 * m + d) cs)) (digit-worth c is)
 
@@ -216,14 +253,17 @@ digits-number [] m b less all = record { number = m; reads = refl; below = omega
 digits-number (c ∷ cs) m b less all =
     let digit : is_digit c ≡ true = all 0 0 (omega arith) in
     let small = digit-less c digit in
-    let more = digits-number cs (10 * m + (c - 48)) (10 * b) (omega (arith, less, small)) (λ k d less. all (suc k) d (omega arith)) in
+    let more = digits-number cs (10 * m + (c - 48)) (10 * b) (omega (arith, less, small)) (λ k d less. all (suc k) d
+    (omega arith)) in
     record {
       number = more.number;
       reads = decimal-first m c cs digit ∙ more.reads;
-      below = subst (λ (k : ℕ). more.number < k) (tenfold b (10 ^ length cs) ∙ ap (λ (k : ℕ). b * k) (sym (ten-more (length cs)))) more.below;
+      below = subst (λ (k : ℕ). more.number < k) (tenfold b (10 ^ length cs) ∙ ap (λ (k : ℕ). b * k) (sym (ten-more
+          (length cs)))) more.below;
     }
 
-index-number : (ds : List ℕ) → 0 < length ds → length ds ≤ 10 → All (λ c. IsTrue (is_digit c)) ds → (index : ℕ) × IsIndex index ds
+index-number : (ds : List ℕ) → 0 < length ds → length ds ≤ 10 → All (λ c. IsTrue (is_digit c)) ds → (index : ℕ)
+    × IsIndex index ds
 index-number [] some few all = let none : ⊥ = omega (arith, some) in absurd none
 index-number (c ∷ cs) some few all =
     let q = digits-number (c ∷ cs) 0 1 (omega arith) all in
@@ -235,9 +275,11 @@ index-number (c ∷ cs) some few all =
     let long : nat_le 1 (length (c ∷ cs)) ≡ true = le-true 1 (length (c ∷ cs)) some in
     let short : nat_le (length (c ∷ cs)) 19 ≡ true = le-true (length (c ∷ cs)) 19 (omega (arith, few)) in
     let of : decimal_of (c ∷ cs) ≡ Some q.number =
-    if-true (nat_le 1 (length (c ∷ cs)) && nat_le (length (c ∷ cs)) 19) (decimal_from 0 (c ∷ cs)) None (ap (λ (b : Bool). b && nat_le (length (c ∷ cs)) 19) long ∙ short) ∙ q.reads in
+    if-true (nat_le 1 (length (c ∷ cs)) && nat_le (length (c ∷ cs)) 19) (decimal_from 0 (c ∷ cs)) None (ap
+    (λ (b : Bool). b && nat_le (length (c ∷ cs)) 19) long ∙ short) ∙ q.reads in
     let number : decimal_number (c ∷ cs) ≡ Some (pos q.number) =
-    if-false (c == 45) _ (option_and_then positive (decimal_of (c ∷ cs))) (other-byte is_digit c 45 digit refl) ∙ ap (option_and_then positive) of ∙ if-true (nat_lt q.number (2 ^ 63)) (Some (pos q.number)) None fits in
+    if-false (c == 45) _ (option_and_then positive (decimal_of (c ∷ cs))) (other-byte is_digit c 45 digit refl) ∙ ap
+    (option_and_then positive) of ∙ if-true (nat_lt q.number (2 ^ 63)) (Some (pos q.number)) None fits in
     (q.number, record { few = few; decimal = all; number = number })
 
 closed-index : (k : ℕ) (text : List ℕ) → IndexPath k text → 0 < k → IsPath (text ++ 93 ∷ [])
@@ -247,8 +289,10 @@ closed-index k text h some =
     let index = index-number h.digits (omega (arith, count, some)) (omega (arith, count, few)) h.decimal in
     let w : WritesStep false (Element index.0) (91 ∷ (h.digits ++ 93 ∷ [])) = (h.digits, index.1, refl) in
     path-of h.steps (Element index.0) (text ++ 93 ∷ [])
-    (subst (SpellsPath true (h.steps ++ Element index.0 ∷ [])) (sym (ap (λ (bytes : List ℕ). bytes ++ 93 ∷ []) h.all ∙ append_assoc h.front (91 ∷ h.digits) (93 ∷ [])))
-    (path-more true h.steps (Element index.0) h.front (91 ∷ (h.digits ++ 93 ∷ [])) h.spelled (subst (λ (b : Bool). WritesStep b (Element index.0) (91 ∷ (h.digits ++ 93 ∷ []))) (sym h.later) w)))
+    (subst (SpellsPath true (h.steps ++ Element index.0 ∷ [])) (sym (ap (λ (bytes : List ℕ). bytes ++ 93 ∷ []) h.all
+    ∙ append_assoc h.front (91 ∷ h.digits) (93 ∷ [])))
+    (path-more true h.steps (Element index.0) h.front (91 ∷ (h.digits ++ 93 ∷ [])) h.spelled (subst
+    (λ (b : Bool). WritesStep b (Element index.0) (91 ∷ (h.digits ++ 93 ∷ []))) (sym h.later) w)))
 
 -- the bytes of the token that is begun
 abbrev PathBegun : Mark → List ℕ → List ℕ → Type 0
@@ -273,55 +317,83 @@ Begun first (path_part mark text) begun = PathBegun mark text begun
 abbrev Goes : Bool → List ℕ → Option Piece → Type 0
 Goes first begun o = Each (λ (p : Piece). Begun first p begun) o
 
-decimal-push : (ds : List ℕ) (m n c : ℕ) → decimal_from m ds ≡ Some n → is_digit c ≡ true → decimal_from m (ds ++ c ∷ []) ≡ Some (10 * n + (c - 48))
+decimal-push : (ds : List ℕ) (m n c : ℕ) → decimal_from m ds ≡ Some n → is_digit c ≡ true → decimal_from m
+    (ds ++ c ∷ []) ≡ Some (10 * n + (c - 48))
 unfolding decimal_from
 decimal-push [] m n c is digit =
     let same : m ≡ n = cc in
-    ap (option_and_then (λ (d : ℕ). Some (10 * m + d))) (digit-worth c digit) ∙ ap (λ (k : ℕ). Some (10 * k + (c - 48))) same
+    ap (option_and_then (λ (d : ℕ). Some (10 * m + d))) (digit-worth c digit) ∙ ap (λ (k : ℕ). Some (10 * k +
+    (c - 48))) same
 decimal-push (x ∷ xs) m n c is digit =
     let q = then-some (λ (d : ℕ). decimal_from (10 * m + d) xs) (decimal_value x) n is in
-    ap (option_and_then (λ (d : ℕ). decimal_from (10 * m + d) (xs ++ c ∷ []))) q.1 ∙ decimal-push xs (10 * m + q.0) n c q.2 digit
+    ap (option_and_then (λ (d : ℕ). decimal_from (10 * m + d) (xs ++ c ∷ []))) q.1 ∙ decimal-push xs
+    (10 * m + q.0) n c q.2 digit
 
-hex-push : (ds : List ℕ) (m n c d : ℕ) → hex_from m ds ≡ Some n → digit_value c ≡ Some d → hex_from m (ds ++ c ∷ []) ≡ Some (16 * n + d)
+hex-push : (ds : List ℕ) (m n c d : ℕ) → hex_from m ds ≡ Some n → digit_value c ≡ Some d → hex_from m
+    (ds ++ c ∷ []) ≡ Some (16 * n + d)
 unfolding hex_from
 hex-push [] m n c d is digit =
     let same : m ≡ n = cc in
     ap (option_and_then (λ (d : ℕ). Some (16 * m + d))) digit ∙ ap (λ (k : ℕ). Some (16 * k + d)) same
 hex-push (x ∷ xs) m n c d is digit =
     let q = then-some (λ (d : ℕ). hex_from (16 * m + d) xs) (digit_value x) n is in
-    ap (option_and_then (λ (d : ℕ). hex_from (16 * m + d) (xs ++ c ∷ []))) q.1 ∙ hex-push xs (16 * m + q.0) n c d q.2 digit
+    ap (option_and_then (λ (d : ℕ). hex_from (16 * m + d) (xs ++ c ∷ []))) q.1 ∙ hex-push xs
+    (16 * m + q.0) n c d q.2 digit
 
 some-more : (xs ys : List ℕ) → 0 < length xs → 0 < length (xs ++ ys)
 some-more [] ys some = let none : ⊥ = omega (arith, some) in absurd none
 some-more (x ∷ xs) ys some = omega arith
 
-decimal-begun : (first : Bool) (m c : ℕ) (begun : List ℕ) → IsDecimal m begun → Goes first (begun ++ c ∷ []) (more_decimal m c)
+decimal-begun : (first : Bool) (m c : ℕ) (begun : List ℕ) → IsDecimal m begun → Goes first (begun ++ c ∷ [])
+    (more_decimal m c)
 unfolding Each
 decimal-begun first m c begun h =
-    each-if (λ (p : Piece). Begun first p (begun ++ c ∷ [])) (is_digit c && nat_lt (10 * m + (c - 48)) (2 ^ 64)) (Some (decimal_digits (10 * m + (c - 48)))) None
-    (λ is. let both = and-true (is_digit c) (nat_lt (10 * m + (c - 48)) (2 ^ 64)) is in
-    (true-less (10 * m + (c - 48)) (2 ^ 64) both.1, (some-more begun (c ∷ []) h.0, decimal-push begun 0 m c h.1 both.0))) (λ is. tt)
+    each-if (λ (p : Piece). Begun first p (begun ++ c ∷ [])) (is_digit c && nat_lt (10 * m + (c - 48)) (2 ^ 64)) (Some
+    (decimal_digits (10 * m + (c - 48)))) None
+    (λ is. let both = and-true (is_digit c) (nat_lt (10 * m + (c - 48)) (2 ^ 64)) is in (
+      true-less (10 * m + (c - 48)) (2 ^ 64) both.1,
+      (
+        some-more begun
+            (c ∷ []) h.0,
+        decimal-push begun 0 m c h.1 both.0,
+      ),
+    )) (λ is. tt)
 
 hex-digit : (n c d : ℕ) (begun : List ℕ) → IsHex n begun → digit_value c ≡ Some d → IsHex (16 * n + d) (begun ++ c ∷ [])
-hex-digit n c d begun h is =
-    (h.0 ++ c ∷ [], some-more h.0 (c ∷ []) h.1, hex-push h.0 0 n c d h.2 is, ap (λ (bytes : List ℕ). bytes ++ c ∷ []) h.3)
+hex-digit n c d begun h is = (
+  h.0 ++ c ∷ [],
+  some-more h.0 (c ∷ []) h.1,
+  hex-push h.0 0 n c d h.2 is,
+  ap
+      (λ (bytes : List ℕ). bytes ++ c ∷ []) h.3,
+)
 
-first-hex : (c d : ℕ) (begun : List ℕ) → begun ≡ 48 ∷ 120 ∷ [] → digit_value c ≡ Some d → IsHex (16 * 0 + d) (begun ++ c ∷ [])
+first-hex : (c d : ℕ) (begun : List ℕ) → begun ≡ 48 ∷ 120 ∷ [] → digit_value c ≡ Some d → IsHex (16 * 0 + d)
+    (begun ++ c ∷ [])
 unfolding hex_from
-first-hex c d begun h is = (c ∷ [], omega arith, ap (option_and_then (λ (d : ℕ). Some (16 * 0 + d))) is, ap (λ (bytes : List ℕ). bytes ++ c ∷ []) h)
+first-hex c d begun h is = (
+  c ∷ [],
+  omega arith,
+  ap (option_and_then (λ (d : ℕ). Some (16 * 0 + d))) is,
+  ap
+      (λ (bytes : List ℕ). bytes ++ c ∷ []) h,
+)
 
-hex-begun : (first : Bool) (m : ℕ) (o : Option ℕ) (begun : List ℕ) → ((d : ℕ) → o ≡ Some d → IsHex (16 * m + d) begun) → Goes first begun (more_hex m o)
+hex-begun : (first : Bool) (m : ℕ) (o : Option ℕ) (begun : List ℕ) → ((d : ℕ) → o ≡ Some d → IsHex
+    (16 * m + d) begun) → Goes first begun (more_hex m o)
 unfolding Each
 hex-begun first m None begun h = tt
 hex-begun first m (Some d) begun h =
-    each-if (λ (p : Piece). Begun first p begun) (nat_lt (16 * m + d) (2 ^ 64)) (Some (hex_digits (16 * m + d))) None (λ is. (true-less (16 * m + d) (2 ^ 64) is, h d refl)) (λ is. tt)
+    each-if (λ (p : Piece). Begun first p begun) (nat_lt (16 * m + d) (2 ^ 64)) (Some (hex_digits (16 * m + d))) None
+    (λ is. (true-less (16 * m + d) (2 ^ 64) is, h d refl)) (λ is. tt)
 
 zero-decimal : (begun : List ℕ) → begun ≡ 48 ∷ [] → IsDecimal 0 begun
 unfolding decimal_from
 zero-decimal begun is = subst (λ (bytes : List ℕ). IsDecimal 0 bytes) (sym is) (omega arith, refl)
 
 -- a byte more of a path
-behind-begun : (first : Bool) (text begun : List ℕ) (c : ℕ) → IsPath text → begun ≡ text → Goes first (begun ++ c ∷ []) (behind_step text c)
+behind-begun : (first : Bool) (text begun : List ℕ) (c : ℕ) → IsPath text → begun ≡ text → Goes first
+    (begun ++ c ∷ []) (behind_step text c)
 unfolding Each
 behind-begun first text begun c h same =
     let P = λ (p : Piece). Begun first p (begun ++ c ∷ []) in
@@ -332,29 +404,43 @@ behind-begun first text begun c h same =
     byte : (k : ℕ) → (c == k) ≡ true → begun ++ c ∷ [] ≡ text ++ k ∷ []
     byte k is = ap (λ (bytes : List ℕ). bytes ++ c ∷ []) same ∙ ap (λ (x : ℕ). text ++ x ∷ []) (same-byte c k is)
 
-path-begun : (first : Bool) (mark : Mark) (text begun : List ℕ) (c : ℕ) → PathBegun mark text begun → Goes first (begun ++ c ∷ []) (more_path mark text c)
+path-begun : (first : Bool) (mark : Mark) (text begun : List ℕ) (c : ℕ) → PathBegun mark text begun → Goes first
+    (begun ++ c ∷ []) (more_path mark text c)
 unfolding Each
 path-begun first in_name text begun c h =
-    each-if (λ (p : Piece). Begun first p (begun ++ c ∷ [])) (is_word c) (Some (path_part in_name (text ++ c ∷ []))) (behind_step text c)
-    (λ is. (named-more text c h.0 is, ap (λ (bytes : List ℕ). bytes ++ c ∷ []) h.1)) (λ is. behind-begun first text begun c (named-path text h.0) h.1)
+    each-if (λ (p : Piece). Begun first p (begun ++ c ∷ [])) (is_word c) (Some (path_part in_name (text ++ c ∷ [])))
+    (behind_step text c)
+    (λ is. (named-more text c h.0 is, ap (λ (bytes : List ℕ). bytes ++ c ∷ []) h.1))
+    (λ is. behind-begun first text begun c (named-path text h.0) h.1)
 path-begun first before_name text begun c h =
-    each-if (λ (p : Piece). Begun first p (begun ++ c ∷ [])) (is_letter c) (Some (path_part in_name (text ++ c ∷ []))) None
+    each-if (λ (p : Piece). Begun first p (begun ++ c ∷ [])) (is_letter c) (Some (path_part in_name
+    (text ++ c ∷ []))) None
     (λ is. (led-more text c h.0 is, ap (λ (bytes : List ℕ). bytes ++ c ∷ []) h.1)) (λ is. tt)
 path-begun first (in_index k) text begun c h =
     let P = λ (p : Piece). Begun first p (begun ++ c ∷ []) in
     each-if P (is_digit c) _ _
     (λ digit. each-if P (nat_lt k 10) (Some (path_part (in_index (k + 1)) (text ++ c ∷ []))) None
-    (λ is. (index-more k text c h.0 digit (true-less k 10 is), ap (λ (bytes : List ℕ). bytes ++ c ∷ []) h.1)) (λ is. tt))
+    (λ is. (index-more k text c h.0 digit (true-less k 10 is), ap (λ (bytes : List ℕ). bytes ++ c ∷ []) h.1))
+    (λ is. tt))
     (λ digit. each-if P ((c == 93) && nat_lt 0 k) (Some (path_part behind_index (text ++ 93 ∷ []))) None
-    (λ is. let both = and-true (c == 93) (nat_lt 0 k) is in
-    (closed-index k text h.0 (true-less 0 k both.1), ap (λ (bytes : List ℕ). bytes ++ c ∷ []) h.1 ∙ ap (λ (x : ℕ). text ++ x ∷ []) (same-byte c 93 both.0))) (λ is. tt))
+    (λ is. let both = and-true (c == 93) (nat_lt 0 k) is in (
+      closed-index k text h.0 (true-less 0 k both.1),
+      ap (λ (bytes : List ℕ). bytes ++ c ∷ []) h.1 ∙ ap
+          (λ (x : ℕ). text ++ x ∷ []) (same-byte c 93 both.0),
+    )) (λ is. tt))
 path-begun first behind_index text begun c h = behind-begun first text begun c h.0 h.1
 path-begun first behind_minus text begun c h =
-    each-if (λ (p : Piece). Begun first p (begun ++ c ∷ [])) (c == 62) (Some (path_part before_name (text ++ 45 ∷ 62 ∷ []))) None
-    (λ is. (arrow-led text h.0, ap (λ (bytes : List ℕ). bytes ++ c ∷ []) h.1 ∙ append_assoc text (45 ∷ []) (c ∷ []) ∙ ap (λ (x : ℕ). text ++ 45 ∷ x ∷ []) (same-byte c 62 is))) (λ is. tt)
+    each-if (λ (p : Piece). Begun first p (begun ++ c ∷ [])) (c == 62) (Some (path_part before_name
+    (text ++ 45 ∷ 62 ∷ []))) None
+    (λ is. (
+      arrow-led text h.0,
+      ap (λ (bytes : List ℕ). bytes ++ c ∷ []) h.1 ∙ append_assoc text (45 ∷ []) (c ∷ [])
+          ∙ ap (λ (x : ℕ). text ++ 45 ∷ x ∷ []) (same-byte c 62 is),
+    )) (λ is. tt)
 
 -- a byte more of the token that is begun
-extend-begun : (first : Bool) (p : Piece) (begun : List ℕ) (c : ℕ) → Begun first p begun → Goes first (begun ++ c ∷ []) (extend p c)
+extend-begun : (first : Bool) (p : Piece) (begun : List ℕ) (c : ℕ) → Begun first p begun → Goes first
+    (begun ++ c ∷ []) (extend p c)
 unfolding Each
 extend-begun first start begun c h = tt
 extend-begun first gap begun c h = tt
@@ -367,14 +453,18 @@ extend-begun first (half op) begun c h =
     (λ is. (tt, ap (λ (x : ℕ). begun ++ x ∷ []) (same-byte c 61 is) ∙ h)) (λ is. tt)
 extend-begun first zero_digit begun c h =
     each-if (λ (p : Piece). Begun first p (begun ++ c ∷ [])) (c == 120) (Some hex_mark) (more_decimal 0 c)
-    (λ is. ap (λ (bytes : List ℕ). bytes ++ c ∷ []) h ∙ ap (λ (x : ℕ). 48 ∷ x ∷ []) (same-byte c 120 is)) (λ is. decimal-begun first 0 c begun (zero-decimal begun h))
+    (λ is. ap (λ (bytes : List ℕ). bytes ++ c ∷ []) h ∙ ap (λ (x : ℕ). 48 ∷ x ∷ []) (same-byte c 120 is))
+    (λ is. decimal-begun first 0 c begun (zero-decimal begun h))
 extend-begun first (decimal_digits n) begun c h = decimal-begun first n c begun h.1
-extend-begun first hex_mark begun c h = hex-begun first 0 (digit_value c) (begun ++ c ∷ []) (λ d is. first-hex c d begun h is)
-extend-begun first (hex_digits n) begun c h = hex-begun first n (digit_value c) (begun ++ c ∷ []) (λ d is. hex-digit n c d begun h.1 is)
+extend-begun first hex_mark begun c h = hex-begun first 0 (digit_value c) (begun ++ c ∷ [])
+    (λ d is. first-hex c d begun h is)
+extend-begun first (hex_digits n) begun c h = hex-begun first n (digit_value c) (begun ++ c ∷ [])
+    (λ d is. hex-digit n c d begun h.1 is)
 extend-begun first (path_part mark text) begun c h = path-begun first mark text begun c h
 
 -- the byte that begins a token
-whole-byte : (token : Token) (c k : ℕ) → IsGoodToken token → Writes token (k ∷ []) → (c == k) ≡ true → IsGoodToken token × Writes token (c ∷ [])
+whole-byte : (token : Token) (c k : ℕ) → IsGoodToken token → Writes token (k ∷ []) → (c == k) ≡ true →
+    IsGoodToken token × Writes token (c ∷ [])
 whole-byte token c k good w is = (good, subst (λ (x : ℕ). Writes token (x ∷ [])) (sym (same-byte c k is)) w)
 
 digit-small : (c : ℕ) → is_digit c ≡ true → c - 48 < 2 ^ 64
@@ -403,13 +493,17 @@ unit-begun : (first : Bool) (stack : Stack) (c : ℕ) → Goes first (c ∷ []) 
 unfolding Each
 unit-begun first stack c =
     let P = λ (p : Piece). Begun first p (c ∷ []) in
-    each-if P (c == 33) _ _ (λ is. each-if P (room stack) (Some (whole bang)) None (λ free. whole-byte bang c 33 tt refl is) (λ full. tt))
-    (λ no_. each-if P (c == 40) _ _ (λ is. each-if P (room stack) (Some (whole open_token)) None (λ free. whole-byte open_token c 40 tt refl is) (λ full. tt))
+    each-if P (c == 33) _ _ (λ is. each-if P (room stack) (Some (whole bang)) None
+    (λ free. whole-byte bang c 33 tt refl is) (λ full. tt))
+    (λ no_. each-if P (c == 40) _ _ (λ is. each-if P (room stack) (Some (whole open_token)) None
+    (λ free. whole-byte open_token c 40 tt refl is) (λ full. tt))
     (λ no_. each-if P (c == 48) (Some zero_digit) _ (λ is. ap (λ (x : ℕ). x ∷ []) (same-byte c 48 is))
     (λ no_. each-if P (is_digit c) (Some (decimal_digits (c - 48))) _ (λ is. (digit-small c is, digit-decimal c is))
-    (λ no_. each-if P (is_letter c) (Some (path_part in_name (c ∷ []))) None (λ is. (letter-named c is, refl)) (λ no_. tt)))))
+    (λ no_. each-if P (is_letter c) (Some (path_part in_name (c ∷ []))) None (λ is. (letter-named c is, refl))
+    (λ no_. tt)))))
 
-short-byte : (op long : Operator) (c k second : ℕ) → k ∷ [] ≡ sign op → k ∷ second ∷ [] ≡ sign long → (c == k) ≡ true → (c ∷ [] ≡ sign op) × (c ∷ second ∷ [] ≡ sign long)
+short-byte : (op long : Operator) (c k second : ℕ) → k ∷ [] ≡ sign op → k ∷ second ∷ [] ≡ sign long →
+    (c == k) ≡ true → (c ∷ [] ≡ sign op) × (c ∷ second ∷ [] ≡ sign long)
 short-byte op long c k second one two is =
     let same = same-byte c k is in
     (ap (λ (x : ℕ). x ∷ []) same ∙ one, ap (λ (x : ℕ). x ∷ second ∷ []) same ∙ two)
@@ -419,20 +513,24 @@ unfolding Each
 comparison-begun first c =
     let P = λ (p : Piece). Begun first p (c ∷ []) in
     each-if P (c == 60) (Some (short Less LessEqual 61)) _ (λ is. short-byte Less LessEqual c 60 61 refl refl is)
-    (λ no_. each-if P (c == 62) (Some (short Greater GreaterEqual 61)) _ (λ is. short-byte Greater GreaterEqual c 62 61 refl refl is)
+    (λ no_. each-if P (c == 62) (Some (short Greater GreaterEqual 61)) _
+    (λ is. short-byte Greater GreaterEqual c 62 61 refl refl is)
     (λ no_. each-if P (c == 61) (Some (half Equal)) _ (λ is. ap (λ (x : ℕ). x ∷ 61 ∷ []) (same-byte c 61 is))
-    (λ no_. each-if P (c == 33) (Some (half NotEqual)) None (λ is. ap (λ (x : ℕ). x ∷ 61 ∷ []) (same-byte c 33 is)) (λ no_. tt))))
+    (λ no_. each-if P (c == 33) (Some (half NotEqual)) None (λ is. ap (λ (x : ℕ). x ∷ 61 ∷ []) (same-byte c 33 is))
+    (λ no_. tt))))
 
 operator-begun : (first : Bool) (stack : Stack) (c : ℕ) → Goes first (c ∷ []) (begin_operator stack c)
 unfolding Each
 operator-begun first stack c =
     let P = λ (p : Piece). Begun first p (c ∷ []) in
-    each-if P (c == 41) _ _ (λ is. each-if P (has_open stack) (Some (whole close_token)) None (λ there. whole-byte close_token c 41 tt refl is) (λ none. tt))
+    each-if P (c == 41) _ _ (λ is. each-if P (has_open stack) (Some (whole close_token)) None
+    (λ there. whole-byte close_token c 41 tt refl is) (λ none. tt))
     (λ no_. each-if P (c == 43) (Some (whole (operator Plus))) _ (λ is. whole-byte (operator Plus) c 43 tt refl is)
     (λ no_. each-if P (c == 45) (Some (whole (operator Minus))) _ (λ is. whole-byte (operator Minus) c 45 tt refl is)
     (λ no_. each-if P (c == 94) (Some (whole (operator BitXor))) _ (λ is. whole-byte (operator BitXor) c 94 tt refl is)
     (λ no_. each-if P (c == 38) (Some (short BitAnd Both 38)) _ (λ is. short-byte BitAnd Both c 38 38 refl refl is)
-    (λ no_. each-if P (c == 124) (Some (short BitOr Either 124)) _ (λ is. short-byte BitOr Either c 124 124 refl refl is)
+    (λ no_. each-if P (c == 124) (Some (short BitOr Either 124)) _
+    (λ is. short-byte BitOr Either c 124 124 refl refl is)
     (λ no_. each-if P (compares stack) None (begin_comparison c) (λ is. tt) (λ is. comparison-begun first c)))))))
 
 token-begun : (first : Bool) (s : State) (c : ℕ) → Goes first (c ∷ []) (begin_token s c)
@@ -451,7 +549,8 @@ record SaidSome (before : List ℕ) (s : State) : Type 0 where
   said : Said before s
   some : behind true said.ts ≡ false
 
-said-more : (before spaces here : List ℕ) (s next : State) (token : Token) (h : Said before s) → IsGap (behind true h.ts) spaces → IsGoodToken token → Writes token here → take_token s token ≡ Some next →
+said-more : (before spaces here : List ℕ) (s next : State) (token : Token) (h : Said before s) → IsGap
+    (behind true h.ts) spaces → IsGoodToken token → Writes token here → take_token s token ≡ Some next →
     SaidSome (before ++ (spaces ++ here)) next
 unfolding take_tokens
 said-more before spaces here s next token h g good w is = record {
@@ -459,38 +558,57 @@ said-more before spaces here s next token h g good w is = record {
     ts = h.ts ++ token ∷ [];
     spelled = spells-more true h.ts token before spaces here h.spelled g w;
     good = good-both h.ts (token ∷ []) h.good (good, tt);
-    led = take-append h.ts (token ∷ []) (want bottom) ∙ ap (option_and_then (take_tokens (token ∷ []))) h.led ∙ ap (option_and_then (take_tokens [])) is;
+    led = take-append h.ts (token ∷ []) (want bottom) ∙ ap (option_and_then (take_tokens (token ∷ []))) h.led ∙ ap
+        (option_and_then (take_tokens [])) is;
   };
   some = behind-more h.ts token;
 }
 
-minus-said : (before spaces text begun : List ℕ) (s next : State) (h : Said before s) → IsGap (behind true h.ts) spaces → IsPath text → begun ≡ text ++ 45 ∷ [] →
-    option_and_then (λ next. take_token next (operator Minus)) (take_token s (path text)) ≡ Some next → SaidSome (before ++ (spaces ++ begun)) next
+minus-said : (before spaces text begun : List ℕ) (s next : State) (h : Said before s) → IsGap
+    (behind true h.ts) spaces → IsPath text → begun ≡ text ++ 45 ∷ [] →
+    option_and_then (λ next. take_token next (operator Minus)) (take_token s (path text)) ≡ Some next → SaidSome
+    (before ++ (spaces ++ begun)) next
 minus-said before spaces text begun s next h g is same taken =
     let q = then-some (λ (next : State). take_token next (operator Minus)) (take_token s (path text)) next taken in
     let one = said-more before spaces text s q.0 (path text) h g is refl q.1 in
-    let gap : IsGap (behind true one.said.ts) [] = subst (λ (b : Bool). IsGap b []) (sym one.some) (no-byte (λ c. c ≡ 32)) in
+    let gap : IsGap (behind true one.said.ts) [] = subst (λ (b : Bool). IsGap b []) (sym one.some) (no-byte
+    (λ c. c ≡ 32)) in
     subst (λ (bytes : List ℕ). SaidSome bytes next)
-    (append_assoc before (spaces ++ text) (45 ∷ []) ∙ ap (λ (bytes : List ℕ). before ++ bytes) (append_assoc spaces text (45 ∷ []) ∙ ap (λ (bytes : List ℕ). spaces ++ bytes) (sym same)))
+    (append_assoc before (spaces ++ text) (45 ∷ []) ∙ ap (λ (bytes : List ℕ). before ++ bytes)
+    (append_assoc spaces text (45 ∷ []) ∙ ap (λ (bytes : List ℕ). spaces ++ bytes) (sym same)))
     (said-more (before ++ (spaces ++ text)) [] (45 ∷ []) q.0 next (operator Minus) one.said gap tt refl q.2)
 
 -- the token that is begun ends
-settle-said : (p : Piece) (before spaces begun : List ℕ) (s next : State) (h : Said before s) → IsGap (behind true h.ts) spaces → Begun (behind true h.ts) p begun →
+settle-said : (p : Piece) (before spaces begun : List ℕ) (s next : State) (h : Said before s) → IsGap
+    (behind true h.ts) spaces → Begun (behind true h.ts) p begun →
     is_gap p ≡ false → is_start p ≡ false → settle s p ≡ Some next → SaidSome (before ++ (spaces ++ begun)) next
 settle-said start before spaces begun s next h g b full some is = let none : ⊥ = cc in absurd none
 settle-said gap before spaces begun s next h g b full some is = let none : ⊥ = cc in absurd none
-settle-said (whole token) before spaces begun s next h g b full some is = said-more before spaces begun s next token h g b.0 b.1 is
-settle-said (short op long second) before spaces begun s next h g b full some is = said-more before spaces begun s next (operator op) h g tt b.0 is
+settle-said
+    (whole token) before spaces begun s next h g b full some is = said-more before spaces begun s next token h g b.0 b.1 is
+settle-said
+    (short op long second) before spaces begun s next h g b full some is = said-more before spaces begun s next
+    (operator op) h g tt b.0 is
 settle-said (half op) before spaces begun s next h g b full some is = let none : ⊥ = cc in absurd none
-settle-said zero_digit before spaces begun s next h g b full some is = said-more before spaces begun s next (number 0) h g tt (omega arith, inl (zero-decimal begun b)) is
-settle-said (decimal_digits n) before spaces begun s next h g b full some is = said-more before spaces begun s next (number n) h g tt (b.0, inl b.1) is
+settle-said zero_digit before spaces begun s next h g b full some is = said-more before spaces begun s next
+    (number 0) h g tt (omega arith, inl (zero-decimal begun b)) is
+settle-said (decimal_digits n) before spaces begun s next h g b full some is = said-more before spaces begun s next
+    (number n) h g tt (b.0, inl b.1) is
 settle-said hex_mark before spaces begun s next h g b full some is = let none : ⊥ = cc in absurd none
-settle-said (hex_digits n) before spaces begun s next h g b full some is = said-more before spaces begun s next (number n) h g tt (b.0, inr b.1) is
-settle-said (path_part in_name text) before spaces begun s next h g b full some is = said-more before spaces begun s next (path text) h g (named-path text b.0) b.1 is
-settle-said (path_part behind_index text) before spaces begun s next h g b full some is = said-more before spaces begun s next (path text) h g b.0 b.1 is
-settle-said (path_part behind_minus text) before spaces begun s next h g b full some is = minus-said before spaces text begun s next h g b.0 b.1 is
-settle-said (path_part before_name text) before spaces begun s next h g b full some is = let none : ⊥ = cc in absurd none
-settle-said (path_part (in_index k) text) before spaces begun s next h g b full some is = let none : ⊥ = cc in absurd none
+settle-said (hex_digits n) before spaces begun s next h g b full some is = said-more before spaces begun s next
+    (number n) h g tt (b.0, inr b.1) is
+settle-said
+    (path_part in_name text) before spaces begun s next h g b full some is = said-more before spaces begun s next
+    (path text) h g (named-path text b.0) b.1 is
+settle-said
+    (path_part behind_index text) before spaces begun s next h g b full some is = said-more before spaces begun s next
+    (path text) h g b.0 b.1 is
+settle-said
+    (path_part behind_minus text) before spaces begun s next h g b full some is = minus-said before spaces text begun s next h g b.0 b.1 is
+settle-said
+    (path_part before_name text) before spaces begun s next h g b full some is = let none : ⊥ = cc in absurd none
+settle-said (path_part
+    (in_index k) text) before spaces begun s next h g b full some is = let none : ⊥ = cc in absurd none
 
 -- what the bytes so far are: those of tokens, spaces, and those of the token that is begun
 record Sofar (before : List ℕ) (r : Reading) : Type 0 where
@@ -521,14 +639,18 @@ settled-some before first s h = record {
   all = sym (append-nil before);
 }
 
-ended : (before : List ℕ) (s next : State) (p : Piece) (h : Sofar before (at s p)) → is_gap p ≡ false → is_start p ≡ false → settle s p ≡ Some next → SaidSome before next
+ended : (before : List ℕ) (s next : State) (p : Piece) (h : Sofar before (at s p)) → is_gap p ≡ false →
+    is_start p ≡ false → settle s p ≡ Some next → SaidSome before next
 ended before s next p h full some is =
-    subst (λ (bytes : List ℕ). SaidSome bytes next) (sym h.all) (settle-said p h.front h.spaces h.begun s next h.said h.between h.piece full some is)
+    subst (λ (bytes : List ℕ). SaidSome bytes next) (sym h.all)
+    (settle-said p h.front h.spaces h.begun s next h.said h.between h.piece full some is)
 
 nothing-begun : (front spaces begun : List ℕ) → begun ≡ [] → front ++ (spaces ++ begun) ≡ front ++ spaces
-nothing-begun front spaces begun is = ap (λ (bytes : List ℕ). front ++ (spaces ++ bytes)) is ∙ ap (λ (bytes : List ℕ). front ++ bytes) (append-nil spaces)
+nothing-begun front spaces begun is = ap (λ (bytes : List ℕ). front ++ (spaces ++ bytes)) is ∙ ap
+    (λ (bytes : List ℕ). front ++ bytes) (append-nil spaces)
 
-settled : (before : List ℕ) (s next : State) (p : Piece) → Sofar before (at s p) → settle s p ≡ Some next → Settled before (is_start p) next
+settled : (before : List ℕ) (s next : State) (p : Piece) → Sofar before (at s p) → settle s p ≡ Some next →
+    Settled before (is_start p) next
 settled before s next start h is =
     let e : s ≡ next = cc in
     subst (λ (x : State). Settled before true x) e
@@ -540,7 +662,8 @@ settled before s next gap h is =
 settled before s next p h is = settled-some before (is_start p) next (ended before s next p h refl refl is)
 
 -- the next token begins, or a space stands before it
-begun-sofar : (before : List ℕ) (first : Bool) (c : ℕ) (s : State) (h : Settled before first s) (o : Option Piece) → Goes (behind true h.said.ts) (c ∷ []) o →
+begun-sofar : (before : List ℕ) (first : Bool) (c : ℕ) (s : State) (h : Settled before first s) (o : Option Piece) →
+    Goes (behind true h.said.ts) (c ∷ []) o →
     Each (Sofar (before ++ c ∷ [])) (option_map (at s) o)
 unfolding Each
 begun-sofar before first c s h None b = tt
@@ -554,7 +677,8 @@ begun-sofar before first c s h (Some p) b = record {
   all = ap (λ (bytes : List ℕ). bytes ++ c ∷ []) h.all ∙ append_assoc h.front h.spaces (c ∷ []);
 }
 
-space-sofar : (before : List ℕ) (c : ℕ) (s : State) (h : Settled before false s) → (c == 32) ≡ true → Sofar (before ++ c ∷ []) (at s gap)
+space-sofar : (before : List ℕ) (c : ℕ) (s : State) (h : Settled before false s) → (c == 32) ≡ true → Sofar
+    (before ++ c ∷ []) (at s gap)
 space-sofar before c s h is =
     let some = h.some refl in
     let wide : All (λ c. c ≡ 32) h.spaces = subst (λ (b : Bool). IsGap b h.spaces) some h.between in
@@ -563,30 +687,38 @@ space-sofar before c s h is =
       spaces = h.spaces ++ c ∷ [];
       begun = [];
       said = h.said;
-      between = subst (λ (b : Bool). IsGap b (h.spaces ++ c ∷ [])) (sym some) (All-push (λ c. c ≡ 32) h.spaces c wide (same-byte c 32 is));
+      between = subst (λ (b : Bool). IsGap b (h.spaces ++ c ∷ [])) (sym some) (All-push (λ c. c ≡ 32) h.spaces c wide
+          (same-byte c 32 is));
       piece = (some, refl);
-      all = ap (λ (bytes : List ℕ). bytes ++ c ∷ []) h.all ∙ append_assoc h.front h.spaces (c ∷ []) ∙ ap (λ (bytes : List ℕ). h.front ++ bytes) (sym (append-nil (h.spaces ++ c ∷ [])));
+      all = ap (λ (bytes : List ℕ). bytes ++ c ∷ []) h.all ∙ append_assoc h.front h.spaces (c ∷ []) ∙ ap
+          (λ (bytes : List ℕ). h.front ++ bytes) (sym (append-nil (h.spaces ++ c ∷ [])));
     }
 
-gap-sofar : (before : List ℕ) (first : Bool) (c : ℕ) (s : State) → Settled before first s → (c == 32) ≡ true → Each (Sofar (before ++ c ∷ [])) (if first then None else Some (at s gap))
+gap-sofar : (before : List ℕ) (first : Bool) (c : ℕ) (s : State) → Settled before first s → (c == 32) ≡ true → Each
+    (Sofar (before ++ c ∷ [])) (if first then None else Some (at s gap))
 unfolding Each
 gap-sofar before true c s h is = tt
 gap-sofar before false c s h is = space-sofar before c s h is
 
-next-sofar : (before : List ℕ) (first : Bool) (c : ℕ) (s : State) → Settled before first s → Each (Sofar (before ++ c ∷ [])) (next_token first c s)
+next-sofar : (before : List ℕ) (first : Bool) (c : ℕ) (s : State) → Settled before first s → Each (Sofar
+    (before ++ c ∷ [])) (next_token first c s)
 next-sofar before first c s h =
-    each-if (Sofar (before ++ c ∷ [])) (c == 32) (if first then None else Some (at s gap)) (option_map (at s) (begin_token s c)) (gap-sofar before first c s h)
+    each-if (Sofar (before ++ c ∷ [])) (c == 32) (if first then None else Some (at s gap)) (option_map (at s)
+    (begin_token s c)) (gap-sofar before first c s h)
     (λ no_. begun-sofar before first c s h (begin_token s c) (token-begun (behind true h.said.ts) s c))
 
-then-sofar : (before : List ℕ) (first : Bool) (c : ℕ) (o : Option State) → ((next : State) → o ≡ Some next → Settled before first next) → Each (Sofar (before ++ c ∷ [])) (option_and_then (next_token first c) o)
+then-sofar : (before : List ℕ) (first : Bool) (c : ℕ) (o : Option State) → ((next : State) → o ≡ Some next →
+    Settled before first next) → Each (Sofar (before ++ c ∷ [])) (option_and_then (next_token first c) o)
 unfolding Each
 then-sofar before first c None h = tt
 then-sofar before first c (Some s) h = next-sofar before first c s (h s refl)
 
-extended-sofar : (before : List ℕ) (s : State) (p : Piece) (c : ℕ) (h : Sofar before (at s p)) (o : Option Piece) → Goes (behind true h.said.ts) (h.begun ++ c ∷ []) o →
+extended-sofar : (before : List ℕ) (s : State) (p : Piece) (c : ℕ) (h : Sofar before (at s p)) (o : Option Piece) →
+    Goes (behind true h.said.ts) (h.begun ++ c ∷ []) o →
     Each (Sofar (before ++ c ∷ [])) (extended_or (at s p) c o)
 unfolding Each
-extended-sofar before s p c h None b = then-sofar before (is_start p) c (settle s p) (λ next is. settled before s next p h is)
+extended-sofar before s p c h None b = then-sofar before (is_start p) c (settle s p)
+    (λ next is. settled before s next p h is)
 extended-sofar before s p c h (Some q) b = record {
   front = h.front;
   spaces = h.spaces;
@@ -594,21 +726,25 @@ extended-sofar before s p c h (Some q) b = record {
   said = h.said;
   between = h.between;
   piece = b;
-  all = ap (λ (bytes : List ℕ). bytes ++ c ∷ []) h.all ∙ append_assoc h.front (h.spaces ++ h.begun) (c ∷ []) ∙ ap (λ (bytes : List ℕ). h.front ++ bytes) (append_assoc h.spaces h.begun (c ∷ []));
+  all = ap (λ (bytes : List ℕ). bytes ++ c ∷ []) h.all ∙ append_assoc h.front (h.spaces ++ h.begun) (c ∷ []) ∙ ap
+      (λ (bytes : List ℕ). h.front ++ bytes) (append_assoc h.spaces h.begun (c ∷ []));
 }
 
 step-sofar : (before : List ℕ) (r : Reading) (c : ℕ) → Sofar before r → Each (Sofar (before ++ c ∷ [])) (step r c)
 unfolding step
-step-sofar before r c h = extended-sofar before r.state r.piece c h (extend r.piece c) (extend-begun (behind true h.said.ts) r.piece h.begun c h.piece)
+step-sofar before r c h = extended-sofar before r.state r.piece c h (extend r.piece c) (extend-begun
+    (behind true h.said.ts) r.piece h.begun c h.piece)
 
 -- where a text ends
 start-said : (before : List ℕ) (s : State) (h : Sofar before (at s start)) → Said before s
 start-said before s h =
     let none : h.spaces ≡ [] = subst (λ (b : Bool). IsGap b h.spaces) h.piece.0 h.between in
-    let same : before ≡ h.front = h.all ∙ nothing-begun h.front h.spaces h.begun h.piece.1 ∙ ap (λ (bytes : List ℕ). h.front ++ bytes) none ∙ append-nil h.front in
+    let same : before ≡ h.front = h.all ∙ nothing-begun h.front h.spaces h.begun h.piece.1 ∙ ap
+    (λ (bytes : List ℕ). h.front ++ bytes) none ∙ append-nil h.front in
     subst (λ (bytes : List ℕ). Said bytes s) (sym same) h.said
 
-end-said : (before : List ℕ) (s next : State) (p : Piece) → Sofar before (at s p) → is_gap p ≡ false → settle s p ≡ Some next → Said before next
+end-said : (before : List ℕ) (s next : State) (p : Piece) → Sofar before (at s p) → is_gap p ≡ false →
+    settle s p ≡ Some next → Said before next
 end-said before s next start h full is = let e : s ≡ next = cc in subst (Said before) e (start-said before s h)
 end-said before s next gap h full is = let none : ⊥ = cc in absurd none
 end-said before s next p h full is = let q = ended before s next p h refl refl is in q.said
@@ -626,22 +762,30 @@ not-gap : (b : Bool) (o : Option Tree) (t : Tree) → (if b then None else o) �
 not-gap true o t is = let none : ⊥ = cc in absurd none
 not-gap false o t is = (refl, is)
 
-end-text : (text : List ℕ) (r : Reading) (n : ℕ) (t : Tree) → Sofar text r → or_place n (result_of r) ≡ Ok t → IsText text t
+end-text : (text : List ℕ) (r : Reading) (n : ℕ) (t : Tree) → Sofar text r → or_place n (result_of r) ≡ Ok t →
+    IsText text t
 unfolding result_of
 end-text text r n t h is =
-    let q = not-gap (is_gap r.piece) (option_and_then tree_at (settle r.state r.piece)) t (ended-tree n (result_of r) t is) in
+    let q = not-gap (is_gap r.piece) (option_and_then tree_at (settle r.state r.piece)) t (ended-tree n
+    (result_of r) t is) in
     let s = then-some tree_at (settle r.state r.piece) t q.1 in
     whole-text text s.0 t (end-said text r.state s.0 r.piece h q.0 s.1) s.2
 
-read-text : (cs before : List ℕ) (n : ℕ) (r : Reading) (t : Tree) → Sofar before r → read cs n r ≡ Ok t → IsText (before ++ cs) t
+read-text : (cs before : List ℕ) (n : ℕ) (r : Reading) (t : Tree) → Sofar before r → read cs n r ≡ Ok t → IsText
+    (before ++ cs) t
 unfolding read Each
-read-text [] before n r t h is = subst (λ (bytes : List ℕ). IsText bytes t) (sym (append-nil before)) (end-text before r n t h is)
-read-text (c ∷ cs) before n r t h is = on (step r c) (step-sofar before r c h) is (λ next more. read-text cs (before ++ c ∷ []) (n + 1) next t more)
+read-text [] before n r t h is = subst (λ (bytes : List ℕ). IsText bytes t) (sym (append-nil before))
+    (end-text before r n t h is)
+read-text (c ∷ cs) before n r t h is = on (step r c) (step-sofar before r c h) is (λ next more. read-text cs
+    (before ++ c ∷ []) (n + 1) next t more)
   where
-    on : (o : Option Reading) → Each (Sofar (before ++ c ∷ [])) o → (elim o as (λ _. Result Tree ℕ) [ None ↦ Err n | Some next ↦ read cs (n + 1) next ]) ≡ Ok t →
-        ((next : Reading) → Sofar (before ++ c ∷ []) next → read cs (n + 1) next ≡ Ok t → IsText ((before ++ c ∷ []) ++ cs) t) → IsText (before ++ c ∷ cs) t
+    on : (o : Option Reading) → Each (Sofar (before ++ c ∷ [])) o → (elim o as
+        (λ _. Result Tree ℕ) [ None ↦ Err n | Some next ↦ read cs (n + 1) next ]) ≡ Ok t →
+        ((next : Reading) → Sofar (before ++ c ∷ []) next → read cs (n + 1) next ≡ Ok t → IsText
+        ((before ++ c ∷ []) ++ cs) t) → IsText (before ++ c ∷ cs) t
     on None more is on-from = let none : ⊥ = cc in absurd none
-    on (Some next) more is on-from = subst (λ (bytes : List ℕ). IsText bytes t) (append_assoc before (c ∷ []) cs) (on-from next more is)
+    on (Some next) more is on-from = subst (λ (bytes : List ℕ). IsText bytes t) (append_assoc before (c ∷ []) cs)
+        (on-from next more is)
 
 start-sofar : Sofar [] at_start
 unfolding Spells take_tokens

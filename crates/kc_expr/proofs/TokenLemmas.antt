@@ -11,6 +11,7 @@ use Rattle.kc_expr.specs.Machine.State.{want, after}
 use Rattle.kc_expr.specs.Laws.{IsGoodToken, ArePaths, TokensAreRead, ReadTokens}
 use Rattle.kc_expr.specs.declared.tree.Operator.{Operator}
 use Rattle.kc_expr.specs.declared.tree.Operator.TheVariants.{Either, Both, Equal, NotEqual, LessEqual, GreaterEqual, Less, Greater, Plus, Minus, BitAnd, BitOr, BitXor}
+use Rattle.kc_expr.proofs.ByteLemmas.{given-some, denied-some}
 
 pub take-append : (ts us : List Token) (s : State) → take_tokens (ts ++ us) s ≡ option_and_then (take_tokens us) (take_tokens ts s)
 unfolding take_tokens
@@ -270,14 +271,6 @@ alone-free (left_on op a s) h is =
     let e : is_alone op ≡ false = sym (if-false (nat_le 3 (rank_of op)) (compares s) (is_alone op) (le-false 3 (rank_of op) h)) ∙ is in
     grind (arith, nat_tests)
 
-given : (b : Bool) (x next : State) → (if b then Some x else None) ≡ Some next → (b ≡ true) × (x ≡ next)
-given true x next is = (refl, cc)
-given false x next is = let none : ⊥ = cc in absurd none
-
-denied : (b : Bool) (x next : State) → (if b then None else Some x) ≡ Some next → (b ≡ false) × (x ≡ next)
-denied false x next is = (refl, cc)
-denied true x next is = let none : ⊥ = cc in absurd none
-
 room-few : (s : Stack) → room s ≡ true → count_open s < 16
 room-few s is = grind (arith, nat_tests)
 
@@ -337,10 +330,10 @@ operator-led op t s h free =
 
 take-led : (s : State) (token : Token) (next : State) → SoundState s → IsGoodToken token → take_token s token ≡ Some next → Led (state_tokens s ++ token ∷ []) next
 take-led (want s) bang next h good is =
-    let e = given (room s) (want (not_on s)) next is in
+    let e = given-some (room s) (want (not_on s)) next is in
     subst (λ (x : State). Led (stack_tokens s ++ bang ∷ []) x) e.1 (record { sound = (h, room-few s e.0); same = refl })
 take-led (want s) open_token next h good is =
-    let e = given (room s) (want (open_on s)) next is in
+    let e = given-some (room s) (want (open_on s)) next is in
     subst (λ (x : State). Led (stack_tokens s ++ open_token ∷ []) x) e.1 (record { sound = (h, room-few s e.0); same = refl })
 take-led (want s) (number n) next h good is =
     let e : after (literal n) s ≡ next = cc in
@@ -358,7 +351,7 @@ take-led (after t s) close_token next h good is =
     let r = reduce-sound s 0 t h.0 (omega arith) in
     closed-led (reduce 0 t s).0 (reduce 0 t s).1 (stack_tokens s ++ tokens t) next r.stands r.same is
 take-led (after t s) (operator op) next h good is =
-    let e = denied (is_alone op && compares s) (with_operator op (reduce (left_rank op) t s)) next is in
+    let e = denied-some (is_alone op && compares s) (with_operator op (reduce (left_rank op) t s)) next is in
     subst (λ (x : State). Led ((stack_tokens s ++ tokens t) ++ operator op ∷ []) x) e.1 (operator-led op t s h e.0)
 
 -- the tokens of what is read are the tokens before it and these

@@ -12,6 +12,7 @@ use Rattle.kc_expr.specs.Values.{leaves}
 use Rattle.kc_expr.specs.declared.tree.Operator.TheVariants.{Minus}
 use Rattle.kc_word.specs.Hex.{digit_value}
 use Rattle.kc_layout.specs.Path.{is_digit, is_letter, is_word}
+use Rattle.kc_expr.proofs.ByteLemmas.{Each, each-pick}
 
 stack_leaves : Stack → ℕ
 stack_leaves bottom = 0
@@ -45,15 +46,6 @@ piece_leaves (path_part mark text) = 1
 
 reading_leaves : Reading → ℕ
 reading_leaves r = state_leaves r.state + piece_leaves r.piece
-
--- what holds of what is there
-unfoldable pub Each : {A : Type 0} → (A → Type 0) → Option A → Type 0
-Each P None = Unit {0}
-Each P (Some x) = P x
-
-pub each-pick : {A : Type 0} (P : A → Type 0) (b : Bool) (x y : Option A) → Each P x → Each P y → Each P (if b then x else y)
-each-pick P true x y p q = p
-each-pick P false x y p q = q
 
 reduce-leaves : (s : Stack) (least : ℕ) (t : Tree) → stack_leaves (reduce least t s).1 + leaves (reduce least t s).0 ≡ stack_leaves s + leaves t
 unfolding stack_leaves

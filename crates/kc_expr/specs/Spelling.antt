@@ -30,7 +30,8 @@ IsDecimal n text = (0 < length text) × (decimal_from 0 text ≡ Some n)
 
 -- `0x` and hex digits of either case
 abbrev pub IsHex : ℕ → List ℕ → Type 0
-IsHex n text = (digits : List ℕ) × (0 < length digits) × (hex_from 0 digits ≡ Some n) × (text ≡ codes "0x" ++ digits)
+IsHex n text =
+    (digits : List ℕ) × (0 < length digits) × (hex_from 0 digits ≡ Some n) × (text ≡ codes "0x" ++ digits)
 
 -- a text writes a token
 abbrev pub Writes : Token → List ℕ → Type 0
@@ -50,7 +51,8 @@ IsGap false gap = All (λ c. c ≡ 32) gap
 unfoldable pub Spells : Bool → List Token → List ℕ → Type 0
 Spells first [] text = text ≡ []
 Spells first (token ∷ tokens) text =
-    (gap : List ℕ) × (here : List ℕ) × (rest : List ℕ) × IsGap first gap × Writes token here × Spells false tokens rest × (text ≡ gap ++ (here ++ rest))
+    (gap : List ℕ) × (here : List ℕ) × (rest : List ℕ) × IsGap first gap × Writes token here
+    × Spells false tokens rest × (text ≡ gap ++ (here ++ rest))
 
 -- A text is that of a tree of the grammar with at most 16 parentheses and `!` open at once. That the longest token is
 -- taken needs no words: cut in another way the text gives no tree's tokens.

@@ -7,7 +7,7 @@ ghost use Rattle.kc_expr.specs.Views.{shape};
 use crate::tree::Node;
 
 /// A check of an element, as its text was read.
-#[derive(Debug, Drop)]
+#[derive(Drop)]
 pub struct Expr {
     pub(crate) root: Node,
     pub(crate) paths: Vec<Vec<u8>>,

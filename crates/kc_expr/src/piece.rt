@@ -13,7 +13,7 @@ use kc_word::NoMemory;
 use std::alloc::Global;
 
 // Where in a path its text ends.
-#[derive(Clone, Copy, Debug, PartialEq, Eq)]
+#[derive(Clone, Copy)]
 pub(crate) enum Mark {
     InName,
     // Behind `.` or `->`.
@@ -25,7 +25,7 @@ pub(crate) enum Mark {
     BehindMinus,
 }
 
-#[derive(Debug, Drop)]
+#[derive(Drop)]
 pub(crate) enum Piece {
     // Nothing yet, not even a space.
     Start,
@@ -47,7 +47,7 @@ pub(crate) enum Piece {
 }
 
 // A piece with a byte more, or the piece that ended before that byte.
-#[derive(Debug, Drop)]
+#[derive(Drop)]
 pub(crate) enum Next {
     On(Piece),
     Ends(Piece),

@@ -17,7 +17,7 @@ use kc_word::NoMemory;
 use std::alloc::Global;
 
 // The tokens that were read, and the one that is begun.
-#[derive(Debug, Drop)]
+#[derive(Drop)]
 pub(crate) struct Reader {
     pub state: State,
     pub piece: Piece,

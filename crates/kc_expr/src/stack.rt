@@ -9,7 +9,7 @@ use kc_word::NoMemory;
 use std::alloc::Global;
 
 // The last that was opened first.
-#[derive(Debug, Drop)]
+#[derive(Drop)]
 pub(crate) enum Stack {
     Bottom,
     // `!`

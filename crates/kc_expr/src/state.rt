@@ -15,7 +15,7 @@ use std::alloc::Global;
 // How many parentheses and `!` may be open at once.
 pub(crate) const OPEN_MOST: u8 = 16;
 
-#[derive(Debug, Drop)]
+#[derive(Drop)]
 pub(crate) enum State {
     // A unit is wanted.
     Want(Stack),

@@ -1,7 +1,7 @@
 // The tokens of checks.
 use crate::tree::Operator;
 
-#[derive(Debug, Drop)]
+#[derive(Drop)]
 pub(crate) enum Token {
     // `!`
     Not,

@@ -1,7 +1,7 @@
 // The trees of checks.
 
 /// An operator between two values.
-#[derive(Clone, Copy, Debug, PartialEq, Eq)]
+#[derive(Clone, Copy)]
 pub enum Operator {
     /// `||`
     Either,
@@ -32,7 +32,7 @@ pub enum Operator {
 }
 
 // A check, with its parentheses.
-#[derive(Debug, Drop)]
+#[derive(Drop)]
 pub(crate) enum Node {
     // A number.
     Literal(u64),
