@@ -6,14 +6,13 @@ use Rattle.kc_word.specs.Answers.{GivesTold}
 use Rattle.kc_text.specs.Format.{IsPlace}
 use Rattle.kc_expr.specs.Tree.{Tree}
 use Rattle.kc_expr.specs.Machine.{parsed}
-use Rattle.kc_expr.specs.Laws.{GoesOn}
 use Rattle.kc_expr.specs.Spelling.{IsFault, BeginsText, ChecksAreSpelled, FaultsAreLongest, TextsAreOfOne}
 use Rattle.kc_expr.specs.Told.{place_of}
 use Rattle.kc_expr.specs.Exprs.{tree_of}
 use Rattle.kc_expr.specs.declared.expr.Expr.{Expr}
 use Rattle.kc_expr.specs.declared.stop.ExprStop.{ExprStop}
 use Rattle.kc_expr.specs.declared.stop.ExprStop.TheVariants.{X1, NoMemory}
-use Rattle.kc_expr.proofs.LiveLemmas.{places-longest}
+use Rattle.kc_expr.proofs.LiveLemmas.{GoesOn, places-longest}
 use Rattle.kc_expr.proofs.ReadLemmas.{text-read}
 use Rattle.kc_expr.proofs.SaidLemmas.{read-is-text}
 

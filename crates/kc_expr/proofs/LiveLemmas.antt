@@ -5,12 +5,11 @@ use Rattle.kc_text.specs.Format.{IsPlace}
 use Rattle.kc_expr.specs.Tree.{Token, Tree, rank_of, left_rank}
 use Rattle.kc_expr.specs.Tree.Token.{bang, open_token, close_token, operator}
 use Rattle.kc_expr.specs.Tree.Tree.{literal, field, negation, group, binary}
-use Rattle.kc_expr.specs.Machine.{Stack, State, Mark, Piece, Reading, reduce, behind_open, finished, take_token, tree_at, with_operator, compares, room, has_open, extend, extended_or, settle, begin_token, begin_unit, begin_operator, begin_comparison, next_token, is_start, is_gap, step, result_of, read, at_start, or_place, more_decimal, more_hex, more_path, behind_step}
+use Rattle.kc_expr.specs.Machine.{Stack, State, Mark, Piece, Reading, reduce, behind_open, finished, take_token, tree_at, with_operator, compares, room, has_open, extend, extended_or, settle, begin_token, begin_unit, begin_operator, begin_comparison, next_token, is_start, is_gap, step, result_of, read, parsed, at_start, or_place, more_decimal, more_hex, more_path, behind_step}
 use Rattle.kc_expr.specs.Machine.Stack.{bottom, not_on, open_on, left_on}
 use Rattle.kc_expr.specs.Machine.State.{want, after}
 use Rattle.kc_expr.specs.Machine.Mark.{in_name, before_name, in_index, behind_index, behind_minus}
 use Rattle.kc_expr.specs.Machine.Piece.{start, gap, whole, short, half, zero_digit, decimal_digits, hex_mark, hex_digits, path_part}
-use Rattle.kc_expr.specs.Laws.{GoesOn, PlacesAreLongest}
 use Rattle.kc_expr.specs.declared.tree.Operator.{Operator}
 use Rattle.kc_expr.specs.declared.tree.Operator.TheVariants.{Minus, Plus}
 use Rattle.kc_word.specs.Hex.{digit_value}
@@ -345,7 +344,11 @@ place-from (c ∷ cs) n r p h is =
           },
         )
 
-pub places-longest : PlacesAreLongest
+-- these bytes go on to a text that is read
+abbrev pub GoesOn : List ℕ → Type 0
+GoesOn front = (rest : List ℕ) × (t : Tree) × (parsed (front ++ rest) ≡ Ok t)
+
+pub places-longest : (text : List ℕ) (n : ℕ) → parsed text ≡ Err n → IsPlace GoesOn text n
 places-longest text p is =
     let q = place-from text 0 at_start p tt is in
     let same : q.0 ≡ p = omega (arith, q.1.at) in

@@ -42,6 +42,22 @@ record EndsUnit (p : Piece) : Type 0 where
   xor : extend p 94 ≡ None
   or : extend p 124 ≡ None
 
+ends-unit : {p : Piece} → (extend p 32 ≡ None) × (extend p 33 ≡ None) × (extend p 38 ≡ None) × (extend p 41 ≡ None)
+    × (extend p 43 ≡ None) × (extend p 60 ≡ None) × (extend p 61 ≡ None) × (extend p 62 ≡ None) × (extend p 94 ≡ None)
+    × (extend p 124 ≡ None) → EndsUnit p
+ends-unit h = record {
+  space = h.0;
+  not = h.1;
+  and = h.2;
+  closes = h.3;
+  plus = h.4;
+  less = h.5;
+  equal = h.6;
+  greater = h.7;
+  xor = h.8;
+  or = h.9;
+}
+
 -- a `-` behind a unit, which a path keeps to itself
 record Minus' (s : State) (r : Reading) : Type 0 where
   next : Reading
@@ -92,17 +108,17 @@ over-plain (after t stack) r settled other unit minus = record {
 gap-over : (s : State) → Over s (at s gap)
 gap-over s = over-plain s (at s gap) refl
     (record { space = refl; not = refl; opens = refl; digits = λ c is. refl; letters = λ c is. refl })
-    (record { space = refl; not = refl; and = refl; closes = refl; plus = refl; less = refl; equal = refl; greater = refl; xor = refl; or = refl }) refl
+    (ends-unit (refl, refl, refl, refl, refl, refl, refl, refl, refl, refl)) refl
 
 start-over : (s : State) → Over s (at s start)
 start-over s = over-plain s (at s start) refl
     (record { space = refl; not = refl; opens = refl; digits = λ c is. refl; letters = λ c is. refl })
-    (record { space = refl; not = refl; and = refl; closes = refl; plus = refl; less = refl; equal = refl; greater = refl; xor = refl; or = refl }) refl
+    (ends-unit (refl, refl, refl, refl, refl, refl, refl, refl, refl, refl)) refl
 
 whole-behind : (s next : State) (token : Token) → take_token s token ≡ Some next → Behind next (at s (whole token))
 whole-behind s next token is = record {
   over = over-plain next (at s (whole token)) is (whole-other token)
-      (record { space = refl; not = refl; and = refl; closes = refl; plus = refl; less = refl; equal = refl; greater = refl; xor = refl; or = refl }) refl;
+      (ends-unit (refl, refl, refl, refl, refl, refl, refl, refl, refl, refl)) refl;
   settled = is;
   full = refl;
   begun = refl;
@@ -253,7 +269,7 @@ record NumberPiece (n : ℕ) (p : Piece) : Type 0 where
 zero-piece : NumberPiece 0 zero_digit
 zero-piece = record {
   settles = λ s. refl;
-  ends = record { space = refl; not = refl; and = refl; closes = refl; plus = refl; less = refl; equal = refl; greater = refl; xor = refl; or = refl };
+  ends = ends-unit (refl, refl, refl, refl, refl, refl, refl, refl, refl, refl);
   minus = refl;
   full = refl;
   begun = refl;
@@ -262,7 +278,7 @@ zero-piece = record {
 decimal-piece : (n : ℕ) → NumberPiece n (decimal_digits n)
 decimal-piece n = record {
   settles = λ s. refl;
-  ends = record { space = refl; not = refl; and = refl; closes = refl; plus = refl; less = refl; equal = refl; greater = refl; xor = refl; or = refl };
+  ends = ends-unit (refl, refl, refl, refl, refl, refl, refl, refl, refl, refl);
   minus = refl;
   full = refl;
   begun = refl;
@@ -271,7 +287,7 @@ decimal-piece n = record {
 hex-piece : (n : ℕ) → NumberPiece n (hex_digits n)
 hex-piece n = record {
   settles = λ s. refl;
-  ends = record { space = refl; not = refl; and = refl; closes = refl; plus = refl; less = refl; equal = refl; greater = refl; xor = refl; or = refl };
+  ends = ends-unit (refl, refl, refl, refl, refl, refl, refl, refl, refl, refl);
   minus = refl;
   full = refl;
   begun = refl;
@@ -388,7 +404,8 @@ digit-begins stack c is = rw (other-byte is_digit c 33 is refl, other-byte is_di
 
 letter-begins : (stack : Stack) (c : ℕ) → is_letter c ≡ true → begin_unit stack c ≡ Some (path_part in_name (c ∷ []))
 letter-begins stack c is =
-    rw (other-byte is_letter c 33 is refl, other-byte is_letter c 40 is refl, other-byte is_letter c 48 is refl, no-digit, is) refl
+    let other = λ (k : ℕ) (no_ : is_letter k ≡ false). other-byte is_letter c k is no_ in
+    rw (other 33 refl, other 40 refl, other 48 refl, no-digit, is) refl
   where
     no-digit : is_digit c ≡ false
     no-digit = grind (arith, nat_tests)
@@ -673,7 +690,7 @@ path-behind stack true text = record {
   over = record {
     settled = refl;
     ends = (
-      record { space = refl; not = refl; and = refl; closes = refl; plus = refl; less = refl; equal = refl; greater = refl; xor = refl; or = refl },
+      ends-unit (refl, refl, refl, refl, refl, refl, refl, refl, refl, refl),
       record {
         next = at (want stack) (path_part behind_minus text);
         goes = step-on (want stack)
@@ -694,7 +711,7 @@ path-behind stack false text = record {
   over = record {
     settled = refl;
     ends = (
-      record { space = refl; not = refl; and = refl; closes = refl; plus = refl; less = refl; equal = refl; greater = refl; xor = refl; or = refl },
+      ends-unit (refl, refl, refl, refl, refl, refl, refl, refl, refl, refl),
       record {
         next = at (want stack) (path_part behind_minus text);
         goes = step-on (want stack)

@@ -584,10 +584,10 @@ settle-said : (p : Piece) (before spaces begun : List ℕ) (s next : State) (h :
     is_gap p ≡ false → is_start p ≡ false → settle s p ≡ Some next → SaidSome (before ++ (spaces ++ begun)) next
 settle-said start before spaces begun s next h g b full some is = let none : ⊥ = cc in absurd none
 settle-said gap before spaces begun s next h g b full some is = let none : ⊥ = cc in absurd none
-settle-said
-    (whole token) before spaces begun s next h g b full some is = said-more before spaces begun s next token h g b.0 b.1 is
-settle-said
-    (short op long second) before spaces begun s next h g b full some is = said-more before spaces begun s next
+settle-said (whole token) before spaces begun s next h g b full some is =
+    said-more before spaces begun s next token h g b.0 b.1 is
+settle-said (short op long second) before spaces begun s next h g b full some is =
+    said-more before spaces begun s next
     (operator op) h g tt b.0 is
 settle-said (half op) before spaces begun s next h g b full some is = let none : ⊥ = cc in absurd none
 settle-said zero_digit before spaces begun s next h g b full some is = said-more before spaces begun s next
@@ -597,16 +597,16 @@ settle-said (decimal_digits n) before spaces begun s next h g b full some is = s
 settle-said hex_mark before spaces begun s next h g b full some is = let none : ⊥ = cc in absurd none
 settle-said (hex_digits n) before spaces begun s next h g b full some is = said-more before spaces begun s next
     (number n) h g tt (b.0, inr b.1) is
-settle-said
-    (path_part in_name text) before spaces begun s next h g b full some is = said-more before spaces begun s next
+settle-said (path_part in_name text) before spaces begun s next h g b full some is =
+    said-more before spaces begun s next
     (path text) h g (named-path text b.0) b.1 is
-settle-said
-    (path_part behind_index text) before spaces begun s next h g b full some is = said-more before spaces begun s next
+settle-said (path_part behind_index text) before spaces begun s next h g b full some is =
+    said-more before spaces begun s next
     (path text) h g b.0 b.1 is
-settle-said
-    (path_part behind_minus text) before spaces begun s next h g b full some is = minus-said before spaces text begun s next h g b.0 b.1 is
-settle-said
-    (path_part before_name text) before spaces begun s next h g b full some is = let none : ⊥ = cc in absurd none
+settle-said (path_part behind_minus text) before spaces begun s next h g b full some is =
+    minus-said before spaces text begun s next h g b.0 b.1 is
+settle-said (path_part before_name text) before spaces begun s next h g b full some is =
+    let none : ⊥ = cc in absurd none
 settle-said (path_part
     (in_index k) text) before spaces begun s next h g b full some is = let none : ⊥ = cc in absurd none
 
@@ -654,11 +654,25 @@ settled : (before : List ℕ) (s next : State) (p : Piece) → Sofar before (at 
 settled before s next start h is =
     let e : s ≡ next = cc in
     subst (λ (x : State). Settled before true x) e
-    (record { front = h.front; spaces = h.spaces; said = h.said; between = h.between; some = λ no_. let none : ⊥ = cc in absurd none; all = h.all ∙ nothing-begun h.front h.spaces h.begun h.piece.1 })
+    (record {
+      front = h.front;
+      spaces = h.spaces;
+      said = h.said;
+      between = h.between;
+      some = λ no_. let none : ⊥ = cc in absurd none;
+      all = h.all ∙ nothing-begun h.front h.spaces h.begun h.piece.1;
+    })
 settled before s next gap h is =
     let e : s ≡ next = cc in
     subst (λ (x : State). Settled before false x) e
-    (record { front = h.front; spaces = h.spaces; said = h.said; between = h.between; some = λ no_. h.piece.0; all = h.all ∙ nothing-begun h.front h.spaces h.begun h.piece.1 })
+    (record {
+      front = h.front;
+      spaces = h.spaces;
+      said = h.said;
+      between = h.between;
+      some = λ no_. h.piece.0;
+      all = h.all ∙ nothing-begun h.front h.spaces h.begun h.piece.1;
+    })
 settled before s next p h is = settled-some before (is_start p) next (ended before s next p h refl refl is)
 
 -- the next token begins, or a space stands before it

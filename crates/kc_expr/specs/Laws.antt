@@ -1,10 +1,8 @@
--- The trees that tokens give are those of the grammar, and the place of a fault is the length of the longest front that
--- goes on to a text that is read.
-use Rattle.std.specs.Prelude.{◌≡◌, ◌≤◌, ℕ, List, [], ◌∷◌, ◌++◌, Some, Ok, Err}
-use Rattle.kc_text.specs.Format.{IsPlace}
+-- The trees that tokens give are those of the grammar.
+use Rattle.std.specs.Prelude.{◌≡◌, ◌≤◌, List, [], ◌∷◌, Some}
 use Rattle.kc_expr.specs.Tree.{Token, Tree, tokens, Fits, IsPath, depth}
 use Rattle.kc_expr.specs.Tree.Token.{bang, open_token, close_token, operator, number, path}
-use Rattle.kc_expr.specs.Machine.{tree_of_tokens, parsed}
+use Rattle.kc_expr.specs.Machine.{tree_of_tokens}
 
 -- the paths among tokens are paths
 abbrev pub IsGoodToken : Token → Type 0
@@ -25,11 +23,5 @@ TokensAreRead = (t : Tree) → Fits t → depth t ≤ 16 → tree_of_tokens (tok
 
 -- the tree that tokens give is one of the grammar, and they are its tokens
 abbrev pub ReadTokens : Type 0
-ReadTokens = (ts : List Token) (t : Tree) → ArePaths ts → tree_of_tokens ts ≡ Some t → Fits t × (depth t ≤ 16) × (tokens t ≡ ts)
-
--- these bytes go on to a text that is read
-abbrev pub GoesOn : List ℕ → Type 0
-GoesOn front = (rest : List ℕ) × (t : Tree) × (parsed (front ++ rest) ≡ Ok t)
-
-abbrev pub PlacesAreLongest : Type 0
-PlacesAreLongest = (text : List ℕ) (n : ℕ) → parsed text ≡ Err n → IsPlace GoesOn text n
+ReadTokens = (ts : List Token) (t : Tree) → ArePaths ts → tree_of_tokens ts ≡ Some t →
+    Fits t × (depth t ≤ 16) × (tokens t ≡ ts)

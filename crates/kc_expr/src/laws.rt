@@ -1,5 +1,5 @@
 // What holds of the definitions.
-ghost use Rattle.kc_expr.specs.Laws.{TokensAreRead, ReadTokens, PlacesAreLongest};
+ghost use Rattle.kc_expr.specs.Laws.{TokensAreRead, ReadTokens};
 ghost use Rattle.kc_expr.specs.Spelling.{ChecksAreSpelled, FaultsAreLongest, TextsAreOfOne};
 
 /// Does nothing, and tells a proof that tokens are read by the grammar: each tree of it with at most 16 parentheses
@@ -8,12 +8,6 @@ ghost use Rattle.kc_expr.specs.Spelling.{ChecksAreSpelled, FaultsAreLongest, Tex
 pub fn know_trees()
     ensures read { TokensAreRead }
     ensures taken { ReadTokens }
-{}
-
-/// Does nothing, and tells a proof what the place of a fault is: the length of the longest front of the text that
-/// goes on to one that is read, however long that is.
-pub fn know_places()
-    ensures { PlacesAreLongest }
 {}
 
 /// Does nothing, and tells a proof that `parsed` is the grammar over bytes: a text has a tree exactly where it is that

@@ -17,7 +17,7 @@ mod value;
 
 pub use evaluation::eval;
 pub use expr::Expr;
-pub use laws::{know_places, know_trees};
+pub use laws::{know_checks, know_trees};
 pub use parsing::parse;
 pub use stop::ExprStop;
 
