@@ -45,13 +45,15 @@ pub record IsGroup (image : Image) (shape : TaskShape) (leader : ℕ) (threads :
   pub shared : FieldIs image leader shape.signal signal
   pub ring : AreOn image shape (at_offset signal shape.thread_head) shape.thread_node threads
   pub among : is_among threads leader ≡ true
-  pub members : AllByRecursion (IsThread image shape (record { leader = leader; signal = signal; tgid = number })) threads
+  pub members :
+      AllByRecursion (IsThread image shape (record { leader = leader; signal = signal; tgid = number })) threads
 
 -- the threads of these leaders' groups, one group after the other
 abbrev pub AreGroups : Image → TaskShape → List ℕ → List ℕ → Type 0
 AreGroups image shape [] tasks = tasks ≡ []
 AreGroups image shape (l ∷ ls) tasks =
-    (threads : List ℕ) × (others : List ℕ) × IsGroup image shape l threads × AreGroups image shape ls others × (threads ++ others ≡ tasks)
+    (threads : List ℕ) × (others : List ℕ)
+    × IsGroup image shape l threads × AreGroups image shape ls others × (threads ++ others ≡ tasks)
 
 -- The task list: the ring has the leaders but the first, which it starts at, and the tasks are those of their groups.
 pub record Tasks (image : Image) (shape : TaskShape) (start : ℕ) (tasks : List ℕ) : Type 0 where

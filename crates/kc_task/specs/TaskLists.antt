@@ -55,7 +55,8 @@ end_checked image asked stack =
     unless (not (nat_eq w.value stack_end)) (breaks asked T6 w (Some stack_end)) (Ok tt)))
 
 abbrev pub stack_checked : Image → Asked → TaskShape → ℕ → Result ⊤ Violation
-stack_checked image asked shape task = and_then (read_field image asked task shape.stack) (λ s. end_checked image asked (value_of s))
+stack_checked image asked shape task =
+    and_then (read_field image asked task shape.stack) (λ s. end_checked image asked (value_of s))
 
 -- T1, T3 and T4 of a thread
 abbrev pub shared_checked : Image → Asked → TaskShape → Group → ℕ → Result ⊤ Violation
@@ -110,7 +111,8 @@ threads_checked image asked shape g =
 
 -- step 2 whole
 abbrev pub leader_checked : Image → Asked → TaskShape → ℕ → Result (List ℕ) Violation
-leader_checked image asked shape leader = and_then (group_of image asked shape leader) (λ g. threads_checked image asked shape g)
+leader_checked image asked shape leader =
+    and_then (group_of image asked shape leader) (λ g. threads_checked image asked shape g)
 
 -- what each leader gives, in order, or the first violation
 unfoldable pub gathered : (ℕ → Result (List ℕ) Violation) → List ℕ → Result (List ℕ) Violation
