@@ -3,7 +3,7 @@
 // usage: syms FILE TIMES [table]
 //
 // Each line is checked to be a row, its address is made of its digits, and these are summed up. With `table` an address is
-// put behind those of its name in a hash table, as kc_syms does. It prints the rows, or the names, of the last time.
+// put behind those of its name in a hash table of all names. It prints the rows, or the names, of the last time.
 #include <stdint.h>
 #include <stdio.h>
 #include <stdlib.h>

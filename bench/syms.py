@@ -5,7 +5,7 @@ usage: syms.py MAP
 
 It works on a copy of the crates, with a program that reads a file's symbols over and over, and compiles `syms.c` beside it:
 once the checks alone, and once with a hash table too. It prints the time of a processor for each row, the least of seven
-runs, and the ratios. The larger map has each row of the first one fifteen times, under names that differ by an ending.
+runs in turns, and the ratios. The larger map has each row of the first one fifteen times, under names that differ by an ending.
 """
 import os
 import resource
@@ -83,11 +83,11 @@ def seconds(command):
     return after.ru_utime + after.ru_stime - before.ru_utime - before.ru_stime
 
 
-def times_of(commands, times):
+def times_of(commands):
     """For each command the least time of one reading, in turns, so that a busy machine is as busy for each."""
     least = [float("inf")] * len(commands)
     for _ in range(7):
-        for i, (program, path, *words) in enumerate(commands):
+        for i, (program, path, times, *words) in enumerate(commands):
             whole = seconds([program, path, str(times)] + words) - seconds([program, path, "0"] + words)
             least[i] = min(least[i], whole / times)
     return least
@@ -112,10 +112,17 @@ def main():
         subprocess.run(["cc", "-O2", "-o", loop, os.path.join(top, "bench", "syms.c")], check=True)
         program = built(top, copy)
         large, rows = larger(path, copy)
-        for name, at, count, times in (("the map", path, rows, 40), ("fifteen times", large, 15 * rows, 3)):
-            read, checks, table = times_of([(program, at), (loop, at), (loop, at, "table")], times)
+        maps = ("the map", path, rows, 40), ("fifteen times", large, 15 * rows, 3)
+        commands = [command for _, at, _, times in maps
+                    for command in ((program, at, times), (loop, at, times), (loop, at, times, "table"))]
+        least = times_of(commands)
+        for i, (name, _, count, _) in enumerate(maps):
+            read, checks, table = least[3 * i:3 * i + 3]
             print(f"{name}, {count} rows: {read / count * 1e9:.0f} ns a row, {read / checks:.2f} of the checks in C, "
-                  f"{read / table:.2f} of the checks and a table in C", flush=True)
+                  f"{read / table:.2f} of the checks and a table in C")
+        more = [least[i + 3] / 15 / least[i] for i in range(3)]
+        print(f"a row takes {more[0]:.2f} times as long there, in the checks in C {more[1]:.2f} times, "
+              f"and with a table {more[2]:.2f} times")
 
 
 main()

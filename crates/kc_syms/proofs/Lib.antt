@@ -1,3 +1,4 @@
+mod AddressLemmas
 mod AgreementLaws
 mod DigitLemmas
 mod HexBack

@@ -22,7 +22,7 @@ put_first first address true list = refl
 put_first first address false list = refl
 
 -- the addresses of a name, with a row more
-addresses-more : (name : List ℕ) (done : List RowText) (row : RowText) → addresses name (done ++ row ∷ []) ≡ put_behind (bytes_eq row.name name) (addresses name done) row.listed
+pub addresses-more : (name : List ℕ) (done : List RowText) (row : RowText) → addresses name (done ++ row ∷ []) ≡ put_behind (bytes_eq row.name name) (addresses name done) row.listed
 addresses-more name [] row = refl
 addresses-more name (first ∷ done) row =
     elim (bytes_eq first.name name) as (λ b. (if b then first.listed ∷ addresses name (done ++ row ∷ []) else addresses name (done ++ row ∷ [])) ≡ put_behind (bytes_eq row.name name) (if b then first.listed ∷ addresses name done else addresses name done) row.listed) [

@@ -1,18 +1,24 @@
 -- What contracts see of the index of names.
-use Rattle.std.specs.Prelude.{ℕ, Bool, List, [], ◌∷◌, ◌++◌, Option, Some, None, if◌then◌else◌}
-use Rattle.std.specs.Str.{bytes_eq}
-use Rattle.indexmap.specs.IndexMap.{IndexMap, get_by}
-use Rattle.kc_syms.specs.declared.index.Listed.{Listed}
-use Rattle.kc_syms.specs.declared.name.Name.{Name}
+use Rattle.std.specs.Prelude.{ℕ, ◌%◌, Bool, List, [], ◌∷◌, ◌++◌, map, nat_eq, Option, Some, None, if◌then◌else◌}
+use Rattle.std.specs.Global.{Vec}
+use Rattle.std.specs.Hash.FoldHasher.{initial, write, finish}
+use Rattle.indexmap.specs.IndexMap.{IndexMap, get}
+use Rattle.kc_syms.specs.declared.row.Row.{Row}
+use Rattle.kc_syms.specs.Rows.{RowText, addresses}
+use Rattle.kc_syms.specs.Views.{row_text}
 
--- the addresses of a name
-abbrev pub list_of : Option Listed → List ℕ
-list_of None = []
-list_of (Some listed) = listed.first ∷ listed.rest.items
+-- the part of the names that a name is in
+abbrev pub part_of : List ℕ → ℕ
+part_of name = finish (write initial name) % 256
 
--- the addresses of a name in the index
-abbrev pub listed : {S : Type 0} → IndexMap Name Listed S → List ℕ → List ℕ
-listed index name = list_of (get_by (λ key. bytes_eq name key.bytes.now) index)
+-- the rows of a part
+abbrev pub rows_of : Option (Vec Row) → List RowText
+rows_of None = []
+rows_of (Some rows) = map row_text rows.items
+
+-- the addresses of a name in the index, which are those of its part's rows
+abbrev pub listed : {S : Type 0} → IndexMap ℕ (Vec Row) S → List ℕ → List ℕ
+listed index name = addresses name (rows_of (get nat_eq index (part_of name)))
 
 -- the address behind these, where it is said
 abbrev pub put_behind : Bool → List ℕ → ℕ → List ℕ

@@ -1,62 +1,53 @@
-// The addresses of each name.
-ghost use Rattle.std.specs.Prelude.{◌≡◌, ℕ, List, [], ◌∷◌, ◌++◌, IfOk, OnOk};
+// The rows of each part of the names.
+ghost use Rattle.std.specs.Prelude.{◌≡◌, ℕ, List, [], ◌∷◌, ◌++◌, OnOk};
 ghost use Rattle.std.specs.Str.{bytes_eq};
 ghost use Rattle.kc_syms.specs.Listed.{listed, put_behind};
 
-use crate::name::Name;
+use crate::part::part_of;
+use crate::row::Row;
 use indexmap::IndexMap;
 use indexmap::map::Entry;
 use kc_word::NoMemory;
 use std::alloc::Global;
 
-// The addresses that the rows of one name list, in the order of the rows.
-#[derive(Drop)]
-pub struct Listed {
-    pub first: u64,
-    pub rest: Vec<u64>,
-}
+// The parts of the names, each with its rows in their order.
+pub type Index<'a> = IndexMap<u8, Vec<Row<'a>>>;
 
-// The names, each with its addresses.
-pub type Index<'a> = IndexMap<Name<'a>, Listed>;
+// A part begins with room for one row for each so many bytes of the map: a row takes about 40, which are 16 digits, a
+// kind and two spaces, a newline, and a name, and there are 256 parts.
+pub const BYTES_A_ROOM: usize = 40 * 256;
 
-// The bytes of a row, about: 16 digits, a kind and two spaces, a newline, and a name, of which some are of several rows.
-const ROW: usize = 40;
-
-// An index of no name, with room for the names of a map of this length.
-pub fn with_room<'a>(alloc: Global, length: usize) -> Result<Index<'a>, NoMemory>
-    ensures { IfOk result (λ index. (query : List ℕ) → listed index query ≡ []) }
+// An index of no row.
+pub fn new_index<'a>(alloc: Global) -> Index<'a>
+    ensures { (query : List ℕ) → listed result query ≡ [] }
 {
-    match IndexMap::with_capacity(alloc, length / ROW) {
-        Ok(index) => Ok(index),
-        Err(_) => Err(NoMemory),
-    }
+    IndexMap::new(alloc)
 }
 
-// A row's address behind those of its name.
+// A row after those of its part.
 pub fn add<'a>(
     alloc: Global,
     index: &mut Index<'a>,
-    name: &'a [u8],
-    address: u64,
+    row: Row<'a>,
+    room: usize,
 ) -> Result<(), NoMemory>
-    ensures { OnOk result ((query : List ℕ) → listed index.new query ≡ put_behind (bytes_eq name.now query) (listed index.old query) address) }
+    ensures { OnOk result ((query : List ℕ) → listed index.new query ≡ put_behind (bytes_eq row.entry.name.now query) (listed index.old query) row.entry.listed) }
 {
-    match index.entry(Name { bytes: name })? {
-        Entry::Occupied(entry) => put_last(&mut entry.into_mut().rest, address),
+    match index.entry(part_of(row.name))? {
+        Entry::Occupied(entry) => put_last(entry.into_mut(), row),
         Entry::Vacant(entry) => {
-            entry.insert(Listed {
-                first: address,
-                rest: Vec::new(alloc),
-            });
+            let mut rows = Vec::with_capacity(alloc, room)?;
+            put_last(&mut rows, row)?;
+            entry.insert(rows);
             Ok(())
         }
     }
 }
 
-// An address more.
-fn put_last(list: &mut Vec<u64>, address: u64) -> Result<(), NoMemory>
-    ensures { OnOk result (list.new.items ≡ list.old.items ++ address ∷ []) }
+// A row more.
+fn put_last<'a>(rows: &mut Vec<Row<'a>>, row: Row<'a>) -> Result<(), NoMemory>
+    ensures { OnOk result (rows.new.items ≡ rows.old.items ++ row.entry ∷ []) }
 {
-    list.push(address)?;
+    rows.push(row)?;
     Ok(())
 }

@@ -3,7 +3,7 @@
 
 mod fault;
 mod index;
-mod name;
+mod part;
 mod row;
 mod symbols;
 #[cfg(test)]

@@ -1,22 +1,23 @@
 // The symbols of a map.
 ghost use Rattle.std.specs.Prelude.{◌≡◌, map};
-ghost use Rattle.kc_syms.specs.Addresses.{agreed, another, at_run, common_of};
+ghost use Rattle.kc_syms.specs.Addresses.{at_run, common_of};
 ghost use Rattle.kc_syms.specs.Agreement.{Agrees};
 ghost use Rattle.kc_syms.specs.Answers.{IsAnswer, IsAnswerBySpelling};
-ghost use Rattle.kc_syms.specs.Rows.{lines, rows};
+ghost use Rattle.kc_syms.specs.Rows.{addresses, lines, rows};
 ghost use Rattle.kc_syms.specs.Symbols.{symbol};
+ghost use Rattle.kc_syms.specs.Views.{row_text};
 
 use crate::fault::{SymFault, SymStop};
-use crate::index::{Index, add, with_room};
-use crate::name::Name;
-use crate::row::read_row;
+use crate::index::{BYTES_A_ROOM, Index, add, new_index};
+use crate::part::part_of;
+use crate::row::{Row, read_row};
 use bstr::ByteSlice;
 use std::alloc::Global;
 
 // The kernel's image is linked to stand at this address and above.
 const IMAGE_START: u64 = 0xffff_ffff_8000_0000;
 
-/// The symbols of a System.map: for each name the addresses of its rows. Names stay parts of the file.
+/// The symbols of a System.map: its rows, by parts of the names. Names stay parts of the file.
 #[derive(Drop)]
 pub struct Symbols<'a> {
     index: Index<'a>,
@@ -37,13 +38,14 @@ impl<'a> Symbols<'a> {
         ensures exact { IsAnswer result (rows bytes.now) }
         ensures spelled { IsAnswerBySpelling result (lines bytes.now) }
     {
-        let mut index = with_room(alloc, bytes.len())?;
+        let mut index = new_index(alloc);
+        let room = bytes.len() / BYTES_A_ROOM;
         let mut number = 1;
         for line in bytes.lines() {
             let Some(row) = read_row(line) else {
                 return Err(SymStop::S1(number));
             };
-            add(alloc, &mut index, row.name, row.listed)?;
+            add(alloc, &mut index, row, room)?;
             number += 1;
         }
         Ok(Symbols { index })
@@ -52,7 +54,8 @@ impl<'a> Symbols<'a> {
     /// The address of a symbol at run time, where KASLR moved the kernel's image by `kaslr` bytes.
     ///
     /// A row's address at run time is the listed one plus `kaslr`, modulo 2^64, where the listed one is
-    /// 0xffffffff80000000 or above, and else the listed one. It takes no memory.
+    /// 0xffffffff80000000 or above, and else the listed one. It takes no memory, and
+    /// looks at the rows of one part of the names, about one row in 256.
     ///
     /// # Errors
     ///
@@ -62,32 +65,29 @@ impl<'a> Symbols<'a> {
         ensures exact { result ≡ common_of kaslr (symbol self.now name.now) }
         ensures agrees { Agrees kaslr (symbol self.now name.now) result }
     {
-        let Some(listed) = self.index.get(&Name { bytes: name }) else {
-            return Err(SymFault::S2);
-        };
-        let first = at_run(listed.first, kaslr);
-        agreed(first, another(first, &listed.rest, kaslr))
+        match self.index.get(&part_of(name)) {
+            Some(rows) => common(rows, name, kaslr),
+            None => Err(SymFault::S2),
+        }
     }
 }
 
-// The address, where no row has another.
-fn agreed(address: u64, other: Option<u64>) -> Result<u64, SymFault>
-    ensures { result ≡ agreed address other }
+// The address that the rows of a name have in common.
+fn common(rows: &[Row<'_>], name: &[u8], kaslr: u64) -> Result<u64, SymFault>
+    ensures { result ≡ common_of kaslr (addresses name.now (map row_text rows.now)) }
 {
-    match other {
-        Some(other) => Err(SymFault::S3(address, other)),
-        None => Ok(address),
+    let mut found = None;
+    for row in rows {
+        if row.name == name {
+            let address = at_run(row.listed, kaslr);
+            match found {
+                Some(first) if first != address => return Err(SymFault::S3(first, address)),
+                Some(_) => {}
+                None => found = Some(address),
+            }
+        }
     }
-}
-
-// The first of these that is another address at run time.
-fn another(address: u64, listed: &[u64], kaslr: u64) -> Option<u64>
-    ensures { result ≡ another address (map (at_run kaslr) listed.now) }
-{
-    listed
-        .iter()
-        .map(|one| at_run(*one, kaslr))
-        .find(|other| *other != address)
+    found.ok_or(SymFault::S2)
 }
 
 // Where a listed address is at run time.

@@ -4,8 +4,8 @@ use Rattle.kc_syms.specs.Symbols.{symbol}
 use Rattle.kc_syms.proofs.AgreementLaws.{agrees}
 use Rattle.kc_syms.proofs.symbols.Symbols.address.Goals as goal
 
-pub returns-clause-agrees : goal.returns-clause-agrees
-returns-clause-agrees c =
+pub returns-in-Some-clause-agrees : goal.returns-in-Some-clause-agrees
+returns-in-Some-clause-agrees c =
     let listed = symbol c.args.self.now c.args.name.now in
-    let exact : c.agreed.result ≡ common_of c.args.kaslr listed = search rules in
-    agrees c.args.kaslr listed c.agreed.result exact
+    let exact : c.common.result ≡ common_of c.args.kaslr listed = search rules in
+    agrees c.args.kaslr listed c.common.result exact

@@ -12,7 +12,7 @@ loop-line-init c =
       tt,
       omega (arith, c.lines-line-items.ensures.len),
       rw (c.lines-line-items.ensures.value)
-          (reads_none (listed c.in_ok-index.index) c.args.bytes.now c.in_ok-index.ensures),
+          (reads_none (listed c.new_index-index.result) c.args.bytes.now c.new_index-index.ensures),
     )
 
 pub loop-line-preserved : goal.loop-line-preserved
