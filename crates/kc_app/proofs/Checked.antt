@@ -55,7 +55,7 @@ judged_prints (Some bytes) segments paging audits names found r named is writes 
 
 -- the steps of `check` on a file that is there
 prints_made : (file btf map plan : Option (List ℕ)) (parts : Parts) (told : Info) (types : Types) (audits : List AuditAt) (r : Result Answer Halt)
-    → dump_parts file ≡ gives parts → checked Notes (info parts.notes) ≡ gives told → types_in btf ≡ gives types → planned_in types told.kaslr map plan ≡ gives audits
+    → dump_parts file ≡ gives parts → checked Notes (info parts.notes) ≡ gives told → types_in btf ≡ gives types → planned_in types told map plan ≡ gives audits
     → PrintsOfBytes (λ bytes. gives (verdict_shown (image_of bytes parts.segments (by_info told)) (names_of audits) (judged parts.segments (by_info told) audits bytes))) file r
     → Prints (check_made file btf map plan) r
 prints_made None btf map plan parts told types audits r is noted typed planned prints = absurd (let none : ⊥ = cc in none)
@@ -65,7 +65,7 @@ prints_made (Some bytes) btf map plan parts told types audits r is noted typed p
 pub check_prints : {X Y Z : Type 0} (files : Option Told) (f : Files) (core : X → Parts) (types : Y → Types) (audits : Z → List AuditAt) (x : X) (told : Info) (y : Y) (z : Z) (r : Result Answer Halt)
     → IsOf core (λ files. dump_parts (files slot.Dump f.dump)) files (Ok x) → checked Notes (info (core x).notes) ≡ gives told
     → IsOf types (λ files. types_in (files slot.Btf f.btf)) files (Ok y)
-    → IsOf audits (λ files. planned_in (types y) told.kaslr (files slot.Map f.map) (files slot.Plan f.plan)) files (Ok z)
+    → IsOf audits (λ files. planned_in (types y) told (files slot.Map f.map) (files slot.Plan f.plan)) files (Ok z)
     → PrintsOfBytes (λ bytes. gives (verdict_shown (image_of bytes (core x).segments (by_info told)) (names_of (audits z)) (judged (core x).segments (by_info told) (audits z) bytes))) (named files slot.Dump f.dump) r
     → PrintsOf (λ files. check_made (files slot.Dump f.dump) (files slot.Btf f.btf) (files slot.Map f.map) (files slot.Plan f.plan)) files r
 check_prints None f core types audits x told y z r is noted typed planned prints = tt

@@ -3,6 +3,7 @@ use Rattle.std.proofs.Common.{◌≡◌, ℕ, zero, suc, ◌+◌, List, [], ◌�
 use Rattle.kc_outside.specs.declared.store.Slot.TheVariants.{Map, Plan as PlanSlot}
 use Rattle.kc_outside.specs.Files.{Files}
 use Rattle.kc_btf.specs.Btf.{Types}
+use Rattle.kc_notes.specs.declared.info.Info.{Info}
 use Rattle.kc_syms.specs.Rows.{RowText}
 use Rattle.kc_plan.specs.declared.plan.Plan.{Plan}
 use Rattle.kc_plan.specs.Planned.{AuditAt}
@@ -22,9 +23,9 @@ pub name_more : (audits : List AuditAt) (i : ℕ) (a : AuditAt) → slice_get au
 name_more audits i a is = rw add-one (one_more audits i a is)
 
 -- a plan over the rows of a map, where the files are told
-pub planned_told : {X Y : Type 0} (told : Option Files) (map plan : List ℕ) (types : Types) (kaslr : ℕ) (seen : X → List ℕ) (read : Y → List ℕ) (listed : X) (bytes : Y) (rows : List RowText)
+pub planned_told : {X Y : Type 0} (told : Option Files) (map plan : List ℕ) (types : Types) (info : Info) (seen : X → List ℕ) (read : Y → List ℕ) (listed : X) (bytes : Y) (rows : List RowText)
     (result : Result Plan Halt) → IsOf seen (λ files. map_in (files Map map)) told (Ok listed) → rows_in (seen listed) ≡ gives rows
-    → IsOf read (λ files. plan_in (files PlanSlot plan)) told (Ok bytes) → Is plan_seen (audits_in types rows kaslr (read bytes)) result
-    → IsOf plan_seen (λ files. planned_in types kaslr (files Map map) (files PlanSlot plan)) told result
-planned_told None map plan types kaslr seen read listed bytes rows result mapped rowed planned is = tt
-planned_told (Some files) map plan types kaslr seen read listed bytes rows result mapped rowed planned is = rw (mapped, rowed, planned) is
+    → IsOf read (λ files. plan_in (files PlanSlot plan)) told (Ok bytes) → Is plan_seen (audits_in types rows info (read bytes)) result
+    → IsOf plan_seen (λ files. planned_in types info (files Map map) (files PlanSlot plan)) told result
+planned_told None map plan types info seen read listed bytes rows result mapped rowed planned is = tt
+planned_told (Some files) map plan types info seen read listed bytes rows result mapped rowed planned is = rw (mapped, rowed, planned) is

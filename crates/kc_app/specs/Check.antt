@@ -4,6 +4,7 @@ use Rattle.kc_outside.specs.declared.store.Slot.{Slot}
 use Rattle.kc_outside.specs.declared.store.Slot.TheVariants as slot
 use Rattle.kc_memory.specs.Image.{Image}
 use Rattle.kc_btf.specs.Btf.{Types}
+use Rattle.kc_notes.specs.declared.info.Info.{Info}
 use Rattle.kc_notes.specs.Info.{info}
 use Rattle.kc_found.specs.declared.verdict.Verdict.{Verdict}
 use Rattle.kc_found.specs.declared.verdict.Verdict.TheVariants.{Clean, Broken}
@@ -33,12 +34,12 @@ pub record Files : Type 0 where
   pub plan : List ℕ
 
 -- the audits of a plan over the rows of a map: the map's faults come first
-abbrev pub planned_in : Types → ℕ → Option (List ℕ) → Option (List ℕ) → Made (List AuditAt)
-planned_in types kaslr map plan = do
+abbrev pub planned_in : Types → Info → Option (List ℕ) → Option (List ℕ) → Made (List AuditAt)
+planned_in types told map plan = do
   listed ← map_in map
   rows ← rows_in listed
   bytes ← plan_in plan
-  audits_in types rows kaslr bytes
+  audits_in types rows told bytes
 
 -- the memory that is audited, and the audits
 pub record Audited : Type 0 where
@@ -51,7 +52,7 @@ audited dump btf map plan = do
   parts ← dump_parts dump
   told ← checked Notes (info parts.notes)
   types ← types_in btf
-  audits ← planned_in types told.kaslr map plan
+  audits ← planned_in types told map plan
   gives (record { image = image_of (bytes_of dump) parts.segments (by_info told); audits = audits })
 
 -- the audits' names

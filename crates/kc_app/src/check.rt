@@ -121,7 +121,7 @@ fn find_plan<S: Store>(
     requires plan { S.may store.old Slot.Plan asks.now.plan.now }
 
     ensures told { IsOf plan_seen
-        (λ files. planned_in types.now info.now.kaslr (files Map asks.now.map.now)
+        (λ files. planned_in types.now info.now (files Map asks.now.map.now)
         (files Slot.Plan asks.now.plan.now)) (S.files store.old) result }
     ensures unopened { RefusesLate result (S.opened store.old) (S.opened store.new) }
     ensures types { IfOk result (λ plan. TypesAreInside (length types.now.records) plan.audits) }

@@ -6,10 +6,12 @@ use Rattle.kc_elf.specs.CoreFile.{core}
 use Rattle.kc_btf.specs.Btf.{Types, btf}
 use Rattle.kc_layout.specs.Find.{find}
 use Rattle.kc_layout.specs.Ends.{NumberAt, field}
+use Rattle.kc_notes.specs.declared.info.Info.{Info}
 use Rattle.kc_syms.specs.Addresses.{common_of}
 use Rattle.kc_syms.specs.Rows.{RowText, addresses, rows}
 use Rattle.kc_plan.specs.Planned.{AuditAt}
-use Rattle.kc_plan.specs.Plans.{Kernel, plan}
+use Rattle.kc_plan.specs.Kernels.{Kernel}
+use Rattle.kc_plan.specs.Plans.{plan}
 use Rattle.kc_input.specs.declared.refusal.Refusal.TheVariants as refusal
 use Rattle.kc_input.specs.Made.{◌>>=◌, Made, bytes_in, checked, short_file, wanted}
 
@@ -49,10 +51,10 @@ number_at types id path = checked refusal.Path (field types id path)
 abbrev pub plan_in : Option (List ℕ) → Made (List ℕ)
 plan_in file = short_file slot.Plan file
 
--- a kernel's types, and the addresses that the rows of its map list, which KASLR moved so far
-abbrev pub kernel_by : Types → List RowText → ℕ → Kernel
-kernel_by types rows kaslr = record { types = types; symbols = λ name. addresses name rows; kaslr = kaslr }
+-- a kernel's types, the addresses that the rows of its map list, and what its notes tell
+abbrev pub kernel_by : Types → List RowText → Info → Kernel
+kernel_by types rows told = record { types = types; symbols = λ name. addresses name rows; kaslr = told.kaslr; five = told.five }
 
 -- the audits of a plan, or its first fault
-abbrev pub audits_in : Types → List RowText → ℕ → List ℕ → Made (List AuditAt)
-audits_in types rows kaslr bytes = checked refusal.Plan (plan (kernel_by types rows kaslr) bytes)
+abbrev pub audits_in : Types → List RowText → Info → List ℕ → Made (List AuditAt)
+audits_in types rows told bytes = checked refusal.Plan (plan (kernel_by types rows told) bytes)

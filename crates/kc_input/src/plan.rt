@@ -56,7 +56,7 @@ pub fn read_audits(
     symbols: &Symbols<'_>,
     info: &Info,
 ) -> Result<Plan, Halt>
-    ensures made { (rows : List RowText) → Stands (symbol symbols.now) rows → Is plan_seen (audits_in types.now rows info.now.kaslr bytes.now) result }
+    ensures made { (rows : List RowText) → Stands (symbol symbols.now) rows → Is plan_seen (audits_in types.now rows info.now bytes.now) result }
     ensures refused { RefusesIn Slot.Plan result }
     ensures no_call { NotStore result }
     ensures inside { IfOk result (λ plan. AreInside (length types.now.records) plan.audits) }

@@ -4,6 +4,7 @@ pub mod LinkLaws
 pub mod LinkLemmas
 pub mod ListLemmas
 pub mod PlanLaws
+pub mod SlabLemmas
 pub mod StepLemmas
 mod SymbolLaws
 pub mod WrittenLaws

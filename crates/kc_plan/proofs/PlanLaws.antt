@@ -21,10 +21,11 @@ use Rattle.kc_plan.specs.declared.planned.Audit.{Audit}
 use Rattle.kc_plan.specs.declared.shape.Row.{Row}
 use Rattle.kc_plan.specs.Audits.{AuditText, StartText}
 use Rattle.kc_plan.specs.Kept.{are_between, are_later, have_names, named_once, times_named}
+use Rattle.kc_plan.specs.Kernels.{Kernel, address_in}
 use Rattle.kc_plan.specs.Links.{links_for}
 use Rattle.kc_plan.specs.Planned.{AuditAt, StartAt, audit_seen, audits_seen, is_from}
 use Rattle.kc_plan.specs.Planned.StartAt.{RootAt, FromAt}
-use Rattle.kc_plan.specs.Plans.{Kernel, address_in, addressed, all_planned, begun, children, element_above, element_at, first_byte, from_at, key_for, kind_in, link_for, needs_in, plan_of, planned, root_at, root_for, struct_at, type_named}
+use Rattle.kc_plan.specs.Plans.{addressed, all_planned, begun, children, element_above, element_at, first_byte, from_at, key_for, kind_in, link_for, needs_in, plan_of, planned, root_at, root_for, struct_at, type_named}
 use Rattle.kc_plan.specs.Steps.{written_for}
 use Rattle.kc_plan.specs.Values.{◌>>=◌, at, refuse_if}
 use Rattle.kc_plan.specs.Views.{audit_text}

@@ -1,5 +1,9 @@
 -- What a plan keeps of its type numbers.
-use Rattle.std.specs.Prelude.{ℕ, ◌≤◌, List, All, IfSome}
+use Rattle.std.specs.Prelude.{ℕ, ◌≤◌, List, All, IfSome, ⊤}
+use Rattle.kc_layout.specs.declared.place.Field.{Field}
+use Rattle.kc_view.specs.declared.slub.SlubShape.{SlubShape}
+use Rattle.kc_plan.specs.declared.kind.Kind.{Kind}
+use Rattle.kc_plan.specs.declared.kind.Kind.TheVariants.{Ring, Hlist, Rbtree, Xarray, Slub}
 use Rattle.kc_plan.specs.declared.planned.Audit.{Audit}
 use Rattle.kc_plan.specs.declared.planned.Start.{Start}
 use Rattle.kc_plan.specs.declared.planned.Start.TheVariants.{Root, From}
@@ -9,9 +13,34 @@ abbrev pub StartsInside : ℕ → Start → Type 0
 StartsInside count (Root symbol ty to) = (ty ≤ count) × (to.ty ≤ count)
 StartsInside count (From to optional) = to.ty ≤ count
 
+-- those of a slab cache are
+pub record IsSlubInside (count : ℕ) (shape : SlubShape) : Type 0 where
+  pub cache : shape.cache ≤ count
+  pub knode : shape.knode ≤ count
+  pub slab : shape.slab ≤ count
+  pub size : shape.size.ty ≤ count
+  pub offset : shape.offset.ty ≤ count
+  pub random : IfSome shape.random (λ (f : Field). f.ty ≤ count)
+  pub left_pad : IfSome shape.left_pad (λ (f : Field). f.ty ≤ count)
+  pub nr_partial : shape.nr_partial.ty ≤ count
+  pub slab_cache : shape.slab_cache.ty ≤ count
+  pub freelist : shape.freelist.ty ≤ count
+  pub inuse : shape.inuse.ty ≤ count
+  pub objects : shape.objects.ty ≤ count
+  pub frozen : shape.frozen.ty ≤ count
+
+-- those of a kind are
+abbrev pub KindInside : ℕ → Kind → Type 0
+KindInside count (Ring shape) = ⊤
+KindInside count (Hlist shape) = ⊤
+KindInside count (Rbtree shape) = ⊤
+KindInside count (Xarray shape) = ⊤
+KindInside count (Slub shape) = IsSlubInside count shape
+
 -- all types of an audit are
 pub record IsInside (count : ℕ) (audit : Audit) : Type 0 where
   pub start : StartsInside count audit.start
+  pub kind : KindInside count audit.kind
   pub element : IfSome audit.element (λ ty. ty ≤ count)
 
 -- and all types of a plan

@@ -4,6 +4,7 @@ pub mod Checks
 pub mod Events
 pub mod Inside
 pub mod Kept
+pub mod Kernels
 pub mod Keys
 pub mod Kinds
 pub mod Laws
@@ -12,6 +13,7 @@ pub mod Planned
 pub mod Plans
 pub mod Seen
 pub mod Shapes
+pub mod Slabs
 pub mod Stands
 pub mod Steps
 pub mod Values

@@ -1,14 +1,11 @@
 -- The plan of bytes over a kernel's types and symbols, or its first fault.
 use Rattle.std.specs.Prelude.{ℕ, List, [], ◌∷◌, ◌++◌, length, Bool, false, not, ◌==◌, Option, Some, None, unwrap_or, option_and_then, slice_get, Result, Ok, Err, if◌then◌else◌}
 use Rattle.std.specs.Option.{ok_or}
-use Rattle.kc_btf.specs.declared.types.TypeRef.{TypeRef}
 use Rattle.kc_btf.specs.Btf.{Types}
 use Rattle.kc_layout.specs.declared.fault.PathFault.{PathFault}
-use Rattle.kc_layout.specs.Bare.{compound_under}
 use Rattle.kc_layout.specs.Ends.{BitsAt, ByteAt, NumberAt, field, located}
 use Rattle.kc_layout.specs.Find.{find}
 use Rattle.kc_syms.specs.declared.fault.SymFault.{SymFault}
-use Rattle.kc_syms.specs.Addresses.{common_of}
 use Rattle.kc_plan.specs.declared.fault.PRule.{PRule}
 use Rattle.kc_plan.specs.declared.fault.PRule.TheVariants.{P9, P10, P11}
 use Rattle.kc_plan.specs.declared.fault.PlanFault.{PlanFault}
@@ -17,28 +14,14 @@ use Rattle.kc_plan.specs.declared.item.Link.{Link}
 use Rattle.kc_plan.specs.declared.kind.Kind.{Kind}
 use Rattle.kc_plan.specs.declared.shape.Row.{Row}
 use Rattle.kc_plan.specs.Audits.{AuditText, StartText}
+use Rattle.kc_plan.specs.Kernels.{Kernel, address_in}
 use Rattle.kc_plan.specs.Kinds.{row, shape}
 use Rattle.kc_plan.specs.Links.{above_of, links_for}
 use Rattle.kc_plan.specs.Planned.{AuditAt, StartAt}
 use Rattle.kc_plan.specs.Planned.StartAt.{RootAt, FromAt}
+use Rattle.kc_plan.specs.Shapes.{is_struct}
 use Rattle.kc_plan.specs.Steps.{document, parsed, written_for}
 use Rattle.kc_plan.specs.Values.{◌>>=◌, at, refuse_if}
-
--- what an audit is read against: the types, the addresses that the map lists for a name, and how far KASLR
--- moved the kernel
-pub record Kernel : Type 0 where
-  pub types : Types
-  pub symbols : List ℕ → List ℕ
-  pub kaslr : ℕ
-
--- a type is this struct under its modifiers
-abbrev pub is_that : Option TypeRef → ℕ → Bool
-is_that None wanted = false
-is_that (Some t) wanted = t.id == wanted
-
-abbrev pub is_struct : Types → ℕ → Option ℕ → Bool
-is_struct types ty None = false
-is_struct types ty (Some wanted) = is_that (compound_under types ty) wanted
 
 -- where a path led, where that is this struct
 abbrev pub struct_at : Types → Option ℕ → Result ByteAt PathFault → Result ByteAt PRule
@@ -71,10 +54,6 @@ root_at types needs n address (Some name) path = do
 abbrev pub from_at : Types → Row → Option ℕ → List ℕ → Result ByteAt PRule
 from_at types needs None path = Err P10
 from_at types needs (Some element) path = struct_at types needs.head (located types element path)
-
--- the address of a symbol of a kernel
-abbrev pub address_in : Kernel → List ℕ → Result ℕ SymFault
-address_in kernel name = common_of kernel.kaslr (kernel.symbols name)
 
 -- the address of a root audit's symbol
 abbrev pub root_for : Kernel → ℕ → Option (List ℕ) → Result (Option ℕ) PlanFault
@@ -140,12 +119,12 @@ element_above links before n = option_and_then (element_of before) (above_of lin
 
 -- what the kind of an audit needs of a kernel
 abbrev pub needs_in : Kernel → AuditText → Row
-needs_in kernel audit = row kernel.types (address_in kernel) audit.sort audit.parts.tree.cached
+needs_in kernel audit = row kernel audit.sort audit.parts.tree.cached
 
 -- the kind of an audit, with where its words stand
 abbrev pub kind_in : Kernel → AuditText → ℕ → Option BitsAt → Option Kind
 kind_in kernel audit link bits =
-    shape kernel.types (address_in kernel) (needs_in kernel audit)
+    shape kernel (needs_in kernel audit)
     (record { link = link; key = bits; unique = audit.parts.tree.unique; cached = audit.parts.tree.cached }) audit.sort
 
 -- the audit with a number, behind these

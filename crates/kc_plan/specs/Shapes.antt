@@ -1,15 +1,25 @@
 -- What the kinds of audits find in a kernel's types.
-use Rattle.std.specs.Prelude.{◌≡◌, ℕ, ◌^◌, ◌/◌, ◌%◌, nat_lt, nat_le, true, false, List, Bool, ◌&&◌, ◌||◌, ◌==◌, Option, Some, None, option_map, option_and_then, Result, Ok, Err, if◌then◌else◌}
+use Rattle.std.specs.Prelude.{◌≡◌, ℕ, codes, ◌^◌, ◌/◌, ◌%◌, nat_lt, nat_le, true, false, List, [], ◌∷◌, Bool, ◌&&◌, ◌||◌, ◌==◌, Option, Some, None, option_map, option_and_then, Result, Ok, Err, if◌then◌else◌}
 use Rattle.std.proofs.Common.{refl}
 use Rattle.std.proofs.lemmas.Bool.{and_parts, leb-true, ltb-true}
+use Rattle.std.proofs.lemmas.List.Elements.{All-cons, All-nil}
 use Rattle.kc_word.specs.declared.bits.Bits.{Bits}
+use Rattle.kc_found.specs.declared.shapes.ListShape.{ListShape}
 use Rattle.kc_btf.specs.declared.types.ArrayOf.{ArrayOf}
 use Rattle.kc_btf.specs.declared.types.TypeRef.{TypeRef}
 use Rattle.kc_btf.specs.Btf.{Types}
 use Rattle.kc_layout.specs.declared.fault.PathFault.{PathFault}
+use Rattle.kc_layout.specs.declared.place.Field.{Field}
+use Rattle.kc_layout.specs.declared.place.Hops.{Hops}
 use Rattle.kc_layout.specs.Bare.{array_under, compound_under}
 use Rattle.kc_layout.specs.Ends.{BitsAt, ByteAt, NumberAt, field, located}
 use Rattle.kc_layout.specs.Find.{find}
+
+-- what follows from a part that is there
+infixl 10 ◌>>=◌
+abbrev pub ◌>>=◌ : {A B : Type 0} → Option A → (A → Option B) → Option B
+None >>= f = None
+(Some x) >>= f = f x
 
 -- the number of the struct with a name, under the modifiers of a typedef that has it
 abbrev pub struct_named : Types → List ℕ → Option ℕ
@@ -23,6 +33,13 @@ word_at (Ok number) =
 
 abbrev pub word_in : Types → Option ℕ → List ℕ → Option ℕ
 word_in types id name = option_and_then (λ id. word_at (field types id name)) id
+
+-- the words of a ring's node
+unfoldable pub list_words : Types → Option ℕ → Option ListShape
+list_words types node = do
+  next ← word_in types node (codes "next")
+  prev ← word_in types node (codes "prev")
+  Some (record { next = next; prev = prev })
 
 -- the byte at which a number of 8 bits stands, in a struct: at a whole byte
 abbrev pub small_at : Result NumberAt PathFault → Option ℕ
@@ -52,6 +69,23 @@ byte_at (Ok place) = Some place.byte
 abbrev pub byte_in : Types → Option ℕ → List ℕ → Option ℕ
 byte_in types id name = option_and_then (λ id. byte_at (located types id name)) id
 
+-- a type is this struct under its modifiers
+abbrev pub is_that : Option TypeRef → ℕ → Bool
+is_that None wanted = false
+is_that (Some t) wanted = t.id == wanted
+
+abbrev pub is_struct : Types → ℕ → Option ℕ → Bool
+is_struct types ty None = false
+is_struct types ty (Some wanted) = is_that (compound_under types ty) wanted
+
+-- the byte of a member in a struct, where the member is this struct
+abbrev pub inner_at : Types → Option ℕ → Result ByteAt PathFault → Option ℕ
+inner_at types wanted (Err fault) = None
+inner_at types wanted (Ok place) = if is_struct types place.ty wanted then Some place.byte else None
+
+abbrev pub inner_in : Types → Option ℕ → Option ℕ → List ℕ → Option ℕ
+inner_in types wanted id name = option_and_then (λ id. inner_at types wanted (located types id name)) id
+
 -- bits as the code keeps them: below bit 2^36, 1 to 64 of them. Those that types give are so.
 abbrev pub are_bits : BitsAt → Bool
 are_bits bits = nat_lt bits.bit (2 ^ 36) && (nat_le 1 bits.width && nat_le bits.width 64)
@@ -69,6 +103,34 @@ bits_if bits true is = Some (record {
 
 abbrev pub bits_from : BitsAt → Option Bits
 bits_from bits = bits_if bits (are_bits bits) refl
+
+-- no pointers to follow, and a number to which none lead, as the code keeps them
+abbrev pub no_hops : Hops
+no_hops = record {
+  count = 0;
+  a = 0;
+  b = 0;
+  c = 0;
+  d = 0;
+  few = leb-true 0 4 refl;
+  beyond =
+      All-cons (λ offset. offset ≡ 0) 0 (0 ∷ 0 ∷ 0 ∷ []) refl
+      (All-cons (λ offset. offset ≡ 0) 0 (0 ∷ 0 ∷ []) refl
+      (All-cons (λ offset. offset ≡ 0) 0 (0 ∷ []) refl
+      (All-cons (λ offset. offset ≡ 0) 0 [] refl (All-nil (λ offset. offset ≡ 0)))));
+}
+
+abbrev pub field_of : NumberAt → List ℕ → Option Field
+field_of number [] = option_map (λ bits. record { hops = no_hops; bits = bits; ty = number.ty }) (bits_from number.bits)
+field_of number (hop ∷ hops) = None
+
+-- the number that a member of a struct is, where it is one
+abbrev pub scalar_at : Result NumberAt PathFault → Option Field
+scalar_at (Err fault) = None
+scalar_at (Ok number) = field_of number number.hops
+
+abbrev pub scalar_in : Types → Option ℕ → List ℕ → Option Field
+scalar_in types id name = option_and_then (λ id. scalar_at (field types id name)) id
 
 -- what an audit gives of its own: the byte of the node in an element, the bits of the key there, whether no two
 -- elements have one key, and whether the root keeps the first element

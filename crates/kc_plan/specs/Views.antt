@@ -15,7 +15,7 @@ use Rattle.kc_notes.specs.declared.info.Info.{Info}
 use Rattle.kc_syms.specs.declared.symbols.Symbols.{Symbols}
 use Rattle.kc_plan.specs.declared.plan.Plan.{Plan}
 use Rattle.kc_plan.specs.Planned.{AuditAt, audits_seen}
-use Rattle.kc_plan.specs.Plans.{Kernel}
+use Rattle.kc_plan.specs.Kernels.{Kernel}
 use Rattle.kc_plan.specs.declared.item.AuditWords.{AuditWords}
 use Rattle.kc_plan.specs.declared.item.Link.{Link}
 use Rattle.kc_plan.specs.declared.item.PartWords.{PartWords}
@@ -65,7 +65,7 @@ abbrev pub links_in : Vec Link → List Link
 links_in links = links.items
 
 abbrev pub kernel : Known → Kernel
-kernel known = record { types = known.btf.now; symbols = symbol known.symbols.now; kaslr = known.kaslr }
+kernel known = record { types = known.btf.now; symbols = symbol known.symbols.now; kaslr = known.kaslr; five = known.five }
 
 abbrev pub own_seen : Own → OwnAt
 own_seen own = record { link = own.link; key = option_map bits_view own.key; unique = own.unique; cached = own.cached }
@@ -74,4 +74,4 @@ abbrev pub plan_seen : Plan → List AuditAt
 plan_seen plan = audits_seen plan.audits
 
 abbrev pub kernel_of : Types → Symbols → Info → Kernel
-kernel_of types symbols info = record { types = types; symbols = symbol symbols; kaslr = info.kaslr }
+kernel_of types symbols info = record { types = types; symbols = symbol symbols; kaslr = info.kaslr; five = info.five }

@@ -5,7 +5,7 @@ ghost use Rattle.kc_layout.specs.Ends.{located};
 ghost use Rattle.kc_layout.specs.Views.{byte_view, bits_view};
 ghost use Rattle.kc_plan.specs.declared.fault.PlanKey.TheVariants as key;
 ghost use Rattle.kc_plan.specs.Answers.{Gives};
-ghost use Rattle.kc_plan.specs.Plans.{is_struct, is_that, struct_at, type_named, addressed, root_at, from_at, root_for, begun, element_at, link_for, key_for, first_byte};
+ghost use Rattle.kc_plan.specs.Plans.{struct_at, type_named, addressed, root_at, from_at, root_for, begun, element_at, link_for, key_for, first_byte};
 ghost use Rattle.kc_plan.specs.Kinds.{IsRow};
 ghost use Rattle.kc_plan.specs.Inside.{StartsInside};
 ghost use Rattle.kc_plan.specs.Planned.{start_seen};
@@ -17,33 +17,21 @@ ghost use Rattle.kc_syms.specs.Symbols.{symbol};
 use crate::fault::{PRule, PlanKey, PlanStop};
 use crate::item::StartWords;
 use crate::planned::Start;
-use crate::shape::Row;
+use crate::shape::{Row, is_struct};
 use crate::value::stop;
 use kc_btf::Btf;
-use kc_layout::{Hops, Located, compound_under, find_type, locate, resolve};
+use kc_layout::{Hops, Located, find_type, locate, resolve};
 use kc_syms::Symbols;
 use kc_word::Bits;
 
-// What an audit is read against: the types, the symbols, and how far KASLR moved the kernel, in bytes.
+// What an audit is read against: the types, the symbols, how far KASLR moved the kernel, in bytes, and whether its page
+// tables have five levels.
 #[derive(Clone, Copy)]
 pub(crate) struct Known<'k> {
     pub btf: &'k Btf,
     pub symbols: &'k Symbols<'k>,
     pub kaslr: u64,
-}
-
-// Whether a type is this struct under its modifiers.
-fn is_struct(btf: &Btf, ty: u32, wanted: Option<u32>) -> bool
-    requires { ty ≤ length btf.now.records }
-    ensures { result ≡ is_struct btf.now ty wanted }
-{
-    let Some(wanted) = wanted else {
-        return false;
-    };
-    match compound_under(btf, ty) {
-        Some(found) => found.id == wanted,
-        None => false,
-    }
+    pub five: bool,
 }
 
 // Where a path from a type leads, where that is this struct; else this stop.

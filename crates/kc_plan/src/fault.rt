@@ -31,7 +31,7 @@ pub enum PRule {
     P10,
     /// The types lack what this kind of audit needs.
     P11,
-    /// This can't be audited yet: the kinds `slub` and `tasks`, or checks.
+    /// This can't be audited yet: the kind `tasks`, or checks.
     P13,
 }
 

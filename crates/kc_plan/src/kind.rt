@@ -1,5 +1,6 @@
 // The kinds of audits.
 use kc_found::{HShape, ListShape, RbShape, XaShape};
+use kc_view::SlubShape;
 
 /// The kind of an audit, with the places of the words that it reads.
 #[derive(Clone, Copy, Debug, PartialEq, Eq)]
@@ -12,4 +13,6 @@ pub enum Kind {
     Rbtree(RbShape),
     /// An xarray (`struct xarray`, `struct xa_node`), whose elements are its pointers.
     Xarray(XaShape),
+    /// A slab cache (`struct kmem_cache`), whose elements are the slabs (`struct slab`) on its partial lists.
+    Slub(SlubShape),
 }

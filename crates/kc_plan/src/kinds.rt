@@ -2,17 +2,18 @@
 // matches on them: its name, what it asks of the keys, what it needs of a kernel, and where its words stand.
 ghost use Rattle.std.specs.Prelude.{◌≡◌, ◌≤◌, length, IfSome};
 ghost use Rattle.kc_plan.specs.declared.kinds.Sort.TheVariants as sort;
-ghost use Rattle.kc_plan.specs.Kinds.{sort_of, is_later, needs_of, ring_shape, hlist_shape, root_words, tree_shape, node_bytes, xarray_shape, row, shape, AreRows, IsRow};
-ghost use Rattle.kc_plan.specs.Plans.{address_in};
+ghost use Rattle.kc_plan.specs.Kinds.{sort_of, is_later, needs_of, hlist_words, root_words, tree_words, node_bytes, xarray_words, row, shape, AreRows, IsRow};
+ghost use Rattle.kc_plan.specs.Inside.{KindInside};
 ghost use Rattle.kc_plan.specs.Views.{kernel, own_seen};
 
 use crate::begin::Known;
 use crate::fault::PRule;
 use crate::keys::{Need, Needs};
 use crate::kind::Kind;
-use crate::shape::{Own, Row, byte_in, chunk_in, small_in, struct_named, word_in};
+use crate::shape::{Own, Row, byte_in, chunk_in, list_words, small_in, struct_named, word_in};
+use crate::slabs::{are_single, slub_words};
 use kc_btf::Btf;
-use kc_found::{HShape, ListShape, RbShape, XaShape};
+use kc_found::{HShape, RbShape, XaShape};
 
 // The kinds of audits.
 #[derive(Clone, Copy)]
@@ -21,13 +22,14 @@ pub(crate) enum Sort {
     Hlist,
     Rbtree,
     Xarray,
+    Slub,
 }
 
 // A kind that can't be audited yet.
 fn is_later(text: &str) -> bool
     ensures { result ≡ is_later text.now }
 {
-    text == "slub" || text == "tasks"
+    text == "tasks"
 }
 
 // The kind with a name.
@@ -42,6 +44,8 @@ pub(crate) fn sort_of(text: &str) -> Result<Sort, PRule>
         Ok(Sort::Rbtree)
     } else if text == "xarray" {
         Ok(Sort::Xarray)
+    } else if text == "slub" {
+        Ok(Sort::Slub)
     } else if is_later(text) {
         Err(PRule::P13)
     } else {
@@ -69,6 +73,11 @@ pub(crate) fn needs_of(sort: Sort) -> Needs
             link: Need::Barred,
             tree: Need::Barred,
         },
+        Sort::Slub => Needs {
+            element: Need::Barred,
+            link: Need::Barred,
+            tree: Need::Barred,
+        },
     }
 }
 
@@ -81,11 +90,12 @@ pub(crate) struct Rows {
     // Of a tree whose root keeps the first element.
     pub cached: Row,
     pub xarray: Row,
+    pub slub: Row,
 }
 
 // The rows of all kinds.
 pub(crate) fn rows_of(known: &Known<'_>) -> Rows
-    ensures { AreRows (kernel known.now).types (address_in (kernel known.now)) result }
+    ensures { AreRows (kernel known.now) result }
 {
     let list = struct_named(known.btf, b"list_head");
     let head = struct_named(known.btf, b"hlist_head");
@@ -122,13 +132,19 @@ pub(crate) fn rows_of(known: &Known<'_>) -> Rows
             element: None,
             clear: true,
         },
+        slub: Row {
+            head: struct_named(known.btf, b"kmem_cache"),
+            node: list,
+            element: struct_named(known.btf, b"slab"),
+            clear: are_single(known),
+        },
     }
 }
 
 // What a kind needs, where its root may be one that keeps the first element.
 pub(crate) fn row_of(known: &Known<'_>, rows: &Rows, sort: Sort, cached: bool) -> Row
-    requires { AreRows (kernel known.now).types (address_in (kernel known.now)) rows.now }
-    ensures exact { result ≡ row (kernel known.now).types (address_in (kernel known.now)) sort cached }
+    requires { AreRows (kernel known.now) rows.now }
+    ensures exact { result ≡ row (kernel known.now) sort cached }
     ensures there { IsRow (length known.now.btf.now.records) result }
 {
     match sort {
@@ -137,31 +153,21 @@ pub(crate) fn row_of(known: &Known<'_>, rows: &Rows, sort: Sort, cached: bool) -
         Sort::Rbtree if cached => rows.cached,
         Sort::Rbtree => rows.rbtree,
         Sort::Xarray => rows.xarray,
+        Sort::Slub => rows.slub,
     }
 }
 
-// The words of a ring.
-#[tactic(auto, unfolding(crate::specs::Kinds::ring_shape))]
-fn ring_shape(btf: &Btf, node: Option<u32>) -> Option<Kind>
-    requires { IfSome node (λ id. id ≤ length btf.now.records) }
-    ensures { result ≡ ring_shape btf.now node }
-{
-    let next = word_in(btf, node, b"next")?;
-    let prev = word_in(btf, node, b"prev")?;
-    Some(Kind::Ring(ListShape { next, prev }))
-}
-
 // The words of a hash chain.
-#[tactic(auto, unfolding(crate::specs::Kinds::hlist_shape))]
-fn hlist_shape(btf: &Btf, head: Option<u32>, node: Option<u32>) -> Option<Kind>
+#[tactic(auto, unfolding(crate::specs::Kinds::hlist_words))]
+fn hlist_words(btf: &Btf, head: Option<u32>, node: Option<u32>) -> Option<HShape>
     requires head { IfSome head (λ id. id ≤ length btf.now.records) }
     requires node { IfSome node (λ id. id ≤ length btf.now.records) }
-    ensures { result ≡ hlist_shape btf.now head node }
+    ensures { result ≡ hlist_words btf.now head node }
 {
     let first = word_in(btf, head, b"first")?;
     let next = word_in(btf, node, b"next")?;
     let pprev = word_in(btf, node, b"pprev")?;
-    Some(Kind::Hlist(HShape { first, next, pprev }))
+    Some(HShape { first, next, pprev })
 }
 
 // The offsets of the word of a root that has its top node, and of the one that has its first.
@@ -194,17 +200,17 @@ fn root_words(btf: &Btf, head: Option<u32>, cached: bool) -> Option<RootWords>
 }
 
 // The words of a red-black tree.
-#[tactic(auto, using(crate::proofs::BitsLemmas::key_kept), unfolding(crate::specs::Kinds::tree_shape))]
-fn tree_shape(btf: &Btf, head: Option<u32>, node: Option<u32>, own: &Own) -> Option<Kind>
+#[tactic(auto, using(crate::proofs::BitsLemmas::key_kept), unfolding(crate::specs::Kinds::tree_words))]
+fn tree_words(btf: &Btf, head: Option<u32>, node: Option<u32>, own: &Own) -> Option<RbShape>
     requires head { IfSome head (λ id. id ≤ length btf.now.records) }
     requires node { IfSome node (λ id. id ≤ length btf.now.records) }
-    ensures { result ≡ tree_shape btf.now head node (own_seen own.now) }
+    ensures { result ≡ tree_words btf.now head node (own_seen own.now) }
 {
     let parent_color = word_in(btf, node, b"__rb_parent_color")?;
     let right = word_in(btf, node, b"rb_right")?;
     let left = word_in(btf, node, b"rb_left")?;
     let words = root_words(btf, head, own.cached)?;
-    Some(Kind::Rbtree(RbShape {
+    Some(RbShape {
         parent_color,
         right,
         left,
@@ -213,7 +219,7 @@ fn tree_shape(btf: &Btf, head: Option<u32>, node: Option<u32>, own: &Own) -> Opt
         link: own.link,
         key: own.key,
         unique: own.unique,
-    }))
+    })
 }
 
 // The offsets of the bytes of an xarray's node.
@@ -244,11 +250,11 @@ fn node_bytes(btf: &Btf, node: Option<u32>) -> Option<NodeBytes>
 }
 
 // The words of an xarray.
-#[tactic(auto, unfolding(crate::specs::Kinds::xarray_shape))]
-fn xarray_shape(btf: &Btf, head: Option<u32>, node: Option<u32>) -> Option<Kind>
+#[tactic(auto, unfolding(crate::specs::Kinds::xarray_words))]
+fn xarray_words(btf: &Btf, head: Option<u32>, node: Option<u32>) -> Option<XaShape>
     requires head { IfSome head (λ id. id ≤ length btf.now.records) }
     requires node { IfSome node (λ id. id ≤ length btf.now.records) }
-    ensures { result ≡ xarray_shape btf.now head node }
+    ensures { result ≡ xarray_words btf.now head node }
 {
     let head = word_in(btf, head, b"xa_head")?;
     let bytes = node_bytes(btf, node)?;
@@ -256,7 +262,7 @@ fn xarray_shape(btf: &Btf, head: Option<u32>, node: Option<u32>) -> Option<Kind>
     let array = word_in(btf, node, b"array")?;
     let slots = word_in(btf, node, b"slots[0]")?;
     let chunk = chunk_in(btf, node, b"slots")?;
-    Some(Kind::Xarray(XaShape {
+    Some(XaShape {
         head,
         shift: bytes.shift,
         offset: bytes.offset,
@@ -267,18 +273,21 @@ fn xarray_shape(btf: &Btf, head: Option<u32>, node: Option<u32>) -> Option<Kind>
         slots,
         chunk,
         idr: false,
-    }))
+    })
 }
 
 // A kind with where its words stand, where the types have them.
 pub(crate) fn shape_of(known: &Known<'_>, needs: &Row, own: &Own, sort: Sort) -> Option<Kind>
     requires { IsRow (length known.now.btf.now.records) needs.now }
-    ensures { result ≡ shape (kernel known.now).types (address_in (kernel known.now)) needs.now (own_seen own.now) sort }
+    ensures exact { result ≡ shape (kernel known.now) needs.now (own_seen own.now) sort }
+    ensures there { IfSome result (KindInside (length known.now.btf.now.records)) }
 {
+    let btf = known.btf;
     match sort {
-        Sort::Ring => ring_shape(known.btf, needs.node),
-        Sort::Hlist => hlist_shape(known.btf, needs.head, needs.node),
-        Sort::Rbtree => tree_shape(known.btf, needs.head, needs.node, own),
-        Sort::Xarray => xarray_shape(known.btf, needs.head, needs.node),
+        Sort::Ring => Some(Kind::Ring(list_words(btf, needs.node)?)),
+        Sort::Hlist => Some(Kind::Hlist(hlist_words(btf, needs.head, needs.node)?)),
+        Sort::Rbtree => Some(Kind::Rbtree(tree_words(btf, needs.head, needs.node, own)?)),
+        Sort::Xarray => Some(Kind::Xarray(xarray_words(btf, needs.head, needs.node)?)),
+        Sort::Slub => Some(Kind::Slub(slub_words(known, needs)?)),
     }
 }

@@ -15,6 +15,7 @@ mod plan;
 mod planned;
 mod read;
 mod shape;
+mod slabs;
 mod start;
 mod value;
 

@@ -3,7 +3,7 @@ ghost use Rattle.std.specs.Prelude.{◌≡◌, ◌≤◌, [], length, map, IfOk,
 ghost use Rattle.kc_plan.specs.Answers.{Gives};
 ghost use Rattle.kc_plan.specs.Kinds.{AreRows};
 ghost use Rattle.kc_plan.specs.Inside.{IsInside, AreInside};
-ghost use Rattle.kc_plan.specs.Plans.{address_in, children, element_of, element_above, planned, all_planned, plan_of, plan};
+ghost use Rattle.kc_plan.specs.Plans.{children, element_of, element_above, planned, all_planned, plan_of, plan};
 ghost use Rattle.kc_plan.specs.Planned.{audit_seen, audits_seen};
 ghost use Rattle.kc_plan.specs.Views.{kernel, kernel_of, audit_text, plan_seen};
 
@@ -80,7 +80,7 @@ fn planned(
     number: u32,
     audit: &AuditWords<'_>,
 ) -> Result<Audit, PlanStop>
-    requires rows { AreRows (kernel known.now).types (address_in (kernel known.now)) rows.now }
+    requires rows { AreRows (kernel known.now) rows.now }
     requires before { AreInside (length known.now.btf.now.records) before.now }
     ensures exact { Gives audit_seen result (planned (kernel known.now) links.now (audits_seen before.now) number (audit_text audit.now)) }
     ensures inside { IfOk result (IsInside (length known.now.btf.now.records)) }
@@ -124,7 +124,7 @@ fn all_planned(
     links: &[Link],
     audits: &[AuditWords<'_>],
 ) -> Result<AuditList, PlanStop>
-    requires rows { AreRows (kernel known.now).types (address_in (kernel known.now)) rows.now }
+    requires rows { AreRows (kernel known.now) rows.now }
     requires few { length audits.now ≤ 256 }
     ensures exact { Gives audits_seen result (all_planned (kernel known.now) links.now [] (map audit_text audits.now)) }
     ensures inside { IfOk result (AreInside (length known.now.btf.now.records)) }
@@ -155,10 +155,10 @@ fn plan_of(
 }
 
 /// The plan that a file's bytes are, in TOML, over the types and symbols of a kernel. `info.kaslr` is how far
-/// the kernel was moved; no other part of `info` bears on a plan.
+/// the kernel was moved, and `info.five` says where it keeps what no symbol tells; no other part of `info` bears on a plan.
 ///
 /// The plan has `version = 1` and `audit`, an array of tables. Each has a `name` and a `kind` (`ring`,
-/// `hlist`, `rbtree` or `xarray`), and begins at the symbol `root`, with a `root_type` and a `root_path` where the symbol isn't the
+/// `hlist`, `rbtree`, `xarray` or `slub`), and begins at the symbol `root`, with a `root_type` and a `root_path` where the symbol isn't the
 /// head itself, or at a path `from` the element of the one audit that names it in `each`, passed over at a
 /// null pointer where it is `optional`. `element` is the type of the elements, and `link` the path in them to
 /// the node. Audits count from 0.
@@ -186,6 +186,7 @@ pub fn read_plan(
         btf,
         symbols: syms,
         kaslr: info.kaslr,
+        five: info.five,
     };
     let audits = plan_of(alloc, &known, &written)?;
     Ok(Plan { audits })
