@@ -23,7 +23,8 @@ use Rattle.kc_plan.specs.Audits.{AuditText, StartText}
 use Rattle.kc_plan.specs.Kept.{are_between, are_later, have_names, named_once, times_named}
 use Rattle.kc_plan.specs.Kernels.{Kernel, address_in}
 use Rattle.kc_plan.specs.Links.{links_for}
-use Rattle.kc_plan.specs.Planned.{AuditAt, StartAt, audit_seen, audits_seen, is_from}
+use Rattle.kc_plan.specs.CheckTexts.{checks_for}
+use Rattle.kc_plan.specs.Planned.{AuditAt, CheckAt, StartAt, audit_seen, audits_seen, is_from}
 use Rattle.kc_plan.specs.Planned.StartAt.{RootAt, FromAt}
 use Rattle.kc_plan.specs.Plans.{addressed, all_planned, begun, children, element_above, element_at, first_byte, from_at, key_for, kind_in, link_for, needs_in, plan_of, planned, root_at, root_for, struct_at, type_named}
 use Rattle.kc_plan.specs.Steps.{written_for}
@@ -70,12 +71,12 @@ root_is kernel n (Some name) root e =
     let address = bound (at (Some n) key.Root (addressed (address_in kernel name))) (λ address. Ok (Some address)) root e in
     subst (λ root. is_some root ≡ true) (same_ok (Some address.0) root address.2) refl
 
-planned_from : (links : List Link) (n : ℕ) (text : AuditText) (start : StartAt) (element : Option ℕ) (link : ℕ) (kind : Kind) (audit : AuditAt)
-    → ◌≡◌ {A = Result AuditAt PlanFault} (Ok (record { name = text.name; kind = kind; start = start; element = element; link = link; checks = []; each = children links n })) (Ok audit)
+planned_from : (links : List Link) (n : ℕ) (text : AuditText) (start : StartAt) (element : Option ℕ) (link : ℕ) (kind : Kind) (checks : List CheckAt) (audit : AuditAt)
+    → ◌≡◌ {A = Result AuditAt PlanFault} (Ok (record { name = text.name; kind = kind; start = start; element = element; link = link; checks = checks; each = children links n })) (Ok audit)
     → is_from start ≡ not (is_some text.start.root) → IsPlanned links n text audit
-planned_from links n text start element link kind audit e from =
+planned_from links n text start element link kind checks audit e from =
     subst (IsPlanned links n text)
-    (same_ok (record { name = text.name; kind = kind; start = start; element = element; link = link; checks = []; each = children links n }) audit e)
+    (same_ok (record { name = text.name; kind = kind; start = start; element = element; link = link; checks = checks; each = children links n }) audit e)
     (record { name = refl; start = from; each = refl })
 
 one_planned : (kernel : Kernel) (links : List Link) (before : List AuditAt) (n : ℕ) (text : AuditText) (audit : AuditAt) → planned kernel links before n text ≡ Ok audit → IsPlanned links n text audit
@@ -84,8 +85,9 @@ one_planned kernel links before n text audit e =
     let needs : Row = needs_in kernel text in
     let above : Option ℕ = element_above links before n in
     let tested : Result ⊤ PlanFault = at (Some n) key.Kind (refuse_if (not needs.clear) P9) in
-    let made : StartAt → Option ℕ → ℕ → Kind → AuditAt = λ start element link kind. record { name = text.name; kind = kind; start = start; element = element; link = link; checks = []; each = children links n } in
-    let with_bits : StartAt → Option ℕ → ℕ → Option BitsAt → Result AuditAt PlanFault = λ start element link bits. at (Some n) key.Kind (ok_or (kind_in kernel text link bits) P11) >>= λ kind. Ok (made start element link kind) in
+    let made : StartAt → Option ℕ → ℕ → Kind → List CheckAt → AuditAt = λ start element link kind checks. record { name = text.name; kind = kind; start = start; element = element; link = link; checks = checks; each = children links n } in
+    let with_kind : StartAt → Option ℕ → ℕ → Kind → Result AuditAt PlanFault = λ start element link kind. checks_for kernel.types n element text.parts.checks >>= λ checks. Ok (made start element link kind checks) in
+    let with_bits : StartAt → Option ℕ → ℕ → Option BitsAt → Result AuditAt PlanFault = λ start element link bits. at (Some n) key.Kind (ok_or (kind_in kernel text link bits) P11) >>= λ kind. with_kind start element link kind in
     let with_link : StartAt → Option ℕ → ℕ → Result AuditAt PlanFault = λ start element link. key_for kernel.types n element text.parts.tree.key >>= λ bits. with_bits start element link bits in
     let with_element : StartAt → Option ℕ → Result AuditAt PlanFault = λ start element. link_for kernel.types needs n element text.parts.link >>= λ link. with_link start element link in
     let with_start : StartAt → Result AuditAt PlanFault = λ start. at (Some n) key.Element (element_at kernel.types needs.element text.parts.element) >>= λ element. with_element start element in
@@ -96,8 +98,9 @@ one_planned kernel links before n text audit e =
     let element = bound (at (Some n) key.Element (element_at kernel.types needs.element text.parts.element)) (with_element start.0) audit start.2 in
     let link = bound (link_for kernel.types needs n element.0 text.parts.link) (with_link start.0 element.0) audit element.2 in
     let bits = bound (key_for kernel.types n element.0 text.parts.tree.key) (with_bits start.0 element.0 link.0) audit link.2 in
-    let kind = bound (at (Some n) key.Kind (ok_or (kind_in kernel text link.0 bits.0) P11)) (λ kind. Ok (made start.0 element.0 link.0 kind)) audit bits.2 in
-    planned_from links n text start.0 element.0 link.0 kind.0 audit kind.2
+    let kind = bound (at (Some n) key.Kind (ok_or (kind_in kernel text link.0 bits.0) P11)) (with_kind start.0 element.0 link.0) audit bits.2 in
+    let checks = bound (checks_for kernel.types n element.0 text.parts.checks) (λ checks. Ok (made start.0 element.0 link.0 kind.0 checks)) audit kind.2 in
+    planned_from links n text start.0 element.0 link.0 kind.0 checks.0 audit checks.2
     (begins kernel.types needs n above text.start root.0 start.0 start.1 ∙ ap not (root_is kernel n text.start.root root.0 root.1))
 
 -- the audits behind those that are planned already

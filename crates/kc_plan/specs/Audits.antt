@@ -1,11 +1,11 @@
 -- An audit of a plan as it is written, or the first fault of its table.
-use Rattle.std.specs.Prelude.{ℕ, List, [], ◌∷◌, ◌++◌, Bool, true, false, not, ◌&&◌, ◌||◌, length, Option, Some, None, option_and_then, Result, Ok}
+use Rattle.std.specs.Prelude.{ℕ, nat_lt, List, [], ◌∷◌, ◌++◌, Bool, true, false, not, ◌&&◌, ◌||◌, length, Option, Some, None, option_and_then, Result, Ok}
 use Rattle.std.specs.Option.{option_map_or}
 use Rattle.std.specs.Str.{bytes_eq}
 use Rattle.toml.specs.Data.{Data, Members, no_members, member, as_str, as_array}
 use Rattle.kc_text.specs.Readers.{is_name}
 use Rattle.kc_plan.specs.declared.fault.PRule.{PRule}
-use Rattle.kc_plan.specs.declared.fault.PRule.TheVariants.{P3, P4, P5, P13}
+use Rattle.kc_plan.specs.declared.fault.PRule.TheVariants.{P3, P4, P5}
 use Rattle.kc_plan.specs.declared.fault.PlanFault.{PlanFault}
 use Rattle.kc_plan.specs.declared.fault.PlanKey.{PlanKey}
 use Rattle.kc_plan.specs.declared.fault.PlanKey.TheVariants.{Name, Kind, Root, RootType, RootPath, From, Optional, Element, Link, Key, Unique, Cached, Check, Each, Other}
@@ -36,6 +36,7 @@ pub record PartText : Type 0 where
   pub element : Option (List ℕ)
   pub link : Option (List ℕ)
   pub tree : TreeText
+  pub checks : List (List ℕ)
   pub each : List (List ℕ)
 
 -- an audit, as it is written
@@ -85,7 +86,7 @@ start_for n table = do
   nested ← at n Optional (refuse_if (has Optional table && not (has From table)) P3)
   Ok (record { root = root; root_type = root_type; root_path = root_path; from = from; optional = option_map_or (λ flag. flag) optional false })
 
--- the names that a key lists
+-- the texts that a key lists
 abbrev pub names : Data → Option (List (List ℕ))
 names found = option_and_then (all_read as_str) (as_array found)
 
@@ -112,16 +113,17 @@ tree_for n need table = do
   cached ← flag_for n need Cached table
   Ok (record { key = key; unique = option_map_or (λ flag. flag) unique false; cached = option_map_or (λ flag. flag) cached false })
 
--- what it walks, where its kind asks this of its keys. Checks can't be audited yet.
+-- what it walks, where its kind asks this of its keys, and what is asked of each element. There are at most 32 checks.
 unfoldable pub parts_for : Option ℕ → Needs → Members → Result PartText PlanFault
 parts_for n needs table = do
   element ← text_for n needs.element Element table
   typed ← at n Element (refuse_if (is_untyped needs.element table) P3)
   link ← text_for n needs.link Link table
   tree ← tree_for n needs.tree table
-  unchecked ← at n Check (refuse_if (has Check table) P13)
+  checks ← names_for n Check table
+  few ← at n Check (refuse_if (nat_lt 32 (length checks)) P4)
   each ← names_for n Each table
-  Ok (record { element = element; link = link; tree = tree; each = each })
+  Ok (record { element = element; link = link; tree = tree; checks = checks; each = each })
 
 -- the audit of a table, behind these
 unfoldable pub audit_for : List AuditText → Option ℕ → Members → Result AuditText PlanFault

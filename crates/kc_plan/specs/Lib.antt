@@ -1,6 +1,7 @@
 pub mod Answers
 pub mod Audits
 pub mod Checks
+pub mod CheckTexts
 pub mod Events
 pub mod Inside
 pub mod Kept

@@ -14,6 +14,7 @@ use Rattle.kc_plan.specs.declared.item.Link.{Link}
 use Rattle.kc_plan.specs.declared.kind.Kind.{Kind}
 use Rattle.kc_plan.specs.declared.shape.Row.{Row}
 use Rattle.kc_plan.specs.Audits.{AuditText, StartText}
+use Rattle.kc_plan.specs.CheckTexts.{checks_for}
 use Rattle.kc_plan.specs.Kernels.{Kernel, address_in}
 use Rattle.kc_plan.specs.Kinds.{row, shape}
 use Rattle.kc_plan.specs.Links.{above_of, links_for}
@@ -137,7 +138,8 @@ planned kernel links before n audit = do
   link ← link_for kernel.types (needs_in kernel audit) n element audit.parts.link
   bits ← key_for kernel.types n element audit.parts.tree.key
   kind ← at (Some n) key.Kind (ok_or (kind_in kernel audit link bits) P11)
-  Ok (record { name = audit.name; kind = kind; start = start; element = element; link = link; checks = []; each = children links n })
+  checks ← checks_for kernel.types n element audit.parts.checks
+  Ok (record { name = audit.name; kind = kind; start = start; element = element; link = link; checks = checks; each = children links n })
 
 -- the audits, behind these
 abbrev pub all_planned : Kernel → List Link → List AuditAt → List AuditText → Result (List AuditAt) PlanFault

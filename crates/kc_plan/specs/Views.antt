@@ -53,7 +53,7 @@ abbrev pub tree_text : TreeWords → TreeText
 tree_text tree = record { key = option_copied tree.key; unique = tree.unique; cached = tree.cached }
 
 abbrev pub part_text : PartWords → PartText
-part_text parts = record { element = option_copied parts.element; link = option_copied parts.link; tree = tree_text parts.tree; each = texts parts.each }
+part_text parts = record { element = option_copied parts.element; link = option_copied parts.link; tree = tree_text parts.tree; checks = texts parts.checks; each = texts parts.each }
 
 abbrev pub audit_text : AuditWords → AuditText
 audit_text audit = record { name = audit.name.now; sort = audit.sort; start = start_text audit.start; parts = part_text audit.parts }

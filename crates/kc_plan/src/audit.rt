@@ -18,6 +18,9 @@ use kc_text::is_name;
 use std::alloc::Global;
 use toml::Table;
 
+// The most checks of an audit.
+const CHECKS: usize = 32;
+
 // One of the audits has this name.
 fn is_among(name: &str, audits: &[AuditWords<'_>]) -> bool
     ensures { result ≡ is_among name.now (map audit_text audits.now) }
@@ -80,7 +83,7 @@ fn tree_of(table: &Table, audit: Option<u32>, need: Need) -> Result<TreeWords<'_
     })
 }
 
-// What an audit walks, where its kind asks this of its keys. Checks can't be audited yet.
+// What an audit walks, where its kind asks this of its keys, and what is asked of each element.
 #[tactic(auto, unfolding(crate::specs::Audits::parts_for))]
 fn parts_of<'t>(
     alloc: Global,
@@ -95,17 +98,14 @@ fn parts_of<'t>(
     refuse_if(untyped, PRule::P3, audit, PlanKey::Element)?;
     let link = text_at(table, audit, needs.link, PlanKey::Link)?;
     let tree = tree_of(table, audit, needs.tree)?;
-    refuse_if(
-        has(table, PlanKey::Check),
-        PRule::P13,
-        audit,
-        PlanKey::Check,
-    )?;
+    let checks = names_at(alloc, table, audit, PlanKey::Check)?;
+    refuse_if(checks.len() > CHECKS, PRule::P4, audit, PlanKey::Check)?;
     let each = names_at(alloc, table, audit, PlanKey::Each)?;
     Ok(PartWords {
         element,
         link,
         tree,
+        checks,
         each,
     })
 }

@@ -31,7 +31,9 @@ pub enum PRule {
     P10,
     /// The types lack what this kind of audit needs.
     P11,
-    /// This can't be audited yet: the kind `tasks`, or checks.
+    /// A check is none, is too long or has too many paths, or a path of it doesn't lead to a number.
+    P12,
+    /// This can't be audited yet: the kind `tasks`.
     P13,
 }
 

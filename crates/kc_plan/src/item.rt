@@ -1,4 +1,6 @@
 // An audit as a plan writes it, in words of the plan's document.
+ghost use Rattle.std.specs.Prelude.{◌≤◌, length};
+
 use crate::kinds::Sort;
 
 // Where an audit begins.
@@ -19,13 +21,15 @@ pub(crate) struct TreeWords<'t> {
     pub cached: bool,
 }
 
-// What an audit walks.
+// What an audit walks, and what is asked of each of its elements.
 #[derive(Drop)]
 pub(crate) struct PartWords<'t> {
     pub element: Option<&'t str>,
     pub link: Option<&'t str>,
     pub tree: TreeWords<'t>,
+    pub checks: Vec<&'t str>,
     pub each: Vec<&'t str>,
+    ghost few: { length checks.items ≤ 32 },
 }
 
 // An audit.

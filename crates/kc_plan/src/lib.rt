@@ -3,6 +3,7 @@
 
 mod audit;
 mod begin;
+mod checks;
 mod document;
 mod fault;
 mod item;

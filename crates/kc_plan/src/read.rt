@@ -8,6 +8,7 @@ ghost use Rattle.kc_plan.specs.Planned.{audit_seen, audits_seen};
 ghost use Rattle.kc_plan.specs.Views.{kernel, kernel_of, audit_text, plan_seen};
 
 use crate::begin::{Known, begun, element_at, key_at, link_at, root_of};
+use crate::checks::checks_of;
 use crate::document::{audits_in, document_of};
 use crate::fault::{PRule, PlanKey, PlanStop};
 use crate::item::{AuditWords, Link};
@@ -103,6 +104,7 @@ fn planned(
     let Some(kind) = shape_of(known, &needs, &own, audit.sort) else {
         return Err(stop(PRule::P11, Some(number), PlanKey::Kind));
     };
+    let checks = checks_of(alloc, known.btf, number, element, &audit.parts.checks)?;
     let name = name_of(alloc, audit.name)?;
     let each = children(alloc, links, number)?;
     Ok(Audit {
@@ -111,7 +113,7 @@ fn planned(
         start,
         element,
         link,
-        checks: Items::new(alloc),
+        checks,
         each,
     })
 }
@@ -167,7 +169,7 @@ fn plan_of(
 ///
 /// The first fault, with the audit and the key. `P1` comes first, then the faults of the document, then for
 /// one audit after the other those of its table, then for one audit after the other those of `each` and
-/// `from`, and then for one audit after the other those of its symbol, its types and its paths. `NoMemory`
+/// `from`, and then for one audit after the other those of its symbol, its types, its paths and its checks. `NoMemory`
 /// where no memory was left.
 #[tactic(auto, unfolding(crate::specs::Plans::plan))]
 pub fn read_plan(

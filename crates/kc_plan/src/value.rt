@@ -188,7 +188,7 @@ fn tables_of<'t>(
     Ok(found)
 }
 
-// The names that a key lists; none where it isn't there.
+// The texts that a key lists; none where it isn't there.
 pub(crate) fn names_at(
     alloc: Global,
     table: &Table,
