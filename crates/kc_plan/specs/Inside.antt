@@ -2,8 +2,9 @@
 use Rattle.std.specs.Prelude.{ℕ, ◌≤◌, List, All, IfSome, ⊤}
 use Rattle.kc_layout.specs.declared.place.Field.{Field}
 use Rattle.kc_view.specs.declared.slub.SlubShape.{SlubShape}
+use Rattle.kc_view.specs.declared.tasks.TaskShape.{TaskShape}
 use Rattle.kc_plan.specs.declared.kind.Kind.{Kind}
-use Rattle.kc_plan.specs.declared.kind.Kind.TheVariants.{Ring, Hlist, Rbtree, Xarray, Slub}
+use Rattle.kc_plan.specs.declared.kind.Kind.TheVariants.{Ring, Hlist, Rbtree, Xarray, Slub, Tasks}
 use Rattle.kc_plan.specs.declared.planned.Audit.{Audit}
 use Rattle.kc_plan.specs.declared.planned.Start.{Start}
 use Rattle.kc_plan.specs.declared.planned.Start.TheVariants.{Root, From}
@@ -29,6 +30,16 @@ pub record IsSlubInside (count : ℕ) (shape : SlubShape) : Type 0 where
   pub objects : shape.objects.ty ≤ count
   pub frozen : shape.frozen.ty ≤ count
 
+-- those of tasks are
+pub record AreTasksInside (count : ℕ) (shape : TaskShape) : Type 0 where
+  pub task : shape.task ≤ count
+  pub pid : shape.pid.ty ≤ count
+  pub tgid : shape.tgid.ty ≤ count
+  pub real_parent : shape.real_parent.ty ≤ count
+  pub group_leader : shape.group_leader.ty ≤ count
+  pub signal : shape.signal.ty ≤ count
+  pub stack : shape.stack.ty ≤ count
+
 -- those of a kind are
 abbrev pub KindInside : ℕ → Kind → Type 0
 KindInside count (Ring shape) = ⊤
@@ -36,6 +47,7 @@ KindInside count (Hlist shape) = ⊤
 KindInside count (Rbtree shape) = ⊤
 KindInside count (Xarray shape) = ⊤
 KindInside count (Slub shape) = IsSlubInside count shape
+KindInside count (Tasks shape) = AreTasksInside count shape
 
 -- all types of an audit are
 pub record IsInside (count : ℕ) (audit : Audit) : Type 0 where

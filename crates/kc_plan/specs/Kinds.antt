@@ -7,7 +7,7 @@ use Rattle.kc_found.specs.declared.shapes.HShape.{HShape}
 use Rattle.kc_found.specs.declared.shapes.RbShape.{RbShape}
 use Rattle.kc_found.specs.declared.xarrays.XaShape.{XaShape}
 use Rattle.kc_plan.specs.declared.fault.PRule.{PRule}
-use Rattle.kc_plan.specs.declared.fault.PRule.TheVariants.{P4, P13}
+use Rattle.kc_plan.specs.declared.fault.PRule.TheVariants.{P4}
 use Rattle.kc_plan.specs.declared.keys.Needs.{Needs}
 use Rattle.kc_plan.specs.declared.keys.Need.TheVariants.{Required, Allowed, Barred}
 use Rattle.kc_plan.specs.declared.kinds.NodeBytes.{NodeBytes}
@@ -16,15 +16,12 @@ use Rattle.kc_plan.specs.declared.kinds.Rows.{Rows}
 use Rattle.kc_plan.specs.declared.kinds.Sort.{Sort}
 use Rattle.kc_plan.specs.declared.kinds.Sort.TheVariants as sort
 use Rattle.kc_plan.specs.declared.kind.Kind.{Kind}
-use Rattle.kc_plan.specs.declared.kind.Kind.TheVariants.{Ring, Hlist, Rbtree, Xarray, Slub}
+use Rattle.kc_plan.specs.declared.kind.Kind.TheVariants.{Ring, Hlist, Rbtree, Xarray, Slub, Tasks}
 use Rattle.kc_plan.specs.declared.shape.Row.{Row}
 use Rattle.kc_plan.specs.Kernels.{Kernel, are_single}
 use Rattle.kc_plan.specs.Shapes.{◌>>=◌, OwnAt, bits_from, byte_in, chunk_in, list_words, small_in, struct_named, word_in}
 use Rattle.kc_plan.specs.Slabs.{slub_words}
-
--- a kind that can't be audited yet
-abbrev pub is_later : List ℕ → Bool
-is_later text = bytes_eq text (codes "tasks")
+use Rattle.kc_plan.specs.Tasks.{task_words}
 
 -- the kind with a name
 abbrev pub sort_of : List ℕ → Result Sort PRule
@@ -34,7 +31,8 @@ sort_of text =
     else (if bytes_eq text (codes "rbtree") then Ok sort.Rbtree
     else (if bytes_eq text (codes "xarray") then Ok sort.Xarray
     else (if bytes_eq text (codes "slub") then Ok sort.Slub
-    else (if is_later text then Err P13 else Err P4)))))
+    else (if bytes_eq text (codes "tasks") then Ok sort.Tasks
+    else Err P4)))))
 
 -- what a kind asks of the keys that aren't for all kinds
 abbrev pub needs_of : Sort → Needs
@@ -43,6 +41,7 @@ needs_of sort.Hlist = record { element = Required; link = Required; tree = Barre
 needs_of sort.Rbtree = record { element = Required; link = Required; tree = Allowed }
 needs_of sort.Xarray = record { element = Allowed; link = Barred; tree = Barred }
 needs_of sort.Slub = record { element = Barred; link = Barred; tree = Barred }
+needs_of sort.Tasks = record { element = Barred; link = Barred; tree = Barred }
 
 -- what a kind needs of a kernel, where its root may be one that keeps the first element: the structs of its head and of
 -- the node in an element, the type of its elements where no key names it, and that its symbols have one address each
@@ -76,6 +75,12 @@ row kernel sort.Slub cached = record {
   node = struct_named kernel.types (codes "list_head");
   element = struct_named kernel.types (codes "slab");
   clear = are_single kernel;
+}
+row kernel sort.Tasks cached = record {
+  head = struct_named kernel.types (codes "task_struct");
+  node = struct_named kernel.types (codes "list_head");
+  element = struct_named kernel.types (codes "task_struct");
+  clear = true;
 }
 
 -- the words of a hash chain
@@ -153,6 +158,7 @@ shape kernel needs own sort.Hlist = option_map (λ words. Hlist words) (hlist_wo
 shape kernel needs own sort.Rbtree = option_map (λ words. Rbtree words) (tree_words kernel.types needs.head needs.node own)
 shape kernel needs own sort.Xarray = option_map (λ words. Xarray words) (xarray_words kernel.types needs.head needs.node)
 shape kernel needs own sort.Slub = option_map (λ words. Slub words) (slub_words kernel needs)
+shape kernel needs own sort.Tasks = option_map (λ words. Tasks words) (task_words kernel.types needs)
 
 -- the types of a row are among so many
 pub record IsRow (count : ℕ) (row : Row) : Type 0 where
@@ -168,9 +174,11 @@ pub record AreRows (kernel : Kernel) (rows : Rows) : Type 0 where
   pub cached : rows.cached ≡ row kernel sort.Rbtree true
   pub xarray : rows.xarray ≡ row kernel sort.Xarray false
   pub slub : rows.slub ≡ row kernel sort.Slub false
+  pub tasks : rows.tasks ≡ row kernel sort.Tasks false
   pub ring_there : IsRow (length kernel.types.records) rows.ring
   pub hlist_there : IsRow (length kernel.types.records) rows.hlist
   pub rbtree_there : IsRow (length kernel.types.records) rows.rbtree
   pub cached_there : IsRow (length kernel.types.records) rows.cached
   pub xarray_there : IsRow (length kernel.types.records) rows.xarray
   pub slub_there : IsRow (length kernel.types.records) rows.slub
+  pub tasks_there : IsRow (length kernel.types.records) rows.tasks

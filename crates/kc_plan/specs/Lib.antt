@@ -17,6 +17,7 @@ pub mod Shapes
 pub mod Slabs
 pub mod Stands
 pub mod Steps
+pub mod Tasks
 pub mod Values
 pub mod Verdicts
 pub mod Views

@@ -33,8 +33,6 @@ pub enum PRule {
     P11,
     /// A check is none, is too long or has too many paths, or a path of it doesn't lead to a number.
     P12,
-    /// This can't be audited yet: the kind `tasks`.
-    P13,
 }
 
 /// A key of a plan.

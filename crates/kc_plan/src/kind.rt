@@ -1,6 +1,6 @@
 // The kinds of audits.
 use kc_found::{HShape, ListShape, RbShape, XaShape};
-use kc_view::SlubShape;
+use kc_view::{SlubShape, TaskShape};
 
 /// The kind of an audit, with the places of the words that it reads.
 #[derive(Clone, Copy, Debug, PartialEq, Eq)]
@@ -15,4 +15,6 @@ pub enum Kind {
     Xarray(XaShape),
     /// A slab cache (`struct kmem_cache`), whose elements are the slabs (`struct slab`) on its partial lists.
     Slub(SlubShape),
+    /// The tasks from one on (`struct task_struct`, `struct signal_struct`), whose elements are the threads.
+    Tasks(TaskShape),
 }

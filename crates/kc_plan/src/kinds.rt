@@ -2,7 +2,7 @@
 // matches on them: its name, what it asks of the keys, what it needs of a kernel, and where its words stand.
 ghost use Rattle.std.specs.Prelude.{◌≡◌, ◌≤◌, length, IfSome};
 ghost use Rattle.kc_plan.specs.declared.kinds.Sort.TheVariants as sort;
-ghost use Rattle.kc_plan.specs.Kinds.{sort_of, is_later, needs_of, hlist_words, root_words, tree_words, node_bytes, xarray_words, row, shape, AreRows, IsRow};
+ghost use Rattle.kc_plan.specs.Kinds.{sort_of, needs_of, hlist_words, root_words, tree_words, node_bytes, xarray_words, row, shape, AreRows, IsRow};
 ghost use Rattle.kc_plan.specs.Inside.{KindInside};
 ghost use Rattle.kc_plan.specs.Views.{kernel, own_seen};
 
@@ -12,6 +12,7 @@ use crate::keys::{Need, Needs};
 use crate::kind::Kind;
 use crate::shape::{Own, Row, byte_in, chunk_in, list_words, small_in, struct_named, word_in};
 use crate::slabs::{are_single, slub_words};
+use crate::tasks::task_words;
 use kc_btf::Btf;
 use kc_found::{HShape, RbShape, XaShape};
 
@@ -23,13 +24,7 @@ pub(crate) enum Sort {
     Rbtree,
     Xarray,
     Slub,
-}
-
-// A kind that can't be audited yet.
-fn is_later(text: &str) -> bool
-    ensures { result ≡ is_later text.now }
-{
-    text == "tasks"
+    Tasks,
 }
 
 // The kind with a name.
@@ -46,8 +41,8 @@ pub(crate) fn sort_of(text: &str) -> Result<Sort, PRule>
         Ok(Sort::Xarray)
     } else if text == "slub" {
         Ok(Sort::Slub)
-    } else if is_later(text) {
-        Err(PRule::P13)
+    } else if text == "tasks" {
+        Ok(Sort::Tasks)
     } else {
         Err(PRule::P4)
     }
@@ -73,7 +68,7 @@ pub(crate) fn needs_of(sort: Sort) -> Needs
             link: Need::Barred,
             tree: Need::Barred,
         },
-        Sort::Slub => Needs {
+        Sort::Slub | Sort::Tasks => Needs {
             element: Need::Barred,
             link: Need::Barred,
             tree: Need::Barred,
@@ -91,6 +86,7 @@ pub(crate) struct Rows {
     pub cached: Row,
     pub xarray: Row,
     pub slub: Row,
+    pub tasks: Row,
 }
 
 // The rows of all kinds.
@@ -101,6 +97,7 @@ pub(crate) fn rows_of(known: &Known<'_>) -> Rows
     let head = struct_named(known.btf, b"hlist_head");
     let node = struct_named(known.btf, b"hlist_node");
     let tree = struct_named(known.btf, b"rb_node");
+    let task = struct_named(known.btf, b"task_struct");
     Rows {
         ring: Row {
             head: list,
@@ -138,6 +135,12 @@ pub(crate) fn rows_of(known: &Known<'_>) -> Rows
             element: struct_named(known.btf, b"slab"),
             clear: are_single(known),
         },
+        tasks: Row {
+            head: task,
+            node: list,
+            element: task,
+            clear: true,
+        },
     }
 }
 
@@ -154,6 +157,7 @@ pub(crate) fn row_of(known: &Known<'_>, rows: &Rows, sort: Sort, cached: bool) -
         Sort::Rbtree => rows.rbtree,
         Sort::Xarray => rows.xarray,
         Sort::Slub => rows.slub,
+        Sort::Tasks => rows.tasks,
     }
 }
 
@@ -289,5 +293,6 @@ pub(crate) fn shape_of(known: &Known<'_>, needs: &Row, own: &Own, sort: Sort) ->
         Sort::Rbtree => Some(Kind::Rbtree(tree_words(btf, needs.head, needs.node, own)?)),
         Sort::Xarray => Some(Kind::Xarray(xarray_words(btf, needs.head, needs.node)?)),
         Sort::Slub => Some(Kind::Slub(slub_words(known, needs)?)),
+        Sort::Tasks => Some(Kind::Tasks(task_words(btf, needs)?)),
     }
 }

@@ -18,6 +18,7 @@ mod read;
 mod shape;
 mod slabs;
 mod start;
+mod tasks;
 mod value;
 
 pub use fault::{PRule, PlanFault, PlanKey, PlanStop};

@@ -160,7 +160,7 @@ fn plan_of(
 /// the kernel was moved, and `info.five` says where it keeps what no symbol tells; no other part of `info` bears on a plan.
 ///
 /// The plan has `version = 1` and `audit`, an array of tables. Each has a `name` and a `kind` (`ring`,
-/// `hlist`, `rbtree`, `xarray` or `slub`), and begins at the symbol `root`, with a `root_type` and a `root_path` where the symbol isn't the
+/// `hlist`, `rbtree`, `xarray`, `slub` or `tasks`), and begins at the symbol `root`, with a `root_type` and a `root_path` where the symbol isn't the
 /// head itself, or at a path `from` the element of the one audit that names it in `each`, passed over at a
 /// null pointer where it is `optional`. `element` is the type of the elements, and `link` the path in them to
 /// the node. Audits count from 0.
