@@ -17,7 +17,7 @@ use Rattle.kc_syms.specs.declared.fault.SymFault.TheVariants.{S2, S3}
 use Rattle.kc_plan.specs.declared.fault.PlanFault.{PlanFault}
 use Rattle.kc_plan.specs.declared.fault.PlanKey.{PlanKey}
 use Rattle.kc_plan.specs.declared.fault.PRule.{PRule}
-use Rattle.kc_plan.specs.declared.fault.PRule.TheVariants.{P1, P2, P3, P4, P5, P6, P7, P8, P9, P10, P11, P13}
+use Rattle.kc_plan.specs.declared.fault.PRule.TheVariants.{P1, P2, P3, P4, P5, P6, P7, P8, P9, P10, P11, P12}
 use Rattle.kc_plan.specs.Keys.{spelled}
 use Rattle.kc_text.specs.Text.{hex}
 use Rattle.kc_input.specs.declared.refusal.Refusal.{Refusal}
@@ -91,7 +91,7 @@ plan_rule P8 = codes "P8"
 plan_rule P9 = codes "P9"
 plan_rule P10 = codes "P10"
 plan_rule P11 = codes "P11"
-plan_rule P13 = codes "P13"
+plan_rule P12 = codes "P12"
 
 -- the audit of a plan, by its number from 0, and the key, where a fault has them
 abbrev pub audit_part : Option ℕ → List ℕ

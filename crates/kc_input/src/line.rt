@@ -189,7 +189,7 @@ fn plan_rule(rule: PRule) -> &'static [u8]
         PRule::P9 => b"P9",
         PRule::P10 => b"P10",
         PRule::P11 => b"P11",
-        PRule::P13 => b"P13",
+        PRule::P12 => b"P12",
     }
 }
 

@@ -48,7 +48,7 @@ pub fn read_plan_file<S: Store>(alloc: Global, store: &mut S, name: &str) -> Res
 ///
 /// # Errors
 ///
-/// The plan's first fault P1 to P11 or P13, with its audit and key; no memory was left.
+/// The plan's first fault P1 to P12, with its audit and key; no memory was left.
 pub fn read_audits(
     alloc: Global,
     bytes: &[u8],

@@ -36,9 +36,9 @@ P4 0 Kind
 version = 1
 audit = [{ kind = 'heap', extra = 1 }]
 
-P13 0 Kind
+P3 0 Element
 version = 1
-audit = [{ name = 's', kind = 'slub', root = 'my_xa', element = 'item' }]
+audit = [{ name = 's', kind = 'slub', root = 'my_xa', element = 'item', check = 5 }]
 
 P3 0 Link
 version = 1
@@ -88,9 +88,9 @@ P3 0 Key
 version = 1
 audit = [{ kind = 'ring', name = 'r', root = 'my_ring', element = 'item', link = 'link', key = 5, cached = true }]
 
-P13 0 Check
+P4 0 Check
 version = 1
-audit = [{ kind = 'ring', name = 'r', root = 'my_ring', element = 'item', link = 'link', check = [], each = 5 }]
+audit = [{ kind = 'ring', name = 'r', root = 'my_ring', element = 'item', link = 'link', check = ['key', 1], each = 5 }]
 
 P4 0 Each
 version = 1
@@ -299,9 +299,9 @@ P4 0 Kind
 version = 1
 audit = [{ kind = 1 }]
 
-P13 0 Kind
+P3 0 Link
 version = 1
-audit = [{ kind = 'tasks' }]
+audit = [{ kind = 'tasks', name = 't', root = 'no', link = 'no', key = 'no' }]
 
 P3 0 Name
 version = 1
@@ -367,9 +367,9 @@ P3 0 Cached
 version = 1
 audit = [{ kind = 'ring', name = 'r', root = 'no', element = 'no', link = 'no', cached = true, check = 5 }]
 
-P13 0 Check
+P4 0 Check
 version = 1
-audit = [{ kind = 'ring', name = 'r', root = 'no', element = 'no', link = 'no', check = 5 }]
+audit = [{ kind = 'ring', name = 'r', root = 'no', element = 'no', link = 'no', check = 'no' }]
 
 P4 0 Each
 version = 1
