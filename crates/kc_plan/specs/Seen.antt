@@ -16,8 +16,10 @@ use Rattle.kc_found.specs.RbTrees.{tree_walk}
 use Rattle.kc_found.specs.Rings.{ring_walk}
 use Rattle.kc_found.specs.Violations.{Violation, missed}
 use Rattle.kc_found.specs.XaSites.{xa_judged}
+use Rattle.kc_slub.specs.Caches.{cache_slabs}
+use Rattle.kc_task.specs.TaskLists.{task_list}
 use Rattle.kc_plan.specs.declared.kind.Kind.{Kind}
-use Rattle.kc_plan.specs.declared.kind.Kind.TheVariants.{Ring, Hlist, Rbtree, Xarray}
+use Rattle.kc_plan.specs.declared.kind.Kind.TheVariants.{Ring, Hlist, Rbtree, Xarray, Slub, Tasks}
 use Rattle.kc_plan.specs.Checks.{checked, numbers_of}
 use Rattle.kc_plan.specs.Events.{Event, Walk, Wrong}
 use Rattle.kc_plan.specs.Planned.{AuditAt, CheckAt, StartAt}
@@ -53,6 +55,8 @@ nodes_of image (Ring shape) audit start = ring_walk image shape audit start
 nodes_of image (Hlist shape) audit start = hash_walk image shape audit start
 nodes_of image (Rbtree shape) audit start = tree_walk image shape audit start
 nodes_of image (Xarray shape) audit start = entries_in (xa_judged image shape audit start)
+nodes_of image (Slub shape) audit start = cache_slabs image shape (record { audit = audit; start = start })
+nodes_of image (Tasks shape) audit start = task_list image shape (record { audit = audit; start = start })
 
 -- the number of a field of an element
 abbrev pub number_at : Image → ℕ → NumberAt → Result Number Stopped

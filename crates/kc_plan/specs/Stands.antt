@@ -11,8 +11,10 @@ use Rattle.kc_found.specs.RbFinite.{RbTree}
 use Rattle.kc_found.specs.RbTrees.{reads_of}
 use Rattle.kc_found.specs.XaLayouts.{XaLayout}
 use Rattle.kc_found.specs.XaSites.{xa_course}
+use Rattle.kc_slub.specs.FiniteCaches as caches
+use Rattle.kc_task.specs.FiniteTasks as tasks
 use Rattle.kc_plan.specs.declared.kind.Kind.{Kind}
-use Rattle.kc_plan.specs.declared.kind.Kind.TheVariants.{Ring, Hlist, Rbtree, Xarray}
+use Rattle.kc_plan.specs.declared.kind.Kind.TheVariants.{Ring, Hlist, Rbtree, Xarray, Slub, Tasks}
 use Rattle.kc_plan.specs.Checks.{CheckHolds, numbers_of}
 use Rattle.kc_plan.specs.Planned.{AuditAt, CheckAt}
 use Rattle.kc_plan.specs.Seen.{PathEnd, EndsAt, NullAt, container_of, entries, is_optional, number_at, path_end, path_of, roots}
@@ -28,6 +30,8 @@ Holds image (Ring shape) start nodes = lists.Ring (vword image) shape start node
 Holds image (Hlist shape) start nodes = lists.HChain (vword image) shape start nodes
 Holds image (Rbtree shape) start nodes = RbTree (reads_of image) shape start nodes
 Holds image (Xarray shape) start nodes = XArrayOf image shape start nodes
+Holds image (Slub shape) start nodes = caches.Slub image shape start nodes
+Holds image (Tasks shape) start nodes = tasks.Tasks image shape start nodes
 
 -- each of these checks holds of an element
 abbrev pub ChecksHold : Image → List CheckAt → ℕ → Type 0
