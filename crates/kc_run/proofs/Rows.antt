@@ -12,7 +12,7 @@ use Rattle.kc_found.specs.Rings.{ring_chain}
 use Rattle.kc_found.specs.Trials.{Reader, judged}
 use Rattle.kc_found.specs.Violations.{Violation, breaks, missed}
 use Rattle.kc_plan.specs.declared.kind.Kind.{Kind}
-use Rattle.kc_plan.specs.declared.kind.Kind.TheVariants.{Ring, Hlist, Rbtree, Xarray}
+use Rattle.kc_plan.specs.declared.kind.Kind.TheVariants.{Ring, Hlist, Rbtree, Xarray, Slub, Tasks}
 use Rattle.kc_plan.specs.Planned.{AuditAt}
 use Rattle.kc_plan.specs.Planned.StartAt.{RootAt, FromAt}
 use Rattle.kc_plan.specs.Seen.{PathEnd, EndsAt, NullAt, World, null_pointer, seen}
@@ -42,6 +42,8 @@ nodes ws (Ring shape) n start = judged (chain_sites (ring_chain (look ws) shape 
 nodes ws (Hlist shape) n start = Ok []
 nodes ws (Rbtree shape) n start = Ok []
 nodes ws (Xarray shape) n start = Ok []
+nodes ws (Slub shape) n start = Ok []
+nodes ws (Tasks shape) n start = Ok []
 
 -- a field of one word, which no pointer leads to
 abbrev number : Result VWord Stopped → Result Number Stopped

@@ -16,13 +16,15 @@ use Rattle.kc_memory.specs.Translation.{and_then}
 use Rattle.kc_found.specs.declared.asked.Asked.{Asked}
 use Rattle.kc_found.specs.Violations.{Violation}
 use Rattle.kc_plan.specs.declared.kind.Kind.{Kind}
-use Rattle.kc_plan.specs.declared.kind.Kind.TheVariants.{Ring, Hlist, Rbtree, Xarray}
+use Rattle.kc_plan.specs.declared.kind.Kind.TheVariants.{Ring, Hlist, Rbtree, Xarray, Slub, Tasks}
 use Rattle.kc_plan.specs.Checks.{checked, numbers_of, value_of, words_of}
 use Rattle.kc_plan.specs.Events.{Event, Walk, Wrong, first_wrong, verdict_of}
 use Rattle.kc_plan.specs.Planned.{AuditAt, CheckAt}
 use Rattle.kc_plan.specs.Seen.{PathEnd, EndsAt, NullAt, world, nodes_of, path_end, path_of, is_optional, unless_null, container_of, in_turn, below, checks_seen, number_at, at_element, walked, entered, seen, roots, all_seen}
 use Rattle.kc_plan.specs.Verdicts.{verdict_places}
 use Rattle.kc_rb.specs.Laws.{TreePlacesStand}
+use Rattle.kc_slub.specs.Laws.{CachePlacesStand}
+use Rattle.kc_task.specs.Laws.{TaskPlacesStand}
 use Rattle.kc_xa.specs.Laws.{XarrayPlacesStand}
 use Rattle.kc_run.specs.Laws.{VerdictsStand}
 use Rattle.kc_run.proofs.Arrays.{array_shows}
@@ -71,12 +73,24 @@ end_stands numbers image at (offset ∷ offsets) byte =
     on_stands image (bytes_on at offset) (pointer image at offset) (λ next. path_end image next offsets byte)
     (numbers image (bytes_on at offset) 0 64 false) (λ next. end_stands numbers image next offsets byte)
 
-nodes_show : PlacesStand → TreePlacesStand → XarrayPlacesStand → (image : Image) (kind : Kind) (n start : ℕ) (v : Violation) → nodes_of image kind n start ≡ Err v → AllStandIn image v.places
+-- what words, numbers, fields and the walks of each kind show
+pub record PlaceLaws : Type 0 where
+  pub words : PlacesStand
+  pub numbers : NumbersStand
+  pub values : ValuesStand
+  pub trees : TreePlacesStand
+  pub arrays : XarrayPlacesStand
+  pub caches : CachePlacesStand
+  pub tasks : TaskPlacesStand
+
+nodes_show : PlaceLaws → (image : Image) (kind : Kind) (n start : ℕ) (v : Violation) → nodes_of image kind n start ≡ Err v → AllStandIn image v.places
 unfolding nodes_of
-nodes_show places trees arrays image (Ring shape) n start v is = ring_walk_shows places image shape n start v is
-nodes_show places trees arrays image (Hlist shape) n start v is = hash_walk_shows places image shape n start v is
-nodes_show places trees arrays image (Rbtree shape) n start v is = trees image shape n start v is
-nodes_show places trees arrays image (Xarray shape) n start v is = array_shows arrays image shape n start v is
+nodes_show laws image (Ring shape) n start v is = ring_walk_shows laws.words image shape n start v is
+nodes_show laws image (Hlist shape) n start v is = hash_walk_shows laws.words image shape n start v is
+nodes_show laws image (Rbtree shape) n start v is = laws.trees image shape n start v is
+nodes_show laws image (Xarray shape) n start v is = array_shows laws.arrays image shape n start v is
+nodes_show laws image (Slub shape) n start v is = laws.caches image shape n start v is
+nodes_show laws image (Tasks shape) n start v is = laws.tasks image shape n start v is
 
 -- the numbers of fields
 NumbersShow : Image → Result (List Number) Stopped → Type 0
@@ -119,21 +133,21 @@ walked_shows values image n a start go (Err v) here further = (here v refl, tt)
 walked_shows values image n a start go (Ok nodes) here further =
     turn_shows image (λ node. at_element (world image) n a start go (container_of a.link node)) nodes (λ node. element_shows values image n a start go (container_of a.link node) further)
 
-entered_shows : PlacesStand → TreePlacesStand → XarrayPlacesStand → ValuesStand → (image : Image) (n : ℕ) (a : AuditAt) (go : ℕ → ℕ → List Event) (base : ℕ) (r : Result PathEnd Stopped) → EndStands image r → ((m x : ℕ) → AllSeen image (go m x)) →
+entered_shows : PlaceLaws → (image : Image) (n : ℕ) (a : AuditAt) (go : ℕ → ℕ → List Event) (base : ℕ) (r : Result PathEnd Stopped) → EndStands image r → ((m x : ℕ) → AllSeen image (go m x)) →
     AllSeen image (entered (world image) n a go base r)
 unfolding AllSeen EndStands
-entered_shows places trees arrays values image n a go base (Err s) here further = (here, tt)
-entered_shows places trees arrays values image n a go base (Ok (NullAt place at)) here further = one_of image (is_optional a.start) [] _ tt ((here, tt), tt)
-entered_shows places trees arrays values image n a go base (Ok (EndsAt start)) here further =
-    walked_shows values image n a start go (nodes_of image a.kind n start) (nodes_show places trees arrays image a.kind n start) further
+entered_shows laws image n a go base (Err s) here further = (here, tt)
+entered_shows laws image n a go base (Ok (NullAt place at)) here further = one_of image (is_optional a.start) [] _ tt ((here, tt), tt)
+entered_shows laws image n a go base (Ok (EndsAt start)) here further =
+    walked_shows laws.values image n a start go (nodes_of image a.kind n start) (nodes_show laws image a.kind n start) further
 
-seen_shows : PlacesStand → TreePlacesStand → XarrayPlacesStand → NumbersStand → ValuesStand → (image : Image) (audits : List AuditAt) (k m base : ℕ) → AllSeen image (seen (world image) audits k m base)
+seen_shows : PlaceLaws → (image : Image) (audits : List AuditAt) (k m base : ℕ) → AllSeen image (seen (world image) audits k m base)
 unfolding AllSeen seen
-seen_shows places trees arrays numbers values image [] k m base = tt
-seen_shows places trees arrays numbers values image (a ∷ later) k m base =
+seen_shows laws image [] k m base = tt
+seen_shows laws image (a ∷ later) k m base =
     one_of image (nat_eq m k) _ _
-    (entered_shows places trees arrays values image k a (λ n x. seen (world image) later (suc k) n x) base (path_end image base (path_of a.start).hops (path_of a.start).byte) (end_stands numbers image base (path_of a.start).hops (path_of a.start).byte) (λ n x. seen_shows places trees arrays numbers values image later (suc k) n x))
-    (seen_shows places trees arrays numbers values image later (suc k) m base)
+    (entered_shows laws image k a (λ n x. seen (world image) later (suc k) n x) base (path_end image base (path_of a.start).hops (path_of a.start).byte) (end_stands laws.numbers image base (path_of a.start).hops (path_of a.start).byte) (λ n x. seen_shows laws image later (suc k) n x))
+    (seen_shows laws image later (suc k) m base)
 
 first_shows : (image : Image) (n : ℕ) (all es : List Event) → AllSeen image es → AllStandIn image (verdict_places (verdict_of n all (first_wrong es)))
 unfolding AllSeen
@@ -141,7 +155,7 @@ first_shows image n all [] a = tt
 first_shows image n all (Walk m size ∷ es) a = first_shows image n all es a
 first_shows image n all (Wrong v ∷ es) a = a.0
 
-pub verdicts_stand : PlacesStand → TreePlacesStand → XarrayPlacesStand → NumbersStand → ValuesStand → VerdictsStand
-verdicts_stand places trees arrays numbers values image audits =
+pub verdicts_stand : PlaceLaws → VerdictsStand
+verdicts_stand laws image audits =
     first_shows image (length audits) (all_seen (world image) audits) (all_seen (world image) audits)
-    (turn_shows image (λ r. seen (world image) audits 0 r.0 r.1) (roots 0 audits) (λ r. seen_shows places trees arrays numbers values image audits 0 r.0 r.1))
+    (turn_shows image (λ r. seen (world image) audits 0 r.0 r.1) (roots 0 audits) (λ r. seen_shows laws image audits 0 r.0 r.1))

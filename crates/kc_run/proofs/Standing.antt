@@ -10,7 +10,7 @@ use Rattle.kc_found.specs.Violations.{Violation}
 use Rattle.kc_expr.specs.Values.{is_true}
 use Rattle.kc_list.specs.Laws.{HashChainsAreWalked, RingsAreWalked}
 use Rattle.kc_plan.specs.declared.kind.Kind.{Kind}
-use Rattle.kc_plan.specs.declared.kind.Kind.TheVariants.{Ring, Hlist, Rbtree, Xarray}
+use Rattle.kc_plan.specs.declared.kind.Kind.TheVariants.{Ring, Hlist, Rbtree, Xarray, Slub, Tasks}
 use Rattle.kc_plan.specs.Checks.{CheckHolds, checked, numbers_of, value_of}
 use Rattle.kc_plan.specs.Events.{Event, Walk, Wrong, first_wrong, verdict_of}
 use Rattle.kc_plan.specs.Planned.{AuditAt, CheckAt}
@@ -18,6 +18,8 @@ use Rattle.kc_plan.specs.Seen.{PathEnd, EndsAt, NullAt, world, nodes_of, path_en
 use Rattle.kc_plan.specs.Stands.{Holds, ElementStands, WalkStands, EnterStands, Stands}
 use Rattle.kc_plan.specs.Verdicts.{IsClean}
 use Rattle.kc_rb.specs.Laws.{TreesAreWalked}
+use Rattle.kc_slub.specs.Laws.{CachesAreWalked}
+use Rattle.kc_task.specs.Laws.{TasksAreWalked}
 use Rattle.kc_xa.specs.Laws.{XarraysAreWalked}
 use Rattle.kc_run.specs.Laws.{CleanWhereStanding}
 use Rattle.kc_run.proofs.Arrays.{array_complete, array_sound}
@@ -168,25 +170,37 @@ is_none n all (Walk m size ∷ es) c = is_none n all es c
 is_none n all (Wrong v ∷ es) c = absurd c
 
 -- the law of each kind
-kinds_of : RingsAreWalked → HashChainsAreWalked → TreesAreWalked → XarraysAreWalked → (image : Image) → Kinds image
+pub record WalkLaws : Type 0 where
+  pub rings : RingsAreWalked
+  pub chains : HashChainsAreWalked
+  pub trees : TreesAreWalked
+  pub arrays : XarraysAreWalked
+  pub caches : CachesAreWalked
+  pub tasks : TasksAreWalked
+
+kinds_of : WalkLaws → (image : Image) → Kinds image
 unfolding nodes_of Holds
-kinds_of rings chains trees arrays image = record { sound = sound; complete = complete }
+kinds_of laws image = record { sound = sound; complete = complete }
   where
     sound : (kind : Kind) (n start : ℕ) (nodes : List ℕ) → nodes_of image kind n start ≡ Ok nodes → Holds image kind start nodes
-    sound (Ring shape) n start nodes is = (rings image shape n start nodes).1 is
-    sound (Hlist shape) n start nodes is = (chains image shape n start nodes).1 is
-    sound (Rbtree shape) n start nodes is = (trees image shape n start nodes).1 is
-    sound (Xarray shape) n start nodes is = array_sound arrays image shape n start nodes is
+    sound (Ring shape) n start nodes is = (laws.rings image shape n start nodes).1 is
+    sound (Hlist shape) n start nodes is = (laws.chains image shape n start nodes).1 is
+    sound (Rbtree shape) n start nodes is = (laws.trees image shape n start nodes).1 is
+    sound (Xarray shape) n start nodes is = array_sound laws.arrays image shape n start nodes is
+    sound (Slub shape) n start nodes is = (laws.caches image shape n start nodes).1 is
+    sound (Tasks shape) n start nodes is = (laws.tasks image shape n start nodes).1 is
 
     complete : (kind : Kind) (n start : ℕ) (nodes : List ℕ) → Holds image kind start nodes → nodes_of image kind n start ≡ Ok nodes
-    complete (Ring shape) n start nodes holds = (rings image shape n start nodes).0 holds
-    complete (Hlist shape) n start nodes holds = (chains image shape n start nodes).0 holds
-    complete (Rbtree shape) n start nodes holds = (trees image shape n start nodes).0 holds
-    complete (Xarray shape) n start nodes holds = array_complete arrays image shape n start nodes holds
+    complete (Ring shape) n start nodes holds = (laws.rings image shape n start nodes).0 holds
+    complete (Hlist shape) n start nodes holds = (laws.chains image shape n start nodes).0 holds
+    complete (Rbtree shape) n start nodes holds = (laws.trees image shape n start nodes).0 holds
+    complete (Xarray shape) n start nodes holds = array_complete laws.arrays image shape n start nodes holds
+    complete (Slub shape) n start nodes holds = (laws.caches image shape n start nodes).0 holds
+    complete (Tasks shape) n start nodes holds = (laws.tasks image shape n start nodes).0 holds
 
-pub clean_where_standing : RingsAreWalked → HashChainsAreWalked → TreesAreWalked → XarraysAreWalked → CleanWhereStanding
-clean_where_standing rings chains trees arrays image plan =
-    let kinds = kinds_of rings chains trees arrays image in
+pub clean_where_standing : WalkLaws → CleanWhereStanding
+clean_where_standing laws image plan =
+    let kinds = kinds_of laws image in
     let see = λ (r : ℕ × ℕ). seen (world image) plan 0 r.0 r.1 in
     let Stand = λ (r : ℕ × ℕ). Stands image plan 0 r.0 r.1 in (
       λ c. turn_stands see Stand (roots 0 plan) (λ r d. clean_stands image plan 0 r.0 r.1 kinds d) (none_is (length plan) (all_seen (world image) plan) (all_seen (world image) plan) c),

@@ -4,6 +4,8 @@ ghost use Rattle.kc_run.specs.Laws.{CleanWhereStanding, VerdictsStand};
 use kc_list::know_lists;
 use kc_memory::{know_numbers, know_places};
 use kc_rb::know_trees;
+use kc_slub::know_caches;
+use kc_task::know_tasks;
 use kc_view::know_values;
 use kc_xa::know_xarrays;
 
@@ -16,6 +18,8 @@ pub fn know_verdicts()
     know_lists();
     know_trees();
     know_xarrays();
+    know_caches();
+    know_tasks();
     know_places();
     know_numbers();
     know_values();

@@ -2,7 +2,7 @@
 ghost use Rattle.std.specs.Prelude.{◌≡◌, ◌<◌, length, IsTrue};
 ghost use Rattle.kc_memory.specs.Stays.{SpaceStays};
 ghost use Rattle.kc_found.specs.Walks.{CountsWalkFaults};
-ghost use Rattle.kc_plan.specs.Inside.{AreInside};
+ghost use Rattle.kc_plan.specs.Inside.{AreInside, KindInside};
 ghost use Rattle.kc_plan.specs.Kept.{are_between};
 ghost use Rattle.kc_plan.specs.Seen.{at_element, nodes_of, seen, walked, world};
 ghost use Rattle.kc_plan.specs.Planned.{audit_seen};
@@ -89,6 +89,7 @@ fn look<S: Space, L: Ledger>(
     requires types { AreInside (length known.now.btf.now.records) known.now.plan.now.audits }
     requires counted { length counts.old ≡ length known.now.plan.now.audits }
     requires later { IsTrue (are_between asked.now.audit (length known.now.plan.now.audits) audit.now.each) }
+    requires kind { KindInside (length known.now.btf.now.records) audit.now.kind }
 
     ensures tally { TalliesAs
         (λ image. walked (world image) asked.now.audit (audit_seen audit.now) asked.now.start (λ m base. seen (world image) (plan_seen known.now.plan.now) 0 m base) (nodes_of image audit.now.kind asked.now.audit asked.now.start))
@@ -99,7 +100,7 @@ fn look<S: Space, L: Ledger>(
     ensures stays { SpaceStays S.image S.files S.through S.most space.old space.new }
     ensures cause { CountsWalkFaults result (S.faults space.old) (S.faults space.new) }
 {
-    let nodes = match walk(alloc, space, &audit.kind, asked, steps) {
+    let nodes = match walk(alloc, known.btf, space, &audit.kind, asked, steps) {
         Ok(nodes) => nodes,
         Err(stop) => return Err(stop),
     };

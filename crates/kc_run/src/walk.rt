@@ -1,13 +1,18 @@
 // The walk of an audit, by its kind.
+ghost use Rattle.std.specs.Prelude.{length};
 ghost use Rattle.kc_memory.specs.Stays.{SpaceStays};
 ghost use Rattle.kc_found.specs.Walks.{CountsWalkFaults, IsNamed, WalksAs};
+ghost use Rattle.kc_plan.specs.Inside.{KindInside};
 ghost use Rattle.kc_plan.specs.Seen.{nodes_of};
 
 use crate::entries::xarray;
+use kc_btf::Btf;
 use kc_found::{Asked, Space, WalkStop, Walked};
 use kc_list::{hchain, ring};
 use kc_plan::Kind;
 use kc_rb::rb_walk;
+use kc_slub::cache_walk;
+use kc_task::tasks_walk;
 use kc_word::Steps;
 use std::alloc::Global;
 use std::sync::ledger::Ledger;
@@ -16,11 +21,14 @@ use std::sync::ledger::Ledger;
 #[tactic(auto, unfolding(kc_plan::specs::Seen::nodes_of))]
 pub(crate) fn walk<S: Space, L: Ledger>(
     alloc: Global,
+    btf: &Btf,
     space: &mut S,
     kind: &Kind,
     asked: &Asked,
     steps: &mut Steps<L>,
 ) -> Result<Walked, WalkStop>
+    requires { KindInside (length btf.now.records) kind.now }
+
     ensures walk { WalksAs (λ nodes. nodes) (λ image. nodes_of image kind.now asked.now.audit asked.now.start) (S.image space.old) result }
     ensures named { IsNamed result asked.now.audit asked.now.start }
 
@@ -32,5 +40,7 @@ pub(crate) fn walk<S: Space, L: Ledger>(
         Kind::Hlist(shape) => hchain(alloc, space, shape, asked.start, asked.audit, steps),
         Kind::Rbtree(shape) => rb_walk(alloc, space, shape, asked.start, asked.audit, steps),
         Kind::Xarray(shape) => xarray(alloc, space, shape, asked, steps),
+        Kind::Slub(shape) => cache_walk(alloc, space, btf, shape, asked.start, asked.audit, steps),
+        Kind::Tasks(shape) => tasks_walk(alloc, space, btf, shape, asked.start, asked.audit, steps),
     }
 }
