@@ -1,5 +1,6 @@
 -- Examples of the definition: audits in one another over a few words.
-use Rattle.std.proofs.Common.{◌≡◌, ℕ, ◌+◌, ◌/◌, pos, nat_eq, Bool, true, false, if◌then◌else◌, List, [], ◌∷◌, None, Some, Result, Ok, Err, refl}
+use Rattle.std.proofs.Common.{◌≡◌, ℕ, ◌+◌, ◌*◌, ◌/◌, nat_eq, Bool, true, false, if◌then◌else◌, List, [], ◌∷◌, None, Some, Result, Ok, Err, refl}
+use Rattle.std.specs.Prelude.{pos, codes}
 use Rattle.kc_memory.specs.declared.rule.Rule.TheVariants.{M6, L1}
 use Rattle.kc_memory.specs.declared.words.VWord.{VWord}
 use Rattle.kc_memory.specs.Bits.{Number}
@@ -13,7 +14,9 @@ use Rattle.kc_found.specs.Trials.{Reader, judged}
 use Rattle.kc_found.specs.Violations.{Violation, breaks, missed}
 use Rattle.kc_plan.specs.declared.kind.Kind.{Kind}
 use Rattle.kc_plan.specs.declared.kind.Kind.TheVariants.{Ring, Hlist, Rbtree, Xarray, Slub, Tasks}
-use Rattle.kc_plan.specs.Planned.{AuditAt}
+use Rattle.kc_expr.specs.Tree.Tree.{field}
+use Rattle.kc_plan.specs.Checks.{fails}
+use Rattle.kc_plan.specs.Planned.{AuditAt, CheckAt}
 use Rattle.kc_plan.specs.Planned.StartAt.{RootAt, FromAt}
 use Rattle.kc_plan.specs.Seen.{PathEnd, EndsAt, NullAt, World, null_pointer, seen}
 use Rattle.kc_plan.specs.Verdicts.{verdict_in}
@@ -46,23 +49,36 @@ nodes ws (Slub shape) n start = Ok []
 nodes ws (Tasks shape) n start = Ok []
 
 -- a field of one word, which no pointer leads to
+abbrev one_word : VWord → Number
+one_word w = record { value = pos w.value; first = place_of w; second = None }
+
 abbrev number : Result VWord Stopped → Result Number Stopped
-number (Ok w) = Ok (record { value = pos w.value; first = place_of w; second = None })
+number (Ok w) = Ok (one_word w)
 number (Err s) = Err s
 
 abbrev dump : List VWord → World
 dump ws = record { paths = λ to at. path ws at to.hops to.byte; walks = nodes ws; numbers = λ element f. number (look ws (bytes_on element (f.bits.bit / 8))) }
 
 -- a ring of tasks, each with a ring of threads behind a pointer
-abbrev tasks : AuditAt
-tasks = record {
+abbrev tasks_with : List CheckAt → AuditAt
+tasks_with checks = record {
   name = [];
   kind = Ring (record { next = 0; prev = 8 });
   start = RootAt 0xb000 2 (record { hops = []; byte = 8; ty = 1 });
   element = Some 2;
   link = 8;
-  checks = [];
+  checks = checks;
   each = 1 ∷ [];
+}
+
+abbrev tasks : AuditAt
+tasks = tasks_with []
+
+-- that a word of a task isn't 0
+abbrev not_null : List ℕ → ℕ → CheckAt
+not_null path byte = record {
+  tree = field path;
+  fields = record { hops = []; bits = record { bit = 8 * byte; width = 64; signed = false }; ty = 1 } ∷ [];
 }
 
 abbrev threads : Bool → AuditAt
@@ -116,3 +132,17 @@ outer_comes_first = refl
 first_element_comes_first : verdict_in (dump (word 0xd060 0xd158 ∷ word 0xe050 0 ∷ good)) (tasks ∷ threads false ∷ []) ≡ Broken (breaks (record { audit = 1; start = 0xd080 }) L1 (word 0xd060 0xd158) (Some 0xd080))
 unfolding seen chain_trials
 first_element_comes_first = refl
+
+-- a task is checked before what lies below it, by the start of its ring; what lies below it comes before the next task's checks
+check_comes_first : verdict_in (dump (word 0xd018 0 ∷ word 0xd050 0 ∷ good)) (tasks_with (not_null (codes "pid") 0x18 ∷ []) ∷ threads false ∷ []) ≡ Broken (fails (record { audit = 0; start = 0xb008 }) 0xd000 (one_word (word 0xd018 0) ∷ []))
+unfolding seen chain_trials
+check_comes_first = refl
+
+next_check_comes_later : verdict_in (dump (word 0xd018 1 ∷ word 0xe018 0 ∷ word 0xd050 0 ∷ good)) (tasks_with (not_null (codes "pid") 0x18 ∷ []) ∷ threads false ∷ []) ≡ Broken (null_pointer (record { audit = 1; start = 0xd000 }) (place_of (word 0xd050 0)) 0xd050)
+unfolding seen chain_trials
+next_check_comes_later = refl
+
+-- a field that can't be read, of the second check
+field_is_torn : verdict_in (dump (word 0xd018 1 ∷ good)) (tasks_with (not_null (codes "pid") 0x18 ∷ not_null (codes "tgid") 0x1c0 ∷ []) ∷ threads false ∷ []) ≡ Broken (missed (record { audit = 0; start = 0xb008 }) None (no_word 0xd1c0))
+unfolding seen chain_trials
+field_is_torn = refl

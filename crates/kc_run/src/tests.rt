@@ -80,6 +80,26 @@ element = 'task_struct'
 link = 'thread_node'
 ";
 
+// The tasks, of which each is checked before its threads are looked at.
+const GUARDED: &str = "version = 1
+[[audit]]
+name = 'g'
+kind = 'ring'
+root = 'init_task'
+root_type = 'task_struct'
+root_path = 'tasks'
+element = 'task_struct'
+link = 'tasks'
+check = ['pid >= 0']
+each = ['t']
+[[audit]]
+name = 't'
+kind = 'ring'
+from = 'signal->thread_head'
+element = 'task_struct'
+link = 'thread_node'
+";
+
 // A tree of three items.
 const TREE: &str = "version = 1
 [[audit]]
@@ -101,7 +121,7 @@ element = 'item'
 ";
 
 // The plan, what is added to it, the words that are changed, and the verdict.
-const ROWS: [(&str, &str, &[Word], &str); 12] = [
+const ROWS: [(&str, &str, &[Word], &str); 21] = [
     (NEST, "", &[], "clean 1 1 1 2"),
     (
         NEST,
@@ -155,6 +175,55 @@ const ROWS: [(&str, &str, &[Word], &str); 12] = [
     ),
     // No node: the head is the pointer.
     (IDS, "", &[(0xb118, DIRECT + 0x11000)], "clean 1 1"),
+    (IDS, "check = []", &[], "clean 1 1"),
+    (
+        IDS,
+        "check = ['key == 7', 'small == 0 - 1', '1']",
+        &[],
+        "clean 1 1",
+    ),
+    // A check without fields has no places.
+    (
+        IDS,
+        "check = ['key == 7', '2 - 2', 'key == 0']",
+        &[],
+        "broken 0 ffffffff8000b110 C ffff888000011000 none",
+    ),
+    // The places are in the order in which the fields appear.
+    (
+        IDS,
+        "check = ['rb.rb_right + key + rb.__rb_parent_color - key == 0']",
+        &[],
+        "broken 0 ffffffff8000b110 C ffff888000011000 none ffff888000011030 11030 13030 0 ffff888000011020 11020 13020 700000007 ffff888000011028 11028 13028 ffff888000011068",
+    ),
+    // All fields are read, whatever the first ones are.
+    (
+        IDS,
+        "check = ['key == 7 || link.next == 0']",
+        &[],
+        "broken 0 ffffffff8000b110 M6 ffff888000011000 none",
+    ),
+    // The second thread has no signal, and then a null one, which is followed.
+    (
+        NEST,
+        "check = ['signal->thread_head.next != 0']",
+        &[],
+        "broken 1 ffff88800000d080 M6 ffff88800000d150 none",
+    ),
+    (
+        NEST,
+        "check = ['signal->thread_head.next != 0']",
+        &[(0xd150, 0)],
+        "broken 1 ffff88800000d080 M6 0 none",
+    ),
+    (GUARDED, "", &[(0xd018, 1)], "clean 1 1 1 2"),
+    // The task's threads are torn too.
+    (
+        GUARDED,
+        "",
+        &[(0xd018, 0xffff_ffff), (0xd050, 0)],
+        "broken 0 ffffffff8000b008 C ffff88800000d000 none ffff88800000d018 d018 f018 ffffffff",
+    ),
 ];
 
 const INFO: Info = Info {
