@@ -4,7 +4,7 @@
 usage: plans.py BTF MAP PLAN..
 
 It works on a copy of the crates, to which it adds a program that reads the three files and the plan, proves and builds it,
-and prints for each plan, and for one of 256 audits that it makes, what the plan is, the time and the most memory.
+and prints for each plan, and for three of 256 audits that it makes, what the plan is, the time and the most memory.
 """
 import os
 import shutil
@@ -53,20 +53,30 @@ fn main(rt: HostRuntime) -> ExitCode {
 
 NEEDS = "plans: kc_btf kc_notes kc_plan kc_syms\n"
 
-AUDIT = """[[audit]]
-name = "a{number}"
-kind = "{kind}"
+RING = """kind = "ring"
 root = "init_task"
 root_type = "task_struct"
-root_path = "{head}"
+root_path = "tasks"
 element = "task_struct"
-link = "{link}"
+link = "tasks"
 """
 
+CHECK = "pid + tgid + prio + flags + jobctl + ptrace + on_cpu + policy"
 
-def made_plan(count):
-    """A plan of so many audits, whose types and paths are all looked up."""
-    audits = (AUDIT.format(number=number, kind="ring", head="tasks", link="tasks") for number in range(count))
+SLUB = """kind = "slub"
+root = "slab_caches"
+"""
+
+MADE = {
+    "256 rings": RING,
+    "256 rings, each with 32 checks of 8 paths": RING + f"check = {[CHECK] * 32}\n",
+    "256 slab caches": SLUB,
+}
+
+
+def made_plan(audit):
+    """A plan of 256 such audits, whose types, paths and checks are all looked up."""
+    audits = (f'[[audit]]\nname = "a{number}"\n{audit}' for number in range(256))
     return "version = 1\n" + "".join(audits)
 
 
@@ -99,7 +109,8 @@ def main():
         made = subprocess.run(["rt", "run"], cwd=crate, capture_output=True, text=True)
         command = [os.path.join(crate, "out", "plans")]
         assert os.path.exists(command[0]), made.stdout + made.stderr
-        texts = [(os.path.basename(name), open(name).read()) for name in plans] + [("256 audits", made_plan(256))]
+        texts = [(os.path.basename(name), open(name).read()) for name in plans]
+        texts += [(name, made_plan(audit)) for name, audit in MADE.items()]
         for name, text in texts:
             with open(plan, "w") as file:
                 file.write(text)
