@@ -103,22 +103,14 @@ pub(crate) fn read_bases<S: Space, L: Ledger>(
     ensures stays { SpaceStays S.image S.files S.through S.most space.old space.new }
     ensures cause { CountsWalkFaults result (S.faults space.old) (S.faults space.new) }
 {
-    let vmemmap = match read_base(alloc, space, asked, shape.vmemmap, steps) {
-        Ok(vmemmap) => vmemmap,
-        Err(stop) => return Err(stop),
-    };
-    let direct = match read_base(alloc, space, asked, shape.direct, steps) {
-        Ok(direct) => direct,
-        Err(stop) => return Err(stop),
-    };
-    match read_count(alloc, space, asked, shape.nodes, shape.node_ids, steps) {
-        Ok(nodes) => Ok(Bases {
-            vmemmap,
-            direct,
-            nodes,
-        }),
-        Err(stop) => Err(stop),
-    }
+    let vmemmap = read_base(alloc, space, asked, shape.vmemmap, steps)?;
+    let direct = read_base(alloc, space, asked, shape.direct, steps)?;
+    let nodes = read_count(alloc, space, asked, shape.nodes, shape.node_ids, steps)?;
+    Ok(Bases {
+        vmemmap,
+        direct,
+        nodes,
+    })
 }
 
 // A field of the cache that a kernel may not have.
@@ -139,10 +131,10 @@ fn read_optional<S: Space, L: Ledger>(
 {
     match field {
         None => Ok(None),
-        Some(field) => match read_field(alloc, space, asked, cache, field, steps) {
-            Ok(number) => Ok(Some(number.value())),
-            Err(stop) => Err(stop),
-        },
+        Some(field) => {
+            let number = read_field(alloc, space, asked, cache, field, steps)?;
+            Ok(Some(number.value()))
+        }
     }
 }
 
@@ -163,22 +155,10 @@ pub(crate) fn read_objects<S: Space, L: Ledger>(
     ensures stays { SpaceStays S.image S.files S.through S.most space.old space.new }
     ensures cause { CountsWalkFaults result (S.faults space.old) (S.faults space.new) }
 {
-    let offset = match read_field(alloc, space, asked, cache, &shape.offset, steps) {
-        Ok(offset) => offset.value(),
-        Err(stop) => return Err(stop),
-    };
-    let size = match read_field(alloc, space, asked, cache, &shape.size, steps) {
-        Ok(size) => size,
-        Err(stop) => return Err(stop),
-    };
-    let random = match read_optional(alloc, space, asked, cache, &shape.random, steps) {
-        Ok(random) => random,
-        Err(stop) => return Err(stop),
-    };
-    let left_pad = match read_optional(alloc, space, asked, cache, &shape.left_pad, steps) {
-        Ok(left_pad) => left_pad,
-        Err(stop) => return Err(stop),
-    };
+    let offset = read_field(alloc, space, asked, cache, &shape.offset, steps)?.value();
+    let size = read_field(alloc, space, asked, cache, &shape.size, steps)?;
+    let random = read_optional(alloc, space, asked, cache, &shape.random, steps)?;
+    let left_pad = read_optional(alloc, space, asked, cache, &shape.left_pad, steps)?;
     if size.value() == 0 || u128::from(size.value()) < u128::from(offset) + 8 {
         return Err(broken_field(alloc, asked, Rule::U3, size.at, &size.number, None));
     }

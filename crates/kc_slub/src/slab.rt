@@ -107,10 +107,7 @@ fn check_free<S: Space, L: Ledger>(
     ensures stays { SpaceStays S.image S.files S.through S.most space.old space.new }
     ensures cause { CountsWalkFaults result (S.faults space.old) (S.faults space.new) }
 {
-    let first = match read_field(alloc, space, asked, slab, &shape.freelist, steps) {
-        Ok(first) => first.number,
-        Err(stop) => return Err(stop),
-    };
+    let first = read_field(alloc, space, asked, slab, &shape.freelist, steps)?.number;
     if !is_descriptor(shape, bases, slab.at()) {
         return Err(broken_field(alloc, asked, Rule::U4, slab.at(), &first, None));
     }
@@ -149,14 +146,8 @@ fn check_counts<S: Space, L: Ledger>(
     ensures stays { SpaceStays S.image S.files S.through S.most space.old space.new }
     ensures cause { CountsWalkFaults result (S.faults space.old) (S.faults space.new) }
 {
-    let count = match read_field(alloc, space, asked, slab, &shape.objects, steps) {
-        Ok(count) => count,
-        Err(stop) => return Err(stop),
-    };
-    let inuse = match read_field(alloc, space, asked, slab, &shape.inuse, steps) {
-        Ok(inuse) => inuse,
-        Err(stop) => return Err(stop),
-    };
+    let count = read_field(alloc, space, asked, slab, &shape.objects, steps)?;
+    let inuse = read_field(alloc, space, asked, slab, &shape.inuse, steps)?;
     let most = count.value();
     if most == 0 || most < inuse.value() {
         return Err(broken_field(alloc, asked, Rule::U3, count.at, &count.number, None));

@@ -111,20 +111,11 @@ fn check_knode<S: Space, L: Ledger>(
     ensures cause { CountsWalkFaults result (S.faults space.old) (S.faults space.new) }
 {
     let view = View::new(btf, shape.knode, knode);
-    let said = match read_field(alloc, space, asked, &view, &shape.nr_partial, steps) {
-        Ok(said) => said,
-        Err(stop) => return Err(stop),
-    };
-    let nodes = match walk_partial(alloc, space, asked, shape, knode, steps) {
-        Ok(nodes) => nodes,
-        Err(stop) => return Err(stop),
-    };
-    match check_slabs(
+    let said = read_field(alloc, space, asked, &view, &shape.nr_partial, steps)?;
+    let nodes = walk_partial(alloc, space, asked, shape, knode, steps)?;
+    check_slabs(
         alloc, space, asked, btf, shape, bases, objects, &nodes, slabs, steps,
-    ) {
-        Ok(()) => {}
-        Err(stop) => return Err(stop),
-    }
+    )?;
     let wanted = nodes.len() as u64;
     if said.value() != wanted {
         return Err(broken_field(alloc, asked, Rule::U7, said.at, &said.number, Some(wanted)));
@@ -227,15 +218,9 @@ fn walk_cache<S: Space, L: Ledger>(
     ensures stays { SpaceStays S.image S.files S.through S.most space.old space.new }
     ensures cause { CountsWalkFaults result (S.faults space.old) (S.faults space.new) }
 {
-    let bases = match read_bases(alloc, space, asked, shape, steps) {
-        Ok(bases) => bases,
-        Err(stop) => return Err(stop),
-    };
+    let bases = read_bases(alloc, space, asked, shape, steps)?;
     let view = View::new(btf, shape.cache, asked.start);
-    let objects = match read_objects(alloc, space, asked, shape, &view, steps) {
-        Ok(objects) => objects,
-        Err(stop) => return Err(stop),
-    };
+    let objects = read_objects(alloc, space, asked, shape, &view, steps)?;
     walk_nodes(alloc, space, asked, btf, shape, &bases, &objects, steps)
 }
 
