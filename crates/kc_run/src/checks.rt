@@ -87,7 +87,9 @@ fn read_fields<S: Space, L: Ledger>(
     fields: &Fields,
     steps: &mut Steps<L>,
 ) -> Result<Numbers, WalkStop>
-    ensures exact { WalksAs (λ numbers. numbers) (λ image. or_missed asked.now (numbers_of (number_at image element.now.at) (map number_view fields.now))) (S.image space.old) result }
+    ensures exact { WalksAs (λ numbers. numbers)
+        (λ image. or_missed asked.now (numbers_of (number_at image element.now.at) (map number_view fields.now)))
+        (S.image space.old) result }
     ensures size { IfOk result (λ numbers. length numbers ≡ length fields.now) }
     ensures named { IsNamed result asked.now.audit asked.now.start }
 
@@ -118,7 +120,8 @@ fn look_check<S: Space, L: Ledger>(
     steps: &mut Steps<L>,
 ) -> Result<(), WalkStop>
     ensures tally { (counts : List AuditCount) → TalliesAs
-        (λ image. checked asked.now element.now.at (check_seen check.now) (numbers_of (number_at image element.now.at) (check_seen check.now).fields))
+        (λ image. checked asked.now element.now.at (check_seen check.now)
+        (numbers_of (number_at image element.now.at) (check_seen check.now).fields))
         counts counts (S.image space.old) result }
     ensures named { IsNamed result asked.now.audit asked.now.start }
 

@@ -30,7 +30,8 @@ pub(crate) fn xarray<S: Space, L: Ledger>(
     asked: &Asked,
     steps: &mut Steps<L>,
 ) -> Result<Walked, WalkStop>
-    ensures walk { WalksAs (λ nodes. nodes) (λ image. entries_in (xa_judged image shape.now asked.now.audit asked.now.start)) (S.image space.old) result }
+    ensures walk { WalksAs (λ nodes. nodes)
+        (λ image. entries_in (xa_judged image shape.now asked.now.audit asked.now.start)) (S.image space.old) result }
     ensures named { IsNamed result asked.now.audit asked.now.start }
 
     ensures stays { SpaceStays S.image S.files S.through S.most space.old space.new }

@@ -45,7 +45,9 @@ pub(crate) fn enter<S: Space, L: Ledger>(
     requires types { AreInside (length known.now.btf.now.records) known.now.plan.now.audits }
     requires counted { length counts.old ≡ length known.now.plan.now.audits }
 
-    ensures tally { TalliesAs (λ image. seen (world image) (plan_seen known.now.plan.now) 0 base.now.audit base.now.start) counts.old counts.new (S.image space.old) result }
+    ensures tally { TalliesAs
+        (λ image. seen (world image) (plan_seen known.now.plan.now) 0 base.now.audit base.now.start)
+        counts.old counts.new (S.image space.old) result }
     ensures size { length counts.new ≡ length counts.old }
     ensures named { NamesBelow result (length known.now.plan.now.audits) }
 
@@ -92,7 +94,9 @@ fn look<S: Space, L: Ledger>(
     requires kind { KindInside (length known.now.btf.now.records) audit.now.kind }
 
     ensures tally { TalliesAs
-        (λ image. walked (world image) asked.now.audit (audit_seen audit.now) asked.now.start (λ m base. seen (world image) (plan_seen known.now.plan.now) 0 m base) (nodes_of image audit.now.kind asked.now.audit asked.now.start))
+        (λ image. walked (world image) asked.now.audit (audit_seen audit.now) asked.now.start
+        (λ m base. seen (world image) (plan_seen known.now.plan.now) 0 m base)
+        (nodes_of image audit.now.kind asked.now.audit asked.now.start))
         counts.old counts.new (S.image space.old) result }
     ensures size { length counts.new ≡ length counts.old }
     ensures named { NamesBelow result (length known.now.plan.now.audits) }
@@ -133,7 +137,8 @@ fn look_below<S: Space, L: Ledger>(
     requires later { IsTrue (are_between asked.now.audit (length known.now.plan.now.audits) audit.now.each) }
 
     ensures tally { TalliesAs
-        (λ image. at_element (world image) asked.now.audit (audit_seen audit.now) asked.now.start (λ m base. seen (world image) (plan_seen known.now.plan.now) 0 m base) element)
+        (λ image. at_element (world image) asked.now.audit (audit_seen audit.now) asked.now.start
+        (λ m base. seen (world image) (plan_seen known.now.plan.now) 0 m base) element)
         counts.old counts.new (S.image space.old) result }
     ensures size { length counts.new ≡ length counts.old }
     ensures named { NamesBelow result (length known.now.plan.now.audits) }

@@ -42,7 +42,9 @@ fn enter_root<S: Space, L: Ledger>(
     requires types { AreInside (length known.now.btf.now.records) known.now.plan.now.audits }
     requires counted { length counts.old ≡ length known.now.plan.now.audits }
 
-    ensures tally { TalliesAs (λ image. in_turn (λ r. seen (world image) (plan_seen known.now.plan.now) 0 r.0 r.1) (root_of number (start_seen start.now))) counts.old counts.new (S.image space.old) result }
+    ensures tally { TalliesAs
+        (λ image. in_turn (λ r. seen (world image) (plan_seen known.now.plan.now) 0 r.0 r.1) (root_of number (start_seen start.now)))
+        counts.old counts.new (S.image space.old) result }
     ensures size { length counts.new ≡ length counts.old }
     ensures named { NamesBelow result (length known.now.plan.now.audits) }
 
@@ -72,7 +74,8 @@ fn enter_roots<S: Space, L: Ledger>(
     requires types { AreInside (length known.now.btf.now.records) known.now.plan.now.audits }
     requires counted { length counts.old ≡ length known.now.plan.now.audits }
 
-    ensures tally { TalliesAs (λ image. all_seen (world image) (plan_seen known.now.plan.now)) counts.old counts.new (S.image space.old) result }
+    ensures tally { TalliesAs (λ image. all_seen (world image) (plan_seen known.now.plan.now))
+        counts.old counts.new (S.image space.old) result }
     ensures size { length counts.new ≡ length counts.old }
     ensures named { NamesBelow result (length known.now.plan.now.audits) }
 

@@ -29,7 +29,8 @@ pub(crate) fn walk<S: Space, L: Ledger>(
 ) -> Result<Walked, WalkStop>
     requires { KindInside (length btf.now.records) kind.now }
 
-    ensures walk { WalksAs (λ nodes. nodes) (λ image. nodes_of image kind.now asked.now.audit asked.now.start) (S.image space.old) result }
+    ensures walk { WalksAs (λ nodes. nodes)
+        (λ image. nodes_of image kind.now asked.now.audit asked.now.start) (S.image space.old) result }
     ensures named { IsNamed result asked.now.audit asked.now.start }
 
     ensures stays { SpaceStays S.image S.files S.through S.most space.old space.new }
