@@ -41,7 +41,8 @@ fails asked element numbers = record {
 -- what is seen of a check at an element that a walk met: its field that can't be read, or that its value is 0
 abbrev pub checked : Asked → ℕ → CheckAt → Result (List Number) Stopped → List Event
 checked asked element check (Err s) = Wrong (missed asked None s) ∷ []
-checked asked element check (Ok numbers) = if is_true (value_of check numbers) then [] else (Wrong (fails asked element numbers) ∷ [])
+checked asked element check (Ok numbers) =
+    if is_true (value_of check numbers) then [] else (Wrong (fails asked element numbers) ∷ [])
 
 -- its fields can be read, and its value isn't 0
 abbrev pub CheckHolds : CheckAt → Result (List Number) Stopped → Type 0

@@ -45,7 +45,15 @@ abbrev pub check_seen : Check → CheckAt
 check_seen check = record { tree = tree_of check.expr; fields = map number_view check.fields }
 
 abbrev pub audit_seen : Audit → AuditAt
-audit_seen audit = record { name = audit.name; kind = audit.kind; start = start_seen audit.start; element = audit.element; link = audit.link; checks = map check_seen audit.checks; each = audit.each }
+audit_seen audit = record {
+  name = audit.name;
+  kind = audit.kind;
+  start = start_seen audit.start;
+  element = audit.element;
+  link = audit.link;
+  checks = map check_seen audit.checks;
+  each = audit.each;
+}
 
 abbrev pub audits_seen : List Audit → List AuditAt
 audits_seen audits = map audit_seen audits

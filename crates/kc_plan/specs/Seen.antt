@@ -70,7 +70,11 @@ pub record World : Type 0 where
   pub numbers : ℕ → NumberAt → Result Number Stopped
 
 abbrev pub world : Image → World
-world image = record { paths = λ to at. path_end image at to.hops to.byte; walks = nodes_of image; numbers = number_at image }
+world image = record {
+  paths = λ to at. path_end image at to.hops to.byte;
+  walks = nodes_of image;
+  numbers = number_at image;
+}
 
 abbrev pub path_of : StartAt → ByteAt
 path_of (RootAt symbol ty to) = to
@@ -108,11 +112,13 @@ below a go element = in_turn (λ m. go m element) a.each
 
 -- what is seen of the checks of an element, one after the other
 abbrev pub checks_seen : World → Asked → List CheckAt → ℕ → List Event
-checks_seen w asked checks element = in_turn (λ (check : CheckAt). checked asked element check (numbers_of (w.numbers element) check.fields)) checks
+checks_seen w asked checks element =
+    in_turn (λ (check : CheckAt). checked asked element check (numbers_of (w.numbers element) check.fields)) checks
 
 -- what is seen at an element that audit n meets from a start: its checks, and then what lies below
 abbrev pub at_element : World → ℕ → AuditAt → ℕ → (ℕ → ℕ → List Event) → ℕ → List Event
-at_element w n a start go element = checks_seen w (record { audit = n; start = start }) a.checks element ++ below a go element
+at_element w n a start go element =
+    checks_seen w (record { audit = n; start = start }) a.checks element ++ below a go element
 
 -- audit n from a start, by what it walks there: the walk is judged whole, and then its elements are, one by one
 abbrev pub walked : World → ℕ → AuditAt → ℕ → (ℕ → ℕ → List Event) → Result (List ℕ) Violation → List Event

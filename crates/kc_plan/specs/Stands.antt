@@ -35,7 +35,8 @@ Holds image (Tasks shape) start nodes = tasks.Tasks image shape start nodes
 
 -- each of these checks holds of an element
 abbrev pub ChecksHold : Image → List CheckAt → ℕ → Type 0
-ChecksHold image checks element = AllByRecursion (λ (check : CheckAt). CheckHolds check (numbers_of (number_at image element) check.fields)) checks
+ChecksHold image checks element =
+    AllByRecursion (λ (check : CheckAt). CheckHolds check (numbers_of (number_at image element) check.fields)) checks
 
 -- its checks hold of an element, and each audit that is named stands there, where `Go` says that one stands at an address
 abbrev pub ElementStands : Image → AuditAt → (ℕ → ℕ → Type 0) → ℕ → Type 0

@@ -25,7 +25,8 @@ pub type Fields = Items<Field>;
 pub struct Check {
     /// The check as its text was read.
     pub expr: Expr,
-    /// Where its paths lead from the element: a field for each path, in the order in which they first appear. At most 8.
+    /// Where its paths lead from the element: a field for each path, in the order in which they first appear.
+    /// At most 8.
     pub fields: Fields,
     pub ghost whole: { length fields ≡ length (fields_of (tree_of expr)) },
     pub ghost few: { length fields ≤ 8 },
