@@ -8,7 +8,7 @@ use thiserror::Error;
 /// Why a check wasn't read.
 #[derive(Clone, Copy, Debug, PartialEq, Eq, Error)]
 pub enum ExprStop {
-    /// The text is no check. So many bytes of it begin one, and with the next byte they begin none.
+    /// The text is no check. So many bytes of it begin one, and with the next byte, if there is one, they begin none.
     #[error("X1 at {0}")]
     X1(u32),
     /// No memory was left.

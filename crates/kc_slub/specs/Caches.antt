@@ -1,5 +1,5 @@
--- The walk of a slab cache, step by step. Source: the kernel's mm/slab.h, `struct kmem_cache` and `struct slab`, and
--- mm/slub.c; the order is this project's.
+-- The walk of a slab cache, step by step. Source: the kernel's include/linux/slub_def.h, `struct kmem_cache` (from
+-- 6.8 on in mm/slab.h), mm/slab.h, `struct slab`, and mm/slub.c; the order is this project's.
 use Rattle.std.specs.Prelude.{◌≤◌, ℕ, zero, suc, ◌+◌, ◌-◌, ◌*◌, ◌/◌, ◌%◌, ◌^◌, Bool, ◌&&◌, ◌||◌, nat_eq, nat_lt, not, min, if◌then◌else◌, List, [], ◌∷◌, ◌++◌, length, Option, Some, None, Result, Ok, false}
 use Rattle.std.specs.Option.{unwrap_or}
 use Rattle.kc_btf.specs.Btf.{Types}
@@ -65,7 +65,7 @@ descriptor_offset b slab = (slab + (2 ^ 64 - b.vmemmap)) % 2 ^ 64
 abbrev pub page_of : SlubShape → Bases → ℕ → ℕ
 page_of shape b slab = descriptor_offset b slab / shape.page_size
 
--- it is a page's descriptor: physical memory has less than 2^40 pages
+-- it is a page's descriptor: a physical address has 52 bits, so a page's number is below 2^40
 abbrev pub is_descriptor : SlubShape → Bases → ℕ → Bool
 is_descriptor shape b slab =
     nat_eq (descriptor_offset b slab % shape.page_size) 0 && nat_lt (page_of shape b slab) (2 ^ 40)

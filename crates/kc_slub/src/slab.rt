@@ -13,7 +13,7 @@ use kc_word::Steps;
 use std::alloc::Global;
 use std::sync::ledger::Ledger;
 
-// Physical memory has less than so many pages.
+// A physical address has 52 bits, so the number of a page is below this one.
 const PAGES: u64 = 1 << 40;
 
 // The number of the page that a descriptor stands for.
