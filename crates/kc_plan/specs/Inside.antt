@@ -1,4 +1,4 @@
--- What holds of the type numbers of a plan that was read.
+-- Type numbers that are among so many. `read_plan` ensures it of those of a plan, over the types that it was read with.
 use Rattle.std.specs.Prelude.{ℕ, ◌≤◌, List, All, IfSome, ⊤}
 use Rattle.kc_layout.specs.declared.place.Field.{Field}
 use Rattle.kc_view.specs.declared.slub.SlubShape.{SlubShape}

@@ -44,7 +44,7 @@ needs_of sort.Slub = record { element = Barred; link = Barred; tree = Barred }
 needs_of sort.Tasks = record { element = Barred; link = Barred; tree = Barred }
 
 -- what a kind needs of a kernel, where its root may be one that keeps the first element: the structs of its head and of
--- the node in an element, the type of its elements where no key names it, and that its symbols have one address each
+-- its nodes, the type of its elements where no key names it, and that no symbol that it reads has two addresses
 abbrev pub row : Kernel → Sort → Bool → Row
 row kernel sort.Ring cached = record {
   head = struct_named kernel.types (codes "list_head");
