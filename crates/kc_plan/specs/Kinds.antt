@@ -1,6 +1,6 @@
 -- The table of the kinds of audits: their names, what they ask of the keys, what they need of a kernel, and where their
 -- words stand. A new kind has a line in each.
-use Rattle.std.specs.Prelude.{◌≡◌, ◌≤◌, ℕ, ◌+◌, ◌%◌, ◌^◌, length, List, Bool, true, false, ◌||◌, codes, Option, Some, None, option_map, option_and_then, IfSome, Result, Ok, Err, if◌then◌else◌}
+use Rattle.std.specs.Prelude.{◌≡◌, ◌≤◌, ℕ, ◌+◌, ◌%◌, ◌^◌, length, List, Bool, true, false, codes, Option, Some, None, option_map, option_and_then, IfSome, Result, Ok, Err, if◌then◌else◌}
 use Rattle.std.specs.Str.{bytes_eq}
 use Rattle.kc_btf.specs.Btf.{Types}
 use Rattle.kc_found.specs.declared.shapes.HShape.{HShape}
