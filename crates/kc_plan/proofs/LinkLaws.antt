@@ -1,15 +1,13 @@
 -- What holds of the links between audits.
-use Rattle.std.proofs.Common.{◌≡◌, ℕ, zero, suc, ◌+◌, ◌<◌, Bool, true, false, not, ◌&&◌, ◌||◌, List, [], ◌∷◌, ◌++◌, length, Option, Some, None, Result, Ok, Err, refl, ap, sym, subst, ◌∙◌, arith}
+use Rattle.std.proofs.Common.{◌≡◌, ℕ, zero, suc, ◌+◌, ◌<◌, Bool, true, false, not, ◌&&◌, ◌||◌, List, [], ◌∷◌, ◌++◌, length, Option, Some, None, Ok, refl, ap, sym, subst, ◌∙◌, arith}
 use Rattle.std.specs.Prelude.{is_some, ⊤, nat_lt, ◌==◌, if◌then◌else◌}
 use Rattle.std.specs.Str.{bytes_eq}
 use Rattle.std.proofs.lemmas.Bool.{and_parts, cond_both, eqb-true, ltb-true, not-false}
-use Rattle.kc_plan.specs.declared.fault.PRule.{PRule}
-use Rattle.kc_plan.specs.declared.fault.PRule.TheVariants.{P6, P7}
-use Rattle.kc_plan.specs.declared.fault.PlanFault.{PlanFault}
+use Rattle.kc_plan.specs.declared.fault.PRule.TheVariants.{P6}
 use Rattle.kc_plan.specs.declared.fault.PlanKey.TheVariants.{Each, From}
 use Rattle.kc_plan.specs.declared.item.Link.{Link}
 use Rattle.kc_plan.specs.Audits.{AuditText}
-use Rattle.kc_plan.specs.Links.{all_named, all_within, audit_links, is_named, is_within, linked, links_for, name_links, numbered, unless_named}
+use Rattle.kc_plan.specs.Links.{all_named, all_within, audit_links, is_named, linked, links_for, name_links, numbered, unless_named}
 use Rattle.kc_plan.specs.Values.{◌>>=◌, at, refuse_if}
 use Rattle.kc_plan.proofs.StepLemmas.{at_ok, bound, same_ok, tested}
 

@@ -1,7 +1,6 @@
 -- Steps that each end at a fault: where all are well, each is.
 use Rattle.std.proofs.Common.{◌≡◌, ℕ, Bool, true, false, Option, Some, None, Result, Ok, Err, refl, subst}
 use Rattle.std.specs.Prelude.{is_some, ⊤}
-use Rattle.std.specs.Option.{ok_or}
 use Rattle.toml.specs.Data.{Data}
 use Rattle.kc_plan.specs.declared.fault.PRule.{PRule}
 use Rattle.kc_plan.specs.declared.fault.PlanKey.{PlanKey}

@@ -1,6 +1,5 @@
 -- A plan over symbols that list the same addresses.
-use Rattle.std.proofs.Common.{◌≡◌, ℕ, List, ap}
-use Rattle.kc_plan.specs.Kernels.{Kernel}
+use Rattle.std.proofs.Common.{◌≡◌, ap}
 use Rattle.kc_plan.specs.Laws.{PlansAgree}
 use Rattle.kc_plan.specs.Plans.{plan}
 

@@ -1,9 +1,9 @@
 -- What holds of each audit of a document.
-use Rattle.std.proofs.Common.{◌≡◌, ℕ, Bool, true, false, not, ◌&&◌, ◌||◌, List, [], ◌∷◌, ◌++◌, length, Option, Some, None, Result, Ok, refl, ap, sym, subst, ◌∙◌}
+use Rattle.std.proofs.Common.{◌≡◌, ℕ, Bool, true, false, not, ◌&&◌, ◌||◌, List, [], ◌∷◌, ◌++◌, length, Option, Some, Result, Ok, refl, ap, sym, subst, ◌∙◌}
 use Rattle.std.specs.Prelude.{is_some, ⊤}
 use Rattle.std.specs.Option.{option_map_or}
 use Rattle.std.proofs.lemmas.Bool.{not-false}
-use Rattle.toml.specs.Data.{Data, Members, as_str}
+use Rattle.toml.specs.Data.{Members, as_str}
 use Rattle.kc_text.specs.Readers.{is_name}
 use Rattle.kc_plan.specs.declared.fault.PRule.TheVariants.{P3, P4, P5}
 use Rattle.kc_plan.specs.declared.fault.PlanFault.{PlanFault}

@@ -98,7 +98,7 @@ listed (Some found) = value_of names found
 abbrev pub names_for : Option ℕ → PlanKey → Members → Result (List (List ℕ)) PlanFault
 names_for n key table = at n key (listed (value_at key table))
 
--- an audit whose elements may have no type, and have none, though it asks something of each
+-- an audit whose elements may have no type, and have none, though `check` or `each` is there, be its list empty or not
 abbrev pub is_untyped : Need → Members → Bool
 is_untyped Required table = false
 is_untyped Allowed table = (has Check table || has Each table) && not (has Element table)

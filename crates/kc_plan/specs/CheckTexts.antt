@@ -2,9 +2,7 @@
 use Rattle.std.specs.Prelude.{ℕ, List, [], ◌∷◌, ◌++◌, length, nat_lt, Option, Some, None, Result, Ok, Err}
 use Rattle.kc_btf.specs.Btf.{Types}
 use Rattle.kc_expr.specs.Machine.{parsed}
-use Rattle.kc_expr.specs.Tree.{Tree}
 use Rattle.kc_expr.specs.Values.{fields_of}
-use Rattle.kc_layout.specs.declared.fault.PathFault.{PathFault}
 use Rattle.kc_layout.specs.Ends.{NumberAt, field}
 use Rattle.kc_plan.specs.declared.fault.PRule.{PRule}
 use Rattle.kc_plan.specs.declared.fault.PRule.TheVariants.{P12}

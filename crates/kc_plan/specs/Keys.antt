@@ -5,7 +5,8 @@ use Rattle.std.specs.Str.{bytes_eq}
 use Rattle.kc_plan.specs.declared.fault.PlanKey.{PlanKey}
 use Rattle.kc_plan.specs.declared.fault.PlanKey.TheVariants as key
 
--- how a key is spelled. A key that a plan doesn't have is told as `other`; none is asked for as that.
+-- how a key is spelled. A key that isn't for its table, whatever the kind, is told as `other`; none is
+-- asked for as that.
 abbrev pub spelled : PlanKey → List ℕ
 spelled key.Version = codes "version"
 spelled key.Audit = codes "audit"

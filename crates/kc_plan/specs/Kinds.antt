@@ -1,6 +1,6 @@
 -- The table of the kinds of audits: their names, what they ask of the keys, what they need of a kernel, and where their
 -- words stand. A new kind has a line in each.
-use Rattle.std.specs.Prelude.{◌≡◌, ◌≤◌, ℕ, ◌+◌, ◌%◌, ◌^◌, length, List, Bool, true, false, ◌||◌, codes, Option, Some, None, option_map, option_and_then, IfSome, Result, Ok, Err, if◌then◌else◌}
+use Rattle.std.specs.Prelude.{◌≡◌, ◌≤◌, ℕ, ◌+◌, ◌%◌, ◌^◌, length, List, Bool, true, false, codes, Option, Some, None, option_map, option_and_then, IfSome, Result, Ok, Err, if◌then◌else◌}
 use Rattle.std.specs.Str.{bytes_eq}
 use Rattle.kc_btf.specs.Btf.{Types}
 use Rattle.kc_found.specs.declared.shapes.HShape.{HShape}
@@ -44,7 +44,7 @@ needs_of sort.Slub = record { element = Barred; link = Barred; tree = Barred }
 needs_of sort.Tasks = record { element = Barred; link = Barred; tree = Barred }
 
 -- what a kind needs of a kernel, where its root may be one that keeps the first element: the structs of its head and of
--- the node in an element, the type of its elements where no key names it, and that its symbols have one address each
+-- its nodes, the type of its elements where no key names it, and that no symbol that it reads has two addresses
 abbrev pub row : Kernel → Sort → Bool → Row
 row kernel sort.Ring cached = record {
   head = struct_named kernel.types (codes "list_head");

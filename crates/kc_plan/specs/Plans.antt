@@ -1,5 +1,5 @@
 -- The plan of bytes over a kernel's types and symbols, or its first fault.
-use Rattle.std.specs.Prelude.{ℕ, List, [], ◌∷◌, ◌++◌, length, Bool, false, not, ◌==◌, Option, Some, None, unwrap_or, option_and_then, slice_get, Result, Ok, Err, if◌then◌else◌}
+use Rattle.std.specs.Prelude.{ℕ, List, [], ◌∷◌, ◌++◌, length, not, ◌==◌, Option, Some, None, unwrap_or, option_and_then, slice_get, Result, Ok, Err, if◌then◌else◌}
 use Rattle.std.specs.Option.{ok_or}
 use Rattle.kc_btf.specs.Btf.{Types}
 use Rattle.kc_layout.specs.declared.fault.PathFault.{PathFault}
@@ -42,8 +42,9 @@ addressed (Err fault) = Err P9
 abbrev pub first_byte : ℕ → ByteAt
 first_byte ty = record { hops = []; byte = 0; ty = ty }
 
--- where a root audit begins. Without a type the symbol is the head itself; where its struct is missing, P11
--- is told later.
+-- where a root audit begins. Without a type the symbol is the head itself. Where its struct is missing, the audit is
+-- refused later: a ring at its `link` at the latest, by P10, since its nodes have that struct too, and the other kinds
+-- at their `kind` at the latest, by P11.
 abbrev pub root_at : Types → Row → ℕ → ℕ → Option (List ℕ) → List ℕ → Result StartAt PlanFault
 root_at types needs n address None path = Ok (RootAt address (unwrap_or needs.head 0) (first_byte (unwrap_or needs.head 0)))
 root_at types needs n address (Some name) path = do

@@ -1,4 +1,4 @@
--- A plan as it is written: its audits, or the first fault that needs no types and no symbols.
+-- A plan as it is written: its audits, or the first fault of the document or of one audit's table.
 use Rattle.std.specs.Prelude.{ℕ, pos, List, [], not, nat_lt, length, Option, Some, None, option_and_then, Result, Ok, Err, ⊤, if◌then◌else◌}
 use Rattle.std.specs.Ordering.{int_eq}
 use Rattle.std.specs.Str.{is_utf8}

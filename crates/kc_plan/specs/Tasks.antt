@@ -1,6 +1,6 @@
 -- Where the fields of tasks stand. Source: the kernel's include/linux/sched.h, `struct task_struct`, and
 -- include/linux/sched/signal.h, `struct signal_struct`.
-use Rattle.std.specs.Prelude.{◌≤◌, ℕ, codes, Option, Some, None}
+use Rattle.std.specs.Prelude.{◌≤◌, ℕ, codes, Option, Some}
 use Rattle.kc_btf.specs.Btf.{Types}
 use Rattle.kc_view.specs.declared.tasks.TaskShape.{TaskShape}
 use Rattle.kc_plan.specs.declared.shape.Row.{Row}

@@ -58,7 +58,7 @@ fn name_of<'t>(
     Ok(name)
 }
 
-// An audit whose elements may have no type, and have none, though it asks something of each.
+// An audit whose elements may have no type, and have none, though `check` or `each` is there, be its list empty or not.
 fn is_untyped(need: Need, table: &Table) -> bool
     ensures { result ≡ is_untyped need (table_view table.now) }
 {

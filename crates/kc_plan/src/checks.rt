@@ -7,6 +7,7 @@ ghost use Rattle.kc_layout.specs.Views.{number_view};
 ghost use Rattle.kc_plan.specs.declared.fault.PlanKey.TheVariants as key;
 ghost use Rattle.kc_plan.specs.Answers.{Gives};
 ghost use Rattle.kc_plan.specs.CheckTexts.{all_checks_for, check_for, checks_for, fields_for, or_refused};
+ghost use Rattle.kc_plan.specs.Inside.{ChecksInside, FieldsInside};
 ghost use Rattle.kc_plan.specs.Planned.{check_seen};
 ghost use Rattle.kc_plan.specs.Values.{at};
 ghost use Rattle.kc_plan.specs.Views.{text};
@@ -48,6 +49,7 @@ fn fields_of(
     requires { element ≤ length btf.now.records }
     ensures exact { Gives (map number_view) result (fields_for btf.now audit element [] (paths_of (tree_of expr.now))) }
     ensures whole { IfOk result (λ fields. length fields ≡ length (paths_of (tree_of expr.now))) }
+    ensures inside { IfOk result (FieldsInside (length btf.now.records)) }
 {
     let mut fields = Items::new(alloc);
     for i in 0..expr.fields() {
@@ -69,7 +71,8 @@ fn check_of(
     words: &str,
 ) -> Result<Check, PlanStop>
     requires { element ≤ length btf.now.records }
-    ensures { Gives check_seen result (check_for btf.now audit element words.now) }
+    ensures exact { Gives check_seen result (check_for btf.now audit element words.now) }
+    ensures inside { IfOk result (λ check. FieldsInside (length btf.now.records) check.fields) }
 {
     let long = words.len() > BYTES;
     refuse_if(long, PRule::P12, Some(audit), PlanKey::Check)?;
@@ -91,6 +94,7 @@ fn all_checks(
     requires { element ≤ length btf.now.records }
     ensures exact { Gives (map check_seen) result (all_checks_for btf.now audit element [] (map text texts.now)) }
     ensures many { IfOk result (λ checks. length checks ≡ length texts.now) }
+    ensures inside { IfOk result (ChecksInside (length btf.now.records)) }
 {
     let mut checks = Items::new(alloc);
     for words in texts {
@@ -111,6 +115,7 @@ pub(crate) fn checks_of(
     requires { IfSome element (λ id. id ≤ length btf.now.records) }
     ensures exact { Gives (map check_seen) result (checks_for btf.now audit element (map text texts.now)) }
     ensures many { IfOk result (λ checks. length checks ≡ length texts.now) }
+    ensures inside { IfOk result (ChecksInside (length btf.now.records)) }
 {
     match (element, texts) {
         (Some(element), _) => all_checks(alloc, btf, audit, element, texts),

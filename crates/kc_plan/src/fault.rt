@@ -25,7 +25,8 @@ pub enum PRule {
     P7,
     /// There are more than 256 audits.
     P8,
-    /// A symbol has no address.
+    /// With the key `root`: the symbol has no address, or several. With the key `kind`: a symbol that this kind
+    /// reads has several. Where it has none, its usual value is taken.
     P9,
     /// A type isn't found, or a path doesn't lead to what is needed.
     P10,
@@ -70,7 +71,8 @@ pub enum PlanKey {
     Check,
     /// `each`
     Each,
-    /// A key that isn't one of these.
+    /// A key that isn't for the table in which it stands: at the top one beside `version` and `audit`, in an audit
+    /// one that no kind of audit has.
     Other,
 }
 

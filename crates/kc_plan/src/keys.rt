@@ -24,7 +24,8 @@ pub(crate) struct Needs {
     pub tree: Need,
 }
 
-/// How a key is spelled. A key that a plan doesn't have is told as `other`; none is asked for as that.
+/// How a key is spelled. A key that isn't for its table, whatever the kind, is told as `other`; none is
+/// asked for as that.
 pub fn spelling(key: PlanKey) -> &'static str
     ensures { result.now ≡ spelled key }
 {

@@ -168,9 +168,10 @@ fn plan_of(
 /// # Errors
 ///
 /// The first fault, with the audit and the key. `P1` comes first, then the faults of the document, then for
-/// one audit after the other those of its table, then for one audit after the other those of `each` and
-/// `from`, and then for one audit after the other those of its symbol, its types, its paths and its checks. `NoMemory`
-/// where no memory was left.
+/// one audit after the other those of its table. Three passes over all audits follow: the names in `each`
+/// (`P6`), then each `from` that no audit names (`P6`), then how deep the audits stand (`P7`). Last come, for one
+/// audit after the other, those of its symbols, its types and paths, its kind and its checks. `NoMemory` where no
+/// memory was left.
 #[tactic(auto, unfolding(crate::specs::Plans::plan))]
 pub fn read_plan(
     alloc: Global,

@@ -13,7 +13,7 @@ use kc_word::Bits;
 pub(crate) struct Row {
     // The number of the struct of its head.
     pub head: Option<u32>,
-    // That of the struct of the node in an element.
+    // That of the struct of its nodes.
     pub node: Option<u32>,
     // The type of its elements, where it has no key for that.
     pub element: Option<u32>,
