@@ -1,5 +1,5 @@
--- Where the fields of a slab cache stand. Source: the kernel's mm/slab.h, `struct kmem_cache`, `struct kmem_cache_node` and
--- `struct slab`.
+-- Where the fields of a slab cache stand. Source: the kernel's include/linux/slub_def.h, `struct kmem_cache` (from 6.8
+-- on in mm/slab.h), and mm/slab.h, `struct kmem_cache_node` and `struct slab`.
 use Rattle.std.specs.Prelude.{◌≡◌, ◌≤◌, ℕ, IfSome, Bool, true, false, ◌&&◌, nat_le, List, codes, Option, Some, None, option_and_then, option_map, Result, Ok, Err}
 use Rattle.std.proofs.Common.{refl}
 use Rattle.std.proofs.lemmas.Bool.{and_parts, leb-true}
