@@ -5,9 +5,11 @@
 // call fails; and what is wanted, where `usage` stands for its lines. Numbers are hex.
 mod checks;
 mod commands;
+mod kernel;
 mod layouts;
 mod numbers;
 mod pages;
+mod plans;
 mod questions;
 mod refusals;
 mod reserved;
@@ -78,7 +80,7 @@ fn plan_text(alloc: Global, lines: &str) -> Result<Vec<u8>, AllocError> {
     let mut text = Vec::new(alloc);
     for line in lines.lines() {
         if let Some(name) = line.strip_prefix("planned ") {
-            text.extend_from_slice(checks::plan_named(name).as_bytes())?;
+            text.extend_from_slice(plans::plan_named(name).as_bytes())?;
         }
         if let Some(value) = line.strip_prefix("plan ") {
             push_line(&mut text, value)?;
@@ -302,9 +304,9 @@ fn structures_are_clean_or_the_first_violation_is_told(rt: HostRuntime) -> Resul
     assert_eq!(rt; run_cases(&rt, checks::CHAINS)?, 12);
     assert_eq!(rt; run_cases(&rt, checks::TREES)?, 4);
     assert_eq!(rt; run_cases(&rt, checks::XARRAYS)?, 4);
-    assert_eq!(rt; run_cases(&rt, checks::SLABS)?, 6);
-    assert_eq!(rt; run_cases(&rt, checks::TASKS)?, 6);
-    assert_eq!(rt; run_cases(&rt, checks::CHECKS)?, 9);
+    assert_eq!(rt; run_cases(&rt, kernel::SLABS)?, 6);
+    assert_eq!(rt; run_cases(&rt, kernel::TASKS)?, 6);
+    assert_eq!(rt; run_cases(&rt, kernel::CHECKS)?, 9);
     assert_eq!(rt; run_cases(&rt, checks::NESTED)?, 11);
     assert_eq!(rt; run_cases(&rt, checks::WAYS)?, 7);
     Ok(())
@@ -312,8 +314,8 @@ fn structures_are_clean_or_the_first_violation_is_told(rt: HostRuntime) -> Resul
 
 #[test]
 fn plans_are_refused_with_audit_and_key(rt: HostRuntime) -> Result<(), Fail> {
-    assert_eq!(rt; run_cases(&rt, checks::PLANS)?, 15);
-    assert_eq!(rt; run_cases(&rt, checks::FAILING)?, 3);
+    assert_eq!(rt; run_cases(&rt, plans::PLANS)?, 15);
+    assert_eq!(rt; run_cases(&rt, plans::FAILING)?, 3);
     Ok(())
 }
 
