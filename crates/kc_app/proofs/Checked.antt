@@ -20,11 +20,12 @@ use Rattle.kc_input.specs.declared.refusal.Refusal.TheVariants.{Notes}
 use Rattle.kc_input.specs.Inputs.{dump_parts, types_in}
 use Rattle.kc_input.specs.Made.{IsOf, checked, gives}
 use Rattle.kc_input.specs.Paging.{by_info}
-use Rattle.kc_app.specs.declared.answer.Answer.{Answer}
-use Rattle.kc_app.specs.Answer.{Prints, PrintsOf, PrintsOfBytes, StayBehind, Writes}
-use Rattle.kc_app.specs.declared.status.Status.TheVariants.{Done}
+use Rattle.kc_ends.specs.declared.answer.Answer.{Answer}
+use Rattle.kc_ends.specs.declared.status.Status.TheVariants.{Done}
+use Rattle.kc_ends.specs.Answers.{Prints, PrintsOf, PrintsOfBytes, StayBehind}
+use Rattle.kc_app.specs.Answer.{Writes}
 use Rattle.kc_app.specs.Check.{ChecksStand, Files, RefusesLate, check_asked, check_made, names_of, planned_in, verdict_said, verdict_shown}
-use Rattle.kc_app.specs.Shown.{said_status}
+use Rattle.kc_app.specs.Shown.{said_status, shown_written}
 use Rattle.kc_app.specs.Word.{image_of}
 
 -- a late refusal leaves the files after it unopened
@@ -41,7 +42,7 @@ judged segments paging audits bytes = verdict (image_of bytes segments paging) a
 
 prints_verdict : (bytes : List ℕ) (segments : List Segment) (paging : PageCfg) (audits : List AuditAt) (found : Verdict) (r : Result Answer Halt)
     → judged segments paging audits bytes ≡ found → Writes (verdict_said (names_of audits) found) (verdict_places found) r
-    → Prints (gives (verdict_shown (image_of bytes segments paging) (names_of audits) (judged segments paging audits bytes))) r
+    → Prints shown_written (gives (verdict_shown (image_of bytes segments paging) (names_of audits) (judged segments paging audits bytes))) r
 prints_verdict bytes segments paging audits found (Ok answer) is writes = rw is (ap (λ w. Some w) (sym writes))
 prints_verdict bytes segments paging audits found (Err (Refused refusal)) is writes = absurd writes
 prints_verdict bytes segments paging audits found (Err Store) is writes = absurd writes
@@ -49,15 +50,15 @@ prints_verdict bytes segments paging audits found (Err Memory) is writes = tt
 
 pub judged_prints : (content : Option (List ℕ)) (segments : List Segment) (paging : PageCfg) (audits : List AuditAt) (names : List (List ℕ)) (found : Verdict) (r : Result Answer Halt)
     → names ≡ names_of audits → IfSome content (λ bytes. judged segments paging audits bytes ≡ found) → Writes (verdict_said names found) (verdict_places found) r
-    → PrintsOfBytes (λ bytes. gives (verdict_shown (image_of bytes segments paging) (names_of audits) (judged segments paging audits bytes))) content r
+    → PrintsOfBytes shown_written (λ bytes. gives (verdict_shown (image_of bytes segments paging) (names_of audits) (judged segments paging audits bytes))) content r
 judged_prints None segments paging audits names found r named is writes = tt
 judged_prints (Some bytes) segments paging audits names found r named is writes = prints_verdict bytes segments paging audits found r is (rw named at writes)
 
 -- the steps of `check` on a file that is there
 prints_made : (file btf map plan : Option (List ℕ)) (parts : Parts) (told : Info) (types : Types) (audits : List AuditAt) (r : Result Answer Halt)
     → dump_parts file ≡ gives parts → checked Notes (info parts.notes) ≡ gives told → types_in btf ≡ gives types → planned_in types told map plan ≡ gives audits
-    → PrintsOfBytes (λ bytes. gives (verdict_shown (image_of bytes parts.segments (by_info told)) (names_of audits) (judged parts.segments (by_info told) audits bytes))) file r
-    → Prints (check_made file btf map plan) r
+    → PrintsOfBytes shown_written (λ bytes. gives (verdict_shown (image_of bytes parts.segments (by_info told)) (names_of audits) (judged parts.segments (by_info told) audits bytes))) file r
+    → Prints shown_written (check_made file btf map plan) r
 prints_made None btf map plan parts told types audits r is noted typed planned prints = absurd (let none : ⊥ = cc in none)
 prints_made (Some bytes) btf map plan parts told types audits r is noted typed planned prints = rw (is, noted, typed, planned) prints
 
@@ -66,8 +67,8 @@ pub check_prints : {X Y Z : Type 0} (files : Option Told) (f : Files) (core : X 
     → IsOf core (λ files. dump_parts (files slot.Dump f.dump)) files (Ok x) → checked Notes (info (core x).notes) ≡ gives told
     → IsOf types (λ files. types_in (files slot.Btf f.btf)) files (Ok y)
     → IsOf audits (λ files. planned_in (types y) told (files slot.Map f.map) (files slot.Plan f.plan)) files (Ok z)
-    → PrintsOfBytes (λ bytes. gives (verdict_shown (image_of bytes (core x).segments (by_info told)) (names_of (audits z)) (judged (core x).segments (by_info told) (audits z) bytes))) (named files slot.Dump f.dump) r
-    → PrintsOf (λ files. check_made (files slot.Dump f.dump) (files slot.Btf f.btf) (files slot.Map f.map) (files slot.Plan f.plan)) files r
+    → PrintsOfBytes shown_written (λ bytes. gives (verdict_shown (image_of bytes (core x).segments (by_info told)) (names_of (audits z)) (judged (core x).segments (by_info told) (audits z) bytes))) (named files slot.Dump f.dump) r
+    → PrintsOf shown_written (λ files. check_made (files slot.Dump f.dump) (files slot.Btf f.btf) (files slot.Map f.map) (files slot.Plan f.plan)) files r
 check_prints None f core types audits x told y z r is noted typed planned prints = tt
 check_prints (Some files) f core types audits x told y z r is noted typed planned prints =
     prints_made (files slot.Dump f.dump) (files slot.Btf f.btf) (files slot.Map f.map) (files slot.Plan f.plan) (core x) told (types y) (audits z) r is noted typed planned prints

@@ -1,4 +1,2 @@
 mod Checked
-mod Pieces
 mod Planned
-mod Usage

@@ -20,9 +20,10 @@ use Rattle.kc_input.specs.Made.{◌>>=◌, Made, checked, gives}
 use Rattle.kc_input.specs.Paging.{by_info}
 use Rattle.kc_input.specs.Slots.{refused_slot}
 use Rattle.kc_run.specs.declared.roots.RunStop.{RunStop}
+use Rattle.kc_ends.specs.Asked.{Asked}
 use Rattle.kc_app.specs.declared.check.Asks.{Asks}
-use Rattle.kc_app.specs.Asked.{Asked, Form}
-use Rattle.kc_app.specs.declared.status.Status.TheVariants.{Done}
+use Rattle.kc_app.specs.Form.{Form}
+use Rattle.kc_ends.specs.declared.status.Status.TheVariants.{Done}
 use Rattle.kc_app.specs.Shown.{Said, Sound, Unsound, Shown, Seen, shown_status}
 use Rattle.kc_app.specs.Word.{bytes_of, image_of}
 
@@ -79,14 +80,14 @@ check_made dump btf map plan = do
   all ← audited dump btf map plan
   gives (audited_shown all)
 
-abbrev pub check_asked : Files → Asked
+abbrev pub check_asked : Files → Asked Shown
 check_asked f = record {
   named = record { slot = slot.Dump; name = f.dump } ∷ record { slot = slot.Btf; name = f.btf }
       ∷ record { slot = slot.Map; name = f.map } ∷ record { slot = slot.Plan; name = f.plan } ∷ [];
   made = λ files. check_made (files slot.Dump) (files slot.Btf) (files slot.Map) (files slot.Plan);
 }
 
-abbrev pub check_asks : List (List ℕ) → Option Asked
+abbrev pub check_asks : List (List ℕ) → Option (Asked Shown)
 check_asks (dump ∷ btf ∷ map ∷ plan ∷ []) = Some (check_asked (record { dump = dump; btf = btf; map = map; plan = plan }))
 check_asks _ = None
 
@@ -97,7 +98,7 @@ check_form = record { name = codes "check"; words = codes "DUMP BTF MAP PLAN"; a
 abbrev pub files_view : Asks → Files
 files_view a = record { dump = a.dump.now; btf = a.btf.now; map = a.map.now; plan = a.plan.now }
 
-abbrev pub check_view : Asks → Asked
+abbrev pub check_view : Asks → Asked Shown
 check_view a = check_asked (files_view a)
 
 -- what `check` shows is clean exactly where every structure that the plan reaches stands

@@ -1,10 +1,12 @@
 -- The commands, and which one the words of a command line are.
 use Rattle.std.specs.Prelude.{ℕ, List, [], ◌∷◌, ◌++◌, codes, find, Option, None, option_and_then}
 use Rattle.std.specs.Str.{bytes_eq}
-use Rattle.kc_app.specs.Asked.{Asked, Form}
+use Rattle.kc_ends.specs.Asked.{Asked}
 use Rattle.kc_app.specs.Check.{check_form}
+use Rattle.kc_app.specs.Form.{Form}
 use Rattle.kc_app.specs.Layout.{layout_form}
 use Rattle.kc_app.specs.Show.{show_form}
+use Rattle.kc_app.specs.Shown.{Shown}
 use Rattle.kc_app.specs.Word.{word_form}
 
 -- the commands in the order of usage
@@ -12,7 +14,7 @@ abbrev pub forms : List Form
 forms = word_form ∷ layout_form ∷ show_form ∷ check_form ∷ []
 
 -- what the words behind the program's name ask for: the first one names the command, the others are its words
-abbrev pub command : List (List ℕ) → Option Asked
+abbrev pub command : List (List ℕ) → Option (Asked Shown)
 command [] = None
 command (name ∷ words) = option_and_then (λ form. form.asks words) (find (λ form. bytes_eq name form.name) forms)
 

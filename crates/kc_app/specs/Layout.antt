@@ -9,8 +9,9 @@ use Rattle.kc_layout.specs.Listing.{listing}
 use Rattle.kc_input.specs.declared.refusal.Refusal.TheVariants.{NoType, Path}
 use Rattle.kc_input.specs.Inputs.{types_in}
 use Rattle.kc_input.specs.Made.{◌>>=◌, Made, gives, wanted}
+use Rattle.kc_ends.specs.Asked.{Asked}
 use Rattle.kc_app.specs.declared.layout.Asks.{Asks}
-use Rattle.kc_app.specs.Asked.{Asked, Form}
+use Rattle.kc_app.specs.Form.{Form}
 use Rattle.kc_app.specs.Shown.{Shown, Listed}
 
 -- the struct or union of a name, unless it has too many members
@@ -24,13 +25,13 @@ abbrev pub layout_made : List ℕ → Option (List ℕ) → Made Shown
 layout_made name file = types_in file >>= (λ types. layout_of types name)
 
 -- what `layout` asks: the name of the file of types, and that of the type
-abbrev pub layout_asked : List ℕ → List ℕ → Asked
+abbrev pub layout_asked : List ℕ → List ℕ → Asked Shown
 layout_asked btf ty = record {
   named = record { slot = Btf; name = btf } ∷ [];
   made = λ files. layout_made ty (files Btf);
 }
 
-abbrev pub layout_asks : List (List ℕ) → Option Asked
+abbrev pub layout_asks : List (List ℕ) → Option (Asked Shown)
 layout_asks (btf ∷ ty ∷ []) = Some (layout_asked btf ty)
 layout_asks _ = None
 
@@ -38,5 +39,5 @@ abbrev pub layout_form : Form
 layout_form = record { name = codes "layout"; words = codes "BTF TYPE"; asks = layout_asks }
 
 -- as the code keeps it
-abbrev pub layout_view : Asks → Asked
+abbrev pub layout_view : Asks → Asked Shown
 layout_view a = layout_asked a.btf.now a.name.now

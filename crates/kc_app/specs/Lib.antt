@@ -1,16 +1,12 @@
 pub mod Answer
-pub mod Asked
 pub mod Check
 pub mod Commands
-pub mod Ends
-pub mod Failures
+pub mod Form
 pub mod Layout
 pub mod Output
 pub mod Said
 pub mod Show
 pub mod Shown
-pub mod Status
-pub mod Unopened
 pub mod Word
 pub use Rattle.kc_input.specs.Halts
 pub use Rattle.kc_input.specs.Inputs

@@ -5,7 +5,7 @@ use Rattle.kc_memory.specs.declared.space.Stop.{Stop}
 use Rattle.kc_memory.specs.declared.words.VWord.{VWord}
 use Rattle.kc_memory.specs.Bits.{Number, number_places}
 use Rattle.kc_memory.specs.Places.{place_of}
-use Rattle.kc_app.specs.declared.answer.Answer.{Answer}
+use Rattle.kc_ends.specs.declared.answer.Answer.{Answer}
 use Rattle.kc_app.specs.Answer.{IsStopped, Writes}
 use Rattle.kc_app.specs.Shown.{Bare, Value}
 

@@ -14,9 +14,10 @@ use Rattle.kc_input.specs.declared.refusal.Refusal.TheVariants.{Notes}
 use Rattle.kc_input.specs.Inputs.{dump_parts, map_in, number_at, rows_in, symbol_at, type_named, types_in}
 use Rattle.kc_input.specs.Made.{◌>>=◌, Made, checked, gives}
 use Rattle.kc_input.specs.Paging.{by_info}
+use Rattle.kc_ends.specs.Asked.{Asked}
 use Rattle.kc_app.specs.declared.show.Asks.{Asks}
 use Rattle.kc_app.specs.declared.show.Target.{Target as CodeTarget}
-use Rattle.kc_app.specs.Asked.{Asked, Form}
+use Rattle.kc_app.specs.Form.{Form}
 use Rattle.kc_app.specs.Shown.{Shown, Seen, Value, broken}
 use Rattle.kc_app.specs.Word.{bytes_of, image_of}
 
@@ -82,13 +83,13 @@ show_made question dump btf map = do
   sought ← show_sought question dump btf map
   gives (number_shown sought.image (number_read sought.image sought.target))
 
-abbrev pub show_asked : Question → Asked
+abbrev pub show_asked : Question → Asked Shown
 show_asked question = record {
   named = record { slot = Dump; name = question.dump } ∷ record { slot = Btf; name = question.btf } ∷ record { slot = Map; name = question.map } ∷ [];
   made = λ files. show_made question (files Dump) (files Btf) (files Map);
 }
 
-abbrev pub show_asks : List (List ℕ) → Option Asked
+abbrev pub show_asks : List (List ℕ) → Option (Asked Shown)
 show_asks (dump ∷ btf ∷ map ∷ symbol ∷ ty ∷ path ∷ []) =
     Some (show_asked (record { dump = dump; btf = btf; map = map; symbol = symbol; name = ty; path = path }))
 show_asks _ = None
@@ -100,7 +101,7 @@ show_form = record { name = codes "show"; words = codes "DUMP BTF MAP SYMBOL TYP
 abbrev pub worded : Asks → Question
 worded a = record { dump = a.dump.now; btf = a.btf.now; map = a.map.now; symbol = a.symbol.now; name = a.name.now; path = a.path.now }
 
-abbrev pub show_view : Asks → Asked
+abbrev pub show_view : Asks → Asked Shown
 show_view a = show_asked (worded a)
 
 abbrev pub target_view : CodeTarget → Target

@@ -1,5 +1,5 @@
 -- What a command shows, as data, and its text.
-use Rattle.std.specs.Prelude.{ℕ, ℤ, List, [], ◌∷◌, ◌++◌, codes, decimal, map, Option, Some, None, Result, Ok, Err}
+use Rattle.std.specs.Prelude.{ℕ, ℤ, List, [], ◌∷◌, ◌++◌, codes, decimal, map, Option, Some, None}
 use Rattle.std.specs.Fmt.{signed_decimal}
 use Rattle.kc_memory.specs.declared.rule.Rule.{Rule}
 use Rattle.kc_memory.specs.declared.words.Place.{Place}
@@ -15,10 +15,9 @@ use Rattle.kc_text.specs.Text.{hex, name_text, visible}
 use Rattle.kc_report.specs.Lines.{address_text, place_lines, rule_lines, stop_line}
 use Rattle.kc_report.specs.Report.{AuditLine}
 use Rattle.kc_report.specs.ReportText.{broken_lines, clean_text}
-use Rattle.kc_input.specs.Lines.{refusal_line}
-use Rattle.kc_input.specs.declared.refusal.Refusal.{Refusal}
-use Rattle.kc_app.specs.declared.status.Status.{Status}
-use Rattle.kc_app.specs.declared.status.Status.TheVariants.{Done, Broken, Refused}
+use Rattle.kc_ends.specs.declared.status.Status.{Status}
+use Rattle.kc_ends.specs.declared.status.Status.TheVariants.{Done, Broken}
+use Rattle.kc_ends.specs.Written.{Written}
 
 -- what is said of words of a dump, beside the words themselves: nothing; the number that they hold; the rule, the
 -- virtual address, the level and the physical address of a stop; that no structure breaks a rule, with each audit's
@@ -106,13 +105,6 @@ abbrev pub IsTrueOfDump : Shown → Type 0
 IsTrueOfDump (Seen said image places) = AllStandIn image places
 IsTrueOfDump (Listed strings t name lines) = Unit {0}
 
--- what standard output and standard error take, and the status
-pub record Written : Type 0 where
-  pub out : List ℕ
-  pub err : List ℕ
-  pub status : Status
-
--- of what is shown, and of a refusal
-abbrev pub ended : Result Shown Refusal → Written
-ended (Ok shown) = record { out = shown_text shown; err = []; status = shown_status shown }
-ended (Err refusal) = record { out = []; err = refusal_line refusal; status = Refused }
+-- and so what is written of it
+abbrev pub shown_written : Shown → Written
+shown_written shown = record { out = shown_text shown; err = []; status = shown_status shown }

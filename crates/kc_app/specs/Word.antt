@@ -15,8 +15,9 @@ use Rattle.kc_input.specs.declared.refusal.Refusal.TheVariants.{Notes}
 use Rattle.kc_input.specs.Inputs.{dump_parts}
 use Rattle.kc_input.specs.Made.{◌>>=◌, Made, checked, gives}
 use Rattle.kc_input.specs.Paging.{by_info}
+use Rattle.kc_ends.specs.Asked.{Asked}
 use Rattle.kc_app.specs.declared.word.Asks.{Asks}
-use Rattle.kc_app.specs.Asked.{Asked, Form}
+use Rattle.kc_app.specs.Form.{Form}
 use Rattle.kc_app.specs.Shown.{Shown, Seen, Bare, broken}
 
 -- the address of a top table: a multiple of 4096 below 2^52
@@ -69,20 +70,20 @@ word_made table address dump = do
 
 -- what `word` asks: the name of the dump, the physical address of the top table, or none where the dump's notes name
 -- it, and the virtual address
-abbrev pub word_asked : List ℕ → Option ℕ → ℕ → Asked
+abbrev pub word_asked : List ℕ → Option ℕ → ℕ → Asked Shown
 word_asked dump table address = record {
   named = record { slot = Dump; name = dump } ∷ [];
   made = λ files. word_made table address (files Dump);
 }
 
 -- where both its numbers are there
-abbrev pub numbers_asked : List ℕ → Option (Option ℕ) → Option ℕ → Option Asked
+abbrev pub numbers_asked : List ℕ → Option (Option ℕ) → Option ℕ → Option (Asked Shown)
 numbers_asked dump (Some table) (Some address) = Some (word_asked dump table address)
 numbers_asked dump (Some table) None = None
 numbers_asked dump None address = None
 
 -- the words: the name of the dump, the top table or `-`, and the virtual address
-abbrev pub word_asks : List (List ℕ) → Option Asked
+abbrev pub word_asks : List (List ℕ) → Option (Asked Shown)
 word_asks (dump ∷ table ∷ address ∷ []) = numbers_asked dump (table_word table) (hex_number address)
 word_asks _ = None
 
@@ -90,5 +91,5 @@ abbrev pub word_form : Form
 word_form = record { name = codes "word"; words = codes "DUMP TABLE ADDRESS"; asks = word_asks }
 
 -- as the code keeps it
-abbrev pub word_view : Asks → Asked
+abbrev pub word_view : Asks → Asked Shown
 word_view a = word_asked a.dump.now a.table a.address

@@ -15,15 +15,17 @@ ghost use Rattle.kc_run.specs.Answers.{CountsRunFaults};
 ghost use Rattle.kc_input.specs.Halts.{NotRefused, OnStore, UnlessStore};
 ghost use Rattle.kc_input.specs.Made.{gives, IsOf};
 ghost use Rattle.kc_input.specs.Paging.{IsTable, by_info};
-ghost use Rattle.kc_app.specs.Answer.{OnNone, OnStoreIn, PrintsOf, PrintsOfBytes, Runs, StayBehind, UnlessStoreIn, Writes};
-ghost use Rattle.kc_app.specs.Asked.{word_in};
+ghost use Rattle.kc_ends.specs.Answers.{OnNone, OnStoreIn, PrintsOf, PrintsOfBytes, Runs, StayBehind, UnlessStoreIn};
+ghost use Rattle.kc_app.specs.Answer.{Writes};
+ghost use Rattle.kc_ends.specs.Asked.{word_in};
 ghost use Rattle.kc_app.specs.Check.{FindsAs, RefusesLate, check_asked, check_asks, check_made, check_view, files_view, names_of, planned_in, verdict_said, verdict_shown};
 ghost use Rattle.kc_app.specs.Word.{image_of};
+ghost use Rattle.kc_app.specs.Shown.{shown_written};
 
-use crate::answer::Answer;
 use kc_btf::Btf;
 use kc_elf::Core;
 use kc_found::Verdict;
+use kc_ends::Answer;
 use kc_input::{
     Halt, paging_by, read_audits, read_dump, read_info, read_map, read_plan_file, read_symbols,
     read_types,
@@ -73,7 +75,7 @@ fn read(words: &[String]) -> Option<Asks<'_>>
 pub fn run<S: Store>(alloc: Global, store: &mut S, words: &[String]) -> Option<Result<Answer, Halt>>
     requires { (slot : Slot) → ForSome (word_in (check_asks (map string_bytes words.now)) slot) (S.may store.old slot) }
 
-    ensures output { Runs (check_asks (map string_bytes words.now)) (S.files store.old) result (S.opened store.old)
+    ensures output { Runs shown_written (check_asks (map string_bytes words.now)) (S.files store.old) result (S.opened store.old)
         (S.opened store.new) }
     ensures unasked { OnNone result (S.asked store.new ≡ S.asked store.old) }
     ensures files { S.files store.new ≡ S.files store.old }
@@ -92,7 +94,7 @@ fn check<S: Store>(alloc: Global, store: &mut S, asks: &Asks<'_>) -> Result<Answ
     requires map { S.may store.old Map asks.now.map.now }
     requires plan { S.may store.old Slot.Plan asks.now.plan.now }
 
-    ensures output { PrintsOf
+    ensures output { PrintsOf shown_written
         (λ files. check_made (files Dump asks.now.dump.now) (files Slot.Btf asks.now.btf.now)
         (files Map asks.now.map.now) (files Slot.Plan asks.now.plan.now)) (S.files store.old) result }
     ensures unopened { StayBehind (check_asked (files_view asks.now)).named result (S.opened store.old)
@@ -152,7 +154,7 @@ fn judge<S: Store>(
     requires types { TypesAreInside (length types.now.records) plan.now.audits }
     requires inside { AreInside (S.sizes store.old Dump) core.now.segments }
 
-    ensures output { PrintsOfBytes
+    ensures output { PrintsOfBytes shown_written
         (λ bytes. let image = image_of bytes core.now.segments (by_info info) in
         gives (verdict_shown image (names_of (plan_seen plan.now)) (verdict image (plan_seen plan.now))))
         (content (S.files store.old) Dump (S.opened store.old Dump)) result }

@@ -4,11 +4,12 @@ ghost use Rattle.std.specs.Option.{ForSome};
 ghost use Rattle.std.specs.String.{string_bytes};
 ghost use Rattle.kc_outside.specs.declared.store.Slot.{Slot};
 ghost use Rattle.kc_outside.specs.Counts.{Rose};
-ghost use Rattle.kc_app.specs.Answer.{OnNone, OnStoreIn, Runs, UnlessStoreIn};
-ghost use Rattle.kc_app.specs.Asked.{word_in};
+ghost use Rattle.kc_ends.specs.Answers.{OnNone, OnStoreIn, Runs, UnlessStoreIn};
+ghost use Rattle.kc_ends.specs.Asked.{word_in};
 ghost use Rattle.kc_app.specs.Commands.{command};
+ghost use Rattle.kc_app.specs.Shown.{shown_written};
 
-use crate::answer::Answer;
+use kc_ends::Answer;
 use kc_input::Halt;
 use kc_outside::Store;
 use std::alloc::Global;
@@ -22,7 +23,7 @@ pub const USAGE: &[u8] =
 pub fn run<S: Store>(alloc: Global, store: &mut S, words: &[String]) -> Option<Result<Answer, Halt>>
     requires { (slot : Slot) → ForSome (word_in (command (map string_bytes words.now)) slot) (S.may store.old slot) }
 
-    ensures output { Runs (command (map string_bytes words.now)) (S.files store.old) result (S.opened store.old)
+    ensures output { Runs shown_written (command (map string_bytes words.now)) (S.files store.old) result (S.opened store.old)
         (S.opened store.new) }
     ensures unasked { OnNone result (S.asked store.new ≡ S.asked store.old) }
     ensures files { S.files store.new ≡ S.files store.old }

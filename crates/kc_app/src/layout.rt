@@ -11,13 +11,13 @@ ghost use Rattle.kc_outside.specs.declared.store.Slot.{Slot};
 ghost use Rattle.kc_outside.specs.Counts.{Rose};
 ghost use Rattle.kc_input.specs.Halts.{NotStore, OnStore, UnlessStore};
 ghost use Rattle.kc_input.specs.Slots.{RefusesAbout};
-ghost use Rattle.kc_app.specs.Answer.{OnNone, OnStoreIn, Prints, PrintsOf, Runs, StayBehind, UnlessStoreIn};
-ghost use Rattle.kc_app.specs.Asked.{word_in};
+ghost use Rattle.kc_ends.specs.Answers.{OnNone, OnStoreIn, Prints, PrintsOf, Runs, StayBehind, UnlessStoreIn};
+ghost use Rattle.kc_ends.specs.Asked.{word_in};
 ghost use Rattle.kc_app.specs.Layout.{layout_asks, layout_made, layout_of, layout_view};
-ghost use Rattle.kc_app.specs.Shown.{compound_line, compound_word, member_line, member_lines, width_text};
+ghost use Rattle.kc_app.specs.Shown.{compound_line, compound_word, member_line, member_lines, shown_written, width_text};
 
-use crate::answer::Answer;
 use kc_btf::{Btf, Kind, TypeRef};
+use kc_ends::Answer;
 use kc_input::{Halt, Refusal, read_types};
 use kc_layout::{Line, PathFault, QRule, compound_under, find_type, list_members};
 use kc_outside::Store;
@@ -53,7 +53,7 @@ pub fn run<S: Store>(alloc: Global, store: &mut S, words: &[String]) -> Option<R
     requires { (slot : Slot) → ForSome (word_in (layout_asks (map string_bytes words.now)) slot)
         (S.may store.old slot) }
 
-    ensures output { Runs (layout_asks (map string_bytes words.now)) (S.files store.old) result (S.opened store.old)
+    ensures output { Runs shown_written (layout_asks (map string_bytes words.now)) (S.files store.old) result (S.opened store.old)
         (S.opened store.new) }
     ensures unasked { OnNone result (S.asked store.new ≡ S.asked store.old) }
     ensures files { S.files store.new ≡ S.files store.old }
@@ -69,7 +69,7 @@ pub fn run<S: Store>(alloc: Global, store: &mut S, words: &[String]) -> Option<R
 fn layout<S: Store>(alloc: Global, store: &mut S, asks: Asks<'_>) -> Result<Answer, Halt>
     requires may { S.may store.old Slot.Btf asks.btf.now }
 
-    ensures output { PrintsOf (λ files. layout_made asks.entry.name.now (files Slot.Btf asks.entry.btf.now))
+    ensures output { PrintsOf shown_written (λ files. layout_made asks.entry.name.now (files Slot.Btf asks.entry.btf.now))
         (S.files store.old) result }
     ensures unopened { StayBehind (layout_view asks.entry).named result (S.opened store.old) (S.opened store.new) }
     ensures files { S.files store.new ≡ S.files store.old }
@@ -92,7 +92,7 @@ fn named_compound(types: &Btf, name: &[u8]) -> Option<TypeRef>
 
 // The layout of the struct or union of a name.
 fn lay_out(alloc: Global, types: &Btf, name: &[u8]) -> Result<Answer, Halt>
-    ensures output { Prints (layout_of types.now name.now) result }
+    ensures output { Prints shown_written (layout_of types.now name.now) result }
     ensures refused { RefusesAbout None result }
     ensures no_call { NotStore result }
 {

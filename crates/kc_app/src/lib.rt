@@ -6,14 +6,12 @@ mod check;
 mod command;
 mod laws;
 mod layout;
-mod print;
 mod show;
-mod status;
 mod top;
 mod word;
 
+pub use kc_ends::Status;
 pub use laws::know_shown;
-pub use status::Status;
 pub use top::kaudit;
 
 #[cfg(test)]

@@ -17,15 +17,17 @@ ghost use Rattle.kc_input.specs.Halts.{NotRefused, OnStore, UnlessStore};
 ghost use Rattle.kc_input.specs.Made.{gives, IsOf};
 ghost use Rattle.kc_input.specs.Paging.{IsTable, by_info};
 ghost use Rattle.kc_report.specs.Lines.{place_lines};
-ghost use Rattle.kc_app.specs.Answer.{OnNone, OnStoreIn, PrintsOf, PrintsOfBytes, RefusesLast, Runs, StayBehind, UnlessStoreIn};
-ghost use Rattle.kc_app.specs.Asked.{word_in};
+ghost use Rattle.kc_ends.specs.Answers.{OnNone, OnStoreIn, PrintsOf, PrintsOfBytes, RefusesLast, Runs, StayBehind, UnlessStoreIn};
+ghost use Rattle.kc_ends.specs.Asked.{word_in};
 ghost use Rattle.kc_app.specs.Said.{IsNumber};
 ghost use Rattle.kc_app.specs.Show.{number_read, number_shown, show_asked, show_asks, show_made, show_view, target_in, target_view, worded};
 ghost use Rattle.kc_app.specs.Word.{image_of};
+ghost use Rattle.kc_app.specs.Shown.{shown_written};
 
-use crate::answer::Answer;
+use crate::answer::stopped;
 use kc_btf::Btf;
 use kc_elf::Core;
+use kc_ends::Answer;
 use kc_input::{
     Halt, find_field, find_named, find_symbol, paging_by, read_dump, read_info, read_map,
     read_symbols, read_types,
@@ -95,7 +97,7 @@ fn read(words: &[String]) -> Option<Asks<'_>>
 pub fn run<S: Store>(alloc: Global, store: &mut S, words: &[String]) -> Option<Result<Answer, Halt>>
     requires { (slot : Slot) → ForSome (word_in (show_asks (map string_bytes words.now)) slot) (S.may store.old slot) }
 
-    ensures output { Runs (show_asks (map string_bytes words.now)) (S.files store.old) result (S.opened store.old)
+    ensures output { Runs shown_written (show_asks (map string_bytes words.now)) (S.files store.old) result (S.opened store.old)
         (S.opened store.new) }
     ensures unasked { OnNone result (S.asked store.new ≡ S.asked store.old) }
     ensures files { S.files store.new ≡ S.files store.old }
@@ -113,7 +115,7 @@ fn show<S: Store>(alloc: Global, store: &mut S, asks: &Asks<'_>) -> Result<Answe
     requires btf { S.may store.old Slot.Btf asks.now.btf.now }
     requires map { S.may store.old Map asks.now.map.now }
 
-    ensures output { PrintsOf
+    ensures output { PrintsOf shown_written
         (λ files. show_made (worded asks.now) (files Dump asks.now.dump.now) (files Slot.Btf asks.now.btf.now)
         (files Map asks.now.map.now)) (S.files store.old) result }
     ensures unopened { StayBehind (show_asked (worded asks.now)).named result (S.opened store.old)
@@ -174,7 +176,7 @@ fn look_up<S: Store>(
     requires ty { target.now.ty ≤ length types.now.records }
     requires inside { AreInside (S.sizes store.old Dump) core.now.segments }
 
-    ensures output { PrintsOfBytes
+    ensures output { PrintsOfBytes shown_written
         (λ bytes. let image = image_of bytes core.now.segments (by_info info) in
         gives (number_shown image (number_read image (target_view target.now))))
         (content (S.files store.old) Dump (S.opened store.old Dump)) result }
@@ -221,7 +223,7 @@ fn answer(alloc: Global, number: Result<Scalar, Stop>) -> Result<Answer, Halt>
 {
     match number {
         Ok(number) => Ok(Answer::Done(number_text(alloc, number)?)),
-        Err(stop) => Answer::stopped(alloc, stop),
+        Err(stop) => stopped(alloc, stop),
     }
 }
 

@@ -15,14 +15,15 @@ ghost use Rattle.kc_input.specs.Halts.{NotRefused, OnStore, UnlessStore};
 ghost use Rattle.kc_input.specs.Made.{Tells};
 ghost use Rattle.kc_input.specs.Slots.{IsAbout};
 ghost use Rattle.kc_input.specs.Paging.{IsTable};
-ghost use Rattle.kc_app.specs.Answer.{OnNone, OnStoreIn, PrintsOf, Runs, StayBehind, UnlessStoreIn};
-ghost use Rattle.kc_app.specs.Asked.{word_in};
+ghost use Rattle.kc_ends.specs.Answers.{OnNone, OnStoreIn, PrintsOf, Runs, StayBehind, UnlessStoreIn};
+ghost use Rattle.kc_ends.specs.Asked.{word_in};
 ghost use Rattle.kc_app.specs.Said.{IsWord};
-ghost use Rattle.kc_app.specs.Shown.{bare_lines};
+ghost use Rattle.kc_app.specs.Shown.{bare_lines, shown_written};
 ghost use Rattle.kc_app.specs.Word.{as_table, image_of, paging_of, table_word, word_asks, word_made, word_view};
 
-use crate::answer::Answer;
+use crate::answer::stopped;
 use kc_elf::Core;
+use kc_ends::Answer;
 use kc_input::{Halt, Refusal, paging_by, read_dump, read_info};
 use kc_mem::Memory;
 use kc_memory::{Space, Stop, VWord};
@@ -98,7 +99,7 @@ fn read(words: &[String]) -> Option<Asks<'_>>
 pub fn run<S: Store>(alloc: Global, store: &mut S, words: &[String]) -> Option<Result<Answer, Halt>>
     requires { (slot : Slot) → ForSome (word_in (word_asks (map string_bytes words.now)) slot) (S.may store.old slot) }
 
-    ensures output { Runs (word_asks (map string_bytes words.now)) (S.files store.old) result (S.opened store.old)
+    ensures output { Runs shown_written (word_asks (map string_bytes words.now)) (S.files store.old) result (S.opened store.old)
         (S.opened store.new) }
     ensures unasked { OnNone result (S.asked store.new ≡ S.asked store.old) }
     ensures files { S.files store.new ≡ S.files store.old }
@@ -115,7 +116,7 @@ fn word<S: Store>(alloc: Global, store: &mut S, asks: Asks<'_>) -> Result<Answer
     requires may { S.may store.old Dump asks.dump.now }
     requires table { IfSome asks.table IsTable }
 
-    ensures output { PrintsOf
+    ensures output { PrintsOf shown_written
         (λ files. word_made asks.entry.table asks.entry.address (files Dump asks.entry.dump.now)) (S.files store.old)
         result }
     ensures unopened { StayBehind (word_view asks.entry).named result (S.opened store.old) (S.opened store.new) }
@@ -171,7 +172,7 @@ fn answer(alloc: Global, word: Result<VWord, Stop>) -> Result<Answer, Halt>
 {
     match word {
         Ok(word) => Ok(Answer::Done(word_text(alloc, &word)?)),
-        Err(stop) => Answer::stopped(alloc, stop),
+        Err(stop) => stopped(alloc, stop),
     }
 }
 

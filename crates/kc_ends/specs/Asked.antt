@@ -3,35 +3,28 @@ use Rattle.std.specs.Prelude.{◌≡◌, ⊤, ℕ, nat_eq, if◌then◌else◌, 
 use Rattle.kc_outside.specs.declared.store.Slot.{Slot}
 use Rattle.kc_outside.specs.Files.{Files, slot_number}
 use Rattle.kc_input.specs.Made.{Made}
-use Rattle.kc_app.specs.Shown.{Shown}
 
 -- a file of a command: its slot, and the word that names it
 pub record Named : Type 0 where
   pub slot : Slot
   pub name : List ℕ
 
--- the files of a command in the order in which they are read, and what is made of their bytes
-pub record Asked : Type 0 where
+-- the files of a command in the order in which they are read, and what is made of their bytes to be shown
+pub record Asked (A : Type 0) : Type 0 where
   pub named : List Named
-  pub made : (Slot → Option (List ℕ)) → Made Shown
+  pub made : (Slot → Option (List ℕ)) → Made A
 
 -- the name in a slot
-abbrev pub name_in : Asked → Slot → Option (List ℕ)
+abbrev pub name_in : {A : Type 0} → Asked A → Slot → Option (List ℕ)
 name_in asked slot = option_map (λ n. n.name) (find (λ n. nat_eq (slot_number n.slot) (slot_number slot)) asked.named)
 
 -- what the names of a command stand for in a store
-abbrev pub asked_files : Asked → Files → Slot → Option (List ℕ)
+abbrev pub asked_files : {A : Type 0} → Asked A → Files → Slot → Option (List ℕ)
 asked_files asked files slot = option_and_then (files slot) (name_in asked slot)
 
 -- the same where there may be no command
-abbrev pub word_in : Option Asked → Slot → Option (List ℕ)
+abbrev pub word_in : {A : Type 0} → Option (Asked A) → Slot → Option (List ℕ)
 word_in asked slot = option_and_then (λ a. name_in a slot) asked
-
--- a command: its name, its words as usage shows them, and what the words after the name ask for, if they are its words
-pub record Form : Type 0 where
-  pub name : List ℕ
-  pub words : List ℕ
-  pub asks : List (List ℕ) → Option Asked
 
 -- the files after the one in a slot
 abbrev pub behind_slot : Slot → List Named → List Named

@@ -1,11 +1,10 @@
--- How the program ends.
+-- How a program ends.
 use Rattle.std.specs.Prelude.{◌≡◌, ⊤, ℕ, ◌≤◌, ◌⊎◌, List, length, take, Option, Some, None, IfSome}
 use Rattle.kc_outside.specs.Files.{Files}
 use Rattle.kc_outside.specs.Texts.{with_piece}
-use Rattle.kc_app.specs.declared.status.Status.{Status}
-use Rattle.kc_app.specs.Failures.{memory_refused, store_failed}
-use Rattle.kc_app.specs.Output.{written_of}
-use Rattle.kc_app.specs.Shown.{Written}
+use Rattle.kc_ends.specs.declared.status.Status.{Status}
+use Rattle.kc_ends.specs.Failures.{memory_refused, store_failed}
+use Rattle.kc_ends.specs.Written.{Written}
 
 -- a sink took the text's first bytes, as many as they are
 pub record TookPrefix (old new : Option (List ℕ)) (text : List ℕ) : Type 0 where
@@ -24,10 +23,10 @@ abbrev pub IsWritten : Option Written → Status → Option (List ℕ) → Optio
 IsWritten None status out_old out_new err_old err_new = ⊥
 IsWritten (Some written) status out_old out_new err_old err_new = Tells written status out_old out_new err_old err_new
 
--- the same of the words and the files, where these are told
-abbrev pub IsTold : List (List ℕ) → Option Files → Status → Option (List ℕ) → Option (List ℕ) → Option (List ℕ) → Option (List ℕ) → Type 0
-IsTold words None status out_old out_new err_old err_new = ⊤
-IsTold words (Some files) status out_old out_new err_old err_new = IsWritten (written_of words files) status out_old out_new err_old err_new
+-- the same of the output over the files, where these are told
+abbrev pub IsTold : (Files → Option Written) → Option Files → Status → Option (List ℕ) → Option (List ℕ) → Option (List ℕ) → Option (List ℕ) → Type 0
+IsTold output None status out_old out_new err_old err_new = ⊤
+IsTold output (Some files) status out_old out_new err_old err_new = IsWritten (output files) status out_old out_new err_old err_new
 
 -- a prefix of the text that is written to standard output, if there is an output, was taken
 abbrev pub TookOut : Option Written → Option (List ℕ) → Option (List ℕ) → Type 0
@@ -39,12 +38,15 @@ abbrev pub TookErr : Option Written → Option (List ℕ) → Option (List ℕ) 
 TookErr None old new = ⊥
 TookErr (Some written) old new = TookPrefix old new written.err
 
--- the same of the words and the files
-abbrev pub TookPart : List (List ℕ) → Option Files → Option (List ℕ) → Option (List ℕ) → Type 0
-TookPart words files old new = IfSome files (λ f. TookOut (written_of words f) old new)
-
 -- what standard error took where it alone failed: a prefix of what is written to it, of the line that memory
--- is refused, or, only where the store's count rose, of the line that the store failed
-abbrev pub ErrFailed : List (List ℕ) → Option Files → Type 0 → Option (List ℕ) → Option (List ℕ) → Type 0
-ErrFailed words files store_rose old new =
-    IfSome files (λ f. TookErr (written_of words f) old new ⊎ TookPrefix old new memory_refused ⊎ (store_rose × TookPrefix old new store_failed))
+-- is refused, or, only where the store failed, of the line that says so
+abbrev pub TookLine : Option Written → Type 0 → Option (List ℕ) → Option (List ℕ) → Type 0
+TookLine written store_rose old new =
+    TookErr written old new ⊎ TookPrefix old new memory_refused ⊎ (store_rose × TookPrefix old new store_failed)
+
+-- both of the output over the files
+abbrev pub TookPart : (Files → Option Written) → Option Files → Option (List ℕ) → Option (List ℕ) → Type 0
+TookPart output files old new = IfSome files (λ f. TookOut (output f) old new)
+
+abbrev pub ErrFailed : (Files → Option Written) → Option Files → Type 0 → Option (List ℕ) → Option (List ℕ) → Type 0
+ErrFailed output files store_rose old new = IfSome files (λ f. TookLine (output f) store_rose old new)

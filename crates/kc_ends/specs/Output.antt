@@ -1,51 +1,40 @@
--- What a command line prints and ends with, as a function of its words and files.
-use Rattle.std.specs.Prelude.{ℕ, List, [], Option, Some, None, IfSome, option_and_then, option_map, Result, Ok, Err}
+-- The output of a command line, as a function of its words and files.
+use Rattle.std.specs.Prelude.{ℕ, List, Option, Some, None, option_and_then, option_map, Result, Ok, Err}
 use Rattle.kc_outside.specs.declared.store.Slot.{Slot}
 use Rattle.kc_outside.specs.Files.{Files}
 use Rattle.kc_input.specs.declared.refusal.Refusal.{Refusal}
 use Rattle.kc_input.specs.Made.{Made}
-use Rattle.kc_app.specs.declared.status.Status.TheVariants.{NoCommand}
-use Rattle.kc_app.specs.Asked.{Asked, word_in}
-use Rattle.kc_app.specs.Commands.{command, usage_text}
-use Rattle.kc_app.specs.Shown.{IsTrueOfDump, Shown, Written, ended}
+use Rattle.kc_ends.specs.Asked.{Asked, word_in}
+use Rattle.kc_ends.specs.Written.{Written, refused_with, usage_with}
 
 -- usage, or how a command ends: with what it shows, or with a refusal
-pub data Output : Type 0 where
-  Usage : Output
-  Ends : Result Shown Refusal → Output
+pub data Output (A : Type 0) : Type 0 where
+  Usage : Output A
+  Ends : Result A Refusal → Output A
 
--- what standard output and standard error take of it, and the status
-abbrev pub written : Output → Written
-written Usage = record { out = []; err = usage_text; status = NoCommand }
-written (Ends result) = ended result
+-- what is written of how a command ends, by what is written of what it shows
+abbrev pub ended : {A : Type 0} → (A → Written) → Result A Refusal → Written
+ended write (Ok shown) = write shown
+ended write (Err refusal) = refused_with refusal
+
+-- and of an output
+abbrev pub written : {A : Type 0} → List ℕ → (A → Written) → Output A → Written
+written usage write Usage = usage_with usage
+written usage write (Ends result) = ended write result
 
 -- the output of what a command makes, or none where it needs a file that isn't there
-abbrev pub ending : Made Shown → Option Output
-ending made = option_map Ends made
+abbrev pub output_made : {A : Type 0} → Made A → Option (Output A)
+output_made made = option_map Ends made
 
 -- the same of words that may not be a command
-abbrev pub output_of : Option Asked → (Slot → Option (List ℕ)) → Option Output
+abbrev pub output_of : {A : Type 0} → Option (Asked A) → (Slot → Option (List ℕ)) → Option (Output A)
 output_of None files = Some Usage
-output_of (Some asked) files = ending (asked.made files)
-
--- the output of the words after the program's name. A file is the bytes that a slot's word stands for.
-abbrev pub out : List (List ℕ) → (Slot → Option (List ℕ)) → Option Output
-out words files = output_of (command words) files
+output_of (Some asked) files = output_made (asked.made files)
 
 -- what the words of the slots stand for in a store
-abbrev pub word_files : List (List ℕ) → Files → Slot → Option (List ℕ)
-word_files words files slot = option_and_then (files slot) (word_in (command words) slot)
+abbrev pub word_files : {A : Type 0} → Option (Asked A) → Files → Slot → Option (List ℕ)
+word_files asked files slot = option_and_then (files slot) (word_in asked slot)
 
--- and so what is written of the output of words over a store's files
-abbrev pub written_of : List (List ℕ) → Files → Option Written
-written_of words files = option_map written (out words (word_files words files))
-
--- the words that an output shows are true of the dump
-abbrev pub StandsIn : Output → Type 0
-StandsIn Usage = Unit {0}
-StandsIn (Ends (Ok shown)) = IsTrueOfDump shown
-StandsIn (Ends (Err refusal)) = Unit {0}
-
--- of each output
-abbrev pub ShownStand : Type 0
-ShownStand = (words : List (List ℕ)) (files : Slot → Option (List ℕ)) → IfSome (out words files) StandsIn
+-- and so what is written of the output over a store's files
+abbrev pub written_files : {A : Type 0} → List ℕ → (A → Written) → Option (Asked A) → Files → Option Written
+written_files usage write asked files = option_map (written usage write) (output_of asked (word_files asked files))

@@ -1,8 +1,8 @@
 -- How the program ends.
 use Rattle.std.specs.Prelude.{ℕ, Bool, true, false, nat_eq}
 use Rattle.std.specs.Bool.{OnTrue}
-use Rattle.kc_app.specs.declared.status.Status.{Status}
-use Rattle.kc_app.specs.declared.status.Status.TheVariants.{Done, Broken, Refused, StoreFailed, SinkFailed, OutOfMemory, NoCommand}
+use Rattle.kc_ends.specs.declared.status.Status.{Status}
+use Rattle.kc_ends.specs.declared.status.Status.TheVariants.{Done, Broken, Refused, StoreFailed, SinkFailed, OutOfMemory, NoCommand}
 
 -- the number of a status
 abbrev pub number : Status → ℕ

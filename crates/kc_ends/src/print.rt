@@ -2,7 +2,7 @@
 ghost use Rattle.std.specs.Prelude.{◌≡◌, ◌≤◌, take, OnOk, OnErr};
 ghost use Rattle.kc_outside.specs.Counts.{Rose};
 ghost use Rattle.kc_outside.specs.Texts.{with_piece};
-ghost use Rattle.kc_app.specs.Ends.{TookPrefix};
+ghost use Rattle.kc_ends.specs.Ends.{TookPrefix};
 
 use kc_outside::{Failed, Sink};
 

@@ -21,7 +21,7 @@ pub enum Status {
 
 impl From<Status> for u8 {
     ghost use Rattle.std.specs.Prelude.{◌≡◌};
-    ghost use Rattle.kc_app.specs.Status.{number};
+    ghost use Rattle.kc_ends.specs.Status.{number};
 
     ghost from_gives = { λ status n. n ≡ number status };
 

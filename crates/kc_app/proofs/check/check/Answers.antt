@@ -4,7 +4,7 @@ use Rattle.kc_elf.specs.Parts.{Parts}
 use Rattle.kc_btf.specs.Btf.{Types}
 use Rattle.kc_plan.specs.declared.plan.Plan.{Plan}
 use Rattle.kc_plan.specs.Views.{plan_seen}
-use Rattle.kc_app.specs.declared.answer.Answer.{Answer}
+use Rattle.kc_ends.specs.declared.answer.Answer.{Answer}
 use Rattle.kc_app.specs.Check.{files_view}
 use Rattle.kc_app.proofs.Checked.{check_prints, late_stays}
 use Rattle.kc_app.proofs.check.check.Goals as goal

@@ -1,10 +1,16 @@
-use Rattle.std.proofs.Common.{◌≡◌, None, map, rules}
+use Rattle.std.proofs.Common.{map}
 use Rattle.std.specs.String.{string_bytes}
-use Rattle.kc_app.specs.Commands.{command}
-use Rattle.kc_app.proofs.Usage.{tells_usage}
+use Rattle.kc_ends.proofs.Ending.{fails, tells}
+use Rattle.kc_app.specs.Commands.{command, usage_text}
+use Rattle.kc_app.specs.Shown.{shown_written}
 use Rattle.kc_app.proofs.top.kaudit.Goals as goal
 
-pub returns-in-Ok-clause-told : goal.returns-in-Ok-clause-told
-returns-in-Ok-clause-told g c =
-    let none : command (map string_bytes c.args.words.now) ≡ None = search rules in
-    tells_usage (g.S.Store.files c.args.store.now) (map string_bytes c.args.words.now) (g.O.Sink.taken c.args.out.now) (g.E.Sink.taken c.args.err.now) (g.E.Sink.taken c.put_all.new.sink) none c.in-Ok.ensures.whole
+pub returns-clause-told : goal.returns-clause-told
+returns-clause-told g c =
+    tells usage_text shown_written (command (map string_bytes c.args.words.now)) (g.S.Store.files c.args.store.now) c.run-outcome.result _ _ c.finish.result (g.O.Sink.taken c.args.out.now) (g.O.Sink.taken c.finish.new.out) (g.E.Sink.taken c.args.err.now) (g.E.Sink.taken c.finish.new.err)
+    c.run-outcome.ensures.output c.finish.ensures.told
+
+pub returns-clause-err_failed : goal.returns-clause-err_failed
+returns-clause-err_failed g c =
+    fails usage_text shown_written (command (map string_bytes c.args.words.now)) (g.S.Store.files c.args.store.now) c.run-outcome.result _ _ c.finish.result (g.S.Store.faults c.args.store.now) (g.S.Store.faults c.run-outcome.new.store) (g.O.Sink.faults c.args.out.now) (g.O.Sink.faults c.finish.new.out) (g.E.Sink.taken c.args.err.now) (g.E.Sink.taken c.finish.new.err)
+    c.run-outcome.ensures.output c.run-outcome.ensures.cause c.finish.ensures.err_failed

@@ -1,7 +1,7 @@
 use Rattle.std.proofs.Common.{◌≡◌, ◌∙◌, ap, ◌-◌, length, take, drop, arith}
 use Rattle.std.proofs.lemmas.List.{take_rest, length-drop}
-use Rattle.kc_app.proofs.Pieces.{piece_more}
-use Rattle.kc_app.proofs.print.put_all.Goals as goal
+use Rattle.kc_ends.proofs.Pieces.{piece_more}
+use Rattle.kc_ends.proofs.print.put_all.Goals as goal
 
 pub loop-at-preserved : goal.loop-at-preserved
 loop-at-preserved g c =

@@ -1,6 +1,6 @@
 use Rattle.std.proofs.Common.{◌≡◌, ◌≤◌, ◌-◌, length, take}
 use Rattle.kc_outside.specs.Texts.{with_piece}
-use Rattle.kc_app.proofs.print.put_all.Given as goal
+use Rattle.kc_ends.proofs.print.put_all.Given as goal
 
 -- the sink took the text's first bytes, and didn't fail
 abbrev pub invariant-loop-at : goal.invariant-loop-at
