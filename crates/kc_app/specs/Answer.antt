@@ -7,7 +7,7 @@ use Rattle.kc_memory.specs.Places.{entry_places}
 use Rattle.kc_input.specs.declared.halt.Halt.{Halt}
 use Rattle.kc_input.specs.declared.halt.Halt.TheVariants.{Refused, Store, Memory}
 use Rattle.kc_ends.specs.declared.answer.Answer.{Answer}
-use Rattle.kc_ends.specs.Written.{written_by}
+use Rattle.kc_ends.specs.Answers.{written_by}
 use Rattle.kc_app.specs.Shown.{Said, Stop as StopSaid, said_status, seen_text}
 
 -- what is said of words of a dump is written, unless no memory was left

@@ -10,12 +10,12 @@ use Rattle.kc_input.specs.Made.{Made}
 use Rattle.kc_ends.specs.declared.answer.Answer.{Answer}
 use Rattle.kc_ends.specs.declared.status.Status.{Status}
 use Rattle.kc_ends.specs.declared.status.Status.TheVariants.{SinkFailed}
-use Rattle.kc_ends.specs.Answers.{OnStoreIn, Runs}
+use Rattle.kc_ends.specs.Answers.{OnStoreIn, Runs, ending}
 use Rattle.kc_ends.specs.Asked.{Asked, asked_files}
 use Rattle.kc_ends.specs.Ends.{ErrFailed, IsTold, IsWritten, TookLine}
 use Rattle.kc_ends.specs.Output.{Ends, ended, written, written_files}
 use Rattle.kc_ends.specs.Status.{At, is_answer, number}
-use Rattle.kc_ends.specs.Written.{Written, ending}
+use Rattle.kc_ends.specs.Written.{Written}
 
 on_true : {P Q : Type 0} (b : Bool) → (P → Q) → OnTrue b P → OnTrue b Q
 on_true true follows p = follows p

@@ -7,9 +7,16 @@ use Rattle.kc_input.specs.declared.halt.Halt.TheVariants.{Refused, Store, Memory
 use Rattle.kc_input.specs.Made.{Halts, Made}
 use Rattle.kc_input.specs.Slots.{refused_slot}
 use Rattle.kc_ends.specs.declared.answer.Answer.{Answer}
+use Rattle.kc_ends.specs.declared.answer.Answer.TheVariants.{Done, Broken}
+use Rattle.kc_ends.specs.declared.status.Status.TheVariants as status
 use Rattle.kc_ends.specs.Asked.{AllStay, Asked, Named, asked_files, behind}
 use Rattle.kc_ends.specs.Output.{ended}
-use Rattle.kc_ends.specs.Written.{Written, written_by}
+use Rattle.kc_ends.specs.Written.{Written, refused_with, usage_with}
+
+-- what an answer writes
+abbrev pub written_by : Answer → Written
+written_by (Done text) = record { out = text.items; err = []; status = status.Done }
+written_by (Broken text) = record { out = text.items; err = []; status = status.Broken }
 
 -- the code ends as is made, by what is written of what is shown
 abbrev pub Prints : {A : Type 0} → (A → Written) → Made A → Result Answer Halt → Type 0
@@ -50,6 +57,14 @@ pub record Answers {A : Type 0} (write : A → Written) (asks : Option (Asked A)
 abbrev pub Runs : {A : Type 0} → (A → Written) → Option (Asked A) → Option Files → Option (Result Answer Halt) → (Slot → Option (List ℕ)) → (Slot → Option (List ℕ)) → Type 0
 Runs write asks files None old new = asks ≡ None
 Runs write asks files (Some r) old new = Answers write asks files r old new
+
+-- what is written of what the words come to: none where the store failed or no memory was left
+abbrev pub ending : List ℕ → Option (Result Answer Halt) → Option Written
+ending usage None = Some (usage_with usage)
+ending usage (Some (Ok answer)) = Some (written_by answer)
+ending usage (Some (Err (Refused refusal))) = Some (refused_with refusal)
+ending usage (Some (Err Store)) = None
+ending usage (Some (Err Memory)) = None
 
 -- what is said where there is no command
 abbrev pub OnNone : Option (Result Answer Halt) → Type 0 → Type 0

@@ -4,11 +4,10 @@ ghost use Rattle.std.specs.Bool.{OnTrue};
 ghost use Rattle.kc_input.specs.declared.halt.Halt.TheVariants.{Store};
 ghost use Rattle.kc_outside.specs.Counts.{Rose};
 ghost use Rattle.kc_outside.specs.Texts.{with_piece};
-ghost use Rattle.kc_ends.specs.Answers.{NeedsMemory, OnNone, OnStoreIn};
+ghost use Rattle.kc_ends.specs.Answers.{NeedsMemory, OnNone, OnStoreIn, ending};
 ghost use Rattle.kc_ends.specs.Ends.{IsWritten, TookLine, TookOut, TookPrefix};
 ghost use Rattle.kc_ends.specs.Failures.{store_failed, memory_refused, sink_failed};
 ghost use Rattle.kc_ends.specs.Status.{At, is_answer, is_silent, is_sink_quiet, is_store_quiet, number};
-ghost use Rattle.kc_ends.specs.Written.{ending};
 ghost use Rattle.kc_ends.specs.declared.status.Status.TheVariants.{NoCommand, OutOfMemory, SinkFailed, StoreFailed};
 
 use crate::answer::Answer;
