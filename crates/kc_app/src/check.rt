@@ -24,8 +24,8 @@ ghost use Rattle.kc_app.specs.Shown.{shown_written};
 
 use kc_btf::Btf;
 use kc_elf::Core;
-use kc_found::Verdict;
 use kc_ends::Answer;
+use kc_found::Verdict;
 use kc_input::{
     Halt, paging_by, read_audits, read_dump, read_info, read_map, read_plan_file, read_symbols,
     read_types,
@@ -75,8 +75,8 @@ fn read(words: &[String]) -> Option<Asks<'_>>
 pub fn run<S: Store>(alloc: Global, store: &mut S, words: &[String]) -> Option<Result<Answer, Halt>>
     requires { (slot : Slot) → ForSome (word_in (check_asks (map string_bytes words.now)) slot) (S.may store.old slot) }
 
-    ensures output { Runs shown_written (check_asks (map string_bytes words.now)) (S.files store.old) result (S.opened store.old)
-        (S.opened store.new) }
+    ensures output { Runs shown_written (check_asks (map string_bytes words.now)) (S.files store.old) result
+        (S.opened store.old) (S.opened store.new) }
     ensures unasked { OnNone result (S.asked store.new ≡ S.asked store.old) }
     ensures files { S.files store.new ≡ S.files store.old }
     ensures later { S.faults store.old ≤ S.faults store.new }

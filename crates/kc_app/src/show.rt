@@ -97,8 +97,8 @@ fn read(words: &[String]) -> Option<Asks<'_>>
 pub fn run<S: Store>(alloc: Global, store: &mut S, words: &[String]) -> Option<Result<Answer, Halt>>
     requires { (slot : Slot) → ForSome (word_in (show_asks (map string_bytes words.now)) slot) (S.may store.old slot) }
 
-    ensures output { Runs shown_written (show_asks (map string_bytes words.now)) (S.files store.old) result (S.opened store.old)
-        (S.opened store.new) }
+    ensures output { Runs shown_written (show_asks (map string_bytes words.now)) (S.files store.old) result
+        (S.opened store.old) (S.opened store.new) }
     ensures unasked { OnNone result (S.asked store.new ≡ S.asked store.old) }
     ensures files { S.files store.new ≡ S.files store.old }
     ensures later { S.faults store.old ≤ S.faults store.new }
