@@ -62,8 +62,8 @@ fn put_out<O: Sink, E: Sink>(out: &mut O, err: &mut E, text: &[u8]) -> Result<()
     }
 }
 
-/// Ends a program whose words came to this, or to `None` where they aren't a command: it puts the text of an answer to
-/// standard output, or usage or the line of why there is no answer to standard error, and tells the status.
+/// Ends a program by what its words came to, `None` where they aren't a command, and tells its status. The text of an
+/// answer goes to standard output; usage, or the line of why there is no answer, goes to standard error.
 pub fn finish<O: Sink, E: Sink>(
     alloc: Global,
     outcome: Option<Result<Answer, Halt>>,
