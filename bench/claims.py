@@ -1,24 +1,43 @@
 #!/usr/bin/env python3
 """Compares the tables of definitions in docs/CLAIMS.md with the files.
 
-usage: claims.py              at the top of the repository
+usage: claims.py [--write]    at the top of the repository; --write puts the right numbers into the tables
 
-It follows the imports of definitions from the contracts of `kaudit` and `know_shown`, counts the lines of each file without
-blank lines, comments and imports, and prints what the tables lack, what they have too much, and wrong numbers. It also
-prints where a blank for a counter of steps is made outside the crates that may make one: everywhere else the bound on steps
-would bind a counter that nobody looks at.
+It follows the names of definitions from the contracts of the programs, item by item, and counts the lines of each without
+blank lines, comments and imports: all of them, and those on which the clause stands that `check` is clean exactly where every
+structure stands. It prints what the tables lack, what they have too much, and wrong numbers. It also prints where a blank for
+a counter of steps is made outside the crates that may make one: everywhere else the bound on steps would bind a counter that
+nobody looks at.
 """
 import glob
 import os
 import re
 import sys
 
-# Where the contracts stand, and what of their files' imports only private functions use.
-CONTRACTS = ["crates/kc_app/src/top.rt", "crates/kc_app/src/laws.rt"]
-PRIVATE = {"kc_app/specs/Answer.antt"}
+CLAIMS = "docs/CLAIMS.md"
+
+# The contracts of each program: a file, and a function of it.
+PROGRAMS = {
+    "kaudit": [("crates/kc_app/src/top.rt", "kaudit"), ("crates/kc_app/src/laws.rt", "know_shown")],
+    "kmatch": [("crates/kc_match/src/top.rt", "kmatch")],
+}
+
+# What laws say of a definition, so that nobody has to read it: the law's words are counted in its place.
+PINNED = {("kc_expr/specs/Machine.antt", "parsed"): ("kc_expr/specs/Spelling.antt", ["ChecksAreSpelled", "FaultsAreLongest"])}
+
+# What the clause on `clean` doesn't stand on: the first violation and its text (the law `checked` says when there is none),
+# the lines of refusals, and the other commands.
+NOT_CLEAN = {"audited_shown", "refusal_line", "ShownStand", "word_form", "layout_form", "show_form"}
 
 # The crates that make counters of steps.
 MAKE_BLANKS = {"kc_app"}
+
+USE = re.compile(r"^\s*(?:ghost |pub |unfoldable )*use Rattle\.(kc_\w+)\.specs\.([\w.]+?)(?:\.\{([^}]*)\}| as (\w+))?;?\s*$", re.M)
+BEGINS = re.compile(r"^(?:(?:pub|abbrev|unfoldable|opaque|data|record) )+([^\s(:{]+)")
+ROW = re.compile(r"\| (kc_\w+/specs/\S+) (?:\| \d+ )+\|")
+SUM = re.compile(r"\| (?:\| \*\*\d+\*\* )+\| ")
+TOTAL = re.compile(r"\| all (?:\| \*\*\d+\*\* )+\|$")
+WORD = re.compile(r"[^\s(){},;\[\]]+")
 
 
 def read(path):
@@ -34,10 +53,13 @@ def given_on():
             yield (crate, name), low
 
 
-def home(crate, path, given):
+GIVEN = dict(given_on())
+
+
+def home(crate, path):
     """The file of definitions behind an import, or None where that is a type of the code."""
-    while (crate, path) in given:
-        crate = given[crate, path]
+    while (crate, path) in GIVEN:
+        crate = GIVEN[crate, path]
     parts = path.split(".")
     for count in range(len(parts), 0, -1):
         name = f"{crate}/specs/{'/'.join(parts[:count])}.antt"
@@ -47,23 +69,120 @@ def home(crate, path, given):
 
 
 def imports(text):
-    """The files of definitions that a text imports."""
-    given = dict(given_on())
-    for crate, path in re.findall(r"use Rattle\.(kc_\w+)\.specs\.([\w.]+?)(?:\.\{| as )", text):
-        name = home(crate, path, given)
-        if name:
-            yield name
+    """The definitions that a text imports, by the names it gives them, and the files that it imports under a name."""
+    names, files = {}, {}
+    text = re.sub(r"\{([^}]*)\}", lambda it: "{" + it[1].replace("\n", " ") + "}", text)
+    for crate, path, inner, alias in USE.findall(text):
+        if alias:
+            files[alias] = home(crate, path)
+            continue
+        file, _, last = (path, "", "") if inner else path.rpartition(".")
+        for one in inner.split(",") if inner else [last]:
+            name, _, other = one.strip().partition(" as ")
+            if name and file and home(crate, file):
+                names[other or name] = home(crate, file), name
+    return names, {alias: file for alias, file in files.items() if file}
 
 
-def cited():
-    found = set()
-    waiting = {name for path in CONTRACTS for name in imports(read(path))} - PRIVATE
+class Definitions:
+    """The items of a file: the rows of each, and the item to which a constructor's or an item's name belongs."""
+
+    def __init__(self, name):
+        text = read(f"crates/{name}")
+        self.names, self.files = imports(text)
+        self.rows, self.item = {}, {}
+        text = re.sub(r"^(?:pub |unfoldable )*use [^\n{]*(?:\{[^}]*\})?[^\n]*$", "", text, flags=re.M)
+        ahead, last = [], None
+        for row in text.split("\n"):
+            if not row.strip() or row.strip().startswith("--"):
+                continue
+            begins = BEGINS.match(row)
+            constructor = re.match(r"  (\S+) : ", row)
+            if row.startswith("infix"):
+                ahead.append(row)
+            elif begins:
+                last = begins[1]
+                self.rows[last], self.item[last], ahead = [*ahead, row], last, []
+            else:
+                self.rows[last].append(row)
+                if constructor and "data" in self.rows[last][0].split():
+                    self.item[constructor[1]] = last
+
+
+FILES = {}
+
+
+def definitions(name):
+    if name not in FILES:
+        FILES[name] = Definitions(name)
+    return FILES[name]
+
+
+def cited(rows, names, files, own):
+    """The definitions that some rows name, each by its file and its name; "" is the rows' own file."""
+    operators = {name.replace("◌", ""): name for name in [*names, *own] if "◌" in name}
+    words = set(WORD.findall("\n".join(re.sub("--.*", "", row) for row in rows)))
+    words |= {">>="} & operators.keys() if "do" in words else set()
+    for word in words:
+        first, _, rest = word.partition(".")
+        name = operators.get(word, word if word in names or word in own else first)
+        if name in own:
+            yield "", own[name]
+        elif name in names:
+            yield names[name]
+        elif first in files and rest:
+            yield files[first], rest.split(".")[0]
+
+
+def contract(path, function):
+    """The definitions that a function's contract names."""
+    text = read(path)
+    names, files = imports(text)
+    at = text.index(f"pub fn {function}")
+    rows = [re.sub("//.*", "", row) for row in text[at:text.index("\n{", at)].split("\n")]
+    return set(cited(rows, names, files, {}))
+
+
+def reached(roots, without):
+    """The items that can be reached from some, by file and name."""
+    found, waiting = set(), [*roots]
     while waiting:
-        name = waiting.pop()
-        if name not in found:
-            found.add(name)
-            waiting |= set(imports(read(f"crates/{name}")))
+        file, name = waiting.pop()
+        here = definitions(file)
+        name = here.item.get(name, name)
+        if (file, name) in PINNED:
+            law, names = PINNED[file, name]
+            waiting += [(law, one) for one in names if (law, one) not in found]
+        elif name in here.rows and name not in without and (file, name) not in found:
+            found.add((file, name))
+            waiting += [(other or file, one) for other, one in cited(here.rows[name], here.names, here.files, here.item)]
     return found
+
+
+def counts(items):
+    by_file = {}
+    for file, name in items:
+        by_file[file] = by_file.get(file, 0) + len(definitions(file).rows[name])
+    return by_file
+
+
+def numbered(text, wanted):
+    """The text with the right numbers in its tables: those of a file, below each table its sums, and the sums of all."""
+    width = len(next(iter(wanted.values())))
+    told, sums, totals = [], [0] * width, [0] * width
+    for row in text.split("\n"):
+        file, below = ROW.match(row), SUM.match(row)
+        if file:
+            numbers = wanted.get(file[1], [0] * width)
+            sums = [a + b for a, b in zip(sums, numbers)]
+            row = f"| {file[1]} {''.join(f'| {it} ' for it in numbers)}|{row[file.end():]}"
+        elif below:
+            row = f"| | {' | '.join(f'**{it}**' for it in sums)} | | |"
+            totals, sums = [a + b for a, b in zip(totals, sums)], [0] * width
+        elif TOTAL.match(row):
+            row = f"| all | {' | '.join(f'**{it}**' for it in totals)} |"
+        told.append(row)
+    return "\n".join(told)
 
 
 def blanks():
@@ -74,19 +193,21 @@ def blanks():
             yield f"{path}: a blank is made"
 
 
-def lines(name):
-    rows = (row.strip() for row in read(f"crates/{name}").split("\n"))
-    return sum(1 for row in rows if row and not row.startswith(("--", "use ")))
-
-
 def main():
-    text = read("docs/CLAIMS.md")
-    listed = {name: int(count) for name, count in re.findall(r"^\| (kc_\w+/specs/\S+) \| (\d+) \|", text, re.M)}
-    wanted = {name: lines(name) for name in cited()}
-    wrong = [f"{name}: {listed.get(name, 'not listed')}, and has {wanted.get(name, 'no place there')}"
-             for name in sorted(listed.keys() | wanted.keys()) if listed.get(name) != wanted.get(name)]
-    if f"Together {sum(wanted.values())} lines." not in text:
-        wrong.append(f"together {sum(wanted.values())} lines")
+    roots = {program: set().union(*(contract(*it) for it in where)) for program, where in PROGRAMS.items() if os.path.exists(where[0][0])}
+    columns = [counts(reached(roots["kaudit"], set())), counts(reached(roots["kaudit"], NOT_CLEAN))]
+    columns += [counts(reached(it, set())) for program, it in roots.items() if program != "kaudit"]
+    wanted = {file: [it.get(file, 0) for it in columns] for file in set().union(*columns)}
+    text = read(CLAIMS)
+    right = numbered(text, wanted)
+    if "--write" in sys.argv:
+        with open(CLAIMS, "w", encoding="utf-8") as file:
+            file.write(right)
+        text = right
+    listed = {it[1] for it in map(ROW.match, text.split("\n")) if it}
+    wrong = [f"{file} isn't listed: {wanted[file]}" for file in sorted(wanted.keys() - listed)]
+    wrong += [f"{file} isn't cited" for file in sorted(listed - wanted.keys())]
+    wrong += [f"{old}   has to be\n{new}" for old, new in zip(text.split("\n"), right.split("\n")) if old != new]
     wrong += blanks()
     print("\n".join(wrong) or f"{len(wanted)} files as the tables say")
     sys.exit(bool(wrong))
