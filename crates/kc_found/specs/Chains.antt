@@ -7,9 +7,9 @@ use Rattle.kc_found.specs.Violations.{Violation}
 
 -- A chain by what leads to its sites.
 pub record ChainOf (S : Type 0) : Type 0 where
-  -- what is tried at site 0
+  -- what is tried at the head, where the chain has one
   pub head : List (Trial ℕ)
-  -- what leads to site 1, where site 0 can be read
+  -- what leads to the first site after the head, where the head can be read
   pub start : Option S
   -- whether the chain ends there
   pub ends : S → Bool
@@ -33,11 +33,11 @@ chain_trials k zero s = []
 chain_trials k (suc left) s =
     if k.ends s then k.last s else (k.site s ++ from_there (k.next s) (λ t. Meet (k.element s) ∷ chain_trials k left t))
 
--- the trials of site 0 and of at most so many sites after it
+-- the trials of the head and of at most so many sites after it
 abbrev pub chain_sites : {S : Type 0} → ChainOf S → ℕ → List (Trial ℕ)
 chain_sites k left = k.head ++ from_there k.start (chain_trials k left)
 
--- The addresses of the sites of a chain, or its first violation. In a memory of W words the sites up to number W + 1
--- are looked at: that many good ones would take more than W words.
+-- The addresses of the sites after a chain's head, or its first violation. In a memory of W words W + 1 of them are
+-- looked at: that many good ones would take more than W words.
 abbrev pub chain_walk : {S : Type 0} → Physical → ChainOf S → Result (List ℕ) Violation
 chain_walk physical k = judged (chain_sites k (word_count physical + 1))

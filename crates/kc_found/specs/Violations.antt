@@ -17,7 +17,8 @@ pub record Violation : Type 0 where
   pub rule : Rule
   -- the address that the violation is about
   pub at : ℕ
-  -- what should stand there
+  -- the number that the rule asks for: of most rules what should stand there, of R4 the bound, of R5 and U6 the count, of
+  -- T7 the leader
   pub expected : Option ℕ
   -- of M1 to M6 where reading stopped
   pub stop : Option Stopped
@@ -51,7 +52,8 @@ breaks asked rule w expected = record {
   places = place_of w ∷ [];
 }
 
--- the violation of a rule that a number of memory shows, at the address of its first byte
+-- the violation of a rule that a number of memory shows: of a field it is about the address of its first byte, of U4
+-- about the slab and of U5 about the pointer
 abbrev pub breaks_field : Asked → Rule → ℕ → Number → Option ℕ → Violation
 breaks_field asked rule at number expected = record {
   audit = asked.audit;

@@ -23,7 +23,8 @@ pub struct Found {
     pub rule: Rule,
     /// The virtual address that the violation is about.
     pub at: u64,
-    /// What the word, field or count should be, in 64 bits, or `None` where no rule says so.
+    /// The number that the rule asks for, in 64 bits, or `None` where it names none: of most rules what the word or the
+    /// field should be, of R4 the bound, of R5 and U6 the count, of T7 the leader.
     pub expected: Option<u64>,
     /// Where reading stopped.
     pub stop: Option<Miss>,
@@ -99,8 +100,8 @@ fn field_places(alloc: Global, number: &Scalar) -> Result<Places, NoMemory>
     Ok(places)
 }
 
-/// The violation of a rule that a number of memory shows, at the address of its first byte. It is out of memory where
-/// none is left for the places.
+/// The violation of a rule that a number of memory shows, about the address `at`: of a field that of its first byte, of
+/// U4 the slab's, of U5 the pointer. It is out of memory where none is left for the places.
 pub fn broken_field(
     alloc: Global,
     asked: &Asked,

@@ -3,13 +3,10 @@ ghost use Rattle.std.specs.Prelude.{◌≡◌, ℕ, ◌+◌, ◌*◌, ◌^◌, �
 ghost use Rattle.kc_memory.specs.Space.{AnswersAs};
 ghost use Rattle.kc_memory.specs.Stays.{CountsFaults, SpaceStays};
 ghost use Rattle.kc_memory.specs.Translation.{vword};
-ghost use Rattle.kc_memory.specs.declared.rule.Rule.TheVariants.{A};
 ghost use Rattle.kc_found.specs.Nodes.{both, one_taken, two_taken};
-ghost use Rattle.kc_found.specs.Trials.{claimed};
-ghost use Rattle.kc_found.specs.Violations.{breaks};
-ghost use Rattle.kc_found.specs.Walks.{CountsWalkFaults, IsNamed, IsWalk, OnWalkFault, TakesAs};
+ghost use Rattle.kc_found.specs.Walks.{CountsWalkFaults, IsNamed, TakesAs};
 
-use kc_found::{Asked, Claims, Rule, Space, Stop, VWord, WalkStop, Walked, broken_at, stopped};
+use kc_found::{Asked, Claims, Space, Stop, VWord, WalkStop, Walked, stopped, take_word};
 use kc_word::{NoMemory, Steps};
 use std::alloc::Global;
 use std::sync::ledger::Ledger;
@@ -30,24 +27,6 @@ fn read_both<S: Space, L: Ledger>(
     let a = space.word(first, steps)?;
     let b = space.word(second, steps)?;
     Ok((a, b))
-}
-
-// Takes a word: rule A where it was taken before.
-fn take_word(
-    alloc: Global,
-    claims: &mut Claims,
-    asked: &Asked,
-    word: &VWord,
-) -> Result<(), WalkStop>
-    ensures taken { IsWalk (λ _. claims.new) (claimed claims.old word.now.pa (breaks asked.now A word.now None)) result }
-    ensures named { IsNamed result asked.now.audit asked.now.start }
-    ensures no_fault { OnWalkFault result ⊥ }
-{
-    match claims.take(word.pa) {
-        Ok(true) => Ok(()),
-        Ok(false) => Err(broken_at(alloc, asked, Rule::A, word, None)),
-        Err(NoMemory) => Err(WalkStop::NoMemory),
-    }
 }
 
 // Reads and takes a word, to which `led` leads.

@@ -3,7 +3,7 @@ use kc_found::{HShape, ListShape, RbShape, XaShape};
 use kc_view::{SlubShape, TaskShape};
 
 /// The kind of an audit, with the places of the words that it reads.
-#[derive(Clone, Copy, Debug, PartialEq, Eq)]
+#[derive(Clone, Copy)]
 pub enum Kind {
     /// A ring (`struct list_head`).
     Ring(ListShape),

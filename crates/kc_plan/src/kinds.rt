@@ -1,6 +1,6 @@
 // The table of the kinds of audits. A new kind has a variant here and in `Kind`, and a line in each function that
 // matches on them: its name, what it asks of the keys, what it needs of a kernel, and where its words stand.
-ghost use Rattle.std.specs.Prelude.{◌≡◌, ◌≤◌, length, IfSome};
+ghost use Rattle.std.specs.Prelude.{◌≡◌, ◌≤◌, length, IfSome, false};
 ghost use Rattle.kc_plan.specs.declared.kinds.Sort.TheVariants as sort;
 ghost use Rattle.kc_plan.specs.Kinds.{sort_of, needs_of, hlist_words, root_words, tree_words, node_bytes, xarray_words, row, shape, AreRows, IsRow};
 ghost use Rattle.kc_plan.specs.Inside.{KindInside};
@@ -89,6 +89,33 @@ pub(crate) struct Rows {
     pub tasks: Row,
 }
 
+// What slab caches need.
+fn slub_row(known: &Known<'_>) -> Row
+    ensures exact { result ≡ row (kernel known.now) sort.Slub false }
+    ensures there { IsRow (length (kernel known.now).types.records) result }
+{
+    Row {
+        head: struct_named(known.btf, b"kmem_cache"),
+        node: struct_named(known.btf, b"list_head"),
+        element: struct_named(known.btf, b"slab"),
+        clear: are_single(known),
+    }
+}
+
+// What tasks need.
+fn task_row(known: &Known<'_>) -> Row
+    ensures exact { result ≡ row (kernel known.now) sort.Tasks false }
+    ensures there { IsRow (length (kernel known.now).types.records) result }
+{
+    let task = struct_named(known.btf, b"task_struct");
+    Row {
+        head: task,
+        node: struct_named(known.btf, b"list_head"),
+        element: task,
+        clear: true,
+    }
+}
+
 // The rows of all kinds.
 pub(crate) fn rows_of(known: &Known<'_>) -> Rows
     ensures { AreRows (kernel known.now) result }
@@ -97,7 +124,6 @@ pub(crate) fn rows_of(known: &Known<'_>) -> Rows
     let head = struct_named(known.btf, b"hlist_head");
     let node = struct_named(known.btf, b"hlist_node");
     let tree = struct_named(known.btf, b"rb_node");
-    let task = struct_named(known.btf, b"task_struct");
     Rows {
         ring: Row {
             head: list,
@@ -129,18 +155,8 @@ pub(crate) fn rows_of(known: &Known<'_>) -> Rows
             element: None,
             clear: true,
         },
-        slub: Row {
-            head: struct_named(known.btf, b"kmem_cache"),
-            node: list,
-            element: struct_named(known.btf, b"slab"),
-            clear: are_single(known),
-        },
-        tasks: Row {
-            head: task,
-            node: list,
-            element: task,
-            clear: true,
-        },
+        slub: slub_row(known),
+        tasks: task_row(known),
     }
 }
 

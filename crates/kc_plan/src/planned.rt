@@ -53,7 +53,7 @@ pub struct Audit {
 }
 
 /// Where an audit begins.
-#[derive(Clone, Copy, Debug, PartialEq, Eq)]
+#[derive(Clone, Copy)]
 pub enum Start {
     /// At a path from a type that lies at a symbol.
     Root {

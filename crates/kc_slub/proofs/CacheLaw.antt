@@ -6,7 +6,7 @@ use Rattle.std.specs.Option.{unwrap_or}
 use Rattle.std.proofs.lemmas.Bool.{and_from, and_parts, or_parts, eqb-true, ltb-true, ltb-false, lt-ltb, le-ltb}
 use Rattle.std.proofs.lemmas.List.{append-nil, append_assoc}
 use Rattle.std.proofs.Math.Dec.{eqb-suc-zero}
-use Rattle.kc_memory.specs.declared.rule.Rule.TheVariants.{U6}
+use Rattle.kc_memory.specs.declared.rule.Rule.TheVariants.{U1, U2, U6}
 use Rattle.kc_memory.specs.declared.words.VWord.{VWord}
 use Rattle.kc_memory.specs.Bits.{Number, bits}
 use Rattle.kc_memory.specs.Image.{Image}
@@ -17,8 +17,8 @@ use Rattle.kc_view.specs.declared.fields.FieldNumber.{FieldNumber}
 use Rattle.kc_view.specs.declared.slub.Base.{Base}
 use Rattle.kc_view.specs.declared.slub.Base.TheVariants.{At, Is}
 use Rattle.kc_view.specs.declared.slub.SlubShape.{SlubShape}
-use Rattle.kc_view.specs.Fields.{FieldIs, breaks_at, or_missed, read_field, started_at, unless, value_of}
-use Rattle.kc_view.proofs.FieldLaws.{field_is, field_read, is_some, missed_ok, some_of, started_ok, then_is, unless_is, unless_ok}
+use Rattle.kc_view.specs.Fields.{FieldIs, breaks_at, holds, or_missed, read_field, started_at, unless, value_of}
+use Rattle.kc_view.proofs.FieldLaws.{field_is, field_read, held, holding, is_some, missed_ok, some_of, started_ok, then_is, unless_is, unless_ok}
 use Rattle.kc_found.specs.declared.asked.Asked.{Asked}
 use Rattle.kc_found.specs.declared.found.WalkStop.{WalkStop}
 use Rattle.kc_found.specs.declared.found.WalkStop.TheVariants as ends
@@ -177,11 +177,9 @@ list_from image asked grid slab wanted inuse first os e all =
 slab_is : FreeListsAreWalked → (image : Image) (asked : Asked) (shape : SlubShape) (b : Bases) (o : Objects) (slab s : ℕ) → 1 ≤ o.size → o.offset + 8 ≤ o.size → slab_checked image asked shape b o slab ≡ Ok s →
     IsSlab image shape b o asked.start slab × (s ≡ slab)
 slab_is frees image asked shape b o slab s some inside e =
-    let c = ok_after (read_field image asked slab shape.slab_cache) _ s e in
-    let one = unless_ok _ _ _ s c.2 in
-    let z = ok_after (read_field image asked slab shape.frozen) _ s one.1 in
-    let two = unless_ok _ _ _ s z.2 in
-    let n = ok_after (read_field image asked slab shape.objects) _ s two.1 in
+    let c = ok_after (holds image asked U1 slab shape.slab_cache asked.start) _ s e in
+    let z = ok_after (holds image asked U2 slab shape.frozen 0) _ s c.2 in
+    let n = ok_after (read_field image asked slab shape.objects) _ s z.2 in
     let u = ok_after (read_field image asked slab shape.inuse) _ s n.2 in
     let three = unless_ok _ _ _ s u.2 in
     let f = ok_after (read_field image asked slab shape.freelist) _ s three.1 in
@@ -191,8 +189,8 @@ slab_is frees image asked shape b o slab s some inside e =
     let counts = or_parts _ _ three.0 in
     let page = and_parts _ _ (not_false _ four.0) in (
       record {
-        slab_cache = subst (FieldIs image slab shape.slab_cache) (eqb-true _ _ (not_false _ one.0)) (field_is image asked slab shape.slab_cache c.0 c.1);
-        frozen = subst (FieldIs image slab shape.frozen) (eqb-true _ _ (not_false _ two.0)) (field_is image asked slab shape.frozen z.0 z.1);
+        slab_cache = held image asked U1 slab shape.slab_cache asked.start c.1;
+        frozen = held image asked U2 slab shape.frozen 0 z.1;
         objects = value_of n.0;
         inuse = value_of u.0;
         first = value_of f.0;
@@ -213,8 +211,6 @@ slab_is frees image asked shape b o slab s some inside e =
 slab_from : FreeListsAreWalked → (image : Image) (asked : Asked) (shape : SlubShape) (b : Bases) (o : Objects) (slab : ℕ) → 1 ≤ o.size → o.offset + 8 ≤ o.size → IsSlab image shape b o asked.start slab →
     slab_checked image asked shape b o slab ≡ Ok slab
 slab_from frees image asked shape b o slab some inside h =
-    let c = field_read image asked slab shape.slab_cache asked.start h.slab_cache in
-    let z = field_read image asked slab shape.frozen 0 h.frozen in
     let n = field_read image asked slab shape.objects h.objects h.counted in
     let u = field_read image asked slab shape.inuse h.inuse h.used in
     let f = field_read image asked slab shape.freelist h.first h.leads in
@@ -228,12 +224,12 @@ slab_from frees image asked shape b o slab some inside h =
     let page : is_descriptor shape b slab ≡ true =
     and_from _ _ (eq-eqb _ _ h.whole) (lt-ltb (page_of shape b slab) (2 ^ 40) h.page) in
     let all : length h.free ≡ value_of n.field - value_of u.field = rw (n.value, u.value) h.length in
-    then_is (read_field image asked slab shape.slab_cache) _ c.field slab c.read (unless_is _ _ _ slab (ap not (eq-eqb _ _ c.value))
-    (then_is (read_field image asked slab shape.frozen) _ z.field slab z.read (unless_is _ _ _ slab (ap not (eq-eqb _ _ z.value))
+    then_is (holds image asked U1 slab shape.slab_cache asked.start) _ tt slab (holding image asked U1 slab shape.slab_cache asked.start h.slab_cache)
+    (then_is (holds image asked U2 slab shape.frozen 0) _ tt slab (holding image asked U2 slab shape.frozen 0 h.frozen)
     (then_is (read_field image asked slab shape.objects) _ n.field slab n.read
     (then_is (read_field image asked slab shape.inuse) _ u.field slab u.read (unless_is _ _ _ slab counts
     (then_is (read_field image asked slab shape.freelist) _ f.field slab f.read (unless_is _ _ _ slab (ap not page)
-    (list_from image asked grid slab (value_of n.field - value_of u.field) u.field f.field.number h.free walked all)))))))))
+    (list_from image asked grid slab (value_of n.field - value_of u.field) u.field f.field.number h.free walked all)))))))
 
 -- the slabs of a ring
 slabs_are : FreeListsAreWalked → (image : Image) (asked : Asked) (shape : SlubShape) (b : Bases) (o : Objects) (before ns all : List ℕ) → 1 ≤ o.size → o.offset + 8 ≤ o.size →

@@ -14,9 +14,9 @@ use Rattle.kc_view.specs.declared.fields.FieldNumber.{FieldNumber}
 use Rattle.kc_view.specs.declared.slub.Base.{Base}
 use Rattle.kc_view.specs.declared.slub.Base.TheVariants.{At, Is}
 use Rattle.kc_view.specs.declared.slub.SlubShape.{SlubShape}
-use Rattle.kc_view.specs.Fields.{breaks_at, or_missed, read_field, value_of}
+use Rattle.kc_view.specs.Fields.{breaks_at, holds, or_missed, read_field, value_of}
 use Rattle.kc_view.specs.Laws.{ValuesStand}
-use Rattle.kc_view.proofs.FieldLaws.{Shows, field_shows, number_stands, shown_by, shows_all, started_shows, then_shows, unless_shows, word_shows}
+use Rattle.kc_view.proofs.FieldLaws.{Shows, field_shows, holds_shows, number_stands, shown_by, shows_all, started_shows, then_shows, unless_shows, word_shows}
 use Rattle.kc_found.specs.declared.asked.Asked.{Asked}
 use Rattle.kc_found.specs.declared.free.Grid.{Grid}
 use Rattle.kc_found.specs.FreeLists.{free_list, low_word, number_in}
@@ -80,12 +80,12 @@ slab_shows : Known → (image : Image) (asked : Asked) (shape : SlubShape) (b : 
 slab_shows known image asked shape b o slab =
     let reads = λ (f : Field). field_shows known.values image asked slab f in
     let stands = number_stands known.values image asked slab in
-    then_shows image (read_field image asked slab shape.slab_cache) _ (reads shape.slab_cache) (λ c cache. unless_shows {A = ℕ} image (not (nat_eq (value_of c) asked.start)) (breaks_at asked U1 c (Some asked.start)) _ (stands shape.slab_cache c cache)
-    (then_shows image (read_field image asked slab shape.frozen) _ (reads shape.frozen) (λ z frozen. unless_shows {A = ℕ} image (not (nat_eq (value_of z) 0)) (breaks_at asked U2 z (Some 0)) _ (stands shape.frozen z frozen)
-    (then_shows image (read_field image asked slab shape.objects) _ (reads shape.objects) (λ n objects.
+    then_shows image (holds image asked U1 slab shape.slab_cache asked.start) _ (holds_shows known.values image asked U1 slab shape.slab_cache asked.start) (λ c cache.
+    then_shows image (holds image asked U2 slab shape.frozen 0) _ (holds_shows known.values image asked U2 slab shape.frozen 0) (λ z frozen.
+    then_shows image (read_field image asked slab shape.objects) _ (reads shape.objects) (λ n objects.
     then_shows image (read_field image asked slab shape.inuse) _ (reads shape.inuse) (λ u inuse. unless_shows {A = ℕ} image (nat_eq (value_of n) 0 || nat_lt (value_of n) (value_of u)) (breaks_at asked U3 n None) _ (stands shape.objects n objects)
     (then_shows image (read_field image asked slab shape.freelist) _ (reads shape.freelist) (λ f first. unless_shows {A = ℕ} image (not (is_descriptor shape b slab)) (breaks_field asked U4 slab f.number None) _ (stands shape.freelist f first)
-    (list_shows known image asked (grid_of shape b o slab (value_of n)) slab (value_of n - value_of u) u f.number (stands shape.inuse u inuse) (stands shape.freelist f first))))))))))
+    (list_shows known image asked (grid_of shape b o slab (value_of n)) slab (value_of n - value_of u) u f.number (stands shape.inuse u inuse) (stands shape.freelist f first))))))))
 
 -- step 4
 slabs_show : Known → (image : Image) (asked : Asked) (shape : SlubShape) (b : Bases) (o : Objects) (before ns : List ℕ) → Shows image (slabs_checked image asked shape b o before ns)

@@ -12,7 +12,7 @@ use Rattle.kc_view.specs.declared.fields.FieldNumber.{FieldNumber}
 use Rattle.kc_view.specs.declared.slub.Base.{Base}
 use Rattle.kc_view.specs.declared.slub.Base.TheVariants.{At, Is}
 use Rattle.kc_view.specs.declared.slub.SlubShape.{SlubShape}
-use Rattle.kc_view.specs.Fields.{breaks_at, or_missed, read_field, started_at, unless, value_of}
+use Rattle.kc_view.specs.Fields.{breaks_at, holds, or_missed, read_field, started_at, unless, value_of}
 use Rattle.kc_found.specs.declared.asked.Asked.{Asked}
 use Rattle.kc_found.specs.declared.free.Grid.{Grid}
 use Rattle.kc_found.specs.FreeLists.{free_list, low_word, number_in}
@@ -104,11 +104,9 @@ counts_checked image asked shape b o slab =
 -- step 5 whole: U1 of `slab_cache` and U2 of `frozen` come first
 abbrev pub slab_checked : Image → Asked → SlubShape → Bases → Objects → ℕ → Result ℕ Violation
 slab_checked image asked shape b o slab =
-    and_then (read_field image asked slab shape.slab_cache) (λ c.
-    unless (not (nat_eq (value_of c) asked.start)) (breaks_at asked U1 c (Some asked.start))
-    (and_then (read_field image asked slab shape.frozen) (λ z.
-    unless (not (nat_eq (value_of z) 0)) (breaks_at asked U2 z (Some 0))
-    (counts_checked image asked shape b o slab))))
+    and_then (holds image asked U1 slab shape.slab_cache asked.start) (λ _.
+    and_then (holds image asked U2 slab shape.frozen 0) (λ _.
+    counts_checked image asked shape b o slab))
 
 -- the slab of a ring's node
 abbrev pub slab_of : SlubShape → ℕ → ℕ

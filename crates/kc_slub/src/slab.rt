@@ -8,7 +8,7 @@ ghost use Rattle.kc_slub.specs.Caches.{counts_checked, free_checked, grid_of, is
 use crate::cache::{Bases, Objects};
 use crate::free::free_walk;
 use kc_found::{Asked, Grid, Rule, Scalar, Space, WalkStop, broken_field};
-use kc_view::{FieldNumber, SlubShape, View, read_field};
+use kc_view::{FieldNumber, SlubShape, View, check_field, read_field};
 use kc_word::Steps;
 use std::alloc::Global;
 use std::sync::ledger::Ledger;
@@ -177,26 +177,17 @@ pub(crate) fn check_slab<S: Space, L: Ledger>(
     ensures stays { SpaceStays S.image S.files S.through S.most space.old space.new }
     ensures cause { CountsWalkFaults result (S.faults space.old) (S.faults space.new) }
 {
-    let cache = match read_field(alloc, space, asked, slab, &shape.slab_cache, steps) {
-        Ok(cache) => cache,
-        Err(stop) => return Err(stop),
-    };
-    if cache.value() != asked.start {
-        return Err(broken_field(
-            alloc,
-            asked,
-            Rule::U1,
-            cache.at,
-            &cache.number,
-            Some(asked.start),
-        ));
-    }
-    let frozen = match read_field(alloc, space, asked, slab, &shape.frozen, steps) {
-        Ok(frozen) => frozen,
-        Err(stop) => return Err(stop),
-    };
-    if frozen.value() != 0 {
-        return Err(broken_field(alloc, asked, Rule::U2, frozen.at, &frozen.number, Some(0)));
-    }
+    let cache = &shape.slab_cache;
+    check_field(
+        alloc,
+        space,
+        asked,
+        Rule::U1,
+        slab,
+        cache,
+        asked.start,
+        steps,
+    )?;
+    check_field(alloc, space, asked, Rule::U2, slab, &shape.frozen, 0, steps)?;
     check_counts(alloc, space, asked, shape, bases, objects, slab, steps)
 }

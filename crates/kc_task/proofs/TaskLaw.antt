@@ -3,16 +3,14 @@ use Rattle.std.proofs.Common.{◌≡◌, ℕ, nat_eq, Bool, true, false, List, [
 use Rattle.std.specs.Prelude.{Result, Ok, Err, not, ⊤, if◌then◌else◌, IfOk, IfSome}
 use Rattle.std.specs.List.{AllByRecursion}
 use Rattle.std.proofs.lemmas.Bool.{eqb-true}
-use Rattle.kc_memory.specs.declared.rule.Rule.{Rule}
 use Rattle.kc_memory.specs.declared.rule.Rule.TheVariants.{T1, T2, T3, T4, T5, T6, T7}
 use Rattle.kc_memory.specs.declared.words.VWord.{VWord}
 use Rattle.kc_memory.specs.Image.{Image}
 use Rattle.kc_memory.specs.Stopped.{Stopped}
 use Rattle.kc_memory.specs.Translation.{vword}
-use Rattle.kc_layout.specs.declared.place.Field.{Field}
 use Rattle.kc_view.specs.declared.tasks.TaskShape.{TaskShape}
-use Rattle.kc_view.specs.Fields.{FieldIs, breaks_at, or_missed, read_field, started_at, unless, value_of}
-use Rattle.kc_view.proofs.FieldLaws.{field_is, field_read, missed_ok, started_ok, then_is, unless_is, unless_ok}
+use Rattle.kc_view.specs.Fields.{FieldIs, breaks_at, holds, or_missed, read_field, started_at, unless, value_of}
+use Rattle.kc_view.proofs.FieldLaws.{equal_of, field_is, field_read, held, holding, missed_ok, of_equal, started_ok, then_is, unless_is, unless_ok}
 use Rattle.kc_found.specs.declared.asked.Asked.{Asked}
 use Rattle.kc_found.specs.declared.found.WalkStop.{WalkStop}
 use Rattle.kc_found.specs.declared.found.WalkStop.TheVariants as ends
@@ -24,31 +22,11 @@ use Rattle.kc_found.specs.Violations.{Violation, breaks}
 use Rattle.kc_found.specs.Walks.{OnBroken, WalksAs}
 use Rattle.kc_found.proofs.Known.{ok_after}
 use Rattle.kc_list.specs.Laws.{RingsAreWalked}
-use Rattle.kc_list.proofs.Finite.{first_of, not_false, some_word}
+use Rattle.kc_list.proofs.Finite.{first_of, some_word}
 use Rattle.kc_task.specs.declared.group.Group.{Group}
 use Rattle.kc_task.specs.FiniteTasks.{AreGroups, AreOn, IsGroup, IsStack, IsThread, NoTasks, Tasks}
 use Rattle.kc_task.specs.Laws.{HeadIsRead, TasksAreWalked}
-use Rattle.kc_task.specs.TaskLists.{all_pass, among_checked, children_checked, end_checked, gathered, group_of, holds, is_among, leader_checked, shared_checked, stack_checked, stack_end, task_list, task_of, tasks_on, tgid_checked, thread_checked, thread_head, threads_checked}
-
--- two numbers that have to be equal
-equal_of : (n m : ℕ) → not (nat_eq n m) ≡ false → n ≡ m
-equal_of n m e = eqb-true n m (not_false (nat_eq n m) e)
-
-of_equal : (n m : ℕ) → n ≡ m → not (nat_eq n m) ≡ false
-of_equal n m e = ap not (eq-eqb n m e)
-
--- fields
-held : (image : Image) (asked : Asked) (rule : Rule) (task : ℕ) (f : Field) (wanted : ℕ) → holds image asked rule task f wanted ≡ Ok tt → FieldIs image task f wanted
-held image asked rule task f wanted e =
-    let s = ok_after (read_field image asked task f) (λ n. unless (not (nat_eq (value_of n) wanted)) (breaks_at asked rule n (Some wanted)) (Ok tt)) tt e in
-    let p = unless_ok (not (nat_eq (value_of s.0) wanted)) (breaks_at asked rule s.0 (Some wanted)) (Ok tt) tt s.2 in
-    field_is image asked task f s.0 s.1 ∙ ap Some (equal_of (value_of s.0) wanted p.0)
-
-holding : (image : Image) (asked : Asked) (rule : Rule) (task : ℕ) (f : Field) (wanted : ℕ) → FieldIs image task f wanted → holds image asked rule task f wanted ≡ Ok tt
-holding image asked rule task f wanted is =
-    let r = field_read image asked task f wanted is in
-    then_is (read_field image asked task f) (λ n. unless (not (nat_eq (value_of n) wanted)) (breaks_at asked rule n (Some wanted)) (Ok tt)) r.field tt r.read
-    (unless_is (not (nat_eq (value_of r.field) wanted)) (breaks_at asked rule r.field (Some wanted)) (Ok tt) tt (of_equal (value_of r.field) wanted r.value) refl)
+use Rattle.kc_task.specs.TaskLists.{all_pass, among_checked, children_checked, end_checked, gathered, group_of, is_among, leader_checked, shared_checked, stack_checked, stack_end, task_list, task_of, tasks_on, tgid_checked, thread_checked, thread_head, threads_checked}
 
 -- each of some tasks
 passed : (go : ℕ → Result ⊤ Violation) (P : ℕ → Type 0) (ts : List ℕ) → ((t : ℕ) → go t ≡ Ok tt → P t) → all_pass go ts ≡ Ok tt → AllByRecursion P ts

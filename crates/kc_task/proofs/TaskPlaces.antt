@@ -1,16 +1,14 @@
 -- The violations of a task list show words of the dump alone.
 use Rattle.std.proofs.Common.{ℕ, nat_eq, Bool, true, false, List, [], ◌∷◌, ◌++◌, Some, map}
 use Rattle.std.specs.Prelude.{Result, Ok, Err, not, ⊤, if◌then◌else◌}
-use Rattle.kc_memory.specs.declared.rule.Rule.{Rule}
 use Rattle.kc_memory.specs.declared.rule.Rule.TheVariants.{T1, T2, T3, T4, T5, T6, T7}
 use Rattle.kc_memory.specs.Image.{Image}
 use Rattle.kc_memory.specs.Laws.{PlacesStand}
 use Rattle.kc_memory.specs.Translation.{vword}
-use Rattle.kc_layout.specs.declared.place.Field.{Field}
 use Rattle.kc_view.specs.declared.tasks.TaskShape.{TaskShape}
-use Rattle.kc_view.specs.Fields.{breaks_at, or_missed, read_field, started_at, value_of}
+use Rattle.kc_view.specs.Fields.{breaks_at, holds, or_missed, read_field, started_at, value_of}
 use Rattle.kc_view.specs.Laws.{ValuesStand}
-use Rattle.kc_view.proofs.FieldLaws.{Shows, field_shows, number_stands, shown_by, shows_all, started_shows, then_shows, unless_shows, word_shows, word_stands}
+use Rattle.kc_view.proofs.FieldLaws.{Shows, field_shows, holds_shows, number_stands, shown_by, shows_all, started_shows, then_shows, unless_shows, word_shows, word_stands}
 use Rattle.kc_found.specs.declared.asked.Asked.{Asked}
 use Rattle.kc_found.specs.Nodes.{at_offset}
 use Rattle.kc_found.specs.Rings.{ring_walk}
@@ -18,7 +16,7 @@ use Rattle.kc_found.specs.Violations.{Violation, breaks}
 use Rattle.kc_list.proofs.ChainsShown.{ring_walk_shows}
 use Rattle.kc_task.specs.declared.group.Group.{Group}
 use Rattle.kc_task.specs.Laws.{TaskPlacesStand}
-use Rattle.kc_task.specs.TaskLists.{all_pass, among_checked, children_checked, end_checked, gathered, group_of, holds, is_among, leader_checked, shared_checked, stack_checked, stack_end, task_list, task_of, tasks_on, tgid_checked, thread_checked, thread_head}
+use Rattle.kc_task.specs.TaskLists.{all_pass, among_checked, children_checked, end_checked, gathered, group_of, is_among, leader_checked, shared_checked, stack_checked, stack_end, task_list, task_of, tasks_on, tgid_checked, thread_checked, thread_head}
 
 -- what the laws of the dump's words and fields say
 record Told : Type 0 where
@@ -28,11 +26,6 @@ record Told : Type 0 where
 either : {A : Type 0} (image : Image) (b : Bool) (r q : Result A Violation) → Shows image r → Shows image q → Shows image (if b then r else q)
 either image true r q here there = here
 either image false r q here there = there
-
-holds_shows : Told → (image : Image) (asked : Asked) (rule : Rule) (task : ℕ) (f : Field) (wanted : ℕ) → Shows image (holds image asked rule task f wanted)
-holds_shows told image asked rule task f wanted =
-    then_shows image (read_field image asked task f) _ (field_shows told.fields image asked task f)
-    (λ n is. unless_shows image (not (nat_eq (value_of n) wanted)) (breaks_at asked rule n (Some wanted)) (Ok tt) (number_stands told.fields image asked task f n is) tt)
 
 all_show : (image : Image) (go : ℕ → Result ⊤ Violation) (ts : List ℕ) → ((t : ℕ) → Shows image (go t)) → Shows image (all_pass go ts)
 unfolding all_pass
@@ -54,7 +47,7 @@ ring_shows told image asked shape head offset =
 children_show : Told → (image : Image) (asked : Asked) (shape : TaskShape) (owner : ℕ) → Shows image (children_checked image asked shape owner)
 children_show told image asked shape owner =
     then_shows image (tasks_on image asked shape (at_offset owner shape.children) shape.sibling) _ (ring_shows told image asked shape (at_offset owner shape.children) shape.sibling)
-    (λ children is. all_show image (λ child. holds image asked T5 child shape.real_parent owner) children (λ child. holds_shows told image asked T5 child shape.real_parent owner))
+    (λ children is. all_show image (λ child. holds image asked T5 child shape.real_parent owner) children (λ child. holds_shows told.fields image asked T5 child shape.real_parent owner))
 
 end_shows : Told → (image : Image) (asked : Asked) (stack : ℕ) → Shows image (end_checked image asked stack)
 end_shows told image asked stack =
@@ -65,9 +58,9 @@ end_shows told image asked stack =
 thread_shows : Told → (image : Image) (asked : Asked) (shape : TaskShape) (g : Group) (thread : ℕ) → Shows image (thread_checked image asked shape g thread)
 thread_shows told image asked shape g thread =
     then_shows image (shared_checked image asked shape g thread) _
-    (then_shows image (holds image asked T1 thread shape.group_leader g.leader) _ (holds_shows told image asked T1 thread shape.group_leader g.leader)
-    (λ a ai. then_shows image (holds image asked T3 thread shape.signal g.signal) (λ _. holds image asked T4 thread shape.tgid g.tgid) (holds_shows told image asked T3 thread shape.signal g.signal)
-    (λ b bi. holds_shows told image asked T4 thread shape.tgid g.tgid)))
+    (then_shows image (holds image asked T1 thread shape.group_leader g.leader) _ (holds_shows told.fields image asked T1 thread shape.group_leader g.leader)
+    (λ a ai. then_shows image (holds image asked T3 thread shape.signal g.signal) (λ _. holds image asked T4 thread shape.tgid g.tgid) (holds_shows told.fields image asked T3 thread shape.signal g.signal)
+    (λ b bi. holds_shows told.fields image asked T4 thread shape.tgid g.tgid)))
     (λ c ci. then_shows image (children_checked image asked shape thread) (λ _. stack_checked image asked shape thread) (children_show told image asked shape thread)
     (λ d di. then_shows image (read_field image asked thread shape.stack) (λ s. end_checked image asked (value_of s)) (field_shows told.fields image asked thread shape.stack)
     (λ s si. end_shows told image asked (value_of s))))
@@ -80,7 +73,7 @@ among_shows told image asked shape g threads =
 
 group_shows : Told → (image : Image) (asked : Asked) (shape : TaskShape) (leader : ℕ) → Shows image (group_of image asked shape leader)
 group_shows told image asked shape leader =
-    then_shows image (holds image asked T1 leader shape.group_leader leader) _ (holds_shows told image asked T1 leader shape.group_leader leader)
+    then_shows image (holds image asked T1 leader shape.group_leader leader) _ (holds_shows told.fields image asked T1 leader shape.group_leader leader)
     (λ a ai. then_shows image (tgid_checked image asked shape leader) _
     (then_shows image (read_field image asked leader shape.pid) _ (field_shows told.fields image asked leader shape.pid)
     (λ p pi. then_shows image (read_field image asked leader shape.tgid) _ (field_shows told.fields image asked leader shape.tgid)

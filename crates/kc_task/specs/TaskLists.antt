@@ -3,13 +3,11 @@
 use Rattle.std.specs.Prelude.{◌≤◌, ℕ, ◌+◌, ◌-◌, ◌%◌, ◌^◌, Bool, nat_eq, not, if◌then◌else◌, List, [], ◌∷◌, ◌++◌, map, length, Some, Result, Ok, Err, ⊤}
 use Rattle.std.specs.List.{list_any}
 use Rattle.kc_btf.specs.Btf.{Types}
-use Rattle.kc_memory.specs.declared.rule.Rule.{Rule}
 use Rattle.kc_memory.specs.declared.rule.Rule.TheVariants.{T1, T2, T3, T4, T5, T6, T7}
 use Rattle.kc_memory.specs.Image.{Image}
 use Rattle.kc_memory.specs.Translation.{vword}
-use Rattle.kc_layout.specs.declared.place.Field.{Field}
 use Rattle.kc_view.specs.declared.tasks.TaskShape.{TaskShape}
-use Rattle.kc_view.specs.Fields.{breaks_at, or_missed, read_field, started_at, unless, value_of}
+use Rattle.kc_view.specs.Fields.{breaks_at, holds, or_missed, read_field, started_at, unless, value_of}
 use Rattle.kc_found.specs.declared.asked.Asked.{Asked}
 use Rattle.kc_found.specs.Nodes.{at_offset}
 use Rattle.kc_found.specs.Rings.{ring_walk}
@@ -25,12 +23,6 @@ task_of offset node = (node + (2 ^ 64 - offset)) % 2 ^ 64
 abbrev pub tasks_on : Image → Asked → TaskShape → ℕ → ℕ → Result (List ℕ) Violation
 tasks_on image asked shape head offset =
     and_then (started_at asked.start (ring_walk image shape.list asked.audit head)) (λ ns. Ok (map (task_of offset) ns))
-
--- a field of a task holds a number, or the rule of it is broken
-abbrev pub holds : Image → Asked → Rule → ℕ → Field → ℕ → Result ⊤ Violation
-holds image asked rule task f wanted =
-    and_then (read_field image asked task f) (λ n.
-    unless (not (nat_eq (value_of n) wanted)) (breaks_at asked rule n (Some wanted)) (Ok tt))
 
 -- each of some tasks passes, or the first violation
 unfoldable pub all_pass : (ℕ → Result ⊤ Violation) → List ℕ → Result ⊤ Violation

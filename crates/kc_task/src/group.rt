@@ -4,12 +4,11 @@ ghost use Rattle.kc_memory.specs.Stays.{SpaceStays};
 ghost use Rattle.kc_found.specs.Walks.{CountsWalkFaults, IsNamed, WalksAs};
 ghost use Rattle.kc_task.specs.TaskLists.{IsInside, all_pass, among_checked, group_of, is_among, leader_checked, tgid_checked, thread_checked, thread_head, threads_checked};
 
-use crate::fields::check_field;
 use crate::rings::tasks_on;
 use crate::thread::check_thread;
 use kc_btf::Btf;
 use kc_found::{Asked, Rule, Space, WalkStop, Walked, broken_at, broken_field, stopped};
-use kc_view::{TaskShape, View, read_field};
+use kc_view::{TaskShape, View, check_field, read_field};
 use kc_word::Steps;
 use std::alloc::Global;
 use std::sync::ledger::Ledger;

@@ -1,7 +1,6 @@
 //! The walk of the kernel's task list: thread groups, their threads, children and stacks (`struct task_struct`).
 #![tactic(auto)]
 
-mod fields;
 mod group;
 mod laws;
 mod rings;

@@ -3,14 +3,14 @@ ghost use Rattle.std.specs.Prelude.{◌≡◌};
 ghost use Rattle.kc_memory.specs.declared.rule.Rule.TheVariants.{T5};
 ghost use Rattle.kc_memory.specs.Stays.{SpaceStays};
 ghost use Rattle.kc_found.specs.Walks.{CountsWalkFaults, IsNamed, WalksAs};
-ghost use Rattle.kc_task.specs.TaskLists.{IsInside, all_pass, children_checked, end_checked, holds, shared_checked, stack_checked, thread_checked};
+ghost use Rattle.kc_view.specs.Fields.{holds};
+ghost use Rattle.kc_task.specs.TaskLists.{IsInside, all_pass, children_checked, end_checked, shared_checked, stack_checked, thread_checked};
 
-use crate::fields::check_field;
 use crate::group::Group;
 use crate::rings::tasks_on;
 use kc_btf::Btf;
 use kc_found::{Asked, Rule, Space, WalkStop, Walked, broken_at, stopped};
-use kc_view::{TaskShape, View, read_field};
+use kc_view::{TaskShape, View, check_field, read_field};
 use kc_word::Steps;
 use std::alloc::Global;
 use std::sync::ledger::Ledger;

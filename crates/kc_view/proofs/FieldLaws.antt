@@ -1,18 +1,20 @@
 -- Steps of a walk that come to something, and what their violations show.
-use Rattle.std.proofs.Common.{◌≡◌, ℕ, ◌/◌, Bool, true, false, List, [], ◌∷◌, Option, Some, option_map, refl, ◌∙◌, ap, subst}
-use Rattle.std.specs.Prelude.{Result, Ok, Err, ⊤}
+use Rattle.std.proofs.Common.{◌≡◌, ℕ, ◌/◌, nat_eq, Bool, true, false, [], ◌∷◌, Some, option_map, refl, ◌∙◌, ap, subst, eq-eqb}
+use Rattle.std.specs.Prelude.{Result, Ok, Err, not, ⊤}
+use Rattle.std.proofs.lemmas.Bool.{eqb-true}
+use Rattle.kc_memory.specs.declared.rule.Rule.{Rule}
 use Rattle.kc_memory.specs.declared.words.VWord.{VWord}
 use Rattle.kc_memory.specs.Bits.{Number, bits, number_places}
 use Rattle.kc_memory.specs.Image.{Image}
 use Rattle.kc_memory.specs.Laws.{PlacesStand}
-use Rattle.kc_memory.specs.Places.{AllStandIn, place_of, places_of, entry_places}
+use Rattle.kc_memory.specs.Places.{AllStandIn, place_of, places_of}
 use Rattle.kc_memory.specs.Stopped.{Stopped}
 use Rattle.kc_memory.specs.Translation.{vword}
 use Rattle.kc_memory.specs.Translation as memory
 use Rattle.kc_layout.specs.declared.place.Field.{Field}
 use Rattle.kc_layout.specs.HopList.{hop_list}
 use Rattle.kc_view.specs.declared.fields.FieldNumber.{FieldNumber}
-use Rattle.kc_view.specs.Fields.{FieldIs, field_of, or_missed, read_field, started_at, unless, value_of}
+use Rattle.kc_view.specs.Fields.{FieldIs, breaks_at, field_of, holds, or_missed, read_field, started_at, unless, value_of}
 use Rattle.kc_view.specs.Laws.{ValuesStand}
 use Rattle.kc_view.specs.Pointers.{behind}
 use Rattle.kc_view.specs.Typed.{bytes_on}
@@ -20,6 +22,7 @@ use Rattle.kc_found.specs.declared.asked.Asked.{Asked}
 use Rattle.kc_found.specs.Nodes.{readable}
 use Rattle.kc_found.specs.Trials.{and_then}
 use Rattle.kc_found.specs.Violations.{Violation}
+use Rattle.kc_found.proofs.Known.{ok_after}
 
 -- a rule that isn't broken
 pub unless_ok : {A : Type 0} (b : Bool) (v : Violation) (r : Result A Violation) (x : A) → unless b v r ≡ Ok x → (b ≡ false) × (r ≡ Ok x)
@@ -62,6 +65,30 @@ pub field_read : (image : Image) (asked : Asked) (at : ℕ) (f : Field) (v : ℕ
 field_read image asked at f v e =
     let s = some_of value_of (field_of image at f) v e in
     record { field = s.0; read = ap (or_missed asked) s.1; value = s.2 }
+
+-- two numbers that have to be equal
+clean_is : (b : Bool) → not b ≡ false → b ≡ true
+clean_is true e = refl
+clean_is false e = absurd (cc)
+
+pub equal_of : (n m : ℕ) → not (nat_eq n m) ≡ false → n ≡ m
+equal_of n m e = eqb-true n m (clean_is (nat_eq n m) e)
+
+pub of_equal : (n m : ℕ) → n ≡ m → not (nat_eq n m) ≡ false
+of_equal n m e = ap not (eq-eqb n m e)
+
+-- a field that has to hold a number
+pub held : (image : Image) (asked : Asked) (rule : Rule) (at : ℕ) (f : Field) (wanted : ℕ) → holds image asked rule at f wanted ≡ Ok tt → FieldIs image at f wanted
+held image asked rule at f wanted e =
+    let s = ok_after (read_field image asked at f) (λ n. unless (not (nat_eq (value_of n) wanted)) (breaks_at asked rule n (Some wanted)) (Ok tt)) tt e in
+    let p = unless_ok (not (nat_eq (value_of s.0) wanted)) (breaks_at asked rule s.0 (Some wanted)) (Ok tt) tt s.2 in
+    field_is image asked at f s.0 s.1 ∙ ap Some (equal_of (value_of s.0) wanted p.0)
+
+pub holding : (image : Image) (asked : Asked) (rule : Rule) (at : ℕ) (f : Field) (wanted : ℕ) → FieldIs image at f wanted → holds image asked rule at f wanted ≡ Ok tt
+holding image asked rule at f wanted is =
+    let r = field_read image asked at f wanted is in
+    then_is (read_field image asked at f) (λ n. unless (not (nat_eq (value_of n) wanted)) (breaks_at asked rule n (Some wanted)) (Ok tt)) r.field tt r.read
+    (unless_is (not (nat_eq (value_of r.field) wanted)) (breaks_at asked rule r.field (Some wanted)) (Ok tt) tt (of_equal (value_of r.field) wanted r.value) refl)
 
 -- a step's violation shows words of the dump alone
 abbrev pub Shows : {A : Type 0} → Image → Result A Violation → Type 0
@@ -128,3 +155,8 @@ field_shows values image asked at f = field_by image asked (field_of image at f)
 pub number_stands : ValuesStand → (image : Image) (asked : Asked) (at : ℕ) (f : Field) (n : FieldNumber) → read_field image asked at f ≡ Ok n → AllStandIn image (number_places (Ok n.number))
 number_stands values image asked at f n is =
     subst (λ (r : Result FieldNumber Stopped). AllStandIn image (number_places (field_places r))) (missed_ok asked (field_of image at f) n is) (field_stands values image at f)
+
+pub holds_shows : ValuesStand → (image : Image) (asked : Asked) (rule : Rule) (at : ℕ) (f : Field) (wanted : ℕ) → Shows image (holds image asked rule at f wanted)
+holds_shows values image asked rule at f wanted =
+    then_shows image (read_field image asked at f) _ (field_shows values image asked at f)
+    (λ n is. unless_shows image (not (nat_eq (value_of n) wanted)) (breaks_at asked rule n (Some wanted)) (Ok tt) (number_stands values image asked at f n is) tt)

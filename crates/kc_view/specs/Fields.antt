@@ -1,5 +1,5 @@
 -- Fields that a walk of steps reads, and the rules that they break; and the walks that stand within it.
-use Rattle.std.specs.Prelude.{◌≡◌, ℕ, ◌/◌, Bool, if◌then◌else◌, Option, Some, None, option_map, Result, Ok, Err}
+use Rattle.std.specs.Prelude.{◌≡◌, ℕ, ◌/◌, Bool, nat_eq, not, if◌then◌else◌, Option, Some, None, option_map, Result, Ok, Err, ⊤}
 use Rattle.kc_memory.specs.declared.rule.Rule.{Rule}
 use Rattle.kc_memory.specs.Bits.{bits}
 use Rattle.kc_memory.specs.Image.{Image}
@@ -15,6 +15,7 @@ use Rattle.kc_found.specs.declared.found.WalkStop.{WalkStop}
 use Rattle.kc_found.specs.declared.found.WalkStop.TheVariants as ends
 use Rattle.kc_found.specs.FreeLists.{low_word}
 use Rattle.kc_found.specs.Nodes.{readable}
+use Rattle.kc_found.specs.Trials.{and_then}
 use Rattle.kc_found.specs.Violations.{Violation, breaks_field, missed}
 
 -- a field of a struct at an address: its number, and the address of its first byte
@@ -47,6 +48,12 @@ unless broken v go = if broken then Err v else go
 
 abbrev pub breaks_at : Asked → Rule → FieldNumber → Option ℕ → Violation
 breaks_at asked rule f expected = breaks_field asked rule f.at f.number expected
+
+-- a field holds a number, or the rule of it is broken
+abbrev pub holds : Image → Asked → Rule → ℕ → Field → ℕ → Result ⊤ Violation
+holds image asked rule at f wanted =
+    and_then (read_field image asked at f) (λ n.
+    unless (not (nat_eq (value_of n) wanted)) (breaks_at asked rule n (Some wanted)) (Ok tt))
 
 -- an inner walk's violation is one of this walk
 abbrev pub started : Violation → ℕ → Violation

@@ -1,12 +1,13 @@
 // Fields that a walk reads, and the walks that stand within it.
-ghost use Rattle.std.specs.Prelude.{◌≡◌, ◌≤◌, length};
+ghost use Rattle.std.specs.Prelude.{◌≡◌, ◌≤◌, length, false};
 ghost use Rattle.kc_memory.specs.Space.{AnswersAs};
 ghost use Rattle.kc_memory.specs.Stays.{CountsFaults, SpaceStays};
+ghost use Rattle.kc_found.specs.Violations.{is_of_reading};
 ghost use Rattle.kc_found.specs.Walks.{CountsWalkFaults, IsNamed, WalksAs};
-ghost use Rattle.kc_view.specs.Fields.{IsStartedAt, field_of, or_missed, value_of};
+ghost use Rattle.kc_view.specs.Fields.{IsStartedAt, field_of, holds, or_missed, value_of};
 
 use crate::view::View;
-use kc_found::{Asked, Found, WalkStop, low_word, stopped};
+use kc_found::{Asked, Found, Rule, WalkStop, broken_field, low_word, stopped};
 use kc_layout::Field;
 use kc_memory::{Scalar, Space, Stop, read_bits};
 use kc_word::Steps;
@@ -74,6 +75,37 @@ pub fn read_field<S: Space, L: Ledger>(
         Ok(number) => Ok(number),
         Err(stop) => Err(stopped(alloc, asked, stop, None)),
     }
+}
+
+/// Looks at a field, which has to hold a number, or the rule of it is broken.
+///
+/// # Errors
+///
+/// The violation by the first stop, or else of the rule, with the number as the expected one; a failure of the space,
+/// or out of memory.
+pub fn check_field<S: Space, L: Ledger>(
+    alloc: Global,
+    space: &mut S,
+    asked: &Asked,
+    rule: Rule,
+    view: &View<'_>,
+    field: &Field,
+    wanted: u64,
+    steps: &mut Steps<L>,
+) -> Result<(), WalkStop>
+    requires { is_of_reading rule ≡ false }
+    ensures exact { WalksAs (λ _. tt) (λ i. holds i asked.now rule view.now.at field.now wanted)
+        (S.image space.old) result }
+    ensures named { IsNamed result asked.now.audit asked.now.start }
+
+    ensures stays { SpaceStays S.image S.files S.through S.most space.old space.new }
+    ensures cause { CountsWalkFaults result (S.faults space.old) (S.faults space.new) }
+{
+    let number = read_field(alloc, space, asked, view, field, steps)?;
+    if number.value() != wanted {
+        return Err(broken_field(alloc, asked, rule, number.at, &number.number, Some(wanted)));
+    }
+    Ok(())
 }
 
 /// The end of an inner walk, as that of a walk which starts here.

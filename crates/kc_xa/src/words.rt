@@ -126,40 +126,19 @@ pub(crate) fn read_node<S: Space, L: Ledger>(
     ensures cause { CountsWalkFaults result (S.faults space.old) (S.faults space.new) }
 {
     let at = node.wrapping_add(shape.parent);
-    let parent = match read_word(alloc, space, asked, at, Some(led), steps) {
-        Ok(word) => word,
-        Err(stop) => return Err(stop),
-    };
+    let parent = read_word(alloc, space, asked, at, Some(led), steps)?;
     let at = node.wrapping_add(shape.array);
-    let array = match read_word(alloc, space, asked, at, Some(led), steps) {
-        Ok(word) => word,
-        Err(stop) => return Err(stop),
-    };
+    let array = read_word(alloc, space, asked, at, Some(led), steps)?;
     let at = node.wrapping_add(shape.slots);
-    let slots = match read_slots(alloc, space, asked, at, shape.chunk, led, steps) {
-        Ok(slots) => slots,
-        Err(stop) => return Err(stop),
-    };
+    let slots = read_slots(alloc, space, asked, at, shape.chunk, led, steps)?;
     let at = node.wrapping_add(shape.shift);
-    let shift = match read_byte_word(alloc, space, asked, at, led, steps) {
-        Ok(word) => word,
-        Err(stop) => return Err(stop),
-    };
+    let shift = read_byte_word(alloc, space, asked, at, led, steps)?;
     let at = node.wrapping_add(shape.offset);
-    let offset = match read_byte_word(alloc, space, asked, at, led, steps) {
-        Ok(word) => word,
-        Err(stop) => return Err(stop),
-    };
+    let offset = read_byte_word(alloc, space, asked, at, led, steps)?;
     let at = node.wrapping_add(shape.count);
-    let count = match read_byte_word(alloc, space, asked, at, led, steps) {
-        Ok(word) => word,
-        Err(stop) => return Err(stop),
-    };
+    let count = read_byte_word(alloc, space, asked, at, led, steps)?;
     let at = node.wrapping_add(shape.nr_values);
-    let values = match read_byte_word(alloc, space, asked, at, led, steps) {
-        Ok(word) => word,
-        Err(stop) => return Err(stop),
-    };
+    let values = read_byte_word(alloc, space, asked, at, led, steps)?;
     Ok(XaWords {
         parent,
         array,

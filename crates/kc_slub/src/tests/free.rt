@@ -46,6 +46,19 @@ const ACROSS: Grid = Grid {
     random: None,
 };
 
+// Two objects, of which the first one's pointer begins at the end of a page.
+const EDGE: Grid = Grid {
+    base: 0xffff_8880_000f_ffe0,
+    size: 0x40,
+    objects: 2,
+    offset: 0x1c,
+    random: None,
+};
+
+const E: u64 = EDGE.base;
+
+const F: u64 = EDGE.base + 0x40;
+
 // One object, whose pointer takes all of it, and three at the end of the addresses and their beginning.
 const ONE: Grid = Grid {
     base: BASE,
@@ -80,7 +93,7 @@ enum Answer {
 }
 
 // A slab, its first free pointer, the words of memory, and the answer.
-const WALKS: [(Grid, u64, &[Word], Answer); 20] = [
+const WALKS: [(Grid, u64, &[Word], Answer); 22] = [
     // No object, one, and three.
     (PLAIN, 0, &[], Answer::Objects([0, 0, 0], 0)),
     (PLAIN, B, &[(B + 0x20, 0)], Answer::Objects([B, 0, 0], 1)),
@@ -227,6 +240,24 @@ const WALKS: [(Grid, u64, &[Word], Answer); 20] = [
             Some((A + 0x18, 0x0000_f040_0000_0000)),
             None,
         ),
+    ),
+    // The second word is on the next page, which lies elsewhere in the dump; and that page isn't there.
+    (
+        EDGE,
+        E,
+        &[
+            (E + 0x18, 0x0010_0020_3333_3333),
+            (E + 0x20, 0x4444_4444_ffff_8880),
+            (F + 0x18, 0x0000_0000_5555_5555),
+            (F + 0x20, 0x6666_6666_0000_0000),
+        ],
+        Answer::Objects([E, F, 0], 2),
+    ),
+    (
+        EDGE,
+        E,
+        &[(E + 0x18, 0x0010_0020_3333_3333)],
+        Answer::Broken(Rule::M6, E + 0x20, None, None),
     ),
 ];
 
