@@ -14,6 +14,7 @@ pub mod FiniteLists
 pub mod FiniteXarrays
 pub mod FreeLists
 pub mod HashChains
+pub mod ListSpaces
 pub mod Nodes
 pub mod RbFinite
 pub mod RbTrees
