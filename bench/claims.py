@@ -3,7 +3,7 @@
 
 usage: claims.py              at the top of the repository
 
-It follows the imports of definitions from the contracts of `kaudit` and `know_shown`, counts the lines of each file without
+It follows the imports of definitions from the contracts of the two programs and of the laws on their output, counts the lines of each file without
 blank lines, comments and imports, and prints what the tables lack, what they have too much, and wrong numbers. It also
 prints where a blank for a counter of steps is made outside the crates that may make one: everywhere else the bound on steps
 would bind a counter that nobody looks at.
@@ -14,7 +14,12 @@ import re
 import sys
 
 # Where the contracts stand, and what of their files' imports only private functions use.
-CONTRACTS = ["crates/kc_app/src/top.rt", "crates/kc_app/src/laws.rt"]
+CONTRACTS = [
+    "crates/kc_app/src/top.rt",
+    "crates/kc_app/src/laws.rt",
+    "crates/kc_match/src/top.rt",
+    "crates/kc_match/src/laws.rt",
+]
 PRIVATE = {"kc_app/specs/Answer.antt"}
 
 # The crates that make counters of steps.
