@@ -1,5 +1,5 @@
 -- That what comes of a fact is what the files tell of it.
-use Rattle.std.proofs.Common.{◌≡◌, ◌≢◌, ℕ, ◌+◌, ◌≤◌, ◌==◌, nat_le, Bool, true, false, if◌then◌else◌, pos, negsuc, List, [], ◌∷◌, length, Option, Some, None, option_and_then, Result, Ok, Err, refl, ap, arith}
+use Rattle.std.proofs.Common.{◌≡◌, ◌≢◌, ℕ, ◌+◌, ◌≤◌, ◌==◌, nat_le, Bool, true, false, if◌then◌else◌, pos, negsuc, List, [], ◌∷◌, length, Option, Some, None, option_and_then, Result, Ok, Err, refl, ap, ◌∙◌, arith}
 use Rattle.std.specs.Prelude.{ℤ}
 use Rattle.std.specs.Result.{result_ok}
 use Rattle.std.proofs.lemmas.Bool.{eqb-true}
@@ -58,26 +58,26 @@ module _ (kernel : Kernel) (name : List ℕ) where
       pick (nat_le 0xffffffff80000000 told) (λ o. Stands kernel (Symbol name address) (stands address o)) (Some told) None
       (λ high. let tells : TellsAddress kernel name told = record { common = is; image = grind (arith, nat_tests) } in
       address_stands (Stands kernel (Symbol name address)) address told (λ e. (told, tells, ap pos e)) (λ unlike. (tells, (λ e. unlike (cc)))))
-      (λ low. tt)
+      (λ low other compared tells. let same : told ≡ other = cc in let high = tells.image in grind (arith, nat_tests))
 
   common_address : (address : ℕ) (r : Result ℕ SymFault) → common_of kernel.kaslr (kernel.listed name) ≡ r → Stands kernel (Symbol name address) (stands address (option_and_then if_image (result_ok r)))
   common_address address (Ok told) is = told_address address told is
-  common_address address (Err fault) is = tt
+  common_address address (Err fault) is = λ other compared tells. let none : ⊥ = cc in none
 
   symbol_stands : (address : ℕ) → Stands kernel (Symbol name address) (symbol_outcome kernel name address)
   unfolding symbol_outcome image_address
   symbol_stands address =
       pick (nat_le 0xffffffff80000000 address) (Stands kernel (Symbol name address)) (stands address (option_and_then if_image (result_ok (common_of kernel.kaslr (kernel.listed name))))) Unknown
-      (λ high. common_address address (common_of kernel.kaslr (kernel.listed name)) refl) (λ low. tt)
+      (λ high. common_address address (common_of kernel.kaslr (kernel.listed name)) refl) (λ low other compared tells. grind (arith, nat_tests))
 
   sized_stands : (number : ℤ) (id : ℕ) (told : Option ℕ) → find kernel.types name ≡ Some id → size kernel.types id ≡ told → Stands kernel (Size name number) (fits number told)
-  sized_stands number id None found sized = tt
+  sized_stands number id None found sized = λ other compared tells. let none : ⊥ = cc in none
   sized_stands number id (Some told) found sized =
       let tells : TellsSize kernel.types name told = record { id = id; found = found; sized = sized } in
       number_stands (Stands kernel (Size name number)) number told (λ e. (told, tells, e)) (λ unlike. (tells, unlike))
 
   found_size : (number : ℤ) (o : Option ℕ) → find kernel.types name ≡ o → Stands kernel (Size name number) (fits number (option_and_then (size kernel.types) o))
-  found_size number None found = tt
+  found_size number None found = λ other compared tells. let none : ⊥ = cc in none
   found_size number (Some id) found = sized_stands number id (size kernel.types id) found refl
 
   size_stands : (number : ℤ) → Stands kernel (Size name number) (fits number (size_named kernel.types name))
@@ -88,25 +88,29 @@ no_hops : (hops : List ℕ) → (length hops == 0) ≡ true → hops ≡ []
 no_hops [] is = refl
 no_hops (h ∷ hs) is = absurd (let e : length (h ∷ hs) ≡ 0 = eqb-true (length (h ∷ hs)) 0 is in omega arith)
 
-module _ (kernel : Kernel) (name member : List ℕ) (number : ℤ) (id : ℕ) (found : find kernel.types name ≡ Some id) where
+module _ (kernel : Kernel) (name member : List ℕ) (number : ℤ) (id : ℕ) (named : member ≢ []) (found : find kernel.types name ≡ Some id) where
   placed_stands : (place : ByteAt) → located kernel.types id member ≡ Ok place → Stands kernel (Offset name member number) (fits number (if_direct place))
   placed_stands place leads =
       pick (length place.hops == 0) (λ o. Stands kernel (Offset name member number) (fits number o)) (Some place.byte) None
-      (λ direct. let tells : TellsByte kernel.types name member place.byte = record { id = id; found = found; place = place; leads = leads; direct = no_hops place.hops direct; there = refl } in
+      (λ direct. let tells : TellsByte kernel.types name member place.byte = record { named = named; id = id; found = found; place = place; leads = leads; direct = no_hops place.hops direct; there = refl } in
       number_stands (Stands kernel (Offset name member number)) number place.byte (λ e. (place.byte, tells, e)) (λ unlike. (tells, unlike)))
-      (λ far. tt)
+      (λ far other compared tells.
+      let same : place ≡ tells.place = cc in
+      let none : length place.hops ≡ 0 = ap (λ (p : ByteAt). length p.hops) same ∙ ap length tells.direct in
+      grind (arith, nat_tests))
 
   located_stands : (r : Result ByteAt PathFault) → located kernel.types id member ≡ r → Stands kernel (Offset name member number) (fits number (option_and_then if_direct (result_ok r)))
   located_stands (Ok place) leads = placed_stands place leads
-  located_stands (Err fault) leads = tt
+  located_stands (Err fault) leads = λ other compared tells. let none : ⊥ = cc in none
 
 byte_stands : (kernel : Kernel) (name member : List ℕ) (number : ℤ) (id : ℕ) → find kernel.types name ≡ Some id → Stands kernel (Offset name member number) (fits number (byte_of kernel.types member id))
 unfolding byte_of
-byte_stands kernel name [] number id found = tt
-byte_stands kernel name (c ∷ cs) number id found = located_stands kernel name (c ∷ cs) number id found (located kernel.types id (c ∷ cs)) refl
+byte_stands kernel name [] number id found = λ other compared tells. tells.named refl
+byte_stands kernel name (c ∷ cs) number id found =
+    located_stands kernel name (c ∷ cs) number id (λ e. cc) found (located kernel.types id (c ∷ cs)) refl
 
 found_byte : (kernel : Kernel) (name member : List ℕ) (number : ℤ) (o : Option ℕ) → find kernel.types name ≡ o → Stands kernel (Offset name member number) (fits number (option_and_then (byte_of kernel.types member) o))
-found_byte kernel name member number None found = tt
+found_byte kernel name member number None found = λ other compared tells. let none : ⊥ = cc in none
 found_byte kernel name member number (Some id) found = byte_stands kernel name member number id found
 
 offset_stands : (kernel : Kernel) (name member : List ℕ) (number : ℤ) → Stands kernel (Offset name member number) (fits number (member_byte kernel.types name member))

@@ -31,6 +31,7 @@ pub record TellsSize (types : Types) (name : List ℕ) (bytes : ℕ) : Type 0 wh
 
 -- a member of the struct or union of a name begins at this byte of it, and no pointer leads there
 pub record TellsByte (types : Types) (name member : List ℕ) (byte : ℕ) : Type 0 where
+  pub named : member ≢ []
   pub id : ℕ
   pub found : find types name ≡ Some id
   pub place : ByteAt
@@ -54,11 +55,17 @@ abbrev pub number_of : Other → ℕ
 number_of (Map address) = address
 number_of (Btf count) = count
 
--- what an outcome says: the files tell the number that is stated, or another one
+-- an address is compared where it is in the kernel's image, and other numbers always
+abbrev pub IsCompared : Fact → Type 0
+IsCompared (Symbol name address) = 0xffffffff80000000 ≤ address
+IsCompared (Size name size) = ⊤
+IsCompared (Offset name member byte) = ⊤
+
+-- what an outcome says: the files tell the number that is stated, or another one, or none that is compared
 abbrev pub Stands : Kernel → Fact → Outcome → Type 0
 Stands kernel fact Same = (told : ℕ) × Tell kernel fact told × (stated fact ≡ pos told)
 Stands kernel fact (Differs other) = Tell kernel fact (number_of other) × (stated fact ≢ pos (number_of other))
-Stands kernel fact Unknown = ⊤
+Stands kernel fact Unknown = (told : ℕ) → IsCompared fact → Tell kernel fact told → ⊥
 
 abbrev pub OutcomesStand : Type 0
 OutcomesStand = (kernel : Kernel) (fact : Fact) → Stands kernel fact (outcome kernel fact)
