@@ -12,7 +12,7 @@ use Rattle.kc_ends.specs.declared.status.Status.{Status}
 use Rattle.kc_ends.specs.declared.status.Status.TheVariants.{SinkFailed}
 use Rattle.kc_ends.specs.Answers.{OnStoreIn, Runs, ending}
 use Rattle.kc_ends.specs.Asked.{Asked, asked_files}
-use Rattle.kc_ends.specs.Ends.{ErrFailed, IsTold, IsWritten, TookLine}
+use Rattle.kc_ends.specs.Ends.{ErrFailed, IsTold, IsWritten, TookLine, TookOut, TookPart}
 use Rattle.kc_ends.specs.Output.{Ends, ended, written, written_files}
 use Rattle.kc_ends.specs.Status.{At, is_answer, number}
 use Rattle.kc_ends.specs.Written.{Written}
@@ -44,6 +44,12 @@ is_told output None came status out_old out_new err_old err_new is ends = tt
 is_told output (Some f) None status out_old out_new err_old err_new is ends = absurd ends
 is_told output (Some f) (Some w) status out_old out_new err_old err_new is ends = rw is ends
 
+took_part : (output : Files → Option Written) (files : Option Files) (came : Option Written) (old new : Option (List ℕ))
+    → IsOutputOf output files came → TookOut came old new → TookPart output files old new
+took_part output None came old new is took = tt
+took_part output (Some f) None old new is took = absurd took
+took_part output (Some f) (Some w) old new is took = rw is took
+
 took_line : {P Q : Type 0} (output : Files → Option Written) (files : Option Files) (came : Option Written) (old new : Option (List ℕ))
     → IsOutputOf output files came → (P → Q) → TookLine came P old new → ErrFailed output files Q old new
 took_line output None came old new is rose took = tt
@@ -64,7 +70,14 @@ pub tells : {A : Type 0} (usage : List ℕ) (write : A → Written) (asks : Opti
 tells usage write asks files outcome old new status out_old out_new err_old err_new runs told =
     on_true (is_answer status) (is_told (written_files usage write asks) files (ending usage outcome) status out_old out_new err_old err_new (runs_output usage write asks files outcome old new runs)) told
 
--- and so is what standard error took where it alone failed; the counts are those of the store and of standard output
+-- and so is what standard output took where it failed; the counts are its own
+pub parts : {A : Type 0} (usage : List ℕ) (write : A → Written) (asks : Option (Asked A)) (files : Option Files) (outcome : Option (Result Answer Halt)) (old new : Slot → Option (List ℕ)) (status : Status) (faults_old faults_new : ℕ) (out_old out_new : Option (List ℕ))
+    → Runs write asks files outcome old new → At status SinkFailed (faults_old < faults_new → TookOut (ending usage outcome) out_old out_new)
+    → At status SinkFailed (faults_old < faults_new → TookPart (written_files usage write asks) files out_old out_new)
+parts usage write asks files outcome old new status faults_old faults_new out_old out_new runs took =
+    on_true (nat_eq (number status) 4) (λ part rose. took_part (written_files usage write asks) files (ending usage outcome) out_old out_new (runs_output usage write asks files outcome old new runs) (part rose)) took
+
+-- and what standard error took where it alone failed; the counts are those of the store and of standard output
 pub fails : {A : Type 0} (usage : List ℕ) (write : A → Written) (asks : Option (Asked A)) (files : Option Files) (outcome : Option (Result Answer Halt)) (old new : Slot → Option (List ℕ)) (status : Status) (store_old store_new faults_old faults_new : ℕ) (err_old err_new : Option (List ℕ))
     → Runs write asks files outcome old new → OnStoreIn outcome (Rose store_old store_new)
     → At status SinkFailed (faults_old < 2 ^ 64 - 1 → faults_new ≡ faults_old → TookLine (ending usage outcome) (outcome ≡ Some (Err Store)) err_old err_new)

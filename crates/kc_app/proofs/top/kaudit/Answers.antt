@@ -1,6 +1,6 @@
 use Rattle.std.proofs.Common.{map}
 use Rattle.std.specs.String.{string_bytes}
-use Rattle.kc_ends.proofs.Ending.{fails, tells}
+use Rattle.kc_ends.proofs.Ending.{fails, parts, tells}
 use Rattle.kc_app.specs.Commands.{command, usage_text}
 use Rattle.kc_app.specs.Shown.{shown_written}
 use Rattle.kc_app.proofs.top.kaudit.Goals as goal
@@ -9,6 +9,11 @@ pub returns-clause-told : goal.returns-clause-told
 returns-clause-told g c =
     tells usage_text shown_written (command (map string_bytes c.args.words.now)) (g.S.Store.files c.args.store.now) c.run-outcome.result _ _ c.finish.result (g.O.Sink.taken c.args.out.now) (g.O.Sink.taken c.finish.new.out) (g.E.Sink.taken c.args.err.now) (g.E.Sink.taken c.finish.new.err)
     c.run-outcome.ensures.output c.finish.ensures.told
+
+pub returns-clause-out_part : goal.returns-clause-out_part
+returns-clause-out_part g c =
+    parts usage_text shown_written (command (map string_bytes c.args.words.now)) (g.S.Store.files c.args.store.now) c.run-outcome.result _ _ c.finish.result (g.O.Sink.faults c.args.out.now) (g.O.Sink.faults c.finish.new.out) (g.O.Sink.taken c.args.out.now) (g.O.Sink.taken c.finish.new.out)
+    c.run-outcome.ensures.output c.finish.ensures.out_part
 
 pub returns-clause-err_failed : goal.returns-clause-err_failed
 returns-clause-err_failed g c =

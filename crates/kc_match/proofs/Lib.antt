@@ -1,0 +1,4 @@
+pub mod FactLaws
+pub mod FindingLemmas
+pub mod MatchLemmas
+pub mod OutcomeLaws

@@ -1,0 +1,18 @@
+-- The answer on the rows of a map, and what standard output took of it.
+use Rattle.std.proofs.Common.{◌≡◌, ℕ, List, Option, Some, Ok, option_map, sym, ap, ◌∙◌}
+use Rattle.kc_btf.specs.Btf.{Types}
+use Rattle.kc_syms.specs.Rows.{RowText, addresses}
+use Rattle.kc_input.specs.Inputs.{rows_in}
+use Rattle.kc_ends.specs.declared.answer.Answer.{Answer}
+use Rattle.kc_ends.specs.Output.{ended}
+use Rattle.kc_ends.specs.Answers.{written_by}
+use Rattle.kc_match.specs.Match.{match_written, matched, matched_in}
+
+-- symbols that list the addresses of the rows are those of the map
+pub prints_matched : (note : List ℕ) (types : Types) (kaslr : ℕ) (map : List ℕ) (listed : List ℕ → List ℕ) (rows : List RowText) (answer : Answer)
+    → rows_in map ≡ Some (Ok rows) → ((name : List ℕ) → listed name ≡ addresses name rows)
+    → written_by answer ≡ match_written (matched note (record { types = types; listed = listed; kaslr = kaslr }))
+    → option_map (ended match_written) (matched_in note types kaslr map) ≡ Some (written_by answer)
+prints_matched note types kaslr map listed rows answer read same written =
+    let one : listed ≡ (λ name. addresses name rows) = λ i name. same name i in
+    rw read (ap (λ w. Some w) (sym (written ∙ ap (λ l. match_written (matched note (record { types = types; listed = l; kaslr = kaslr }))) one)))

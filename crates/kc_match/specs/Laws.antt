@@ -1,0 +1,71 @@
+-- What findings, facts and outcomes say.
+use Rattle.std.specs.Prelude.{◌≡◌, ◌≢◌, ⊤, ℕ, ◌+◌, ◌≤◌, ℤ, pos, List, [], length, Option, Some, Result, Ok}
+use Rattle.kc_btf.specs.Btf.{Types}
+use Rattle.kc_layout.specs.Ends.{ByteAt, located}
+use Rattle.kc_layout.specs.Find.{find}
+use Rattle.kc_layout.specs.Size.{size}
+use Rattle.kc_syms.specs.Addresses.{common_of}
+use Rattle.kc_match.specs.declared.outcome.Other.{Other}
+use Rattle.kc_match.specs.declared.outcome.Other.TheVariants.{Map, Btf}
+use Rattle.kc_match.specs.declared.outcome.Outcome.{Outcome}
+use Rattle.kc_match.specs.declared.outcome.Outcome.TheVariants.{Same, Differs, Unknown}
+use Rattle.kc_match.specs.Facts.{Fact, Symbol, Size, Offset}
+use Rattle.kc_match.specs.Findings.{Finding}
+use Rattle.kc_match.specs.Outcomes.{Kernel, outcome}
+use Rattle.kc_match.specs.Text.{differs_count, same_count, unknown_count}
+
+-- each finding is counted once
+abbrev pub CountsAddUp : Type 0
+CountsAddUp = (found : List Finding) → same_count found + differs_count found + unknown_count found ≡ length found
+
+-- the rows of a name have this address in common, and it is in the kernel's image
+pub record TellsAddress (kernel : Kernel) (name : List ℕ) (address : ℕ) : Type 0 where
+  pub common : common_of kernel.kaslr (kernel.listed name) ≡ Ok address
+  pub image : 0xffffffff80000000 ≤ address
+
+-- the struct or union of a name has this size
+pub record TellsSize (types : Types) (name : List ℕ) (bytes : ℕ) : Type 0 where
+  pub id : ℕ
+  pub found : find types name ≡ Some id
+  pub sized : size types id ≡ Some bytes
+
+-- a member of the struct or union of a name begins at this byte of it, and no pointer leads there
+pub record TellsByte (types : Types) (name member : List ℕ) (byte : ℕ) : Type 0 where
+  pub named : member ≢ []
+  pub id : ℕ
+  pub found : find types name ≡ Some id
+  pub place : ByteAt
+  pub leads : located types id member ≡ Ok place
+  pub direct : place.hops ≡ []
+  pub there : place.byte ≡ byte
+
+-- the files tell this number of what a fact speaks of
+abbrev pub Tell : Kernel → Fact → ℕ → Type 0
+Tell kernel (Symbol name address) told = TellsAddress kernel name told
+Tell kernel (Size name stated) told = TellsSize kernel.types name told
+Tell kernel (Offset name member stated) told = TellsByte kernel.types name member told
+
+-- the number that a fact states, and the one that a file tells
+abbrev pub stated : Fact → ℤ
+stated (Symbol name address) = pos address
+stated (Size name size) = size
+stated (Offset name member byte) = byte
+
+abbrev pub number_of : Other → ℕ
+number_of (Map address) = address
+number_of (Btf count) = count
+
+-- an address is compared where it is in the kernel's image, and other numbers always
+abbrev pub IsCompared : Fact → Type 0
+IsCompared (Symbol name address) = 0xffffffff80000000 ≤ address
+IsCompared (Size name size) = ⊤
+IsCompared (Offset name member byte) = ⊤
+
+-- what an outcome says: the files tell the number that is stated, or another one, or none that is compared
+abbrev pub Stands : Kernel → Fact → Outcome → Type 0
+Stands kernel fact Same = (told : ℕ) × Tell kernel fact told × (stated fact ≡ pos told)
+Stands kernel fact (Differs other) = Tell kernel fact (number_of other) × (stated fact ≢ pos (number_of other))
+Stands kernel fact Unknown = (told : ℕ) → IsCompared fact → Tell kernel fact told → ⊥
+
+abbrev pub OutcomesStand : Type 0
+OutcomesStand = (kernel : Kernel) (fact : Fact) → Stands kernel fact (outcome kernel fact)

@@ -1,0 +1,10 @@
+pub mod Facts
+pub mod Findings
+pub mod Laws
+pub mod Match
+pub mod Outcomes
+pub mod Spelling
+pub mod Text
+pub mod Views
+pub use Rattle.kc_ends.specs.Ends
+pub use Rattle.kc_ends.specs.Status

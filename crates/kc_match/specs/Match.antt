@@ -1,0 +1,87 @@
+-- kmatch: whether a map and a file of types are those of the kernel that crashed.
+use Rattle.std.specs.Prelude.{ℕ, if◌then◌else◌, List, [], ◌∷◌, codes, Option, Some, None}
+use Rattle.kc_outside.specs.declared.store.Slot.TheVariants as slot
+use Rattle.kc_outside.specs.Files.{Files as Told}
+use Rattle.kc_btf.specs.Btf.{Types}
+use Rattle.kc_notes.specs.Info.{info}
+use Rattle.kc_notes.specs.Notes.{text_in}
+use Rattle.kc_notes.specs.Values.{lines_of}
+use Rattle.kc_syms.specs.Rows.{RowText, addresses}
+use Rattle.kc_input.specs.declared.refusal.Refusal.TheVariants.{Notes}
+use Rattle.kc_input.specs.Inputs.{dump_parts, map_in, rows_in, types_in}
+use Rattle.kc_input.specs.Made.{◌>>=◌, Made, checked, gives}
+use Rattle.kc_ends.specs.declared.status.Status.{Status}
+use Rattle.kc_ends.specs.declared.status.Status.TheVariants.{Done, Broken}
+use Rattle.kc_ends.specs.Asked.{Asked}
+use Rattle.kc_ends.specs.Output.{written_files}
+use Rattle.kc_ends.specs.Written.{Written}
+use Rattle.kc_match.specs.declared.files.Asks.{Asks}
+use Rattle.kc_match.specs.Findings.{Finding, findings}
+use Rattle.kc_match.specs.Outcomes.{Kernel}
+use Rattle.kc_match.specs.Text.{agree, match_text}
+
+-- what is shown: a note, and what is found of its lines
+pub record Matched : Type 0 where
+  pub note : List ℕ
+  pub found : List Finding
+
+-- what is written of it: the status says whether the files agree with the note
+abbrev pub match_status : List Finding → Status
+match_status found = if agree found then Done else Broken
+
+abbrev pub match_written : Matched → Written
+match_written m = record { out = match_text m.note m.found; err = []; status = match_status m.found }
+
+-- a kernel's types, the addresses that the rows of its map list, and how far KASLR moved it
+abbrev pub kernel_by : Types → List RowText → ℕ → Kernel
+kernel_by types rows kaslr = record { types = types; listed = λ name. addresses name rows; kaslr = kaslr }
+
+-- what is found of the lines of a note
+abbrev pub matched : List ℕ → Kernel → Matched
+matched note kernel = record { note = note; found = findings kernel (lines_of note) }
+
+-- and by the bytes of a map
+abbrev pub matched_in : List ℕ → Types → ℕ → List ℕ → Made Matched
+matched_in note types kaslr map = rows_in map >>= (λ rows. gives (matched note (kernel_by types rows kaslr)))
+
+-- the faults come in the order dump, types and map
+abbrev pub match_made : Option (List ℕ) → Option (List ℕ) → Option (List ℕ) → Made Matched
+match_made dump btf map = do
+  parts ← dump_parts dump
+  told ← checked Notes (info parts.notes)
+  note ← checked Notes (text_in parts.notes)
+  types ← types_in btf
+  listed ← map_in map
+  matched_in note types told.kaslr listed
+
+-- what is asked: three files by their names
+pub record Files : Type 0 where
+  pub dump : List ℕ
+  pub btf : List ℕ
+  pub map : List ℕ
+
+abbrev pub match_asked : Files → Asked Matched
+match_asked f = record {
+  named = record { slot = slot.Dump; name = f.dump } ∷ record { slot = slot.Btf; name = f.btf }
+      ∷ record { slot = slot.Map; name = f.map } ∷ [];
+  made = λ files. match_made (files slot.Dump) (files slot.Btf) (files slot.Map);
+}
+
+-- the words after the program's name, where they are three
+abbrev pub match_asks : List (List ℕ) → Option (Asked Matched)
+match_asks (dump ∷ btf ∷ map ∷ []) = Some (match_asked (record { dump = dump; btf = btf; map = map }))
+match_asks _ = None
+
+abbrev pub usage_text : List ℕ
+usage_text = codes "usage: kmatch DUMP BTF MAP\n"
+
+-- what is written of words over a store's files
+abbrev pub written_of : List (List ℕ) → Told → Option Written
+written_of words files = written_files usage_text match_written (match_asks words) files
+
+-- as the code keeps them
+abbrev pub files_view : Asks → Files
+files_view a = record { dump = a.dump.now; btf = a.btf.now; map = a.map.now }
+
+abbrev pub match_view : Asks → Asked Matched
+match_view a = match_asked (files_view a)

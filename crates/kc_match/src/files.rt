@@ -1,0 +1,137 @@
+// The files of kmatch, and what is found of them.
+ghost use Rattle.std.specs.Prelude.{◌≡◌, ◌≤◌, ℕ, List, map, None, Some, option_map, IfOk};
+ghost use Rattle.std.specs.Option.{ForSome};
+ghost use Rattle.std.specs.String.{string_bytes};
+ghost use Rattle.kc_outside.specs.declared.store.Slot.{Slot};
+ghost use Rattle.kc_outside.specs.declared.store.Slot.TheVariants.{Dump, Map};
+ghost use Rattle.kc_outside.specs.Counts.{Rose};
+ghost use Rattle.kc_notes.specs.Notes.{text_in};
+ghost use Rattle.kc_notes.specs.Values.{lines_of};
+ghost use Rattle.kc_input.specs.declared.refusal.Refusal.TheVariants.{Notes};
+ghost use Rattle.kc_input.specs.Halts.{NotStore, OnStore, UnlessStore};
+ghost use Rattle.kc_input.specs.Made.{Tells, checked};
+ghost use Rattle.kc_input.specs.Slots.{IsAbout, RefusesIn};
+ghost use Rattle.kc_ends.specs.Answers.{OnNone, OnStoreIn, Prints, PrintsOf, Runs, StayBehind, UnlessStoreIn, written_by};
+ghost use Rattle.kc_ends.specs.Asked.{word_in};
+ghost use Rattle.kc_match.specs.Match.{files_view, match_asked, match_asks, match_made, match_view, match_written, matched, matched_in};
+ghost use Rattle.kc_match.specs.Views.{kernel_view};
+
+use crate::finding::findings;
+use crate::kernel::Kernel;
+use crate::text::{agree, match_text};
+use kc_btf::Btf;
+use kc_elf::Core;
+use kc_ends::Answer;
+use kc_input::{Halt, Refusal, read_dump, read_info, read_map, read_symbols, read_types};
+use kc_notes::vmcoreinfo;
+use kc_outside::Store;
+use kc_word::NoMemory;
+use std::alloc::Global;
+
+/// What is asked: whether a map and a file of types are those of a dump's kernel.
+#[derive(Clone, Copy)]
+pub struct Asks<'w> {
+    /// The name of the dump.
+    pub dump: &'w str,
+    /// The name of the file of types.
+    pub btf: &'w str,
+    /// The name of the map.
+    pub map: &'w str,
+}
+
+// What the words ask.
+fn read(words: &[String]) -> Option<Asks<'_>>
+    ensures asked { option_map match_view result ≡ match_asks (map string_bytes words.now) }
+{
+    let [dump, btf, map] = words else {
+        return None;
+    };
+    Some(Asks {
+        dump: dump.as_str(),
+        btf: btf.as_str(),
+        map: map.as_str(),
+    })
+}
+
+/// Runs kmatch on the words behind its name: the first fault of the dump, the types or the map, else what is found of
+/// the note's lines. `None` where these aren't its words; the store isn't asked then.
+pub fn run<S: Store>(alloc: Global, store: &mut S, words: &[String]) -> Option<Result<Answer, Halt>>
+    requires { (slot : Slot) → ForSome (word_in (match_asks (map string_bytes words.now)) slot) (S.may store.old slot) }
+
+    ensures output { Runs match_written (match_asks (map string_bytes words.now)) (S.files store.old) result
+        (S.opened store.old) (S.opened store.new) }
+    ensures unasked { OnNone result (S.asked store.new ≡ S.asked store.old) }
+    ensures files { S.files store.new ≡ S.files store.old }
+    ensures later { S.faults store.old ≤ S.faults store.new }
+    ensures quiet { UnlessStoreIn result (S.faults store.new ≡ S.faults store.old) }
+    ensures cause { OnStoreIn result (Rose (S.faults store.old) (S.faults store.new)) }
+{
+    let asks = read(words)?;
+    Some(compare(alloc, store, &asks))
+}
+
+// The answer to what is asked.
+fn compare<S: Store>(alloc: Global, store: &mut S, asks: &Asks<'_>) -> Result<Answer, Halt>
+    requires dump { S.may store.old Dump asks.now.dump.now }
+    requires btf { S.may store.old Slot.Btf asks.now.btf.now }
+    requires map { S.may store.old Map asks.now.map.now }
+
+    ensures output { PrintsOf match_written
+        (λ files. match_made (files Dump asks.now.dump.now) (files Slot.Btf asks.now.btf.now)
+        (files Map asks.now.map.now)) (S.files store.old) result }
+    ensures unopened { StayBehind (match_asked (files_view asks.now)).named result (S.opened store.old)
+        (S.opened store.new) }
+    ensures files { S.files store.new ≡ S.files store.old }
+    ensures later { S.faults store.old ≤ S.faults store.new }
+    ensures quiet { UnlessStore result (S.faults store.new ≡ S.faults store.old) }
+    ensures cause { OnStore result (Rose (S.faults store.old) (S.faults store.new)) }
+{
+    let core = read_dump(alloc, store, asks.dump)?;
+    let info = read_info(&core)?;
+    let note = read_note(&core)?;
+    let types = read_types(alloc, store, asks.btf)?;
+    let map = read_map(alloc, store, asks.map)?;
+    match_map(alloc, note, &types, info.kaslr, &map)
+}
+
+// The text of a dump's VMCOREINFO.
+fn read_note(core: &Core) -> Result<&[u8], Refusal>
+    ensures made { Tells (λ note. note.now) (checked Notes (text_in core.now.notes)) result }
+    ensures refused { IsAbout (Some Dump) result }
+{
+    Ok(vmcoreinfo(core)?)
+}
+
+// The answer on a note, over types and the bytes of a map.
+fn match_map(
+    alloc: Global,
+    note: &[u8],
+    types: &Btf,
+    kaslr: u64,
+    map: &[u8],
+) -> Result<Answer, Halt>
+    ensures output { Prints match_written (matched_in note.now types.now kaslr map.now) result }
+    ensures refused { RefusesIn Map result }
+    ensures no_call { NotStore result }
+{
+    let symbols = read_symbols(alloc, map)?;
+    let kernel = Kernel {
+        types,
+        symbols: &symbols,
+        kaslr,
+    };
+    Ok(answer(alloc, note, kernel)?)
+}
+
+// The answer on a note and a kernel.
+fn answer(alloc: Global, note: &[u8], kernel: Kernel<'_, '_>) -> Result<Answer, NoMemory>
+    ensures { IfOk result (λ answer. written_by answer ≡ match_written (matched note.now (kernel_view kernel.entry))) }
+{
+    let found = findings(alloc, kernel, note)?;
+    let text = match_text(alloc, note, &found)?;
+    if agree(&found) {
+        Ok(Answer::Done(text))
+    } else {
+        Ok(Answer::Broken(text))
+    }
+}
