@@ -1,5 +1,5 @@
 -- `check`: the structures of a kernel, by a plan.
-use Rattle.std.specs.Prelude.{◌≡◌, ⊤, ◌⊎◌, ℕ, List, [], ◌∷◌, codes, map, slice_get, Option, Some, None, unwrap_or, IfOk, IfSome, Result, Ok, Err}
+use Rattle.std.specs.Prelude.{◌≡◌, ⊤, ◌⊎◌, ℕ, List, [], ◌∷◌, codes, map, slice_get, Option, Some, None, unwrap_or, Result, Ok, Err}
 use Rattle.kc_outside.specs.declared.store.Slot.{Slot}
 use Rattle.kc_outside.specs.declared.store.Slot.TheVariants as slot
 use Rattle.kc_memory.specs.Image.{Image}
@@ -19,7 +19,6 @@ use Rattle.kc_input.specs.Inputs.{audits_in, dump_parts, map_in, plan_in, rows_i
 use Rattle.kc_input.specs.Made.{◌>>=◌, Made, checked, gives}
 use Rattle.kc_input.specs.Paging.{by_info}
 use Rattle.kc_input.specs.Slots.{refused_slot}
-use Rattle.kc_run.specs.declared.roots.RunStop.{RunStop}
 use Rattle.kc_ends.specs.Asked.{Asked}
 use Rattle.kc_app.specs.declared.check.Asks.{Asks}
 use Rattle.kc_app.specs.Form.{Form}
@@ -107,10 +106,6 @@ ChecksStand =
     (all : Audited)
     → (shown_status (audited_shown all) ≡ Done → PlanStands all.image all.audits)
     × (PlanStands all.image all.audits → shown_status (audited_shown all) ≡ Done)
-
--- the verdict is the one that a definition gives of the dump, where it is told
-abbrev pub FindsAs : {I : Type 0} → (I → Verdict) → Option I → Result Verdict RunStop → Type 0
-FindsAs truth told r = IfOk r (λ found. IfSome told (λ i. truth i ≡ found))
 
 -- a refusal is about the map, and the plan's slot is then as before, or it is about the plan
 abbrev pub RefusesLate : {A : Type 0} → Result A Halt → (Slot → Option (List ℕ)) → (Slot → Option (List ℕ)) → Type 0

@@ -18,29 +18,27 @@ ghost use Rattle.kc_input.specs.Paging.{IsTable, by_info};
 ghost use Rattle.kc_ends.specs.Answers.{OnNone, OnStoreIn, PrintsOf, PrintsOfBytes, Runs, StayBehind, UnlessStoreIn};
 ghost use Rattle.kc_app.specs.Answer.{Writes};
 ghost use Rattle.kc_ends.specs.Asked.{word_in};
-ghost use Rattle.kc_app.specs.Check.{FindsAs, RefusesLate, check_asked, check_asks, check_made, check_view, files_view, names_of, planned_in, verdict_said, verdict_shown};
+ghost use Rattle.kc_app.specs.Check.{RefusesLate, check_asked, check_asks, check_made, check_view, files_view, names_of, planned_in, verdict_said, verdict_shown};
 ghost use Rattle.kc_app.specs.Word.{image_of};
 ghost use Rattle.kc_app.specs.Shown.{shown_written};
 
+use crate::asking::{Question, ask};
 use kc_btf::Btf;
 use kc_elf::Core;
 use kc_ends::Answer;
-use kc_found::Verdict;
+use kc_found::{Space, Verdict};
 use kc_input::{
     Halt, paging_by, read_audits, read_dump, read_info, read_map, read_plan_file, read_symbols,
     read_types,
 };
-use kc_mem::Memory;
 use kc_notes::Info;
 use kc_outside::Store;
-use kc_phys::Phys;
 use kc_plan::Plan;
 use kc_report::{PlanNames, report_of, text};
 use kc_run::{RunStop, run as run_plan};
-use kc_word::{NoMemory, PageCfg, Segment, Steps};
+use kc_word::{NoMemory, Steps};
 use std::alloc::Global;
-use std::marker::Brand;
-use std::sync::ledger::{Blank, Ledger};
+use std::sync::ledger::Ledger;
 
 /// What `check` asks: the verdict on a dump, by a plan.
 #[derive(Clone, Copy)]
@@ -166,7 +164,8 @@ fn judge<S: Store>(
 {
     let segments = core.segments().to_vec(alloc)?;
     let names = names_of(alloc, plan)?;
-    match audit(alloc, store, segments, paging_by(info), types, plan) {
+    let question = PlanOf { alloc, plan, types };
+    match ask(store, segments, paging_by(info), &question) {
         Ok(verdict) => answer(alloc, &names, &verdict),
         Err(RunStop::Fault) => Err(Halt::Store),
         Err(RunStop::NoMemory) => Err(Halt::Memory),
@@ -198,55 +197,29 @@ fn answer(alloc: Global, names: &PlanNames, verdict: &Verdict) -> Result<Answer,
     }
 }
 
-// The verdict of a plan on the dump in slot Dump.
-fn audit<S: Store>(
+// The verdict of a plan, over the types that it was read with.
+#[derive(Drop)]
+struct PlanOf<'p> {
     alloc: Global,
-    store: &mut S,
-    segments: Vec<Segment>,
-    paging: PageCfg,
-    types: &Btf,
-    plan: &Plan,
-) -> Result<Verdict, RunStop>
-    requires table { IsTable paging.table }
-    requires types { TypesAreInside (length types.now.records) plan.now.audits }
-    requires inside { AreInside (S.sizes store.old Dump) segments.items }
-
-    ensures verdict { FindsAs (λ bytes. verdict (image_of bytes segments.items paging) (plan_seen plan.now))
-        (content (S.files store.old) Dump (S.opened store.old Dump)) result }
-    ensures fits { IfOk result (FitsPlan (length plan.now.audits)) }
-    ensures files { S.files store.new ≡ S.files store.old }
-    ensures cause { CountsRunFaults result (S.faults store.old) (S.faults store.new) }
-{
-    audit_counted::<S, Brand>(alloc, store, segments, paging, types, plan, Blank::new(1))
+    plan: &'p Plan,
+    types: &'p Btf,
 }
 
-// The same, with steps on a blank of the caller's.
-fn audit_counted<S: Store, L: Ledger>(
-    alloc: Global,
-    store: &mut S,
-    segments: Vec<Segment>,
-    paging: PageCfg,
-    types: &Btf,
-    plan: &Plan,
-    blank: Blank,
-) -> Result<Verdict, RunStop>
-    requires name { blank.name ≡ L.name }
-    requires parts { blank.parts ≡ L.parts }
-    requires some { 0 < L.parts }
-    requires table { IsTable paging.table }
-    requires types { TypesAreInside (length types.now.records) plan.now.audits }
-    requires inside { AreInside (S.sizes store.old Dump) segments.items }
+impl<'p> Question for PlanOf<'p> {
+    type Answer = Result<Verdict, RunStop>;
 
-    ensures verdict { FindsAs (λ bytes. verdict (image_of bytes segments.items paging) (plan_seen plan.now))
-        (content (S.files store.old) Dump (S.opened store.old Dump)) result }
-    ensures fits { IfOk result (FitsPlan (length plan.now.audits)) }
-    ensures files { S.files store.new ≡ S.files store.old }
-    ensures cause { CountsRunFaults result (S.faults store.old) (S.faults store.new) }
-{
-    let mut steps = Steps::<L>::new(blank);
-    let mut memory = Memory::over(Phys::over(store, segments), paging);
-    let verdict = run_plan(alloc, plan, types, &mut memory, &mut steps);
-    let frames = memory.into_frames();
-    let _store = frames.into_store();
-    verdict
+    ghost may = { λ of. TypesAreInside (length of.types.now.records) of.plan.now.audits };
+
+    ghost says = { λ of image answer. IfOk answer (λ found. verdict image (plan_seen of.plan.now) ≡ found) };
+
+    ghost leaves = { λ of answer before after.
+        IfOk answer (FitsPlan (length of.plan.now.audits)) × CountsRunFaults answer before after };
+
+    fn ask<M: Space, L: Ledger>(
+        &self,
+        memory: &mut M,
+        steps: &mut Steps<L>,
+    ) -> Result<Verdict, RunStop> {
+        run_plan(self.alloc, self.plan, self.types, memory, steps)
+    }
 }

@@ -2,6 +2,7 @@
 #![tactic(auto)]
 
 mod answer;
+mod asking;
 mod check;
 mod command;
 mod laws;

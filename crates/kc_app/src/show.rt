@@ -1,5 +1,5 @@
 // The command `show`: a number of a symbol's struct, with its places.
-ghost use Rattle.std.specs.Prelude.{◌≡◌, ◌++◌, ◌<◌, ◌≤◌, Ok, codes, length, map, option_map, option_to_list, IfOk, OnOk};
+ghost use Rattle.std.specs.Prelude.{⊤, ◌≡◌, ◌++◌, ◌<◌, ◌≤◌, Ok, codes, length, map, option_map, option_to_list, IfOk, OnOk};
 ghost use Rattle.std.specs.Fmt.{signed_decimal};
 ghost use Rattle.std.specs.Option.{ForSome};
 ghost use Rattle.std.specs.String.{string_bytes};
@@ -8,7 +8,8 @@ ghost use Rattle.kc_outside.specs.declared.store.Slot.TheVariants.{Dump, Map};
 ghost use Rattle.kc_outside.specs.Counts.{Rose};
 ghost use Rattle.kc_outside.specs.Files.{content, OthersStay};
 ghost use Rattle.kc_memory.specs.Bits.{number_places};
-ghost use Rattle.kc_memory.specs.Space.{AnswersAs, OnFault, UnlessFault};
+ghost use Rattle.kc_memory.specs.Space.{Is};
+ghost use Rattle.kc_memory.specs.Stays.{CountsFaults};
 ghost use Rattle.kc_layout.specs.HopList.{hop_list};
 ghost use Rattle.kc_layout.specs.Views.{bits_view, number_view};
 ghost use Rattle.kc_phys.specs.Stored.{AreInside};
@@ -25,6 +26,7 @@ ghost use Rattle.kc_app.specs.Word.{image_of};
 ghost use Rattle.kc_app.specs.Shown.{shown_written};
 
 use crate::answer::stopped;
+use crate::asking::{Question, ask};
 use kc_btf::Btf;
 use kc_elf::Core;
 use kc_ends::Answer;
@@ -33,18 +35,15 @@ use kc_input::{
     read_symbols, read_types,
 };
 use kc_layout::Field;
-use kc_mem::Memory;
-use kc_memory::{Place, Scalar, Stop};
+use kc_memory::{Place, Scalar, Space, Stop};
 use kc_notes::Info;
 use kc_outside::Store;
-use kc_phys::Phys;
 use kc_report::push_place;
 use kc_text::{push, push_signed};
 use kc_view::View;
-use kc_word::{NoMemory, PageCfg, Segment, Steps};
+use kc_word::{NoMemory, Steps};
 use std::alloc::Global;
-use std::marker::Brand;
-use std::sync::ledger::{Blank, Ledger};
+use std::sync::ledger::Ledger;
 
 /// What `show` asks: the number that a path leads to from a type, which lies at a symbol.
 #[derive(Clone, Copy)]
@@ -188,7 +187,11 @@ fn look_up<S: Store>(
 {
     let segments = core.segments().to_vec(alloc)?;
     let view = View::new(types, target.ty, target.at);
-    let number = read_number(store, segments, paging_by(info), &view, &target.field);
+    let question = NumberOf {
+        view: &view,
+        field: &target.field,
+    };
+    let number = ask(store, segments, paging_by(info), &question);
     answer(alloc, number)
 }
 
@@ -227,55 +230,28 @@ fn answer(alloc: Global, number: Result<Scalar, Stop>) -> Result<Answer, Halt>
     }
 }
 
-// Reads a number of the dump in slot Dump, from a view's address.
-fn read_number<S: Store>(
-    store: &mut S,
-    segments: Vec<Segment>,
-    paging: PageCfg,
-    view: &View<'_>,
-    field: &Field,
-) -> Result<Scalar, Stop>
-    requires table { IsTable paging.table }
-    requires inside { AreInside (S.sizes store.old Dump) segments.items }
-
-    ensures number { AnswersAs
-        (λ bytes. value_at (image_of bytes segments.items paging) view.now.at (hop_list field.now.hops)
-        (bits_view field.now.bits)) (content (S.files store.old) Dump (S.opened store.old Dump)) result }
-    ensures files { S.files store.new ≡ S.files store.old }
-    ensures later { S.faults store.old ≤ S.faults store.new }
-    ensures quiet { UnlessFault result (S.faults store.new ≡ S.faults store.old) }
-    ensures cause { OnFault result (Rose (S.faults store.old) (S.faults store.new)) }
-{
-    read_counted::<S, Brand>(store, segments, paging, view, field, Blank::new(1))
+// The number of a field, from a view's address.
+#[derive(Drop)]
+struct NumberOf<'n> {
+    view: &'n View<'n>,
+    field: &'n Field,
 }
 
-// The same, with steps on a blank of the caller's.
-fn read_counted<S: Store, L: Ledger>(
-    store: &mut S,
-    segments: Vec<Segment>,
-    paging: PageCfg,
-    view: &View<'_>,
-    field: &Field,
-    blank: Blank,
-) -> Result<Scalar, Stop>
-    requires name { blank.name ≡ L.name }
-    requires parts { blank.parts ≡ L.parts }
-    requires some { 0 < L.parts }
-    requires table { IsTable paging.table }
-    requires inside { AreInside (S.sizes store.old Dump) segments.items }
+impl<'n> Question for NumberOf<'n> {
+    type Answer = Result<Scalar, Stop>;
 
-    ensures number { AnswersAs
-        (λ bytes. value_at (image_of bytes segments.items paging) view.now.at (hop_list field.now.hops)
-        (bits_view field.now.bits)) (content (S.files store.old) Dump (S.opened store.old Dump)) result }
-    ensures files { S.files store.new ≡ S.files store.old }
-    ensures later { S.faults store.old ≤ S.faults store.new }
-    ensures quiet { UnlessFault result (S.faults store.new ≡ S.faults store.old) }
-    ensures cause { OnFault result (Rose (S.faults store.old) (S.faults store.new)) }
-{
-    let mut steps = Steps::<L>::new(blank);
-    let mut memory = Memory::over(Phys::over(store, segments), paging);
-    let number = view.read(&mut memory, field, &mut steps);
-    let frames = memory.into_frames();
-    let _store = frames.into_store();
-    number
+    ghost may = { λ _. ⊤ };
+
+    ghost says = { λ n image answer.
+        Is (value_at image n.view.now.at (hop_list n.field.now.hops) (bits_view n.field.now.bits)) answer };
+
+    ghost leaves = { λ _ answer before after. CountsFaults answer before after };
+
+    fn ask<M: Space, L: Ledger>(
+        &self,
+        memory: &mut M,
+        steps: &mut Steps<L>,
+    ) -> Result<Scalar, Stop> {
+        self.view.read(memory, self.field, steps)
+    }
 }

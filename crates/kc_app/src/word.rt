@@ -1,16 +1,15 @@
 // The command `word`: one word of a dump with its places.
-ghost use Rattle.std.specs.Prelude.{◌≡◌, ◌<◌, ◌≤◌, ◌∷◌, [], map, Some, IfOk, IfSome, option_and_then, option_map};
+ghost use Rattle.std.specs.Prelude.{⊤, ◌≡◌, ◌<◌, ◌≤◌, ◌∷◌, [], map, Some, IfOk, IfSome, option_and_then, option_map};
 ghost use Rattle.std.specs.Option.{ForSome};
 ghost use Rattle.std.specs.String.{string_bytes};
 ghost use Rattle.kc_word.specs.Hex.{hex_number};
 ghost use Rattle.kc_outside.specs.declared.store.Slot.{Slot};
 ghost use Rattle.kc_outside.specs.declared.store.Slot.TheVariants.{Dump};
 ghost use Rattle.kc_outside.specs.Counts.{Rose};
-ghost use Rattle.kc_outside.specs.Files.{content};
 ghost use Rattle.kc_memory.specs.Places.{place_of};
-ghost use Rattle.kc_memory.specs.Space.{AnswersAs, OnFault, UnlessFault};
+ghost use Rattle.kc_memory.specs.Space.{Is};
+ghost use Rattle.kc_memory.specs.Stays.{CountsFaults};
 ghost use Rattle.kc_memory.specs.Translation.{vword};
-ghost use Rattle.kc_phys.specs.Stored.{AreInside};
 ghost use Rattle.kc_input.specs.Halts.{NotRefused, OnStore, UnlessStore};
 ghost use Rattle.kc_input.specs.Made.{Tells};
 ghost use Rattle.kc_input.specs.Slots.{IsAbout};
@@ -22,18 +21,16 @@ ghost use Rattle.kc_app.specs.Shown.{bare_lines, shown_written};
 ghost use Rattle.kc_app.specs.Word.{as_table, image_of, paging_of, table_word, word_asks, word_made, word_view};
 
 use crate::answer::stopped;
+use crate::asking::{Question, ask};
 use kc_elf::Core;
 use kc_ends::Answer;
 use kc_input::{Halt, Refusal, paging_by, read_dump, read_info};
-use kc_mem::Memory;
 use kc_memory::{Space, Stop, VWord};
 use kc_outside::Store;
-use kc_phys::Phys;
 use kc_text::{push, push_hex};
-use kc_word::{NoMemory, PageCfg, Segment, Steps, read_hex};
+use kc_word::{NoMemory, PageCfg, Steps, read_hex};
 use std::alloc::Global;
-use std::marker::Brand;
-use std::sync::ledger::{Blank, Ledger};
+use std::sync::ledger::Ledger;
 
 /// What `word` asks: the word at a virtual address, by the page tables below a physical address, or below the
 /// one that the dump's notes name.
@@ -128,7 +125,7 @@ fn word<S: Store>(alloc: Global, store: &mut S, asks: Asks<'_>) -> Result<Answer
     let core = read_dump(alloc, store, asks.dump)?;
     let paging = find_paging(&core, asks.table)?;
     let segments = core.segments().to_vec(alloc)?;
-    let word = read_word(store, segments, paging, asks.address);
+    let word = ask(store, segments, paging, &WordAt(asks.address));
     answer(alloc, word)
 }
 
@@ -176,51 +173,24 @@ fn answer(alloc: Global, word: Result<VWord, Stop>) -> Result<Answer, Halt>
     }
 }
 
-// Reads a word of the dump in slot Dump.
-fn read_word<S: Store>(
-    store: &mut S,
-    segments: Vec<Segment>,
-    paging: PageCfg,
-    address: u64,
-) -> Result<VWord, Stop>
-    requires table { IsTable paging.table }
-    requires inside { AreInside (S.sizes store.old Dump) segments.items }
+// The word at a virtual address.
+#[derive(Drop)]
+struct WordAt(u64);
 
-    ensures word { AnswersAs (λ bytes. vword (image_of bytes segments.items paging) address)
-        (content (S.files store.old) Dump (S.opened store.old Dump)) result }
-    ensures files { S.files store.new ≡ S.files store.old }
-    ensures later { S.faults store.old ≤ S.faults store.new }
-    ensures quiet { UnlessFault result (S.faults store.new ≡ S.faults store.old) }
-    ensures cause { OnFault result (Rose (S.faults store.old) (S.faults store.new)) }
-{
-    read_counted::<S, Brand>(store, segments, paging, address, Blank::new(1))
-}
+impl Question for WordAt {
+    type Answer = Result<VWord, Stop>;
 
-// The same, with steps on a blank of the caller's.
-fn read_counted<S: Store, L: Ledger>(
-    store: &mut S,
-    segments: Vec<Segment>,
-    paging: PageCfg,
-    address: u64,
-    blank: Blank,
-) -> Result<VWord, Stop>
-    requires name { blank.name ≡ L.name }
-    requires parts { blank.parts ≡ L.parts }
-    requires some { 0 < L.parts }
-    requires table { IsTable paging.table }
-    requires inside { AreInside (S.sizes store.old Dump) segments.items }
+    ghost may = { λ _. ⊤ };
 
-    ensures word { AnswersAs (λ bytes. vword (image_of bytes segments.items paging) address)
-        (content (S.files store.old) Dump (S.opened store.old Dump)) result }
-    ensures files { S.files store.new ≡ S.files store.old }
-    ensures later { S.faults store.old ≤ S.faults store.new }
-    ensures quiet { UnlessFault result (S.faults store.new ≡ S.faults store.old) }
-    ensures cause { OnFault result (Rose (S.faults store.old) (S.faults store.new)) }
-{
-    let mut steps = Steps::<L>::new(blank);
-    let mut memory = Memory::over(Phys::over(store, segments), paging);
-    let word = memory.word(address, &mut steps);
-    let frames = memory.into_frames();
-    let _store = frames.into_store();
-    word
+    ghost says = { λ word image answer. Is (vword image word.0) answer };
+
+    ghost leaves = { λ _ answer before after. CountsFaults answer before after };
+
+    fn ask<M: Space, L: Ledger>(
+        &self,
+        memory: &mut M,
+        steps: &mut Steps<L>,
+    ) -> Result<VWord, Stop> {
+        memory.word(self.0, steps)
+    }
 }

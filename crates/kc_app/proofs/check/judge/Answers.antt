@@ -10,4 +10,4 @@ pub returns-in-Ok-clause-output : goal.returns-in-Ok-clause-output
 returns-in-Ok-clause-output g c =
     let same : c.in_ok-segments.segments.items ≡ c.args.core.now.segments = search rules in
     judged_prints (content (g.S.Store.files c.args.store.now) Dump (g.S.Store.opened c.args.store.now Dump)) c.args.core.now.segments (by_info c.args.info) (plan_seen c.args.plan.now)
-    c.in_ok-names.names c.in-Ok.verdict c.answer.result c.in_ok-names.ensures (rw (same, c.paging_by.ensures) at c.in-Ok.ensures.verdict) c.answer.ensures.output
+    c.in_ok-names.names c.in-Ok.verdict c.answer.result c.in_ok-names.ensures (rw (same, c.paging_by.ensures) at c.in-Ok.ensures.says) c.answer.ensures.output
