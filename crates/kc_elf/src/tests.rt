@@ -1,63 +1,27 @@
 // A small core file, whole and with changed bytes.
 use super::*;
+use kc_fixture::{number, put_bytes};
 use kc_outside::{MemStore, Slot, Store};
 use kc_word::Segment;
 use std::alloc::Global;
 use std::test::Fail;
 
-// A byte that is put at a place of the file.
-type Change = (usize, u8);
+// A file of 1,024 bytes, by the places of its bytes: the file header; the first section header at 896, which is looked
+// at where the number of program headers is 0xffff; and three program headers. These are a PT_LOAD of 256 bytes at 512,
+// with 384 bytes of memory at 0x1000; a PT_NOTE of 32 bytes at 256; a PT_LOAD of 256 bytes at 768, with memory at
+// 0x5000. The last is a byte of the note.
+const MADE: &str = "0=0x7f 1=0x45 2=0x4c 3=0x46 4=2 5=1 6=1 16=4 18=62 32=64 54=56 56=3
+40=0x80 41=3 940=2
+64=1 73=2 89=0x10 97=1 104=0x80 105=1
+120=4 129=1 152=0x20
+176=1 185=3 201=0x50 209=1
+261=9";
 
-// A file of 0x400 bytes: the file header, three program headers at 64, and their bytes.
-const MADE: [Change; 29] = [
-    (0, 0x7f),
-    (1, b'E'),
-    (2, b'L'),
-    (3, b'F'),
-    (4, 2),
-    (5, 1),
-    (6, 1),
-    (16, 4),
-    (18, 62),
-    (32, 64),
-    // the first section header at 0x380, which is looked at where the number is 0xffff
-    (40, 0x80),
-    (41, 3),
-    (0x380 + 44, 2),
-    (54, 56),
-    (56, 3),
-    // a PT_LOAD of 0x100 bytes at 0x200, with 0x180 bytes of memory at 0x1000
-    (64, 1),
-    (64 + 9, 2),
-    (64 + 25, 0x10),
-    (64 + 33, 1),
-    (64 + 40, 0x80),
-    (64 + 41, 1),
-    // a PT_NOTE of 0x20 bytes at 0x100
-    (120, 4),
-    (120 + 9, 1),
-    (120 + 32, 0x20),
-    // a PT_LOAD of 0x100 bytes at 0x300, with memory at 0x5000
-    (176, 1),
-    (176 + 9, 3),
-    (176 + 25, 0x50),
-    (176 + 33, 1),
-    // a byte of the note
-    (0x105, 9),
-];
-
-fn change(bytes: &mut [u8], changes: &[Change]) {
-    for (place, byte) in changes {
-        if *place < bytes.len() {
-            bytes[*place] = *byte;
-        }
-    }
-}
-
-fn made(alloc: Global, size: usize, changes: &[Change]) -> Result<Vec<u8>, Fail> {
+// The file with this size, and with other bytes.
+fn made(alloc: Global, size: usize, places: &str) -> Result<Vec<u8>, Fail> {
     let mut bytes = vec![in alloc; 0; size]?;
-    change(&mut bytes, &MADE);
-    change(&mut bytes, changes);
+    put_bytes(&mut bytes, MADE);
+    put_bytes(&mut bytes, places);
     Ok(bytes)
 }
 
@@ -81,7 +45,7 @@ fn stop_of(read: Result<Core, CoreStop>) -> Option<CoreStop> {
 #[test]
 fn reads_a_core(rt: HostRuntime) -> Result<(), Fail> {
     let alloc = rt.alloc();
-    let core = read(alloc, &made(alloc, 0x400, &[])?, 0)??;
+    let core = read(alloc, &made(alloc, 1024, "")?, 0)??;
     let want = [
         Segment {
             paddr: 0x1000,
@@ -103,89 +67,62 @@ fn reads_a_core(rt: HostRuntime) -> Result<(), Fail> {
     assert_eq!(rt; core.note(0), note.as_slice());
 
     // The number of program headers stands in the first section header.
-    let extended = [(56, 0xff), (57, 0xff)];
-    let core = read(alloc, &made(alloc, 0x400, &extended)?, 0)??;
+    let core = read(alloc, &made(alloc, 1024, "56=0xff 57=0xff")?, 0)??;
     assert_eq!(rt; core.segments().len(), 1);
     assert_eq!(rt; core.notes(), 1);
     Ok(())
 }
 
+// A file's size, the bytes that are changed, and the fault that is told. Of E7, the section header lies outside the
+// file, and then the program headers; of E9, the memory of the last ends past 2^64, by its size in memory. Then two faults
+// at once, of which the earlier is told.
+const FAULTS: &str = "63 : E1
+1024 3=0x66 : E2
+1024 4=1 : E3
+1024 16=2 : E4
+1024 18=183 : E5
+1024 54=64 : E6
+1024 56=0xff 57=0xff 40=0xc1 41=3 : E7
+1024 32=0x59 33=3 : E7
+1024 56=0 : E8
+1024 56=0xff 57=0xff 942=1 : E8
+1024 129=4 : E9(1)
+1024 207=0xff 223=1 : E9(2)
+0x900000 154=0x80 176=4 210=0x80 : E10
+63 3=0x66 : E1
+1024 3=0x66 4=1 : E2
+1024 4=1 16=2 : E3
+1024 16=2 18=183 : E4
+1024 18=183 54=64 : E5
+1024 54=64 56=0xff 57=0xff 41=4 : E6
+1024 56=0 32=0x59 33=3 : E8
+1024 58=0 32=0x59 33=3 129=4 : E7
+1024 73=4 129=4 : E9(0)
+0x900000 74=0x90 154=0xff 176=4 210=0x80 : E9(0)";
+
 #[test]
 fn names_the_first_fault(rt: HostRuntime) -> Result<(), Fail> {
     let alloc = rt.alloc();
-    let rows: [(usize, &[Change], CoreFault); 23] = [
-        // one fault each
-        (63, &[], CoreFault::E1),
-        (0x400, &[(3, b'f')], CoreFault::E2),
-        (0x400, &[(4, 1)], CoreFault::E3),
-        (0x400, &[(16, 2)], CoreFault::E4),
-        (0x400, &[(18, 183)], CoreFault::E5),
-        (0x400, &[(54, 64)], CoreFault::E6),
-        // the section header is outside the file; the program headers are
-        (
-            0x400,
-            &[(56, 0xff), (57, 0xff), (40, 0xc1), (41, 3)],
-            CoreFault::E7,
-        ),
-        (0x400, &[(32, 0x59), (33, 3)], CoreFault::E7),
-        (0x400, &[(56, 0)], CoreFault::E8),
-        (
-            0x400,
-            &[(56, 0xff), (57, 0xff), (0x380 + 46, 1)],
-            CoreFault::E8,
-        ),
-        (0x400, &[(120 + 9, 4)], CoreFault::E9(1)),
-        // the memory of the last ends past 2^64, by its size in memory
-        (0x400, &[(176 + 31, 0xff), (176 + 47, 1)], CoreFault::E9(2)),
-        (
-            0x900000,
-            &[(120 + 34, 0x80), (176, 4), (176 + 34, 0x80)],
-            CoreFault::E10,
-        ),
-        // two at once: the earlier
-        (63, &[(3, b'f')], CoreFault::E1),
-        (0x400, &[(3, b'f'), (4, 1)], CoreFault::E2),
-        (0x400, &[(4, 1), (16, 2)], CoreFault::E3),
-        (0x400, &[(16, 2), (18, 183)], CoreFault::E4),
-        (0x400, &[(18, 183), (54, 64)], CoreFault::E5),
-        (
-            0x400,
-            &[(54, 64), (56, 0xff), (57, 0xff), (41, 4)],
-            CoreFault::E6,
-        ),
-        (0x400, &[(56, 0), (32, 0x59), (33, 3)], CoreFault::E8),
-        (
-            0x400,
-            &[(58, 0), (32, 0x59), (33, 3), (120 + 9, 4)],
-            CoreFault::E7,
-        ),
-        (0x400, &[(64 + 9, 4), (120 + 9, 4)], CoreFault::E9(0)),
-        (
-            0x900000,
-            &[
-                (64 + 10, 0x90),
-                (120 + 34, 0xff),
-                (176, 4),
-                (176 + 34, 0x80),
-            ],
-            CoreFault::E9(0),
-        ),
-    ];
-    for (size, changes, fault) in rows {
-        let found = stop_of(read(alloc, &made(alloc, size, changes)?, 0)?);
-        assert_eq!(rt;
-            found,
-            Some(CoreStop::Fault(fault)),
-            "where {fault:?} is wanted"
-        );
+    let mut count: usize = 0;
+    for row in FAULTS.lines() {
+        let (given, wanted) = row.split_once(" : ").ok_or("no answer")?;
+        let (size, places) = given.split_once(' ').unwrap_or((given, ""));
+        match read(alloc, &made(alloc, number(size) as usize, places)?, 0)? {
+            Err(CoreStop::Fault(fault)) => {
+                assert_eq!(rt; format!(in alloc; "{fault:?}")?.as_str(), wanted, "{row}");
+            }
+            _ => return Err("no fault".into()),
+        }
+        count = count.saturating_add(1);
     }
+    assert_eq!(rt; count, 23);
     Ok(())
 }
 
 #[test]
 fn hands_on_a_failure(rt: HostRuntime) -> Result<(), Fail> {
     let alloc = rt.alloc();
-    let bytes = made(alloc, 0x400, &[])?;
+    let bytes = made(alloc, 1024, "")?;
     // the size, the file header, the program headers, the note
     for failing in 3..7 {
         let found = stop_of(read(alloc, &bytes, failing)?);

@@ -1,6 +1,7 @@
 // The core file of the made dump.
 ghost use Rattle.std.specs.Prelude.{◌<◌};
 
+use crate::bytes::set_bytes;
 use byteorder::{ByteOrder, LittleEndian};
 use std::alloc::{AllocError, Global};
 
@@ -56,13 +57,6 @@ pub fn set_word(file: &mut Vec<u8>, pa: u64, word: u64) {
     LittleEndian::write_u64(&mut bytes, word);
     if pa < SIZE as u64 {
         set_bytes(file, (MEMORY + pa) as usize, &bytes);
-    }
-}
-
-/// Puts bytes at a file offset, as far as the file goes.
-pub fn set_bytes(file: &mut Vec<u8>, offset: usize, bytes: &[u8]) {
-    if offset <= file.len() && bytes.len() <= file.len() - offset {
-        file[offset..offset + bytes.len()].copy_from_slice(bytes);
     }
 }
 

@@ -2,10 +2,14 @@
 //! kernel with a handful of pages, a ring, trees, a slab cache and two tasks.
 #![tactic(auto)]
 
+mod btf;
+mod bytes;
 mod dump;
 mod symbols;
 mod types;
 
-pub use dump::{NOTE, core_file, core_with_note, set_bytes, set_word};
+pub use btf::Types;
+pub use bytes::{number, push_numbers, put_bytes, set_bytes};
+pub use dump::{NOTE, core_file, core_with_note, set_word};
 pub use symbols::MAP;
 pub use types::btf_file;

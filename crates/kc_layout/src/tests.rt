@@ -3,16 +3,18 @@ ghost use Rattle.std.specs.Prelude.{IfOk, IfSome};
 ghost use Rattle.kc_layout.specs.Listing.{AreNamed};
 
 use crate::{
-    Field, Line, Located, PathFault, QRule, compound_under, find_type, list_members, locate,
+    Field, Hops, Line, Located, PathFault, QRule, compound_under, find_type, list_members, locate,
     pointers_under, resolve, size_of,
 };
 use kc_btf::Btf;
+use kc_word::Bits;
 use std::alloc::Global;
+use std::process::Abort;
 use std::test::Fail;
 
-mod fixture;
+mod made;
 
-use fixture::{crowds, levels, types};
+use made::{crowds, levels, types};
 
 #[test]
 fn names_are_found(rt: HostRuntime) -> Result<(), Fail> {
@@ -94,127 +96,104 @@ fn pointers_are_counted(rt: HostRuntime) -> Result<(), Fail> {
     Ok(())
 }
 
-// The pointers of a field, its first bit, its width, whether it is signed, and its type.
-type Shown = (u8, [u64; 4], u64, u8, bool, u32);
-
-fn shown(field: &Field) -> Shown {
-    let hops = &field.hops;
-    (
-        hops.count,
-        [hops.a, hops.b, hops.c, hops.d],
-        field.bits.bit,
-        field.bits.width,
-        field.bits.signed,
-        field.ty,
-    )
-}
-
-// The number that a path of a type leads to.
-fn number(btf: &Btf, name: &[u8], path: &[u8]) -> Result<Result<Shown, PathFault>, Fail> {
-    let id = find_type(btf, name).ok_or("no type")?;
-    match resolve(btf, id, path) {
-        Ok(field) => Ok(Ok(shown(&field))),
-        Err(fault) => Ok(Err(fault)),
+// The number that a path of a type leads to, as a text: the offsets of its pointers, its first bit, its width, whether
+// it is signed, and its type; or the rule and the step that refuse the path.
+fn number(alloc: Global, btf: &Btf, name: &str, path: &str) -> Result<String, Fail> {
+    let id = find_type(btf, name.as_bytes()).ok_or("no type")?;
+    match resolve(btf, id, path.as_bytes()) {
+        Ok(Field { hops, bits, ty }) => {
+            let Hops { count, a, b, c, d } = hops;
+            let Bits { bit, width, signed } = bits;
+            let sign = if signed { "signed" } else { "unsigned" };
+            Ok(format!(in alloc;
+                "{count} {a} {b} {c} {d} bit {bit} width {width} {sign} type {ty}"
+            )?)
+        }
+        Err(PathFault { rule, step }) => Ok(format!(in alloc; "{rule:?} {step}")?),
     }
 }
+
+// Paths of types, and what is told of them.
+fn are_told(rt: &(impl Abort + AllocGlobal), btf: &Btf, rows: &str) -> Result<usize, Fail> {
+    let mut count: usize = 0;
+    for row in rows.lines() {
+        let (given, wanted) = row.split_once(" : ").ok_or("no answer")?;
+        let (name, path) = given.split_once(' ').unwrap_or((given, ""));
+        assert_eq!(rt;
+            number(rt.alloc(), btf, name, path)?.as_str(),
+            wanted,
+            "{row}"
+        );
+        count = count.saturating_add(1);
+    }
+    Ok(count)
+}
+
+const NUMBERS: &str = "slab frozen : 0 0 0 0 0 bit 351 width 1 unsigned type 3
+slab objects : 0 0 0 0 0 bit 336 width 15 unsigned type 3
+slab counters : 0 0 0 0 0 bit 320 width 64 unsigned type 1
+task_struct signal->thread_head.next : 1 80 0 0 0 bit 0 width 64 unsigned type 4
+item small : 0 0 0 0 0 bit 288 width 3 signed type 2
+item at : 0 0 0 0 0 bit 320 width 64 unsigned type 4
+item row[3] : 0 0 0 0 0 bit 608 width 32 signed type 2
+kmem_cache node[0]->nr_partial : 1 40 0 0 0 bit 64 width 64 unsigned type 1
+rows bytes[4294967294] : 0 0 0 0 0 bit 34359738352 width 8 unsigned type 24
+rows words[1073741823] : 0 0 0 0 0 bit 68719476672 width 64 unsigned type 1
+rows large[0] : 0 0 0 0 0 bit 0 width 64 unsigned type 1
+rows parts[2][3] : 0 0 0 0 0 bit 352 width 32 signed type 2
+chain mode : 0 0 0 0 0 bit 128 width 32 signed type 32
+chain next->next->next->next->id : 4 8 8 8 8 bit 0 width 64 unsigned type 1
+odds odd : 0 0 0 0 0 bit 11 width 5 unsigned type 36
+odds fits.prev : 0 0 0 0 0 bit 64 width 64 unsigned type 4";
 
 #[test]
 fn numbers_are_resolved(rt: HostRuntime) -> Result<(), Fail> {
-    let btf = types(rt.alloc())?;
-    let rows: [(&[u8], &[u8], Shown); 16] = [
-        (b"slab", b"frozen", (0, [0; 4], 351, 1, false, 3)),
-        (b"slab", b"objects", (0, [0; 4], 336, 15, false, 3)),
-        (b"slab", b"counters", (0, [0; 4], 320, 64, false, 1)),
-        (
-            b"task_struct",
-            b"signal->thread_head.next",
-            (1, [80, 0, 0, 0], 0, 64, false, 4),
-        ),
-        (b"item", b"small", (0, [0; 4], 288, 3, true, 2)),
-        (b"item", b"at", (0, [0; 4], 320, 64, false, 4)),
-        (b"item", b"row[3]", (0, [0; 4], 608, 32, true, 2)),
-        (
-            b"kmem_cache",
-            b"node[0]->nr_partial",
-            (1, [40, 0, 0, 0], 64, 64, false, 1),
-        ),
-        (
-            b"rows",
-            b"bytes[4294967294]",
-            (0, [0; 4], 34359738352, 8, false, 24),
-        ),
-        (
-            b"rows",
-            b"words[1073741823]",
-            (0, [0; 4], 68719476672, 64, false, 1),
-        ),
-        (b"rows", b"large[0]", (0, [0; 4], 0, 64, false, 1)),
-        (b"rows", b"parts[2][3]", (0, [0; 4], 352, 32, true, 2)),
-        (b"chain", b"mode", (0, [0; 4], 128, 32, true, 32)),
-        (
-            b"chain",
-            b"next->next->next->next->id",
-            (4, [8, 8, 8, 8], 0, 64, false, 1),
-        ),
-        (b"odds", b"odd", (0, [0; 4], 11, 5, false, 36)),
-        (b"odds", b"fits.prev", (0, [0; 4], 64, 64, false, 4)),
-    ];
-    for (name, path, expected) in rows.iter() {
-        assert_eq!(rt; number(&btf, *name, *path)?, Ok(*expected));
-    }
+    assert_eq!(rt; are_told(&rt, &types(rt.alloc())?, NUMBERS)?, 16);
     Ok(())
 }
 
+// A member behind one that lies under too many modifiers is told by the limit (`last`, `behind`), and a text is judged
+// before its steps.
+const REFUSED: &str = "slab smell : Q2 1
+slab slab_list.first : Q2 2
+kmem_cache node[1] : Q4 2
+kmem_cache node[9999999999] : Q4 2
+kmem_cache size->x : Q7 2
+kmem_cache size.x : Q3 2
+kmem_cache size[0] : Q3 2
+kmem_cache node.x : Q3 2
+kmem_cache list : Q6 1
+kmem_cache node : Q6 1
+kmem_cache : Q6 0
+kmem_cache a b : Q8 0
+rows bytes[4294967295] : Q4 2
+rows none[0] : Q4 2
+rows twofold[0] : Q5 2
+rows words[1073741824] : Q5 2
+rows far[0] : Q4 2
+rows void->x : Q7 2
+slab freelist->x : Q3 2
+item at->next : Q7 2
+item wide : Q6 1
+chain ratio : Q6 1
+odds huge : Q6 1
+odds beyond : Q5 1
+odds beyond.next : Q5 2
+odds last : Q5 1
+endless behind : Q5 1
+chain next->next->next->next->next->id : Q5 6
+slab smell. : Q8 0
+slab .frozen : Q8 0
+slab 0 : Q8 0
+slab a[] : Q8 0
+slab a[-1] : Q8 0
+slab a[00000000001] : Q8 0
+slab a[1 : Q8 0
+slab a-b : Q8 0";
+
 #[test]
 fn paths_are_refused(rt: HostRuntime) -> Result<(), Fail> {
-    let btf = types(rt.alloc())?;
-    let rows: [(&[u8], &[u8], QRule, u32); 36] = [
-        (b"slab", b"smell", QRule::Q2, 1),
-        (b"slab", b"slab_list.first", QRule::Q2, 2),
-        (b"kmem_cache", b"node[1]", QRule::Q4, 2),
-        (b"kmem_cache", b"node[9999999999]", QRule::Q4, 2),
-        (b"kmem_cache", b"size->x", QRule::Q7, 2),
-        (b"kmem_cache", b"size.x", QRule::Q3, 2),
-        (b"kmem_cache", b"size[0]", QRule::Q3, 2),
-        (b"kmem_cache", b"node.x", QRule::Q3, 2),
-        (b"kmem_cache", b"list", QRule::Q6, 1),
-        (b"kmem_cache", b"node", QRule::Q6, 1),
-        (b"kmem_cache", b"", QRule::Q6, 0),
-        (b"kmem_cache", b"a b", QRule::Q8, 0),
-        (b"rows", b"bytes[4294967295]", QRule::Q4, 2),
-        (b"rows", b"none[0]", QRule::Q4, 2),
-        (b"rows", b"twofold[0]", QRule::Q5, 2),
-        (b"rows", b"words[1073741824]", QRule::Q5, 2),
-        (b"rows", b"far[0]", QRule::Q4, 2),
-        (b"rows", b"void->x", QRule::Q7, 2),
-        (b"slab", b"freelist->x", QRule::Q3, 2),
-        (b"item", b"at->next", QRule::Q7, 2),
-        (b"item", b"wide", QRule::Q6, 1),
-        (b"chain", b"ratio", QRule::Q6, 1),
-        (b"odds", b"huge", QRule::Q6, 1),
-        (b"odds", b"beyond", QRule::Q5, 1),
-        (b"odds", b"beyond.next", QRule::Q5, 2),
-        // a member behind one that lies under too many modifiers
-        (b"odds", b"last", QRule::Q5, 1),
-        (b"endless", b"behind", QRule::Q5, 1),
-        (b"chain", b"next->next->next->next->next->id", QRule::Q5, 6),
-        // the text is judged before its steps
-        (b"slab", b"smell.", QRule::Q8, 0),
-        (b"slab", b".frozen", QRule::Q8, 0),
-        (b"slab", b"0", QRule::Q8, 0),
-        (b"slab", b"a[]", QRule::Q8, 0),
-        (b"slab", b"a[-1]", QRule::Q8, 0),
-        (b"slab", b"a[00000000001]", QRule::Q8, 0),
-        (b"slab", b"a[1", QRule::Q8, 0),
-        (b"slab", b"a-b", QRule::Q8, 0),
-    ];
-    for (name, path, rule, step) in rows.iter() {
-        let fault = PathFault {
-            rule: *rule,
-            step: *step,
-        };
-        assert_eq!(rt; number(&btf, *name, *path)?, Err(fault));
-    }
+    assert_eq!(rt; are_told(&rt, &types(rt.alloc())?, REFUSED)?, 36);
     Ok(())
 }
 
@@ -242,30 +221,24 @@ fn bytes_are_located(rt: HostRuntime) -> Result<(), Fail> {
 #[test]
 fn limits_are_kept(rt: HostRuntime) -> Result<(), Fail> {
     let alloc = rt.alloc();
-    let beyond = PathFault {
-        rule: QRule::Q5,
-        step: 1,
-    };
-    let found = (0, [0; 4], 0, 64, false, 1);
+    let found = "0 0 0 0 0 bit 0 width 64 unsigned type 1";
     let crowds = crowds(alloc)?;
-    assert_eq!(rt; number(&crowds, b"crowd", b"sought")?, Ok(found));
-    assert_eq!(rt; number(&crowds, b"larger crowd", b"sought")?, Err(beyond));
+    assert_eq!(rt; number(alloc, &crowds, "crowd", "sought")?.as_str(), found);
+    assert_eq!(rt;
+        number(alloc, &crowds, "larger crowd", "sought")?.as_str(),
+        "Q5 1"
+    );
     let levels = levels(alloc)?;
-    assert_eq!(rt; number(&levels, b"levels", b"sought")?, Ok(found));
-    assert_eq!(rt; number(&levels, b"more levels", b"sought")?, Err(beyond));
+    assert_eq!(rt; number(alloc, &levels, "levels", "sought")?.as_str(), found);
+    assert_eq!(rt;
+        number(alloc, &levels, "more levels", "sought")?.as_str(),
+        "Q5 1"
+    );
     let types = types(alloc)?;
-    let mut path = vec![in alloc; b'a'; 256]?;
-    let missing = PathFault {
-        rule: QRule::Q2,
-        step: 1,
-    };
-    assert_eq!(rt; number(&types, b"slab", path.as_slice())?, Err(missing));
-    path.push(b'a')?;
-    let refused = PathFault {
-        rule: QRule::Q8,
-        step: 0,
-    };
-    assert_eq!(rt; number(&types, b"slab", path.as_slice())?, Err(refused));
+    let mut path = "a".repeat(alloc, 256)?;
+    assert_eq!(rt; number(alloc, &types, "slab", &path)?.as_str(), "Q2 1");
+    path.push('a')?;
+    assert_eq!(rt; number(alloc, &types, "slab", &path)?.as_str(), "Q8 0");
     Ok(())
 }
 
@@ -278,64 +251,61 @@ fn lines_of(alloc: Global, btf: &Btf, name: &[u8]) -> Result<Option<Vec<Line>>, 
     Ok(list_members(alloc, btf, t)?)
 }
 
-// The first bit, the width and the name of a line.
-type Printed<'b> = (u64, Option<u64>, &'b [u8]);
-
-fn printed<'b>(alloc: Global, btf: &'b Btf, lines: &[Line]) -> Result<Vec<Printed<'b>>, Fail>
+// The first bit, the width (`-` for none) and the name of each line.
+fn printed(alloc: Global, btf: &Btf, lines: &[Line]) -> Result<String, Fail>
     requires { AreNamed btf.now lines.now }
 {
-    let mut printed = Vec::new(alloc);
+    let mut text = String::new(alloc);
     for line in lines {
-        printed.push((line.bit, line.width, btf.name(line.name)))?;
+        let name = std::str::from_utf8(btf.name(line.name)).unwrap_or("?");
+        match line.width {
+            Some(width) => text.push_str(&format!(in alloc; "{} {width} {name}\n", line.bit)?)?,
+            None => text.push_str(&format!(in alloc; "{} - {name}\n", line.bit)?)?,
+        }
     }
-    Ok(printed)
+    Ok(text)
 }
 
+// A type, and its members as lines.
+const LISTED: &str = "slab
+0 64 __page_flags
+64 64 slab_cache
+128 128 slab_list
+256 64 freelist
+320 64 counters
+320 16 inuse
+336 15 objects
+351 1 frozen
+
+item
+0 128 link
+256 32 key
+288 3 small
+320 64 at
+384 65 wide
+512 32 row
+
+odds
+11 5 odd
+64 72 huge
+0 128 fits
+0 - beyond
+0 - 
+0 64 last";
+
+// Of `odds`: a number at bit 3 of its bytes, and members under more than 32 modifiers, one without a name.
 #[test]
 fn members_are_listed(rt: HostRuntime) -> Result<(), Fail> {
     let btf = types(rt.alloc())?;
-    let rows: [(&[u8], &[Printed<'static>]); 3] = [
-        (
-            b"slab",
-            &[
-                (0, Some(64), b"__page_flags"),
-                (64, Some(64), b"slab_cache"),
-                (128, Some(128), b"slab_list"),
-                (256, Some(64), b"freelist"),
-                (320, Some(64), b"counters"),
-                (320, Some(16), b"inuse"),
-                (336, Some(15), b"objects"),
-                (351, Some(1), b"frozen"),
-            ],
-        ),
-        (
-            b"item",
-            &[
-                (0, Some(128), b"link"),
-                (256, Some(32), b"key"),
-                (288, Some(3), b"small"),
-                (320, Some(64), b"at"),
-                (384, Some(65), b"wide"),
-                (512, Some(32), b"row"),
-            ],
-        ),
-        // a number at bit 3 of its bytes, and members under more than 32 modifiers, one without a name
-        (
-            b"odds",
-            &[
-                (11, Some(5), b"odd"),
-                (64, Some(72), b"huge"),
-                (0, Some(128), b"fits"),
-                (0, None, b"beyond"),
-                (0, None, b""),
-                (0, Some(64), b"last"),
-            ],
-        ),
-    ];
-    for (name, expected) in rows.iter() {
-        let lines = lines_of(rt.alloc(), &btf, *name)?.ok_or("beyond")?;
-        assert_eq!(rt; printed(rt.alloc(), &btf, &lines)?.as_slice(), *expected);
+    let mut count: usize = 0;
+    for case in LISTED.split("\n\n") {
+        let (name, wanted) = case.split_once('\n').ok_or("no members")?;
+        let lines = lines_of(rt.alloc(), &btf, name.as_bytes())?.ok_or("beyond")?;
+        let text = printed(rt.alloc(), &btf, &lines)?;
+        assert_eq!(rt; text.trim_end(), wanted, "{name}");
+        count = count.saturating_add(1);
     }
+    assert_eq!(rt; count, 3);
     Ok(())
 }
 

@@ -1,8 +1,8 @@
 // The program over made files. The files beside this one have the cases, and an empty line ends a case. Its lines
 // give what is changed: `note` a line before the usual ones of the note, and `last` one after them without a newline;
-// `row` a line more of the map; `types` a byte of the types at a file offset; `length` how long the dump is; `without`
-// a file that isn't there; `fails` the number of the call that fails; `out_limit` and `err_limit` how much a sink
-// takes; and what is wanted. Numbers are hex.
+// `row` a line more of the map; `types` a byte of the types at a file offset; `length` how long the dump is;
+// `types_size` and `map_size` of how many zeros a file is; `without` a file that isn't there; `fails` the number of
+// the call that fails; `out_limit` and `err_limit` how much a sink takes; and what is wanted. Numbers are hex.
 mod endings;
 mod facts;
 
@@ -107,6 +107,8 @@ impl Case {
                 }
             }
             "length" => self.dump.truncate(small(value)),
+            "types_size" => self.types = vec![in alloc; 0; small(value)]?,
+            "map_size" => self.map = vec![in alloc; 0; small(value)]?,
             "without" => self.missing.push(String::from_str(alloc, value)?)?,
             "fails" => self.fails = hex(value),
             "out_limit" => self.out_limit = small(value),
@@ -181,6 +183,6 @@ fn lines_are_the_same_or_not(rt: HostRuntime) -> Result<(), Fail> {
 
 #[test]
 fn refusals_and_failures_are_told(rt: HostRuntime) -> Result<(), Fail> {
-    assert_eq!(rt; run_cases(&rt, endings::ENDINGS)?, 14);
+    assert_eq!(rt; run_cases(&rt, endings::ENDINGS)?, 16);
     Ok(())
 }

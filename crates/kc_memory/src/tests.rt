@@ -3,9 +3,11 @@ ghost use Rattle.std.specs.Prelude.{◌≡◌, ◌<◌, None, []};
 ghost use Rattle.std.proofs.Common.{lit≤};
 
 use crate::{Miss, Rule, Scalar, Space, Stop, VWord, read_bits};
-use kc_word::{Bits, Steps};
+use kc_word::{Bits, Steps, read_hex};
+use std::alloc::{AllocError, Global};
 use std::marker::Brand;
 use std::sync::ledger::{Blank, Ledger};
+use std::test::Fail;
 
 // A memory of these words alone.
 #[derive(Drop)]
@@ -44,9 +46,6 @@ impl<'w> Space for Words<'w> {
     }
 }
 
-// A number and the address of its second word, or the address of the word that isn't there.
-type Answer = Result<(i128, Option<u64>), Option<u64>>;
-
 fn read<L: Ledger>(words: &[VWord], at: u64, bits: Bits, blank: Blank) -> Result<Scalar, Stop>
     requires name { blank.name ≡ L.name }
     requires parts { blank.parts ≡ L.parts }
@@ -64,10 +63,19 @@ fn missing(stop: Stop) -> Option<u64> {
     }
 }
 
-fn answer(found: Result<Scalar, Stop>) -> Answer {
+// A number in hex with its sign, and the address of its second word if it has two; or the address of the word that
+// isn't there.
+fn answer(alloc: Global, found: Result<Scalar, Stop>) -> Result<String, AllocError> {
     match found {
-        Ok(scalar) => Ok((scalar.value, scalar.second.and_then(|place| place.va))),
-        Err(stop) => Err(missing(stop)),
+        Ok(Scalar { value, second, .. }) => {
+            let sign = if value < 0 { "-" } else { "" };
+            let size = value.unsigned_abs();
+            match second.and_then(|place| place.va) {
+                Some(va) => format!(in alloc; "{sign}{size:x} and {va:x}"),
+                None => format!(in alloc; "{sign}{size:x}"),
+            }
+        }
+        Err(stop) => format!(in alloc; "not {:x}", missing(stop).unwrap_or(1)),
     }
 }
 
@@ -80,60 +88,63 @@ fn word(va: u64, value: u64) -> VWord {
     }
 }
 
-// Bits of a place, of which the table has only such as there are.
-fn field(bit: u64, width: u8, signed: bool) -> Bits {
+// The bits that a row gives: the first one, and how many, with a sign or not.
+fn bits_of(words: &str) -> Bits {
+    let (bit, rest) = words.split_once(' ').unwrap_or((words, ""));
+    let (width, sign) = rest.split_once(' ').unwrap_or((rest, ""));
     Bits {
-        bit: bit % (1 << 36),
-        width: width.clamp(1, 64),
-        signed,
+        bit: bit.parse().unwrap_or(0) % (1 << 36),
+        width: width.parse().unwrap_or(0).clamp(1, 64),
+        signed: sign == "signed",
     }
 }
 
+// An address, the bits from there on, and what they are: in one word; in two words; behind the last word of memory,
+// where the one at 0 comes; where the first word isn't there, or the second one.
+const ROWS: &str = "ffff888000011020 32 3 signed : -1
+ffff888000011020 32 3 unsigned : 7
+ffff888000011020 0 1 unsigned : 1
+ffff888000011020 0 1 signed : -1
+ffff888000011020 0 31 signed : 7
+ffff888000011020 1 63 unsigned : 380000003
+ffff888000011028 16 15 unsigned : 8
+ffff888000011028 63 1 unsigned : 1
+ffff888000011028 63 1 signed : -1
+ffff888000011028 33 31 unsigned : 40000000
+ffff888000011028 33 31 signed : -40000000
+ffff888000011028 0 63 signed : 80005
+ffff888000011028 0 64 unsigned : 8000000000080005
+ffff888000011028 0 64 signed : -7ffffffffff7fffb
+ffff888000011025 24 16 unsigned : 5
+ffff888000011020 63 2 unsigned : 2 and ffff888000011028
+ffff888000011020 63 2 signed : -2 and ffff888000011028
+ffff888000011024 0 64 unsigned : 8000500000007 and ffff888000011028
+ffff888000011020 34 31 signed : -3fffffff and ffff888000011028
+ffffffffffffffff 4 8 unsigned : 1c and 0
+ffffffffffffffff 8 8 unsigned : 21
+fffffffffffffff8 63 63 signed : 43 and 0
+ffff88800001101f 0 64 unsigned : not ffff888000011018
+ffff888000011028 1 64 unsigned : not ffff888000011030
+ffff888000011028 63 2 unsigned : not ffff888000011030
+ffff888000011030 0 1 unsigned : not ffff888000011030";
+
 #[test]
-fn bits_are_read_at_the_edges_of_words(rt: HostRuntime) {
+fn bits_are_read_at_the_edges_of_words(rt: HostRuntime) -> Result<(), Fail> {
     let words = [
         word(0xffff_8880_0001_1020, 0x0000_0007_0000_0007),
         word(0xffff_8880_0001_1028, 0x8000_0000_0008_0005),
         word(0xffff_ffff_ffff_fff8, 0xc000_0000_0000_0000),
         word(0, 0x0000_0000_0000_0021),
     ];
-    let low = 0xffff_8880_0001_1020;
-    let high = 0xffff_8880_0001_1028;
-    let behind = 0xffff_8880_0001_1030;
-    let rows: [(u64, u64, u8, bool, Answer); 26] = [
-        // In one word.
-        (low, 32, 3, true, Ok((-1, None))),
-        (low, 32, 3, false, Ok((7, None))),
-        (low, 0, 1, false, Ok((1, None))),
-        (low, 0, 1, true, Ok((-1, None))),
-        (low, 0, 31, true, Ok((7, None))),
-        (low, 1, 63, false, Ok((0x3_8000_0003, None))),
-        (high, 16, 15, false, Ok((8, None))),
-        (high, 63, 1, false, Ok((1, None))),
-        (high, 63, 1, true, Ok((-1, None))),
-        (high, 33, 31, false, Ok((0x4000_0000, None))),
-        (high, 33, 31, true, Ok((-0x4000_0000, None))),
-        (high, 0, 63, true, Ok((0x8_0005, None))),
-        (high, 0, 64, false, Ok((0x8000_0000_0008_0005, None))),
-        (high, 0, 64, true, Ok((-0x7fff_ffff_fff7_fffb, None))),
-        (low + 5, 24, 16, false, Ok((5, None))),
-        // In two words.
-        (low, 63, 2, false, Ok((2, Some(high)))),
-        (low, 63, 2, true, Ok((-2, Some(high)))),
-        (low + 4, 0, 64, false, Ok((0x8_0005_0000_0007, Some(high)))),
-        (low, 34, 31, true, Ok((-0x3fff_ffff, Some(high)))),
-        // Behind the last word of memory comes the one at 0.
-        (u64::MAX, 4, 8, false, Ok((0x1c, Some(0)))),
-        (u64::MAX, 8, 8, false, Ok((0x21, None))),
-        (u64::MAX - 7, 63, 63, true, Ok((0x43, Some(0)))),
-        // The first word isn't there, or the second one.
-        (low - 1, 0, 64, false, Err(Some(low - 8))),
-        (high, 1, 64, false, Err(Some(behind))),
-        (high, 63, 2, false, Err(Some(behind))),
-        (behind, 0, 1, false, Err(Some(behind))),
-    ];
-    for (at, bit, width, signed, wanted) in rows {
-        let found = read::<Brand>(&words, at, field(bit, width, signed), Blank::new(1));
-        assert_eq!(rt; answer(found), wanted, "{at:x} {bit} {width} {signed}");
+    let mut count: usize = 0;
+    for row in ROWS.lines() {
+        let (given, wanted) = row.split_once(" : ").ok_or("no answer")?;
+        let (at, bits) = given.split_once(' ').ok_or("no bits")?;
+        let at = read_hex(at.as_bytes()).ok_or("no address")?;
+        let found = read::<Brand>(&words, at, bits_of(bits), Blank::new(1));
+        assert_eq!(rt; answer(rt.alloc(), found)?.as_str(), wanted, "{row}");
+        count = count.saturating_add(1);
     }
+    assert_eq!(rt; count, 26);
+    Ok(())
 }

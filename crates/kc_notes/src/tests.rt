@@ -1,37 +1,19 @@
 // Notes and texts, whole and at fault.
 use super::*;
 use kc_elf::{Core, read_core};
+use kc_fixture::{push_numbers, put_bytes};
 use kc_outside::{MemStore, Slot, Store};
-use std::alloc::Global;
+use std::alloc::{AllocError, Global};
 use std::test::Fail;
 
-// Bytes of a core file's header and of one program header, a PT_NOTE at 120, by their places.
-const HEAD: [(usize, u8); 15] = [
-    (0, 0x7f),
-    (1, b'E'),
-    (2, b'L'),
-    (3, b'F'),
-    (4, 2),
-    (5, 1),
-    (6, 1),
-    (16, 4),
-    (18, 62),
-    (32, 64),
-    (54, 56),
-    (56, 1),
-    (64, 4),
-    (64 + 8, 120),
-    (64 + 32, 0),
-];
+// The places of a core file's header and of one program header, a PT_NOTE at 120.
+const HEAD: &str =
+    "0=0x7f 1=0x45 2=0x4c 3=0x46 4=2 5=1 6=1 16=4 18=62 32=64 54=56 56=1 64=4 72=120";
 
 // A core file with one part of notes.
 fn core_of(alloc: Global, part: &[u8]) -> Result<Core, Fail> {
     let mut bytes = vec![in alloc; 0; 120]?;
-    for (place, byte) in HEAD {
-        if place < bytes.len() {
-            bytes[place] = byte;
-        }
-    }
+    put_bytes(&mut bytes, HEAD);
     if bytes.len() > 96 && part.len() < 256 {
         bytes[96] = part.len() as u8;
     }
@@ -43,154 +25,165 @@ fn core_of(alloc: Global, part: &[u8]) -> Result<Core, Fail> {
     Ok(read_core(alloc, &mut store, Slot::Dump)?)
 }
 
-#[test]
-fn finds_the_note(rt: HostRuntime) -> Result<(), Fail> {
-    let alloc = rt.alloc();
-    let rows: [(&[u8], &[u8], Option<NoteFault>); 9] = [
-        // the text ends at its NUL
-        (
-            b"\x0b\0\0\0\x05\0\0\0\0\0\0\0VMCOREINFO\0\0ABC\0D",
-            b"ABC",
-            None,
-        ),
-        // behind another note with padding
-        (
-            b"\x05\0\0\0\x01\0\0\0\x01\0\0\0CORE\0\0\0\0x\0\0\0\x0b\0\0\0\x02\0\0\0\0\0\0\0VMCOREINFO\0\0AB",
-            b"AB",
-            None,
-        ),
-        // the first of two
-        (
-            b"\x0b\0\0\0\x01\0\0\0\0\0\0\0VMCOREINFO\0\0A\0\0\0\x0b\0\0\0\x01\0\0\0\0\0\0\0VMCOREINFO\0\0B",
-            b"A",
-            None,
-        ),
-        // an empty descriptor, and padding past the end
-        (b"\x0b\0\0\0\0\0\0\0\0\0\0\0VMCOREINFO\0", b"", None),
-        // a descriptor that begins past the end
-        (
-            b"\x0b\0\0\0\x01\0\0\0\0\0\0\0VMCOREINFO\0",
-            b"",
-            Some(NoteFault::V1 { part: 0, at: 0 }),
-        ),
-        // a broken name behind a whole note
-        (
-            b"\x05\0\0\0\0\0\0\0\x01\0\0\0CORE\0\0\0\0\xff\0\0\0\0\0\0\0\0\0\0\0x",
-            b"",
-            Some(NoteFault::V1 { part: 0, at: 20 }),
-        ),
-        // a header of zeros ends the part
-        (
-            b"\0\0\0\0\0\0\0\0\0\0\0\0\x0b\0\0\0\x05\0\0\0\0\0\0\0VMCOREINFO\0\0ABC\0D",
-            b"",
-            Some(NoteFault::V2),
-        ),
-        // another type
-        (
-            b"\x0b\0\0\0\x05\0\0\0\x01\0\0\0VMCOREINFO\0\0ABC\0D",
-            b"",
-            Some(NoteFault::V2),
-        ),
-        // a name without its NUL
-        (
-            b"\x0a\0\0\0\x05\0\0\0\0\0\0\0VMCOREINFO\0\0ABC\0D",
-            b"",
-            Some(NoteFault::V2),
-        ),
-    ];
-    for (part, text, fault) in rows {
-        match vmcoreinfo(&core_of(alloc, part)?) {
-            Ok(found) => {
-                assert_eq!(rt; found, text);
-                assert_eq!(rt; fault, None);
-            }
-            Err(found) => assert_eq!(rt; Some(found), fault),
-        }
+// Adds a note: its three numbers, and what stands behind them, with `~` for a NUL.
+fn push_note(part: &mut Vec<u8>, note: &str) -> Result<(), AllocError> {
+    let (numbers, text) = note.rsplit_once(' ').unwrap_or(("", note));
+    push_numbers(part, numbers)?;
+    for c in text.bytes() {
+        part.push(if c == b'~' { 0 } else { c })?;
     }
     Ok(())
 }
 
-#[test]
-fn reads_the_values(rt: HostRuntime) {
-    let rows: [(&[u8], Result<Info, NoteFault>); 13] = [
-        (
-            b"PAGESIZE=04096\nno value\nNUMBER(phys_base)=-4096\nSYMBOL(init_top_pgt)=ffffffff80012000\nKERNELOFFSET=1a000000",
-            Ok(Info {
-                table: 0x11000,
-                five: false,
-                sme: 0,
-                kaslr: 0x1a00_0000,
-                phys_base: 0xffff_ffff_ffff_f000,
-            }),
-        ),
-        // the name of before; a value below zero as 64 bits
-        (
-            b"PAGESIZE=4096\nNUMBER(phys_base)=0\nSYMBOL(swapper_pg_dir)=0xffffffff80012000\nNUMBER(sme_mask)=0\n",
-            Ok(Info {
-                table: 0x12000,
-                five: false,
-                sme: 0,
-                kaslr: 0,
-                phys_base: 0,
-            }),
-        ),
-        (b"NUMBER(phys_base)=x", Err(NoteFault::V3)),
-        (b"PAGESIZE=8192\nNUMBER(phys_base)=x", Err(NoteFault::V3)),
-        (b"PAGESIZE=4096\nNUMBER(phys_base)=x\n", Err(NoteFault::V4)),
-        (
-            b"PAGESIZE=4096\nNUMBER(phys_base)=0\nSYMBOL(init_top_pgt)=g\nSYMBOL(swapper_pg_dir)=ffffffff80012000\nNUMBER(pgtable_l5_enabled)=2",
-            Err(NoteFault::V5),
-        ),
-        (
-            b"PAGESIZE=4096\nNUMBER(phys_base)=0\nSYMBOL(init_top_pgt)=ffffffff80012000\nNUMBER(pgtable_l5_enabled)=2\nKERNELOFFSET=g",
-            Err(NoteFault::V6(NoteKey::L5)),
-        ),
-        (
-            b"PAGESIZE=4096\nNUMBER(phys_base)=0\nSYMBOL(init_top_pgt)=ffffffff80012000\nKERNELOFFSET=g\nNUMBER(sme_mask)=1",
-            Err(NoteFault::V6(NoteKey::Offset)),
-        ),
-        (
-            b"PAGESIZE=4096\nNUMBER(phys_base)=1\nSYMBOL(init_top_pgt)=ffffffff80012000\nNUMBER(sme_mask)=-4096",
-            Err(NoteFault::V6(NoteKey::Sme)),
-        ),
-        (
-            b"PAGESIZE=4096\nNUMBER(phys_base)=1\nSYMBOL(init_top_pgt)=ffffffff80012000\nNUMBER(pgtable_l5_enabled)=1",
-            Err(NoteFault::V7),
-        ),
-        (
-            b"PAGESIZE=4096\nNUMBER(phys_base)=0\nSYMBOL(init_top_pgt)=80012000\n",
-            Ok(Info {
-                table: 0x1_0001_2000,
-                five: false,
-                sme: 0,
-                kaslr: 0,
-                phys_base: 0,
-            }),
-        ),
-        (
-            b"PAGESIZE=4096\nNUMBER(phys_base)=0\nSYMBOL(init_top_pgt)=ffffffff80012000\nNUMBER(pgtable_l5_enabled)=1",
-            Ok(Info {
-                table: 0x12000,
-                five: true,
-                sme: 0,
-                kaslr: 0,
-                phys_base: 0,
-            }),
-        ),
-        (
-            b"PAGESIZE=4096\nNUMBER(phys_base)=0\nSYMBOL(init_top_pgt)=ffffffff80012000\nNUMBER(sme_mask)=4096",
-            Ok(Info {
-                table: 0x12000,
-                five: false,
-                sme: 4096,
-                kaslr: 0,
-                phys_base: 0,
-            }),
-        ),
-    ];
-    for (text, wanted) in rows {
-        assert_eq!(rt; kernel_info(text), wanted);
+fn part_of(alloc: Global, notes: &str) -> Result<Vec<u8>, AllocError> {
+    let mut part = Vec::new(alloc);
+    for note in notes.split(" + ") {
+        push_note(&mut part, note)?;
     }
+    Ok(part)
+}
+
+// The text ends at its NUL. It is found behind another note with padding, as the first of two, with an empty
+// descriptor and padding past the end. Then come a descriptor that begins past the end; a broken name behind a whole note;
+// a header of zeros, which ends the part; another type; a name without its NUL.
+const PARTS: &str = "11 5 0 VMCOREINFO~~ABC~D : [ABC]
+5 1 1 CORE~~~~x~~~ + 11 2 0 VMCOREINFO~~AB : [AB]
+11 1 0 VMCOREINFO~~A~~~ + 11 1 0 VMCOREINFO~~B : [A]
+11 0 0 VMCOREINFO~ : []
+11 1 0 VMCOREINFO~ : V1 { part: 0, at: 0 }
+5 0 1 CORE~~~~ + 255 0 0 x : V1 { part: 0, at: 20 }
+0 0 0  + 11 5 0 VMCOREINFO~~ABC~D : V2
+11 5 1 VMCOREINFO~~ABC~D : V2
+10 5 0 VMCOREINFO~~ABC~D : V2";
+
+#[test]
+fn finds_the_note(rt: HostRuntime) -> Result<(), Fail> {
+    let alloc = rt.alloc();
+    let mut count: usize = 0;
+    for row in PARTS.lines() {
+        let (notes, wanted) = row.split_once(" : ").ok_or("no answer")?;
+        let told = match vmcoreinfo(&core_of(alloc, &part_of(alloc, notes)?)?) {
+            Ok(text) => format!(in alloc; "[{}]", std::str::from_utf8(text).unwrap_or("?"))?,
+            Err(fault) => format!(in alloc; "{fault:?}")?,
+        };
+        assert_eq!(rt; told.as_str(), wanted, "{row}");
+        count = count.saturating_add(1);
+    }
+    assert_eq!(rt; count, 9);
+    Ok(())
+}
+
+// What is told of a text, and the text without its last newline; a line of dashes ends it. The second has the name of
+// before, and a newline at its end; a value below zero is told in 64 bits.
+const VALUES: &str = "table 11000 five false sme 0 kaslr 1a000000 phys_base fffffffffffff000
+PAGESIZE=04096
+no value
+NUMBER(phys_base)=-4096
+SYMBOL(init_top_pgt)=ffffffff80012000
+KERNELOFFSET=1a000000
+--
+table 12000 five false sme 0 kaslr 0 phys_base 0
+PAGESIZE=4096
+NUMBER(phys_base)=0
+SYMBOL(swapper_pg_dir)=0xffffffff80012000
+NUMBER(sme_mask)=0
+
+--
+V3
+NUMBER(phys_base)=x
+--
+V3
+PAGESIZE=8192
+NUMBER(phys_base)=x
+--
+V4
+PAGESIZE=4096
+NUMBER(phys_base)=x
+
+--
+V5
+PAGESIZE=4096
+NUMBER(phys_base)=0
+SYMBOL(init_top_pgt)=g
+SYMBOL(swapper_pg_dir)=ffffffff80012000
+NUMBER(pgtable_l5_enabled)=2
+--
+V6(L5)
+PAGESIZE=4096
+NUMBER(phys_base)=0
+SYMBOL(init_top_pgt)=ffffffff80012000
+NUMBER(pgtable_l5_enabled)=2
+KERNELOFFSET=g
+--
+V6(Offset)
+PAGESIZE=4096
+NUMBER(phys_base)=0
+SYMBOL(init_top_pgt)=ffffffff80012000
+KERNELOFFSET=g
+NUMBER(sme_mask)=1
+--
+V6(Sme)
+PAGESIZE=4096
+NUMBER(phys_base)=1
+SYMBOL(init_top_pgt)=ffffffff80012000
+NUMBER(sme_mask)=-4096
+--
+V7
+PAGESIZE=4096
+NUMBER(phys_base)=1
+SYMBOL(init_top_pgt)=ffffffff80012000
+NUMBER(pgtable_l5_enabled)=1
+--
+table 100012000 five false sme 0 kaslr 0 phys_base 0
+PAGESIZE=4096
+NUMBER(phys_base)=0
+SYMBOL(init_top_pgt)=80012000
+
+--
+table 12000 five true sme 0 kaslr 0 phys_base 0
+PAGESIZE=4096
+NUMBER(phys_base)=0
+SYMBOL(init_top_pgt)=ffffffff80012000
+NUMBER(pgtable_l5_enabled)=1
+--
+table 12000 five false sme 1000 kaslr 0 phys_base 0
+PAGESIZE=4096
+NUMBER(phys_base)=0
+SYMBOL(init_top_pgt)=ffffffff80012000
+NUMBER(sme_mask)=4096";
+
+// What is told of a text.
+fn told(alloc: Global, text: &[u8]) -> Result<String, AllocError> {
+    match kernel_info(text) {
+        Ok(
+            Info {
+                table,
+                five,
+                sme,
+                kaslr,
+                phys_base,
+            },
+        ) => format!(in alloc;
+            "table {table:x} five {five} sme {sme:x} kaslr {kaslr:x} phys_base {phys_base:x}"
+        ),
+        Err(fault) => format!(in alloc; "{fault:?}"),
+    }
+}
+
+#[test]
+fn reads_the_values(rt: HostRuntime) -> Result<(), Fail> {
+    let mut count: usize = 0;
+    for case in VALUES.split("\n--\n") {
+        let (wanted, text) = case.split_once('\n').ok_or("no text")?;
+        assert_eq!(rt;
+            told(rt.alloc(), text.as_bytes())?.as_str(),
+            wanted,
+            "{case}"
+        );
+        count = count.saturating_add(1);
+    }
+    assert_eq!(rt; count, 13);
+    Ok(())
 }
 
 #[test]

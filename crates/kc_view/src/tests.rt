@@ -4,6 +4,7 @@ ghost use Rattle.std.proofs.Common.{lit≤};
 
 use crate::{Led, View};
 use kc_btf::Btf;
+use kc_fixture::Types;
 use kc_layout::{Field, Hops, Located};
 use kc_memory::{Miss, Rule, Space, Stop, VWord};
 use kc_word::{Bits, Steps};
@@ -78,46 +79,17 @@ impl Space for Words {
     }
 }
 
-// Type 1 is a number of 8 bytes, 2 an array of 4 of it, 3 a typedef of that, 4 an array of 2 that have no
-// size, and 5 an array of 3 of the typedef.
-const TYPES: [u32; 25] = [
-    0,
-    0x0100_0000,
-    8,
-    64, //
-    0,
-    0x0300_0000,
-    0,
-    1,
-    1,
-    4, //
-    0,
-    0x0800_0000,
-    2, //
-    0,
-    0x0300_0000,
-    0,
-    0,
-    1,
-    2, //
-    0,
-    0x0300_0000,
-    0,
-    3,
-    1,
-    3, //
-];
+// An array of elements, another name of it, an array of elements that have no size, and one of the other name.
+const TYPES: &str = "1 = int 8 64
+2 = array 0 1 1 4
+3 = typedef 2
+4 = array 0 0 1 2
+5 = array 0 3 1 3";
 
 fn types(alloc: Global) -> Result<Btf, Fail> {
-    let mut bytes = Vec::new(alloc);
-    for word in [0x1_eb9f, 24, 0, 100, 100, 1] {
-        bytes.extend_from_slice(&u32::to_le_bytes(word))?;
-    }
-    for word in TYPES {
-        bytes.extend_from_slice(&word.to_le_bytes())?;
-    }
-    bytes.push(0)?;
-    Ok(Btf::read(alloc, bytes)?)
+    let mut types = Types::new(alloc)?;
+    types.add(TYPES)?;
+    Ok(Btf::read(alloc, types.file(alloc)?)?)
 }
 
 // Pointers at these offsets, of which there are at most four.
@@ -162,6 +134,19 @@ fn read<L: Ledger>(view: &View<'_>, field: &Field, blank: Blank) -> Number
     }
 }
 
+// A number of 64 bits, behind pointers at these offsets.
+fn field(offsets: &[u64], bit: u64) -> Field {
+    Field {
+        hops: hops(offsets),
+        bits: Bits {
+            bit: bit % (1 << 36),
+            width: 64,
+            signed: false,
+        },
+        ty: 1,
+    }
+}
+
 #[test]
 fn numbers_are_read_behind_pointers(rt: HostRuntime) -> Result<(), Fail> {
     let btf = types(rt.alloc())?;
@@ -195,15 +180,7 @@ fn numbers_are_read_behind_pointers(rt: HostRuntime) -> Result<(), Fail> {
         (ODD, &[0x40, 8], 0, Err(Some(ODD + 0x40))),
     ];
     for (at, offsets, bit, wanted) in rows {
-        let field = Field {
-            hops: hops(offsets),
-            bits: Bits {
-                bit: bit % (1 << 36),
-                width: 64,
-                signed: false,
-            },
-            ty: 1,
-        };
+        let field = field(offsets, bit);
         let found = read::<Brand>(&View::new(&btf, 0, at), &field, Blank::new(1));
         assert_eq!(rt; found, wanted, "{at:x} {bit}");
     }

@@ -33,6 +33,15 @@ row no row
 status 2
 err refused map S1 line 10
 
+types_size 4000001
+without z.map
+status 2
+err refused btf F1
+
+map_size 4000001
+status 2
+err refused map F1
+
 without z.core
 status 3
 err store failed

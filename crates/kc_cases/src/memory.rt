@@ -1,0 +1,99 @@
+// A memory of the words that texts have.
+use crate::names::value_of;
+use kc_found::{ListSpace, VWord};
+use std::alloc::{AllocError, Global};
+
+// Both maps of memory lead to the address without its upper bits: the kernel's image, and the direct map.
+const IMAGE: u64 = 0xffff_ffff_8000_0000;
+
+const DIRECT: u64 = 0xffff_8880_0000_0000;
+
+const MOST: u64 = 1 << 31;
+
+// Words in the making, and the addresses whose words aren't there, or are the one before in physical memory.
+#[derive(Drop)]
+struct Made {
+    words: Vec<VWord>,
+    gone: Vec<u64>,
+    twins: Vec<u64>,
+}
+
+/// The memory of the words of these texts, of which the first with an address counts. A word is `ADDRESS=VALUE`, and
+/// `FROM..TO=VALUE` are the words before `TO`; each stands in both maps of memory, where it is in one. `ADDRESS=gone` is
+/// one that isn't there, and `ADDRESS=twin` one that is the word before it in physical memory.
+pub fn space_of(
+    alloc: Global,
+    names: &str,
+    changed: &str,
+    words: &str,
+) -> Result<ListSpace, AllocError> {
+    let mut made = Made {
+        words: Vec::new(alloc),
+        gone: Vec::new(alloc),
+        twins: Vec::new(alloc),
+    };
+    made.note(names, changed)?;
+    made.add(names, changed)?;
+    made.add(names, words)?;
+    Ok(ListSpace::new(made.words))
+}
+
+impl Made {
+    // Notes which words are gone or twins.
+    fn note(&mut self, names: &str, text: &str) -> Result<(), AllocError> {
+        for word in text.split_whitespace() {
+            if let Some((address, what)) = word.split_once('=')
+                && let Some(va) = value_of(names, address)
+            {
+                match what {
+                    "gone" => self.gone.push(va)?,
+                    "twin" => self.twins.push(va)?,
+                    _ => {}
+                }
+            }
+        }
+        Ok(())
+    }
+
+    fn add(&mut self, names: &str, text: &str) -> Result<(), AllocError> {
+        for word in text.split_whitespace() {
+            if let Some((addresses, value)) = word.split_once('=')
+                && let Some(value) = value_of(names, value)
+            {
+                let (from, to) = addresses.split_once("..").unwrap_or((addresses, ""));
+                let from = value_of(names, from).unwrap_or(0);
+                let to = value_of(names, to).unwrap_or(from.wrapping_add(8));
+                self.add_words(from, to, value)?;
+            }
+        }
+        Ok(())
+    }
+
+    fn add_words(&mut self, from: u64, to: u64, value: u64) -> Result<(), AllocError> {
+        for i in 0..to.wrapping_sub(from) / 8 {
+            let va = from.wrapping_add(i.wrapping_mul(8));
+            self.add_word(va, value)?;
+            if va >= IMAGE {
+                self.add_word(DIRECT + va % MOST, value)?;
+            } else if va >= DIRECT && va < DIRECT + MOST {
+                self.add_word(IMAGE + va % MOST, value)?;
+            }
+        }
+        Ok(())
+    }
+
+    fn add_word(&mut self, va: u64, value: u64) -> Result<(), AllocError> {
+        if self.gone.contains(&va) {
+            return Ok(());
+        }
+        let shown = if self.twins.contains(&va) {
+            va.wrapping_sub(8)
+        } else {
+            va
+        };
+        let pa = shown % MOST;
+        let off = pa.wrapping_add(0x2000);
+        self.words.push(VWord { va, pa, off, value })?;
+        Ok(())
+    }
+}
