@@ -21,7 +21,9 @@ ghost use Rattle.kc_phys.specs.Stored.{AreInside};
 
 use crate::kaudit;
 use kc_elf::read_core;
-use kc_fixture::{MAP, NOTE, btf_file, core_file, core_with_note, set_bytes, set_word};
+use kc_fixture::{
+    MAP, NOTE, btf_file, core_file, core_with_note, lines_behind, push_line, set_bytes, set_word,
+};
 use kc_mem::Memory;
 use kc_memory::{Space, VWord};
 use kc_outside::{MemSink, MemStore, Slot, Store};
@@ -63,12 +65,7 @@ fn read_text(
     prefix: &str,
     usual: &[u8],
 ) -> Result<Vec<u8>, AllocError> {
-    let mut text = Vec::new(alloc);
-    for line in lines.lines() {
-        if let Some(value) = line.strip_prefix(prefix) {
-            push_line(&mut text, value)?;
-        }
-    }
+    let mut text = lines_behind(alloc, lines, prefix)?;
     if text.is_empty() {
         text.extend_from_slice(usual)?;
     }
@@ -105,12 +102,6 @@ fn put_pairs(file: &mut Vec<u8>, offset: usize, pairs: &str) {
         set_bytes(file, at, &[(hex(pair) & 0xff) as u8]);
         at = at.saturating_add(1);
     }
-}
-
-fn push_line(text: &mut Vec<u8>, line: &str) -> Result<(), AllocError> {
-    text.extend_from_slice(line.as_bytes())?;
-    text.push(b'\n')?;
-    Ok(())
 }
 
 // Adds the words that a line separates by spaces.

@@ -1,7 +1,7 @@
 // Numbers and bytes in texts and files.
 use byteorder::{ByteOrder, LittleEndian};
 use kc_word::read_hex;
-use std::alloc::AllocError;
+use std::alloc::{AllocError, Global};
 
 /// Puts bytes at a file offset, as far as the file goes.
 pub fn set_bytes(file: &mut Vec<u8>, offset: usize, bytes: &[u8]) {
@@ -23,6 +23,24 @@ pub fn put_bytes(file: &mut Vec<u8>, words: &str) {
     }
 }
 
+/// Adds a line to a text.
+pub fn push_line(text: &mut Vec<u8>, line: &str) -> Result<(), AllocError> {
+    text.extend_from_slice(line.as_bytes())?;
+    text.push(b'\n')?;
+    Ok(())
+}
+
+/// What stands behind a prefix, line by line, of the lines that begin with it.
+pub fn lines_behind(alloc: Global, lines: &str, prefix: &str) -> Result<Vec<u8>, AllocError> {
+    let mut text = Vec::new(alloc);
+    for line in lines.lines() {
+        if let Some(value) = line.strip_prefix(prefix) {
+            push_line(&mut text, value)?;
+        }
+    }
+    Ok(text)
+}
+
 /// A number: a decimal one, or a hex one behind 0x; 0 where it is neither or has more than 32 bits.
 pub fn number(text: &str) -> u32 {
     match text.strip_prefix("0x") {
@@ -35,12 +53,12 @@ pub fn number(text: &str) -> u32 {
 pub fn push_numbers(file: &mut Vec<u8>, text: &str) -> Result<(), AllocError> {
     for line in text.lines() {
         let (words, _) = line.split_once(';').unwrap_or((line, ""));
-        push_line(file, words)?;
+        push_row(file, words)?;
     }
     Ok(())
 }
 
-fn push_line(file: &mut Vec<u8>, words: &str) -> Result<(), AllocError> {
+fn push_row(file: &mut Vec<u8>, words: &str) -> Result<(), AllocError> {
     for word in words.split_whitespace() {
         push_words(file, &[number(word)])?;
     }

@@ -7,7 +7,7 @@ mod endings;
 mod facts;
 
 use crate::kmatch;
-use kc_fixture::{MAP, NOTE, btf_file, core_with_note, set_bytes};
+use kc_fixture::{MAP, NOTE, btf_file, core_with_note, lines_behind, set_bytes};
 use kc_outside::{MemSink, MemStore};
 use kc_word::{NoMemory, read_hex};
 use std::alloc::{AllocError, Global};
@@ -42,28 +42,11 @@ fn small(text: &str) -> usize {
     usize::try_from(hex(text)).unwrap_or(usize::MAX)
 }
 
-fn push_line(text: &mut Vec<u8>, line: &str) -> Result<(), AllocError> {
-    text.extend_from_slice(line.as_bytes())?;
-    text.push(b'\n')?;
-    Ok(())
-}
-
-// The lines with a prefix, without it.
-fn read_text(alloc: Global, lines: &str, prefix: &str) -> Result<Vec<u8>, AllocError> {
-    let mut text = Vec::new(alloc);
-    for line in lines.lines() {
-        if let Some(value) = line.strip_prefix(prefix) {
-            push_line(&mut text, value)?;
-        }
-    }
-    Ok(text)
-}
-
 // The text of the note.
 fn note_text(alloc: Global, lines: &str) -> Result<Vec<u8>, AllocError> {
-    let mut text = read_text(alloc, lines, "note ")?;
+    let mut text = lines_behind(alloc, lines, "note ")?;
     text.extend_from_slice(NOTE)?;
-    let last = read_text(alloc, lines, "last ")?;
+    let last = lines_behind(alloc, lines, "last ")?;
     text.extend_from_slice(last.strip_suffix(b"\n").unwrap_or(b""))?;
     Ok(text)
 }
@@ -80,7 +63,7 @@ fn read_words(alloc: Global, line: &str) -> Result<Vec<String>, AllocError> {
 impl Case {
     fn new(alloc: Global, lines: &str) -> Result<Case, AllocError> {
         let mut map = Vec::from_slice(alloc, MAP.as_bytes())?;
-        map.extend_from_slice(&read_text(alloc, lines, "row ")?)?;
+        map.extend_from_slice(&lines_behind(alloc, lines, "row ")?)?;
         Ok(Case {
             words: read_words(alloc, "z.core z.btf z.map")?,
             dump: core_with_note(alloc, &note_text(alloc, lines)?)?,
@@ -91,8 +74,8 @@ impl Case {
             out_limit: ENOUGH,
             err_limit: ENOUGH,
             status: 0,
-            out: read_text(alloc, lines, "out ")?,
-            err: read_text(alloc, lines, "err ")?,
+            out: lines_behind(alloc, lines, "out ")?,
+            err: lines_behind(alloc, lines, "err ")?,
         })
     }
 
