@@ -1,120 +1,31 @@
 // Which of two violations is the first.
-use crate::tests::{Answer, CHILD, D, INIT, LEADER, Row, STACK_END, THREAD, try_rows};
-use kc_found::Rule;
+use crate::tests::try_rows;
 use std::test::Fail;
 
-const PAIRS: [Row; 15] = [
-    // The ring of leaders before any leader.
-    (
-        &[(0xb048, 0), (0xb010, 0)],
-        &[],
-        Answer::Broken(Rule::L1, INIT + 0x10, (INIT + 0x10, 0), Some(LEADER + 8)),
-    ),
-    // T1, T2 and `signal` of a leader.
-    (
-        &[(0xd048, 0), (0xd018, 0)],
-        &[],
-        Answer::Broken(Rule::T1, LEADER + 0x48, (LEADER + 0x48, 0), Some(LEADER)),
-    ),
-    (
-        &[(0xd018, 1)],
-        &[0xd050],
-        Answer::Broken(Rule::T2, LEADER + 0x18, (LEADER + 0x18, 1), Some(0)),
-    ),
-    // The ring of threads, and then T7.
-    (
-        &[(0xd018, 1), (0xd080, D + 0xd080), (0xd088, D + 0xd080)],
-        &[],
-        Answer::Broken(Rule::T2, LEADER + 0x18, (LEADER + 0x18, 1), Some(0)),
-    ),
-    (
-        &[(0xd080, THREAD + 0x58), (0xd158, D + 0xd080)],
-        &[],
-        Answer::Broken(
-            Rule::L1,
-            THREAD + 0x60,
-            (THREAD + 0x60, LEADER + 0x58),
-            Some(D + 0xd080),
-        ),
-    ),
-    // T7, and then T1, T3 and T4 of the threads.
-    (
-        &[
-            (0xd080, THREAD + 0x58),
-            (0xd158, D + 0xd080),
-            (0xd160, D + 0xd080),
-            (0xd148, 0),
-        ],
-        &[],
-        Answer::Broken(
-            Rule::T7,
-            D + 0xd080,
-            (D + 0xd080, THREAD + 0x58),
-            Some(LEADER),
-        ),
-    ),
-    (
-        &[(0xd148, 0), (0xd150, 0)],
-        &[],
-        Answer::Broken(Rule::T1, THREAD + 0x48, (THREAD + 0x48, 0), Some(LEADER)),
-    ),
-    (
-        &[(0xd150, 0), (0xd118, 2)],
-        &[],
-        Answer::Broken(
-            Rule::T3,
-            THREAD + 0x50,
-            (THREAD + 0x50, 0),
-            Some(D + 0xd080),
-        ),
-    ),
-    // T4, the ring of children, T5, and T6.
-    (
-        &[(0xd118, 2), (0xd128, 0)],
-        &[],
-        Answer::Broken(Rule::T4, THREAD + 0x1c, (THREAD + 0x18, 2), Some(1)),
-    ),
-    (
-        &[(0xb030, 0), (0xd020, 0)],
-        &[],
-        Answer::Broken(Rule::L1, INIT + 0x30, (INIT + 0x30, 0), Some(LEADER + 0x38)),
-    ),
-    (
-        &[(0xd020, 0), (0xb000, D + 0xc008)],
-        &[],
-        Answer::Broken(Rule::T5, LEADER + 0x20, (LEADER + 0x20, 0), Some(INIT)),
-    ),
-    // One thread after another, and one leader after another.
-    (
-        &[(0xc000, 0), (0xd148, 0)],
-        &[],
-        Answer::Broken(Rule::T6, D + 0xc000, (D + 0xc000, 0), Some(STACK_END)),
-    ),
-    (
-        &[(0xb000, D + 0xc008), (0xd048, 0)],
-        &[],
-        Answer::Broken(Rule::T6, D + 0xc008, (D + 0xc008, 1), Some(STACK_END)),
-    ),
-    (
-        &[(0xd048, 0), (0xd148, 0)],
-        &[],
-        Answer::Broken(Rule::T1, LEADER + 0x48, (LEADER + 0x48, 0), Some(LEADER)),
-    ),
-    // A child of the first thread, and then one of the second.
-    (
-        &[
-            (0xd028, CHILD + 0x38),
-            (0xd030, CHILD + 0x38),
-            (0xe038, LEADER + 0x28),
-            (0xe040, LEADER + 0x28),
-            (0xd128, 0),
-        ],
-        &[],
-        Answer::Broken(Rule::T5, CHILD + 0x20, (CHILD + 0x20, THREAD), Some(LEADER)),
-    ),
-];
+const PAIRS: &str = "# The ring of leaders before any leader.
+init+0x48=0 init+0x10=0 : L1 at init+0x10 by init+0x10=0 not leader+8
+# T1, T2 and `signal` of a leader.
+leader+0x48=0 leader+0x18=0 : T1 at leader+0x48 by leader+0x48=0 not leader
+leader+0x18=1 leader+0x50=gone : T2 at leader+0x18 by leader+0x18=1 not 0
+# The ring of threads, and then T7.
+leader+0x18=1 signal=signal signal+8=signal : T2 at leader+0x18 by leader+0x18=1 not 0
+signal=thread+0x58 thread+0x58=signal : L1 at thread+0x60 by thread+0x60=leader+0x58 not signal
+# T7, and then T1, T3 and T4 of the threads.
+signal=thread+0x58 thread+0x58=signal thread+0x60=signal thread+0x48=0 : T7 at signal by signal=thread+0x58 not leader
+thread+0x48=0 thread+0x50=0 : T1 at thread+0x48 by thread+0x48=0 not leader
+thread+0x50=0 thread+0x18=2 : T3 at thread+0x50 by thread+0x50=0 not signal
+# T4, the ring of children, T5, and T6.
+thread+0x18=2 thread+0x28=0 : T4 at thread+0x1c by thread+0x18=2 not 1
+init+0x30=0 leader+0x20=0 : L1 at init+0x30 by init+0x30=0 not leader+0x38
+leader+0x20=0 init=stack+8 : T5 at leader+0x20 by leader+0x20=0 not init
+# One thread after another, and one leader after another.
+stack=0 thread+0x48=0 : T6 at stack by stack=0 not stack_end
+init=stack+8 leader+0x48=0 : T6 at stack+8 by stack+8=1 not stack_end
+leader+0x48=0 thread+0x48=0 : T1 at leader+0x48 by leader+0x48=0 not leader
+# A child of the first thread, and then one of the second.
+leader+0x28=child+0x38 leader+0x30=child+0x38 child+0x38=leader+0x28 child+0x40=leader+0x28 thread+0x28=0 : T5 at child+0x20 by child+0x20=thread not leader";
 
 #[test]
 fn the_first_of_two_violations(rt: HostRuntime) -> Result<(), Fail> {
-    try_rows(&rt, &PAIRS)
+    try_rows(&rt, PAIRS, 15)
 }

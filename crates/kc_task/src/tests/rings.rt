@@ -1,130 +1,37 @@
 // Rings of leaders, of threads and of children that break a rule of rings.
-use crate::tests::{
-    Answer, D, I, INIT, LEADER, NOWHERE, POISON_1, POISON_2, Row, THREAD, try_rows,
-};
-use kc_found::Rule;
+use crate::tests::try_rows;
 use std::test::Fail;
 
-const LEADERS: [Row; 7] = [
-    (
-        &[(0xd008, 0)],
-        &[],
-        Answer::Broken(Rule::N, LEADER + 8, (LEADER + 8, 0), None),
-    ),
-    (
-        &[(0xd008, POISON_1)],
-        &[],
-        Answer::Broken(Rule::K, LEADER + 8, (LEADER + 8, POISON_1), None),
-    ),
-    (
-        &[(0xd008, LEADER + 8)],
-        &[],
-        Answer::Broken(Rule::A, LEADER + 8, (LEADER + 8, LEADER + 8), None),
-    ),
-    (
-        &[(0xd010, 0)],
-        &[],
-        Answer::Broken(Rule::L1, LEADER + 0x10, (LEADER + 0x10, 0), Some(INIT + 8)),
-    ),
-    (
-        &[(0xb010, 0)],
-        &[],
-        Answer::Broken(Rule::L1, INIT + 0x10, (INIT + 0x10, 0), Some(LEADER + 8)),
-    ),
-    (
-        &[(0xb008, NOWHERE)],
-        &[],
-        Answer::Missing(NOWHERE, Some((INIT + 8, NOWHERE))),
-    ),
-    (&[], &[0xb008], Answer::Missing(INIT + 8, None)),
-];
+// The ring of `tasks`, from the first leader on.
+const LEADERS: &str = "leader+8=0 : N at leader+8 by leader+8=0
+leader+8=poison_1 : K at leader+8 by leader+8=poison_1
+leader+8=leader+8 : A at leader+8 by leader+8=leader+8
+leader+0x10=0 : L1 at leader+0x10 by leader+0x10=0 not init+8
+init+0x10=0 : L1 at init+0x10 by init+0x10=0 not leader+8
+init+8=nowhere : M6 at nowhere by init+8=nowhere
+init+8=gone : M6 at init+8";
 
-const THREADS: [Row; 7] = [
-    (
-        &[(0xd158, 0)],
-        &[],
-        Answer::Broken(Rule::N, THREAD + 0x58, (THREAD + 0x58, 0), None),
-    ),
-    (
-        &[(0xd158, POISON_2)],
-        &[],
-        Answer::Broken(Rule::K, THREAD + 0x58, (THREAD + 0x58, POISON_2), None),
-    ),
-    (
-        &[(0xd158, LEADER + 0x58)],
-        &[],
-        Answer::Broken(Rule::A, LEADER + 0x58, (LEADER + 0x58, THREAD + 0x58), None),
-    ),
-    (
-        &[(0xd160, D + 0xd080)],
-        &[],
-        Answer::Broken(
-            Rule::L1,
-            THREAD + 0x60,
-            (THREAD + 0x60, D + 0xd080),
-            Some(LEADER + 0x58),
-        ),
-    ),
-    (
-        &[(0xd088, LEADER + 0x58)],
-        &[],
-        Answer::Broken(
-            Rule::L1,
-            D + 0xd088,
-            (D + 0xd088, LEADER + 0x58),
-            Some(THREAD + 0x58),
-        ),
-    ),
-    (
-        &[(0xd158, NOWHERE)],
-        &[],
-        Answer::Missing(NOWHERE, Some((THREAD + 0x58, NOWHERE))),
-    ),
-    (&[], &[0xb088], Answer::Missing(I + 0xb088, None)),
-];
+// The rings of `thread_node`, from a group's `signal` on.
+const THREADS: &str = "thread+0x58=0 : N at thread+0x58 by thread+0x58=0
+thread+0x58=poison_2 : K at thread+0x58 by thread+0x58=poison_2
+thread+0x58=leader+0x58 : A at leader+0x58 by leader+0x58=thread+0x58
+thread+0x60=signal : L1 at thread+0x60 by thread+0x60=signal not leader+0x58
+signal+8=leader+0x58 : L1 at signal+8 by signal+8=leader+0x58 not thread+0x58
+thread+0x58=nowhere : M6 at nowhere by thread+0x58=nowhere
+init_signal+8=gone : M6 at init_signal+8";
 
-const CHILDREN: [Row; 7] = [
-    (
-        &[(0xd038, 0)],
-        &[],
-        Answer::Broken(Rule::N, LEADER + 0x38, (LEADER + 0x38, 0), None),
-    ),
-    (
-        &[(0xd038, POISON_1)],
-        &[],
-        Answer::Broken(Rule::K, LEADER + 0x38, (LEADER + 0x38, POISON_1), None),
-    ),
-    (
-        &[(0xd038, LEADER + 0x38)],
-        &[],
-        Answer::Broken(Rule::A, LEADER + 0x38, (LEADER + 0x38, LEADER + 0x38), None),
-    ),
-    (
-        &[(0xd040, 0)],
-        &[],
-        Answer::Broken(
-            Rule::L1,
-            LEADER + 0x40,
-            (LEADER + 0x40, 0),
-            Some(INIT + 0x28),
-        ),
-    ),
-    (
-        &[(0xb030, 0)],
-        &[],
-        Answer::Broken(Rule::L1, INIT + 0x30, (INIT + 0x30, 0), Some(LEADER + 0x38)),
-    ),
-    (
-        &[(0xb028, NOWHERE)],
-        &[],
-        Answer::Missing(NOWHERE, Some((INIT + 0x28, NOWHERE))),
-    ),
-    (&[], &[0xd130], Answer::Missing(THREAD + 0x30, None)),
-];
+// The rings of `sibling`, from a task's `children` on.
+const CHILDREN: &str = "leader+0x38=0 : N at leader+0x38 by leader+0x38=0
+leader+0x38=poison_1 : K at leader+0x38 by leader+0x38=poison_1
+leader+0x38=leader+0x38 : A at leader+0x38 by leader+0x38=leader+0x38
+leader+0x40=0 : L1 at leader+0x40 by leader+0x40=0 not init+0x28
+init+0x30=0 : L1 at init+0x30 by init+0x30=0 not leader+0x38
+init+0x28=nowhere : M6 at nowhere by init+0x28=nowhere
+thread+0x30=gone : M6 at thread+0x30";
 
 #[test]
 fn rings_that_are_broken(rt: HostRuntime) -> Result<(), Fail> {
-    try_rows(&rt, &LEADERS)?;
-    try_rows(&rt, &THREADS)?;
-    try_rows(&rt, &CHILDREN)
+    try_rows(&rt, LEADERS, 7)?;
+    try_rows(&rt, THREADS, 7)?;
+    try_rows(&rt, CHILDREN, 7)
 }
