@@ -1,4 +1,5 @@
-// Xarrays over a few words. The files beside this one have the rows: what is changed in a made xarray, and what is found.
+// Xarrays over a few words. The files beside this one have the rows: what an xarray is made of and the words of it that
+// are changed, and what is found.
 mod below;
 mod heads;
 mod rules;
@@ -6,7 +7,8 @@ mod rules;
 ghost use Rattle.std.specs.Prelude.{◌≡◌, ◌<◌};
 
 use crate::xa_walk;
-use kc_found::{Found, ListSpace, Rule, VWord, WalkStop, XaItem, XaShape, XaWalked};
+use kc_cases::{space_of, spelled, stop_text, value_of};
+use kc_found::{ListSpace, XaItem, XaShape, XaWalked};
 use kc_word::Steps;
 use std::alloc::{AllocError, AllocGlobal, Global};
 use std::marker::Brand;
@@ -14,149 +16,63 @@ use std::process::Abort;
 use std::sync::ledger::{Blank, Ledger};
 use std::test::Fail;
 
-const XA: u64 = 0xffff_ffff_8000_b110;
+// An xarray and its head; nodes, the second also by its other address, and an address with no words; elements; and
+// entries that are neither.
+const NAMES: &str = "xa 0xffffffff8000b110
+head 0xffffffff8000b118
+n 0xffff888000010000
+p 0xffff888000012000
+p_again 0xffffffff80012000
+q 0xffff888000014000
+nowhere 0xffff888000020000
+e 0xffff888000011000
+f 0xffff888000011040
+error 0xffffffffffffc006
+retry 0x402
+zero 0x406";
 
-const HEAD: u64 = XA + 8;
+// What an xarray is made of. The first word of a node has the bytes `shift`, `offset`, `count` and `nr_values`, from
+// the lowest on; then come its parent, its xarray and, from 24 on, its slots, where the ones that aren't null stand
+// before the nulls: the first word with an address counts.
 
-// Nodes, the second also by its other address, and an address with no words.
-const N: u64 = 0xffff_8880_0001_0000;
+// One node of 16 slots, with a pointer and a value.
+const LEAF: &str = "head=n+2
+n=0x1020000 n+8=0 n+16=xa n+32=e n+40=7 n+24..n+152=0";
 
-const P: u64 = 0xffff_8880_0001_2000;
+// The same, where `count` and `nr_values` stand in a second word.
+const SPLIT: &str = "head=n+2
+n=0 n+8=0 n+16=xa n+32=e n+40=7 n+24..n+152=0 n+168=0x102";
 
-const P_AGAIN: u64 = 0xffff_ffff_8001_2000;
+// A node of 16 slots with a pointer and a node, which has a pointer and a value.
+const INNER: &str = "head=n+2
+n=0x20004 n+8=0 n+16=xa n+48=p+2 n+64=e n+24..n+152=0
+p=0x1020300 p+8=n p+16=xa p+24=f p+32=7 p+24..p+152=0";
 
-const Q: u64 = 0xffff_8880_0001_4000;
+// Three nodes of 64 slots, one below the other.
+const WIDE: &str = "head=n+2
+n=0x1000c n+8=0 n+16=xa n+32=p+2 n+24..n+536=0
+p=0x20106 p+8=n p+16=xa p+24=e p+528=q+2 p+24..p+536=0
+q=0x13f00 q+8=p q+16=xa q+528=f q+24..q+536=0";
 
-const NOWHERE: u64 = 0xffff_8880_0002_0000;
+// A node of 64 slots with shift 60.
+const HIGH: &str = "head=n+2
+n=0x1003c n+8=0 n+16=xa n+144=e n+24..n+536=0";
 
-// Elements.
-const E: u64 = 0xffff_8880_0001_1000;
-
-const F: u64 = 0xffff_8880_0001_1040;
-
-const ERROR: u64 = 0xffff_ffff_ffff_c006;
-
-const RETRY: u64 = 0x402;
-
-const ZERO: u64 = 0x406;
-
-// The address and value of a word.
-type Word = (u64, u64);
-
-// What an xarray is made of.
-#[derive(Clone, Copy, Debug, PartialEq, Eq)]
-enum Base {
-    // One node of 16 slots, with a pointer and a value.
-    Leaf,
-    // The same in an IDR.
-    Idr,
-    // The same, where `count` and `nr_values` stand in a second word.
-    Split,
-    // A node of 16 slots with a pointer and a node, which has a pointer and a value.
-    Inner,
-    // Three nodes of 64 slots, one below the other.
-    Wide,
-    // A node of 64 slots with shift 60.
-    High,
+// The words of an xarray by what it is made of. An IDR has those of a leaf.
+fn words_of(base: &str) -> Option<&'static str> {
+    match base {
+        "leaf" | "idr" => Some(LEAF),
+        "split" => Some(SPLIT),
+        "inner" => Some(INNER),
+        "wide" => Some(WIDE),
+        "high" => Some(HIGH),
+        _ => None,
+    }
 }
 
-// A node: its address, its bytes and its parent, and the slots that aren't null.
-#[derive(Clone, Copy)]
-struct Node {
-    at: u64,
-    bytes: u64,
-    parent: u64,
-    slots: &'static [Word],
-}
-
-// What a walk answers.
-#[derive(Clone, Copy, Debug, PartialEq, Eq)]
-enum Answer {
-    // At most two pointers with their indexes, and their number.
-    Items([Word; 2], usize),
-    // A rule, and the address and value of the one word that shows it, where nothing is expected there.
-    Entry(Rule, u64, u64),
-    // A rule, the address that it is about, the one word that shows it, and what was expected.
-    Broken(Rule, u64, Word, Option<u64>),
-    // The address of a word that isn't there, and the word that leads to its site.
-    Missing(u64, Option<Word>),
-    // A violation of another form.
-    Other,
-    Failed,
-    OutOfMemory,
-}
-
-const LEAF: [Node; 1] = [Node {
-    at: N,
-    bytes: 0x0102_0000,
-    parent: 0,
-    slots: &[(1, E), (2, 7)],
-}];
-
-const SPLIT: [Node; 1] = [Node {
-    at: N,
-    bytes: 0,
-    parent: 0,
-    slots: &[(1, E), (2, 7), (18, 0x0102)],
-}];
-
-const INNER: [Node; 2] = [
-    Node {
-        at: N,
-        bytes: 0x0002_0004,
-        parent: 0,
-        slots: &[(3, P + 2), (5, E)],
-    },
-    Node {
-        at: P,
-        bytes: 0x0102_0300,
-        parent: N,
-        slots: &[(0, F), (1, 7)],
-    },
-];
-
-const WIDE: [Node; 3] = [
-    Node {
-        at: N,
-        bytes: 0x0001_000c,
-        parent: 0,
-        slots: &[(1, P + 2)],
-    },
-    Node {
-        at: P,
-        bytes: 0x0002_0106,
-        parent: N,
-        slots: &[(0, E), (63, Q + 2)],
-    },
-    Node {
-        at: Q,
-        bytes: 0x0001_3f00,
-        parent: P,
-        slots: &[(63, F)],
-    },
-];
-
-const HIGH: [Node; 1] = [Node {
-    at: N,
-    bytes: 0x0001_003c,
-    parent: 0,
-    slots: &[(15, E)],
-}];
-
-const EMPTY: Answer = Answer::Items([(0, 0), (0, 0)], 0);
-
-const ONE: Answer = Answer::Items([(1, E), (0, 0)], 1);
-
-const TWO: Answer = Answer::Items([(48, F), (80, E)], 2);
-
-const SECOND: Answer = Answer::Items([(80, E), (0, 0)], 1);
-
-// The words that are changed, those that aren't there, and the answer.
-type Row<'a> = (Base, &'a [Word], &'a [u64], Answer);
-
-fn shape_of(base: Base) -> XaShape {
-    let split = base == Base::Split;
-    let wide = base == Base::Wide || base == Base::High;
+fn shape_of(base: &str) -> XaShape {
+    let split = base == "split";
+    let wide = base == "wide" || base == "high";
     XaShape {
         head: 8,
         shift: 0,
@@ -167,171 +83,83 @@ fn shape_of(base: Base) -> XaShape {
         array: 16,
         slots: 24,
         chunk: if wide { 64 } else { 16 },
-        idr: base == Base::Idr,
+        idr: base == "idr",
     }
 }
 
-// Adds a word by both addresses of its place, unless it isn't there.
-fn push_word(words: &mut Vec<VWord>, gone: &[u64], va: u64, value: u64) -> Result<(), AllocError> {
-    if gone.contains(&va) {
-        return Ok(());
+// The pointers of an xarray as words, each its index and then the pointer; `none` where there is none.
+fn pointers_text(alloc: Global, walked: &XaWalked) -> Result<String, AllocError> {
+    if walked.len() == 0 {
+        return String::from_str(alloc, "none");
     }
-    let pa = va % (1 << 31);
-    let off = pa.wrapping_add(0x2000);
-    words.push(VWord { va, pa, off, value })?;
-    let va = 0xffff_ffff_8000_0000u64.wrapping_add(pa);
-    words.push(VWord { va, pa, off, value })?;
-    Ok(())
+    let mut text = String::new(alloc);
+    for XaItem { index, entry } in walked.as_slice() {
+        let gap = if text.is_empty() { "" } else { " " };
+        text.push_str(&format!(in alloc; "{gap}{index:x}={entry:x}")?)?;
+    }
+    Ok(text)
 }
 
-fn push_words(words: &mut Vec<VWord>, gone: &[u64], list: &[Word]) -> Result<(), AllocError> {
-    for (va, value) in list {
-        push_word(words, gone, *va, *value)?;
-    }
-    Ok(())
-}
-
-// The slots that aren't null, and then all as nulls: the first word with an address counts.
-fn push_slots(words: &mut Vec<VWord>, gone: &[u64], node: &Node) -> Result<(), AllocError> {
-    let first = node.at.wrapping_add(24);
-    for (slot, value) in node.slots {
-        push_word(
-            words,
-            gone,
-            first.wrapping_add(slot.wrapping_mul(8)),
-            *value,
-        )?;
-    }
-    for slot in 0..64 {
-        push_word(words, gone, first.wrapping_add(8 * slot), 0)?;
-    }
-    Ok(())
-}
-
-fn push_node(words: &mut Vec<VWord>, gone: &[u64], node: &Node) -> Result<(), AllocError> {
-    push_word(words, gone, node.at, node.bytes)?;
-    push_word(words, gone, node.at.wrapping_add(8), node.parent)?;
-    push_word(words, gone, node.at.wrapping_add(16), XA)?;
-    push_slots(words, gone, node)
-}
-
-fn push_nodes(words: &mut Vec<VWord>, gone: &[u64], nodes: &[Node]) -> Result<(), AllocError> {
-    for node in nodes {
-        push_node(words, gone, node)?;
-    }
-    Ok(())
-}
-
-fn push_base(words: &mut Vec<VWord>, gone: &[u64], base: Base) -> Result<(), AllocError> {
-    match base {
-        Base::Leaf | Base::Idr => push_nodes(words, gone, &LEAF),
-        Base::Split => push_nodes(words, gone, &SPLIT),
-        Base::Inner => push_nodes(words, gone, &INNER),
-        Base::Wide => push_nodes(words, gone, &WIDE),
-        Base::High => push_nodes(words, gone, &HIGH),
-    }
-}
-
-// The changed words, and then the others.
-fn space_of(
+// What the walk of an xarray tells.
+fn walk<L: Ledger>(
     alloc: Global,
-    base: Base,
-    changed: &[Word],
-    gone: &[u64],
-) -> Result<ListSpace, AllocError> {
-    let mut words = Vec::new(alloc);
-    push_words(&mut words, gone, changed)?;
-    push_word(&mut words, gone, HEAD, N + 2)?;
-    push_base(&mut words, gone, base)?;
-    Ok(ListSpace::new(words))
-}
-
-// The address and value of the one word that shows a violation.
-fn shown(found: &Found) -> Option<Word> {
-    if found.places.len() == 1 {
-        let place = found.places.get(0);
-        Some((place.va?, place.value))
-    } else {
-        None
-    }
-}
-
-// A violation of the audit 7.
-fn violation(found: &Found) -> Answer {
-    if found.audit != 7 || found.start != XA {
-        return Answer::Other;
-    }
-    let word = shown(found);
-    if found.rule == Rule::M6 && found.stop.is_some() && found.expected == None {
-        return Answer::Missing(found.at, word);
-    }
-    match word {
-        Some((at, value)) if at == found.at && found.expected == None && found.stop.is_none() => {
-            Answer::Entry(found.rule, at, value)
-        }
-        Some(word) if found.stop.is_none() => {
-            Answer::Broken(found.rule, found.at, word, found.expected)
-        }
-        _ => Answer::Other,
-    }
-}
-
-fn item(walked: &XaWalked, i: usize) -> Word {
-    if i < walked.len() {
-        let XaItem { index, entry } = *walked.get(i);
-        (index, entry)
-    } else {
-        (0, 0)
-    }
-}
-
-fn answer_of(walk: Result<XaWalked, WalkStop>) -> Answer {
-    match walk {
-        Ok(walked) => Answer::Items([item(&walked, 0), item(&walked, 1)], walked.len()),
-        Err(WalkStop::Broken(found)) => violation(&found),
-        Err(WalkStop::Fault) => Answer::Failed,
-        Err(WalkStop::NoMemory) => Answer::OutOfMemory,
-    }
-}
-
-fn walk<L: Ledger>(alloc: Global, space: &mut ListSpace, base: Base, blank: Blank) -> Answer
+    space: &mut ListSpace,
+    shape: &XaShape,
+    xa: u64,
+    blank: Blank,
+) -> Result<String, AllocError>
     requires name { blank.name ≡ L.name }
     requires parts { blank.parts ≡ L.parts }
     requires some { 0 < L.parts }
 {
     let mut steps = Steps::<L>::new(blank);
-    let shape = shape_of(base);
-    answer_of(xa_walk(alloc, space, &shape, XA, 7, &mut steps))
+    match xa_walk(alloc, space, shape, xa, 7, &mut steps) {
+        Ok(walked) => pointers_text(alloc, &walked),
+        Err(stop) => stop_text(alloc, &stop, xa),
+    }
 }
 
-fn try_rows(rt: &(impl Abort + AllocGlobal), rows: &[Row]) -> Result<(), Fail> {
-    for (base, changed, gone, wanted) in rows {
-        let mut space = space_of(rt.alloc(), *base, changed, gone)?;
-        let found = walk::<Brand>(rt.alloc(), &mut space, *base, Blank::new(1));
-        assert_eq!(rt; found, *wanted, "{base:?} {changed:?} {gone:?}");
+// Tries the rows of a table, which has this many.
+fn try_rows(rt: &(impl Abort + AllocGlobal), table: &str, rows: usize) -> Result<(), Fail> {
+    let xa = value_of(NAMES, "xa").ok_or("no address")?;
+    let mut count: usize = 0;
+    for row in table.lines() {
+        if let Some((made, wanted)) = row.split_once(" : ") {
+            let (base, changed) = made.split_once(' ').unwrap_or((made, ""));
+            let words = words_of(base).ok_or("no such xarray")?;
+            let mut space = space_of(rt.alloc(), NAMES, changed, words)?;
+            let told = walk::<Brand>(rt.alloc(), &mut space, &shape_of(base), xa, Blank::new(1))?;
+            assert_eq!(rt;
+                told.as_str(),
+                spelled(rt.alloc(), NAMES, wanted)?.as_str(),
+                "{row}"
+            );
+            count = count.saturating_add(1);
+        }
     }
+    assert_eq!(rt; count, rows);
     Ok(())
 }
 
 #[test]
 fn what_a_head_holds(rt: HostRuntime) -> Result<(), Fail> {
-    try_rows(&rt, &heads::HEADS)
+    try_rows(&rt, heads::HEADS, 12)
 }
 
 #[test]
 fn what_a_slot_holds(rt: HostRuntime) -> Result<(), Fail> {
-    try_rows(&rt, &heads::SLOTS)
+    try_rows(&rt, heads::SLOTS, 15)
 }
 
 #[test]
 fn rules_of_a_node(rt: HostRuntime) -> Result<(), Fail> {
-    try_rows(&rt, &rules::RULES)?;
-    try_rows(&rt, &rules::ORDER)
+    try_rows(&rt, rules::RULES, 17)?;
+    try_rows(&rt, rules::ORDER, 13)
 }
 
 #[test]
 fn nodes_below_nodes(rt: HostRuntime) -> Result<(), Fail> {
-    try_rows(&rt, &below::BELOW)?;
-    try_rows(&rt, &below::UPPER)?;
-    try_rows(&rt, &below::INDEXES)
+    try_rows(&rt, below::BELOW, 9)?;
+    try_rows(&rt, below::UPPER, 12)?;
+    try_rows(&rt, below::INDEXES, 5)
 }

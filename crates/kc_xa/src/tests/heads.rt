@@ -1,130 +1,34 @@
 // What a head and a slot hold.
-use super::{Answer, Base, E, EMPTY, ERROR, F, HEAD, N, ONE, P, RETRY, Row, ZERO};
-use kc_found::Rule;
 
-pub(super) const HEADS: [Row; 12] = [
-    (Base::Leaf, &[], &[], ONE),
-    // What the head holds.
-    (Base::Leaf, &[(HEAD, 0)], &[], EMPTY),
-    (
-        Base::Leaf,
-        &[(HEAD, E)],
-        &[],
-        Answer::Items([(0, E), (0, 0)], 1),
-    ),
-    (Base::Leaf, &[(HEAD, 7)], &[], EMPTY),
-    (Base::Leaf, &[(HEAD, ZERO)], &[], EMPTY),
-    (
-        Base::Leaf,
-        &[(HEAD, 2)],
-        &[],
-        Answer::Entry(Rule::X7, HEAD, 2),
-    ),
-    (
-        Base::Leaf,
-        &[(HEAD, RETRY)],
-        &[],
-        Answer::Entry(Rule::X7, HEAD, RETRY),
-    ),
-    (
-        Base::Leaf,
-        &[(HEAD, ERROR)],
-        &[],
-        Answer::Entry(Rule::X7, HEAD, ERROR),
-    ),
-    (
-        Base::Leaf,
-        &[(HEAD, 0xffe)],
-        &[],
-        Answer::Entry(Rule::X7, HEAD, 0xffe),
-    ),
-    (
-        Base::Leaf,
-        &[(HEAD, 0x1002)],
-        &[],
-        Answer::Missing(0x1008, Some((HEAD, 0x1002))),
-    ),
-    (
-        Base::Leaf,
-        &[(HEAD, ERROR - 4)],
-        &[],
-        Answer::Missing(ERROR + 2, Some((HEAD, ERROR - 4))),
-    ),
-    (Base::Leaf, &[], &[HEAD], Answer::Missing(HEAD, None)),
-];
+// What the head holds, which is first a node.
+pub(super) const HEADS: &str = "leaf : 1=e
+leaf head=0 : none
+leaf head=e : 0=e
+leaf head=7 : none
+leaf head=zero : none
+leaf head=2 : X7 at head by head=2
+leaf head=retry : X7 at head by head=retry
+leaf head=error : X7 at head by head=error
+leaf head=0xffe : X7 at head by head=0xffe
+leaf head=0x1002 : M6 at 0x1008 by head=0x1002
+leaf head=error-4 : M6 at error+2 by head=error-4
+leaf head=gone : M6 at head";
 
-pub(super) const SLOTS: [Row; 15] = [
-    // What a slot of the lowest node holds.
-    (
-        Base::Leaf,
-        &[(N, 0x0103_0000), (N + 24, F)],
-        &[],
-        Answer::Items([(0, F), (1, E)], 2),
-    ),
-    (Base::Leaf, &[(N, 0x0103_0000), (N + 24, ZERO)], &[], ONE),
-    (Base::Leaf, &[(N, 0x0203_0000), (N + 24, 9)], &[], ONE),
-    (
-        Base::Leaf,
-        &[(N, 0x0103_0000), (N + 24, P + 2)],
-        &[],
-        Answer::Entry(Rule::X9, N + 24, P + 2),
-    ),
-    (
-        Base::Leaf,
-        &[(N, 0x0103_0000), (N + 24, ERROR)],
-        &[],
-        Answer::Entry(Rule::X7, N + 24, ERROR),
-    ),
-    (
-        Base::Leaf,
-        &[(N, 0x0103_0000), (N + 24, RETRY)],
-        &[],
-        Answer::Entry(Rule::X7, N + 24, RETRY),
-    ),
-    // A sibling of a pointer, a value, the zero entry, a null, a sibling, its own and a later slot.
-    (Base::Leaf, &[(N, 0x0103_0000), (N + 48, 6)], &[], ONE),
-    (Base::Leaf, &[(N, 0x0103_0000), (N + 48, 10)], &[], ONE),
-    (
-        Base::Leaf,
-        &[(N, 0x0104_0000), (N + 48, ZERO), (N + 56, 14)],
-        &[],
-        ONE,
-    ),
-    (
-        Base::Leaf,
-        &[(N, 0x0103_0000), (N + 48, 2)],
-        &[],
-        Answer::Entry(Rule::X8, N + 48, 2),
-    ),
-    (
-        Base::Leaf,
-        &[(N, 0x0104_0000), (N + 48, 6), (N + 56, 14)],
-        &[],
-        Answer::Entry(Rule::X8, N + 56, 14),
-    ),
-    (
-        Base::Leaf,
-        &[(N, 0x0103_0000), (N + 48, 14)],
-        &[],
-        Answer::Entry(Rule::X8, N + 48, 14),
-    ),
-    (
-        Base::Leaf,
-        &[(N, 0x0104_0000), (N + 48, 22), (N + 64, F)],
-        &[],
-        Answer::Entry(Rule::X8, N + 48, 22),
-    ),
-    // The last slot that a sibling may name, and the one after it.
-    (
-        Base::Leaf,
-        &[(N, 0x0104_0000), (N + 136, F), (N + 144, 58)],
-        &[],
-        Answer::Items([(1, E), (14, F)], 2),
-    ),
-    (
-        Base::Leaf,
-        &[(N, 0x0103_0000), (N + 144, 62)],
-        &[],
-        Answer::Entry(Rule::X7, N + 144, 62),
-    ),
-];
+// What a slot of the lowest node holds.
+pub(super) const SLOTS: &str = "leaf n=0x1030000 n+24=f : 0=f 1=e
+leaf n=0x1030000 n+24=zero : 1=e
+leaf n=0x2030000 n+24=9 : 1=e
+leaf n=0x1030000 n+24=p+2 : X9 at n+24 by n+24=p+2
+leaf n=0x1030000 n+24=error : X7 at n+24 by n+24=error
+leaf n=0x1030000 n+24=retry : X7 at n+24 by n+24=retry
+# A sibling of a pointer, a value, the zero entry, a null, a sibling, its own and a later slot.
+leaf n=0x1030000 n+48=6 : 1=e
+leaf n=0x1030000 n+48=10 : 1=e
+leaf n=0x1040000 n+48=zero n+56=14 : 1=e
+leaf n=0x1030000 n+48=2 : X8 at n+48 by n+48=2
+leaf n=0x1040000 n+48=6 n+56=14 : X8 at n+56 by n+56=14
+leaf n=0x1030000 n+48=14 : X8 at n+48 by n+48=14
+leaf n=0x1040000 n+48=22 n+64=f : X8 at n+48 by n+48=22
+# The last slot that a sibling may name, and the one after it.
+leaf n=0x1040000 n+136=f n+144=58 : 1=e 14=f
+leaf n=0x1030000 n+144=62 : X7 at n+144 by n+144=62";

@@ -1,170 +1,39 @@
 // The rules of a node.
-use super::{Answer, Base, E, ERROR, HEAD, N, ONE, P, Row, XA};
-use kc_found::Rule;
 
-pub(super) const RULES: [Row; 17] = [
-    // X1: the shift of a root.
-    (
-        Base::Leaf,
-        &[(N, 0x0102_003c)],
-        &[],
-        Answer::Items([(1 << 60, E), (0, 0)], 1),
-    ),
-    (
-        Base::Leaf,
-        &[(N, 0x0102_003d)],
-        &[],
-        Answer::Entry(Rule::X1, N, 0x0102_003d),
-    ),
-    (
-        Base::Leaf,
-        &[(N, 0x0102_0040)],
-        &[],
-        Answer::Entry(Rule::X1, N, 0x0102_0040),
-    ),
-    (
-        Base::Leaf,
-        &[(N, 0x0102_0003)],
-        &[],
-        Answer::Entry(Rule::X1, N, 0x0102_0003),
-    ),
-    // X2 isn't tried at a root.
-    (Base::Leaf, &[(N, 0x0102_0500)], &[], ONE),
-    (
-        Base::Leaf,
-        &[(N + 8, P)],
-        &[],
-        Answer::Broken(Rule::X3, N + 8, (N + 8, P), Some(0)),
-    ),
-    (
-        Base::Leaf,
-        &[(N + 16, N)],
-        &[],
-        Answer::Broken(Rule::X4, N + 16, (N + 16, N), Some(XA)),
-    ),
-    // X5: the number of slots that aren't null; in an IDR it may be above that, up to 16.
-    (
-        Base::Leaf,
-        &[(N, 0x0101_0000)],
-        &[],
-        Answer::Broken(Rule::X5, N + 2, (N, 0x0101_0000), Some(2)),
-    ),
-    (
-        Base::Leaf,
-        &[(N, 0x0103_0000)],
-        &[],
-        Answer::Broken(Rule::X5, N + 2, (N, 0x0103_0000), Some(2)),
-    ),
-    (Base::Idr, &[(N, 0x0103_0000)], &[], ONE),
-    (Base::Idr, &[(N, 0x0110_0000)], &[], ONE),
-    (
-        Base::Idr,
-        &[(N, 0x0101_0000)],
-        &[],
-        Answer::Broken(Rule::X5, N + 2, (N, 0x0101_0000), Some(2)),
-    ),
-    (
-        Base::Idr,
-        &[(N, 0x0111_0000)],
-        &[],
-        Answer::Broken(Rule::X5, N + 2, (N, 0x0111_0000), Some(2)),
-    ),
-    // X6: the number of values, which isn't tried where there is a sibling.
-    (
-        Base::Leaf,
-        &[(N, 0x0002_0000)],
-        &[],
-        Answer::Broken(Rule::X6, N + 3, (N, 0x0002_0000), Some(1)),
-    ),
-    (
-        Base::Leaf,
-        &[(N, 0x0202_0000)],
-        &[],
-        Answer::Broken(Rule::X6, N + 3, (N, 0x0202_0000), Some(1)),
-    ),
-    (
-        Base::Idr,
-        &[(N, 0x0202_0000)],
-        &[],
-        Answer::Broken(Rule::X6, N + 3, (N, 0x0202_0000), Some(1)),
-    ),
-    (Base::Leaf, &[(N, 0x0903_0000), (N + 48, 6)], &[], ONE),
-];
+pub(super) const RULES: &str = "# X1: the shift of a root.
+leaf n=0x102003c : 0x1000000000000000=e
+leaf n=0x102003d : X1 at n by n=0x102003d
+leaf n=0x1020040 : X1 at n by n=0x1020040
+leaf n=0x1020003 : X1 at n by n=0x1020003
+# X2 isn't tried at a root.
+leaf n=0x1020500 : 1=e
+leaf n+8=p : X3 at n+8 by n+8=p not 0
+leaf n+16=n : X4 at n+16 by n+16=n not xa
+# X5: the number of slots that aren't null; in an IDR it may be above that, up to 16.
+leaf n=0x1010000 : X5 at n+2 by n=0x1010000 not 2
+leaf n=0x1030000 : X5 at n+2 by n=0x1030000 not 2
+idr n=0x1030000 : 1=e
+idr n=0x1100000 : 1=e
+idr n=0x1010000 : X5 at n+2 by n=0x1010000 not 2
+idr n=0x1110000 : X5 at n+2 by n=0x1110000 not 2
+# X6: the number of values, which isn't tried where there is a sibling.
+leaf n=0x20000 : X6 at n+3 by n=0x20000 not 1
+leaf n=0x2020000 : X6 at n+3 by n=0x2020000 not 1
+idr n=0x2020000 : X6 at n+3 by n=0x2020000 not 1
+leaf n=0x9030000 n+48=6 : 1=e";
 
-pub(super) const ORDER: [Row; 13] = [
-    // Bytes in two words.
-    (Base::Split, &[], &[], ONE),
-    (
-        Base::Split,
-        &[(N + 168, 0x0103)],
-        &[],
-        Answer::Broken(Rule::X5, N + 168, (N + 168, 0x0103), Some(2)),
-    ),
-    (
-        Base::Split,
-        &[(N + 168, 0x0202)],
-        &[],
-        Answer::Broken(Rule::X6, N + 169, (N + 168, 0x0202), Some(1)),
-    ),
-    (
-        Base::Split,
-        &[],
-        &[N + 168],
-        Answer::Missing(N + 168, Some((HEAD, N + 2))),
-    ),
-    // Of two faults at one node the first in the order of rules: words that aren't there, X1 to X6, and then the slots.
-    (
-        Base::Leaf,
-        &[(N + 8, P)],
-        &[N + 16],
-        Answer::Missing(N + 16, Some((HEAD, N + 2))),
-    ),
-    (
-        Base::Leaf,
-        &[(N + 16, N)],
-        &[N],
-        Answer::Missing(N, Some((HEAD, N + 2))),
-    ),
-    (
-        Base::Leaf,
-        &[],
-        &[N, N + 144],
-        Answer::Missing(N + 144, Some((HEAD, N + 2))),
-    ),
-    (
-        Base::Leaf,
-        &[(N, 0x0102_0003), (N + 8, P)],
-        &[],
-        Answer::Entry(Rule::X1, N, 0x0102_0003),
-    ),
-    (
-        Base::Leaf,
-        &[(N + 8, P), (N + 16, N)],
-        &[],
-        Answer::Broken(Rule::X3, N + 8, (N + 8, P), Some(0)),
-    ),
-    (
-        Base::Leaf,
-        &[(N, 0x0101_0000), (N + 16, N)],
-        &[],
-        Answer::Broken(Rule::X4, N + 16, (N + 16, N), Some(XA)),
-    ),
-    (
-        Base::Leaf,
-        &[(N, 0x0001_0000)],
-        &[],
-        Answer::Broken(Rule::X5, N + 2, (N, 0x0001_0000), Some(2)),
-    ),
-    (
-        Base::Leaf,
-        &[(N + 24, ERROR)],
-        &[],
-        Answer::Broken(Rule::X5, N + 2, (N, 0x0102_0000), Some(3)),
-    ),
-    (
-        Base::Leaf,
-        &[(N, 0x0003_0000), (N + 24, ERROR)],
-        &[],
-        Answer::Broken(Rule::X6, N + 3, (N, 0x0003_0000), Some(1)),
-    ),
-];
+pub(super) const ORDER: &str = "# Bytes in two words.
+split : 1=e
+split n+168=0x103 : X5 at n+168 by n+168=0x103 not 2
+split n+168=0x202 : X6 at n+169 by n+168=0x202 not 1
+split n+168=gone : M6 at n+168 by head=n+2
+# Of two faults at one node the first in the order of rules: words that aren't there, X1 to X6, and then the slots.
+leaf n+8=p n+16=gone : M6 at n+16 by head=n+2
+leaf n+16=n n=gone : M6 at n by head=n+2
+leaf n=gone n+144=gone : M6 at n+144 by head=n+2
+leaf n=0x1020003 n+8=p : X1 at n by n=0x1020003
+leaf n+8=p n+16=n : X3 at n+8 by n+8=p not 0
+leaf n=0x1010000 n+16=n : X4 at n+16 by n+16=n not xa
+leaf n=0x10000 : X5 at n+2 by n=0x10000 not 2
+leaf n+24=error : X5 at n+2 by n=0x1020000 not 3
+leaf n=0x30000 n+24=error : X6 at n+3 by n=0x30000 not 1";
