@@ -3,9 +3,11 @@
 #![tactic(auto)]
 
 mod answer;
+mod fault;
 mod memory;
 mod names;
 
 pub use answer::{answer_text, stop_text};
+pub use fault::CaseFault;
 pub use memory::space_of;
 pub use names::{spelled, value_of};

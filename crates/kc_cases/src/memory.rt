@@ -1,4 +1,5 @@
 // A memory of the words that texts have.
+use crate::fault::CaseFault;
 use crate::names::value_of;
 use kc_found::{ListSpace, VWord};
 use std::alloc::{AllocError, Global};
@@ -20,13 +21,18 @@ struct Made {
 
 /// The memory of the words of these texts, of which the first with an address counts. A word is `ADDRESS=VALUE`, and
 /// `FROM..TO=VALUE` are the words before `TO`; each stands in both maps of memory, where it is in one. `ADDRESS=gone` is
-/// one that isn't there, and `ADDRESS=twin` one that is the word before it in physical memory.
+/// one that isn't there, and `ADDRESS=twin` one that is the word before it in physical memory. A word without `=` says nothing
+/// of memory.
+///
+/// # Errors
+///
+/// A word whose address or value is neither a number nor a name; out of memory.
 pub fn space_of(
     alloc: Global,
     names: &str,
     changed: &str,
     words: &str,
-) -> Result<ListSpace, AllocError> {
+) -> Result<ListSpace, CaseFault> {
     let mut made = Made {
         words: Vec::new(alloc),
         gone: Vec::new(alloc),
@@ -38,32 +44,45 @@ pub fn space_of(
     Ok(ListSpace::new(made.words))
 }
 
+fn number_of(names: &str, word: &str) -> Result<u64, CaseFault> {
+    value_of(names, word).ok_or(CaseFault::NoNumber)
+}
+
 impl Made {
     // Notes which words are gone or twins.
-    fn note(&mut self, names: &str, text: &str) -> Result<(), AllocError> {
+    fn note(&mut self, names: &str, text: &str) -> Result<(), CaseFault> {
         for word in text.split_whitespace() {
-            if let Some((address, what)) = word.split_once('=')
-                && let Some(va) = value_of(names, address)
-            {
-                match what {
-                    "gone" => self.gone.push(va)?,
-                    "twin" => self.twins.push(va)?,
-                    _ => {}
+            match word.split_once('=') {
+                Some((address, "gone")) => self.gone.push(number_of(names, address)?)?,
+                Some((address, "twin")) => self.twins.push(number_of(names, address)?)?,
+                _ => {}
+            }
+        }
+        Ok(())
+    }
+
+    fn add(&mut self, names: &str, text: &str) -> Result<(), CaseFault> {
+        for word in text.split_whitespace() {
+            match word.split_once('=') {
+                None | Some((_, "gone" | "twin")) => {}
+                Some((addresses, value)) => {
+                    let value = number_of(names, value)?;
+                    self.add_range(names, addresses, value)?;
                 }
             }
         }
         Ok(())
     }
 
-    fn add(&mut self, names: &str, text: &str) -> Result<(), AllocError> {
-        for word in text.split_whitespace() {
-            if let Some((addresses, value)) = word.split_once('=')
-                && let Some(value) = value_of(names, value)
-            {
-                let (from, to) = addresses.split_once("..").unwrap_or((addresses, ""));
-                let from = value_of(names, from).unwrap_or(0);
-                let to = value_of(names, to).unwrap_or(from.wrapping_add(8));
-                self.add_words(from, to, value)?;
+    // The word at an address, or those from an address on and before another.
+    fn add_range(&mut self, names: &str, addresses: &str, value: u64) -> Result<(), CaseFault> {
+        match addresses.split_once("..") {
+            Some((from, to)) => {
+                self.add_words(number_of(names, from)?, number_of(names, to)?, value)?;
+            }
+            None => {
+                let from = number_of(names, addresses)?;
+                self.add_words(from, from.wrapping_add(8), value)?;
             }
         }
         Ok(())
