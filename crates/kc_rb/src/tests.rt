@@ -2,593 +2,235 @@
 ghost use Rattle.std.specs.Prelude.{◌≡◌, ◌<◌};
 
 use crate::rb_walk;
-use kc_found::{Found, ListSpace, RbShape, Rule, VWord, WalkStop, Walked};
+use kc_cases::{answer_text, space_of, spelled, value_of};
+use kc_found::{ListSpace, RbShape};
 use kc_word::{Bits, Steps};
 use std::alloc::{AllocError, Global};
 use std::marker::Brand;
 use std::sync::ledger::{Blank, Ledger};
 use std::test::Fail;
 
-// A root: its word, and the one of the first node.
-const ROOT: u64 = 0xffff_ffff_8000_b130;
+// A root's word, and the one of the first node; the nodes of a tree, 0x40 bytes apart, and the left child by another
+// address; and an address with no words.
+const NAMES: &str = "root 0xffffffff8000b130
+first 0xffffffff8000b138
+top 0xffff888000011028
+left 0xffff888000011068
+right 0xffff8880000110a8
+ll 0xffff8880000110e8
+lr 0xffff888000011128
+rl 0xffff888000011168
+rr 0xffff8880000111a8
+left_again 0xffffffff80011068
+nowhere 0xffff888000020000";
 
-const FIRST: u64 = ROOT + 8;
-
-// A tree of seven nodes: TOP is black, its children are red, and theirs are black.
-const TOP: u64 = 0xffff_8880_0001_1028;
-
-const LEFT: u64 = TOP + 0x40;
-
-const RIGHT: u64 = TOP + 0x80;
-
-const LL: u64 = TOP + 0xc0;
-
-const LR: u64 = TOP + 0x100;
-
-const RL: u64 = TOP + 0x140;
-
-const RR: u64 = TOP + 0x180;
-
-// The left child by another address.
-const LEFT_AGAIN: u64 = 0xffff_ffff_8001_1068;
-
-// An address with no words.
-const NOWHERE: u64 = 0xffff_8880_0002_0000;
-
-// The address and value of a word.
-type Word = (u64, u64);
-
-// What is asked of a tree.
-#[derive(Clone, Copy, Debug, PartialEq, Eq)]
-enum Asks {
-    // A plain root, and no key.
-    Plain,
-    // A cached root, and no key.
-    Cached,
-    // The key is 32 bits, signed or not, in the word before the node.
-    Signed,
-    Unsigned,
-    // The same, with unique keys.
-    Unique,
-    // The key is three bits with sign, from bit 32 of that word on, or 32 bits from its bit 48 on.
-    Field,
-    UniqueField,
-    Across,
-}
-
-// What else is odd about a memory.
-#[derive(Clone, Copy, Debug, PartialEq, Eq)]
-enum Odd {
-    Nothing,
-    // The word at this address isn't there.
-    Gone(u64),
-    // The word at this address is the one before it in physical memory.
-    Twin(u64),
-}
-
-// What a walk answers.
-#[derive(Clone, Copy, Debug, PartialEq, Eq)]
-enum Answer {
-    // At most seven nodes, and their number.
-    Nodes([u64; 7], usize),
-    // A rule, and the address and value of the one word that shows it, and what was expected.
-    Broken(Rule, u64, u64, Option<u64>),
-    // The address of a key that breaks its bound, its first word, its second, if any, and the bound.
-    Key(u64, Word, Option<Word>, Option<u64>),
-    // The address of a word that isn't there, and the word that leads to its site.
-    Missing(u64, Option<Word>),
-    // A violation of another form.
-    Other,
-    Failed,
-    OutOfMemory,
-}
-
-const WHOLE: Answer = Answer::Nodes([LL, LEFT, LR, TOP, RL, RIGHT, RR], 7);
-
-// The words of the tree.
-const TREE: [Word; 33] = [
-    (ROOT, TOP),
-    (FIRST, LL),
-    (TOP - 8, 4),
-    (TOP, 1),
-    (TOP + 8, RIGHT),
-    (TOP + 16, LEFT),
-    (LEFT - 8, 2),
-    (LEFT, TOP),
-    (LEFT + 8, LR),
-    (LEFT + 16, LL),
-    (RIGHT - 8, 6),
-    (RIGHT, TOP),
-    (RIGHT + 8, RR),
-    (RIGHT + 16, RL),
-    (LL - 8, 1),
-    (LL, LEFT + 1),
-    (LL + 8, 0),
-    (LL + 16, 0),
-    (LR - 8, 3),
-    (LR, LEFT + 1),
-    (LR + 8, 0),
-    (LR + 16, 0),
-    (RL - 8, 5),
-    (RL, RIGHT + 1),
-    (RL + 8, 0),
-    (RL + 16, 0),
-    (RR - 8, 7),
-    (RR, RIGHT + 1),
-    (RR + 8, 0),
-    (RR + 16, 0),
-    (LEFT_AGAIN, TOP),
-    (LEFT_AGAIN + 8, LR),
-    (LEFT_AGAIN + 16, LL),
-];
+// The words of the tree, each node's key first: `top` is black, its children are red, and theirs are black.
+const TREE: &str = "root=top first=ll
+top-8=4 top=1 top+8=right top+16=left
+left-8=2 left=top left+8=lr left+16=ll
+right-8=6 right=top right+8=rr right+16=rl
+ll-8=1 ll=left+1 ll+8=0 ll+16=0
+lr-8=3 lr=left+1 lr+8=0 lr+16=0
+rl-8=5 rl=right+1 rl+8=0 rl+16=0
+rr-8=7 rr=right+1 rr+8=0 rr+16=0";
 
 // What is asked, the words of the tree that are changed, and the answer.
-const SHAPES: [(Asks, &[Word], Odd, Answer); 32] = [
-    (Asks::Plain, &[], Odd::Nothing, WHOLE),
-    (Asks::Cached, &[], Odd::Nothing, WHOLE),
-    (
-        Asks::Plain,
-        &[(ROOT, 0)],
-        Odd::Nothing,
-        Answer::Nodes([0, 0, 0, 0, 0, 0, 0], 0),
-    ),
-    (
-        Asks::Cached,
-        &[(ROOT, 0), (FIRST, 0)],
-        Odd::Nothing,
-        Answer::Nodes([0, 0, 0, 0, 0, 0, 0], 0),
-    ),
-    (
-        Asks::Cached,
-        &[(ROOT, LL), (LL, 1)],
-        Odd::Nothing,
-        Answer::Nodes([LL, 0, 0, 0, 0, 0, 0], 1),
-    ),
-    // The parent's address has no bits 0 and 1.
-    (Asks::Plain, &[(TOP, 3)], Odd::Nothing, WHOLE),
-    (
-        Asks::Plain,
-        &[(RIGHT, LEFT + 3)],
-        Odd::Nothing,
-        Answer::Broken(Rule::R1, RIGHT, LEFT + 3, Some(TOP)),
-    ),
-    (
-        Asks::Plain,
-        &[(TOP, LEFT + 1)],
-        Odd::Nothing,
-        Answer::Broken(Rule::R1, TOP, LEFT + 1, Some(0)),
-    ),
-    // Red nodes at the top, and below red ones.
-    (
-        Asks::Plain,
-        &[(TOP, 2)],
-        Odd::Nothing,
-        Answer::Broken(Rule::R2, TOP, 2, Some(3)),
-    ),
-    (
-        Asks::Plain,
-        &[(LL, LEFT)],
-        Odd::Nothing,
-        Answer::Broken(Rule::R3, LL, LEFT, Some(LEFT + 1)),
-    ),
-    (
-        Asks::Plain,
-        &[(RR, RIGHT)],
-        Odd::Nothing,
-        Answer::Broken(Rule::R3, RR, RIGHT, Some(RIGHT + 1)),
-    ),
-    // The black count is off at the first null, at one between, at the last one, and on the whole right side.
-    (
-        Asks::Plain,
-        &[(LEFT + 16, 0)],
-        Odd::Nothing,
-        Answer::Broken(Rule::R5, LR + 16, 0, Some(1)),
-    ),
-    (
-        Asks::Plain,
-        &[(LEFT + 8, 0)],
-        Odd::Nothing,
-        Answer::Broken(Rule::R5, LEFT + 8, 0, Some(2)),
-    ),
-    (
-        Asks::Plain,
-        &[(RIGHT + 8, 0)],
-        Odd::Nothing,
-        Answer::Broken(Rule::R5, RIGHT + 8, 0, Some(2)),
-    ),
-    (
-        Asks::Plain,
-        &[(RIGHT, TOP + 1)],
-        Odd::Nothing,
-        Answer::Broken(Rule::R5, RL + 16, 0, Some(2)),
-    ),
-    // The first node of a cached root.
-    (
-        Asks::Cached,
-        &[(FIRST, TOP)],
-        Odd::Nothing,
-        Answer::Broken(Rule::R6, FIRST, TOP, Some(LL)),
-    ),
-    (
-        Asks::Cached,
-        &[(FIRST, 0)],
-        Odd::Nothing,
-        Answer::Broken(Rule::R6, FIRST, 0, Some(LL)),
-    ),
-    (
-        Asks::Cached,
-        &[(ROOT, 0)],
-        Odd::Nothing,
-        Answer::Broken(Rule::R6, FIRST, LL, Some(0)),
-    ),
-    // One node is both children, a child is above its parent, and a tree stands there by another address too.
-    (
-        Asks::Plain,
-        &[(TOP + 8, LEFT)],
-        Odd::Nothing,
-        Answer::Broken(Rule::A, LEFT, TOP, None),
-    ),
-    (
-        Asks::Plain,
-        &[(LL + 16, TOP)],
-        Odd::Nothing,
-        Answer::Broken(Rule::A, TOP, 1, None),
-    ),
-    (
-        Asks::Plain,
-        &[(TOP + 8, LEFT_AGAIN)],
-        Odd::Nothing,
-        Answer::Broken(Rule::A, LEFT_AGAIN, TOP, None),
-    ),
-    // Two words of a root, or of a node, are one.
-    (
-        Asks::Cached,
-        &[],
-        Odd::Twin(FIRST),
-        Answer::Broken(Rule::A, FIRST, LL, None),
-    ),
-    (
-        Asks::Plain,
-        &[],
-        Odd::Twin(LEFT + 8),
-        Answer::Broken(Rule::A, LEFT + 8, LR, None),
-    ),
-    (
-        Asks::Plain,
-        &[],
-        Odd::Twin(LEFT + 16),
-        Answer::Broken(Rule::A, LEFT + 16, LL, None),
-    ),
-    // Words that aren't there.
-    (
-        Asks::Plain,
-        &[],
-        Odd::Gone(ROOT),
-        Answer::Missing(ROOT, None),
-    ),
-    (
-        Asks::Cached,
-        &[],
-        Odd::Gone(FIRST),
-        Answer::Missing(FIRST, None),
-    ),
-    (
-        Asks::Plain,
-        &[],
-        Odd::Gone(TOP + 16),
-        Answer::Missing(TOP + 16, Some((ROOT, TOP))),
-    ),
-    (
-        Asks::Plain,
-        &[(LR + 8, NOWHERE)],
-        Odd::Nothing,
-        Answer::Missing(NOWHERE, Some((LR + 8, NOWHERE))),
-    ),
-    // Of two faults the first in the order of positions, and at one position the first in the order of rules.
-    (
-        Asks::Cached,
-        &[(LEFT + 8, 0), (RIGHT, 1), (FIRST, 0)],
-        Odd::Nothing,
-        Answer::Broken(Rule::R5, LEFT + 8, 0, Some(2)),
-    ),
-    (
-        Asks::Plain,
-        &[(LL, RIGHT)],
-        Odd::Nothing,
-        Answer::Broken(Rule::R1, LL, RIGHT, Some(LEFT)),
-    ),
-    (
-        Asks::Plain,
-        &[(LL, RIGHT)],
-        Odd::Twin(LL + 8),
-        Answer::Broken(Rule::A, LL + 8, 0, None),
-    ),
-    (
-        Asks::Plain,
-        &[(TOP + 8, LEFT_AGAIN)],
-        Odd::Gone(LEFT_AGAIN + 16),
-        Answer::Missing(LEFT_AGAIN + 16, Some((TOP + 8, LEFT_AGAIN))),
-    ),
-];
+const SHAPES: &str = "plain whole : ll left lr top rl right rr
+cached whole : ll left lr top rl right rr
+plain root=0 : none
+cached root=0 first=0 : none
+cached root=ll ll=1 : ll
+# The parent's address has no bits 0 and 1.
+plain top=3 : ll left lr top rl right rr
+plain right=left+3 : R1 at right by right=left+3 not top
+plain top=left+1 : R1 at top by top=left+1 not 0
+# Red nodes at the top, and below red ones.
+plain top=2 : R2 at top by top=2 not 3
+plain ll=left : R3 at ll by ll=left not left+1
+plain rr=right : R3 at rr by rr=right not right+1
+# The black count is off at the first null, at one between, at the last one, and on the whole right side.
+plain left+16=0 : R5 at lr+16 by lr+16=0 not 1
+plain left+8=0 : R5 at left+8 by left+8=0 not 2
+plain right+8=0 : R5 at right+8 by right+8=0 not 2
+plain right=top+1 : R5 at rl+16 by rl+16=0 not 2
+# The first node of a cached root.
+cached first=top : R6 at first by first=top not ll
+cached first=0 : R6 at first by first=0 not ll
+cached root=0 : R6 at first by first=ll not 0
+# One node is both children, a child is above its parent, and a tree stands there by another address too.
+plain top+8=left : A at left by left=top
+plain ll+16=top : A at top by top=1
+plain top+8=left_again : A at left_again by left_again=top
+# Two words of a root, or of a node, are one.
+cached first=twin : A at first by first=ll
+plain left+8=twin : A at left+8 by left+8=lr
+plain left+16=twin : A at left+16 by left+16=ll
+# Words that aren't there.
+plain root=gone : M6 at root
+cached first=gone : M6 at first
+plain top+16=gone : M6 at top+16 by root=top
+plain lr+8=nowhere : M6 at nowhere by lr+8=nowhere
+# Of two faults the first in the order of positions, and at one position the first in the order of rules.
+cached left+8=0 right=1 first=0 : R5 at left+8 by left+8=0 not 2
+plain ll=right : R1 at ll by ll=right not left
+plain ll=right ll+8=twin : A at ll+8 by ll+8=0
+plain top+8=left_again left_again+16=gone : M6 at left_again+16 by top+8=left_again";
 
-const KEYS: [(Asks, &[Word], Odd, Answer); 21] = [
-    (Asks::Signed, &[], Odd::Nothing, WHOLE),
-    (Asks::Unique, &[], Odd::Nothing, WHOLE),
-    // Equal keys, on the left and on the right.
-    (Asks::Signed, &[(LEFT - 8, 1)], Odd::Nothing, WHOLE),
-    (
-        Asks::Unique,
-        &[(LEFT - 8, 1)],
-        Odd::Nothing,
-        Answer::Broken(Rule::R4, LL - 8, 1, Some(1)),
-    ),
-    (Asks::Signed, &[(LR - 8, 2)], Odd::Nothing, WHOLE),
-    (
-        Asks::Unique,
-        &[(LR - 8, 2)],
-        Odd::Nothing,
-        Answer::Broken(Rule::R4, LR - 8, 2, Some(2)),
-    ),
-    // Keys that are in order with the parent's, and not with the one above.
-    (
-        Asks::Signed,
-        &[(LR - 8, 5)],
-        Odd::Nothing,
-        Answer::Broken(Rule::R4, LR - 8, 5, Some(4)),
-    ),
-    (
-        Asks::Signed,
-        &[(RL - 8, 3)],
-        Odd::Nothing,
-        Answer::Broken(Rule::R4, RL - 8, 3, Some(4)),
-    ),
-    (
-        Asks::Signed,
-        &[(RIGHT - 8, 3)],
-        Odd::Nothing,
-        Answer::Broken(Rule::R4, RIGHT - 8, 3, Some(4)),
-    ),
-    // The sign of a key, and of a bound. The upper half of the word isn't the key's.
-    (
-        Asks::Signed,
-        &[(LL - 8, 0x7_ffff_ffff)],
-        Odd::Nothing,
-        WHOLE,
-    ),
-    (
-        Asks::Unsigned,
-        &[(LL - 8, 0xffff_ffff)],
-        Odd::Nothing,
-        Answer::Broken(Rule::R4, LL - 8, 0xffff_ffff, Some(2)),
-    ),
-    (
-        Asks::Signed,
-        &[(LEFT - 8, 0xffff_fffe)],
-        Odd::Nothing,
-        Answer::Broken(Rule::R4, LL - 8, 1, Some(0xffff_ffff_ffff_fffe)),
-    ),
-    // Keys that begin within a word, and one that lies in two.
-    (Asks::Field, &[], Odd::Nothing, WHOLE),
-    (
-        Asks::UniqueField,
-        &[],
-        Odd::Nothing,
-        Answer::Key(LEFT - 4, (LEFT - 8, 2), None, Some(0)),
-    ),
-    (
-        Asks::Field,
-        &[(TOP - 8, 0x7_0000_0004)],
-        Odd::Nothing,
-        Answer::Key(LEFT - 4, (LEFT - 8, 2), None, Some(u64::MAX)),
-    ),
-    (
-        Asks::Across,
-        &[],
-        Odd::Nothing,
-        Answer::Key(LEFT - 2, (LEFT - 8, 2), Some((LEFT, TOP)), Some(0x1_0000)),
-    ),
-    // A key that isn't there is no matter without one. It is looked for after the words were taken, and after R1 to R3.
-    (Asks::Plain, &[], Odd::Gone(LR - 8), WHOLE),
-    (
-        Asks::Signed,
-        &[],
-        Odd::Gone(LR - 8),
-        Answer::Missing(LR - 8, Some((LEFT + 8, LR))),
-    ),
-    (
-        Asks::Signed,
-        &[(TOP + 8, LEFT_AGAIN)],
-        Odd::Nothing,
-        Answer::Broken(Rule::A, LEFT_AGAIN, TOP, None),
-    ),
-    (
-        Asks::Signed,
-        &[(LR, LEFT)],
-        Odd::Gone(LR - 8),
-        Answer::Broken(Rule::R3, LR, LEFT, Some(LEFT + 1)),
-    ),
-    (
-        Asks::Signed,
-        &[(LR, LEFT), (LR - 8, 9)],
-        Odd::Nothing,
-        Answer::Broken(Rule::R3, LR, LEFT, Some(LEFT + 1)),
-    ),
-];
+const KEYS: &str = "signed whole : ll left lr top rl right rr
+unique whole : ll left lr top rl right rr
+# Equal keys, on the left and on the right.
+signed left-8=1 : ll left lr top rl right rr
+unique left-8=1 : R4 at ll-8 by ll-8=1 not 1
+signed lr-8=2 : ll left lr top rl right rr
+unique lr-8=2 : R4 at lr-8 by lr-8=2 not 2
+# Keys that are in order with the parent's, and not with the one above.
+signed lr-8=5 : R4 at lr-8 by lr-8=5 not 4
+signed rl-8=3 : R4 at rl-8 by rl-8=3 not 4
+signed right-8=3 : R4 at right-8 by right-8=3 not 4
+# The sign of a key, and of a bound. The upper half of the word isn't the key's.
+signed ll-8=0x7ffffffff : ll left lr top rl right rr
+unsigned ll-8=0xffffffff : R4 at ll-8 by ll-8=0xffffffff not 2
+signed left-8=0xfffffffe : R4 at ll-8 by ll-8=1 not 0xfffffffffffffffe
+# Keys that begin within a word, and one that lies in two.
+field whole : ll left lr top rl right rr
+unique_field whole : R4 at left-4 by left-8=2 not 0
+field top-8=0x700000004 : R4 at left-4 by left-8=2 not 0xffffffffffffffff
+across whole : R4 at left-2 by left-8=2 left=top not 0x10000
+# A key that isn't there is no matter without one. It is looked for after the words were taken, and after R1 to R3.
+plain lr-8=gone : ll left lr top rl right rr
+signed lr-8=gone : M6 at lr-8 by left+8=lr
+signed top+8=left_again left_again-8=gone : A at left_again by left_again=top
+signed lr=left lr-8=gone : R3 at lr by lr=left not left+1
+signed lr=left lr-8=9 : R3 at lr by lr=left not left+1";
+
+// The offset of the word that leads down a spine, and the answer. Of 1,000 nodes to the left the first null has all
+// above it, and the third one all but the last. To the right each null has one more.
+const SPINES: &str = "16 : R5 at top+0xf988 by top+0xf988=0 not 1000
+8 : R5 at top+0x50 by top+0x50=0 not 1";
 
 // The bits of the key, counted from the element, which begins 40 bytes before its node.
-fn key_of(asks: Asks) -> Option<Bits> {
+fn key_of(asks: &str) -> Result<Option<Bits>, &'static str> {
     let (bit, width, signed) = match asks {
-        Asks::Plain | Asks::Cached => return None,
-        Asks::Signed | Asks::Unique => (256, 32, true),
-        Asks::Unsigned => (256, 32, false),
-        Asks::Field | Asks::UniqueField => (288, 3, true),
-        Asks::Across => (304, 32, false),
+        // A plain root or a cached one, and no key.
+        "plain" | "cached" => return Ok(None),
+        // The key is 32 bits, signed or not, in the word before the node.
+        "signed" | "unique" => (256, 32, true),
+        "unsigned" => (256, 32, false),
+        // It is three bits with sign, from bit 32 of that word on, or 32 bits from its bit 48 on.
+        "field" | "unique_field" => (288, 3, true),
+        "across" => (304, 32, false),
+        _ => return Err("an unknown question"),
     };
-    Some(Bits { bit, width, signed })
+    Ok(Some(Bits { bit, width, signed }))
 }
 
-fn shape_of(asks: Asks) -> RbShape {
-    RbShape {
+fn shape_of(asks: &str) -> Result<RbShape, &'static str> {
+    Ok(RbShape {
         parent_color: 0,
         right: 8,
         left: 16,
         root: 0,
-        leftmost: if asks == Asks::Cached { Some(8) } else { None },
+        leftmost: if asks == "cached" { Some(8) } else { None },
         link: 40,
-        key: key_of(asks),
-        unique: asks == Asks::Unique || asks == Asks::UniqueField,
-    }
+        key: key_of(asks)?,
+        unique: asks == "unique" || asks == "unique_field",
+    })
 }
 
-// Both maps of memory lead to the address without its upper bits.
-fn physical(va: u64, odd: Odd) -> u64 {
-    if odd == Odd::Twin(va) {
-        va.wrapping_sub(8) % (1 << 31)
-    } else {
-        va % (1 << 31)
-    }
-}
-
-fn word_of(va: u64, value: u64, odd: Odd) -> VWord {
-    let pa = physical(va, odd);
-    let off = pa.wrapping_add(0x2000);
-    VWord { va, pa, off, value }
-}
-
-// The changed words, and then the others. The first word with an address counts.
-fn space_of(alloc: Global, changed: &[Word], odd: Odd) -> Result<ListSpace, AllocError> {
-    let mut all = Vec::new(alloc);
-    for list in [changed, &TREE] {
-        for (va, value) in list {
-            if odd != Odd::Gone(*va) {
-                all.push(word_of(*va, *value, odd))?;
-            }
-        }
-    }
-    Ok(ListSpace::new(all))
-}
-
-fn shown(found: &Found, i: usize) -> Option<Word> {
-    if i < found.places.len() {
-        let place = found.places.get(i);
-        Some((place.va?, place.value))
-    } else {
-        None
-    }
-}
-
-// A violation of the audit 7.
-fn violation(found: &Found) -> Answer {
-    if found.audit != 7 || found.start != ROOT || found.places.len() > 2 {
-        return Answer::Other;
-    }
-    let second = shown(found, 1);
-    match shown(found, 0) {
-        word if found.stop.is_some() && found.expected == None && second == None => {
-            Answer::Missing(found.at, word)
-        }
-        Some((at, value)) if at == found.at && second == None => {
-            Answer::Broken(found.rule, at, value, found.expected)
-        }
-        Some(first) if found.rule == Rule::R4 => {
-            Answer::Key(found.at, first, second, found.expected)
-        }
-        _ => Answer::Other,
-    }
-}
-
-fn node(walked: &Walked, i: usize) -> u64 {
-    if i < walked.len() { *walked.get(i) } else { 0 }
-}
-
-fn nodes(walked: &Walked) -> Answer {
-    let first = [
-        node(walked, 0),
-        node(walked, 1),
-        node(walked, 2),
-        node(walked, 3),
-    ];
-    let last = [node(walked, 4), node(walked, 5), node(walked, 6)];
-    Answer::Nodes(
-        [
-            first[0], first[1], first[2], first[3], last[0], last[1], last[2],
-        ],
-        walked.len(),
-    )
-}
-
-fn answer_of(walk: Result<Walked, WalkStop>) -> Answer {
-    match walk {
-        Ok(walked) => nodes(&walked),
-        Err(WalkStop::Broken(found)) => violation(&found),
-        Err(WalkStop::Fault) => Answer::Failed,
-        Err(WalkStop::NoMemory) => Answer::OutOfMemory,
-    }
-}
-
-fn walk<L: Ledger>(alloc: Global, space: &mut ListSpace, asks: Asks, blank: Blank) -> Answer
+fn walk<L: Ledger>(
+    alloc: Global,
+    space: &mut ListSpace,
+    shape: &RbShape,
+    root: u64,
+    blank: Blank,
+) -> Result<String, AllocError>
     requires name { blank.name ≡ L.name }
     requires parts { blank.parts ≡ L.parts }
     requires some { 0 < L.parts }
 {
     let mut steps = Steps::<L>::new(blank);
-    answer_of(rb_walk(alloc, space, &shape_of(asks), ROOT, 7, &mut steps))
+    answer_text(
+        alloc,
+        rb_walk(alloc, space, shape, root, 7, &mut steps),
+        root,
+    )
 }
 
 #[test]
 fn shapes(rt: HostRuntime) -> Result<(), Fail> {
-    for (asks, changed, odd, wanted) in SHAPES {
-        let mut space = space_of(rt.alloc(), changed, odd)?;
-        let found = walk::<Brand>(rt.alloc(), &mut space, asks, Blank::new(1));
-        assert_eq!(rt; found, wanted, "{asks:?} {changed:?} {odd:?}");
+    let root = value_of(NAMES, "root").ok_or("no root")?;
+    let mut count: usize = 0;
+    for row in SHAPES.lines() {
+        if let Some((asked, wanted)) = row.split_once(" : ") {
+            let (asks, changed) = asked.split_once(' ').ok_or("no question")?;
+            let shape = shape_of(asks)?;
+            let mut space = space_of(rt.alloc(), NAMES, changed, TREE)?;
+            let told = walk::<Brand>(rt.alloc(), &mut space, &shape, root, Blank::new(1))?;
+            assert_eq!(rt;
+                told.as_str(),
+                spelled(rt.alloc(), NAMES, wanted)?.as_str(),
+                "{row}"
+            );
+            count = count.saturating_add(1);
+        }
     }
+    assert_eq!(rt; count, 32);
     Ok(())
 }
 
 #[test]
 fn keys(rt: HostRuntime) -> Result<(), Fail> {
-    for (asks, changed, odd, wanted) in KEYS {
-        let mut space = space_of(rt.alloc(), changed, odd)?;
-        let found = walk::<Brand>(rt.alloc(), &mut space, asks, Blank::new(1));
-        assert_eq!(rt; found, wanted, "{asks:?} {changed:?} {odd:?}");
+    let root = value_of(NAMES, "root").ok_or("no root")?;
+    let mut count: usize = 0;
+    for row in KEYS.lines() {
+        if let Some((asked, wanted)) = row.split_once(" : ") {
+            let (asks, changed) = asked.split_once(' ').ok_or("no question")?;
+            let shape = shape_of(asks)?;
+            let mut space = space_of(rt.alloc(), NAMES, changed, TREE)?;
+            let told = walk::<Brand>(rt.alloc(), &mut space, &shape, root, Blank::new(1))?;
+            assert_eq!(rt;
+                told.as_str(),
+                spelled(rt.alloc(), NAMES, wanted)?.as_str(),
+                "{row}"
+            );
+            count = count.saturating_add(1);
+        }
     }
+    assert_eq!(rt; count, 21);
     Ok(())
 }
 
-// Black nodes one below the other, on the side of the word at this offset.
-fn spine(alloc: Global, length: u64, side: u64) -> Result<ListSpace, AllocError> {
-    let mut all = Vec::new(alloc);
-    all.push(word_of(ROOT, TOP, Odd::Nothing))?;
-    let mut parent = 0_u64;
-    for i in 0..length {
-        let node = TOP.wrapping_add(i.wrapping_mul(0x40));
-        let below = if i + 1 < length {
-            node.wrapping_add(0x40)
-        } else {
-            0
-        };
-        let (right, left) = if side == 8 { (below, 0) } else { (0, below) };
-        all.push(word_of(node, parent.wrapping_add(1), Odd::Nothing))?;
-        all.push(word_of(node.wrapping_add(8), right, Odd::Nothing))?;
-        all.push(word_of(node.wrapping_add(16), left, Odd::Nothing))?;
-        parent = node;
+// The words of 1,000 black nodes one below the other, on the side of the word at this offset. The others are 0.
+fn spine(alloc: Global, side: &str) -> Result<String, Fail> {
+    let top = value_of(NAMES, "top").ok_or("no top")?;
+    let mut words = String::from_str(alloc, "root=top top=1")?;
+    for i in 1..1000_u64 {
+        let node = top.wrapping_add(i.wrapping_mul(0x40));
+        let above = node.wrapping_sub(0x40);
+        words.push_str(&format!(in alloc; " {above}+{side}={node} {node}={above}+1")?)?;
     }
-    Ok(ListSpace::new(all))
+    words.push_str(" top..top+64000=0")?;
+    Ok(words)
 }
 
-// Of 1,000 nodes to the left the first null has all above it, and the third one all but the last. To the right each null
-// has one more.
 #[test]
 fn spines(rt: HostRuntime) -> Result<(), Fail> {
-    let deep = TOP + 998 * 0x40 + 8;
-    let rows = [
-        (16, Answer::Broken(Rule::R5, deep, 0, Some(1000))),
-        (8, Answer::Broken(Rule::R5, TOP + 0x50, 0, Some(1))),
-    ];
-    for (side, wanted) in rows {
-        let mut space = spine(rt.alloc(), 1000, side)?;
-        let found = walk::<Brand>(rt.alloc(), &mut space, Asks::Plain, Blank::new(1));
-        assert_eq!(rt; found, wanted, "{side}");
+    let root = value_of(NAMES, "root").ok_or("no root")?;
+    let shape = shape_of("plain")?;
+    let mut count: usize = 0;
+    for row in SPINES.lines() {
+        if let Some((side, wanted)) = row.split_once(" : ") {
+            let words = spine(rt.alloc(), side)?;
+            let mut space = space_of(rt.alloc(), NAMES, "", &words)?;
+            let told = walk::<Brand>(rt.alloc(), &mut space, &shape, root, Blank::new(1))?;
+            assert_eq!(rt;
+                told.as_str(),
+                spelled(rt.alloc(), NAMES, wanted)?.as_str(),
+                "{row}"
+            );
+            count = count.saturating_add(1);
+        }
     }
+    assert_eq!(rt; count, 2);
     Ok(())
 }
