@@ -1,357 +1,155 @@
 // Free lists over a few words.
 ghost use Rattle.std.specs.Prelude.{◌≡◌, ◌<◌};
 
+use crate::tests::line_of;
 use crate::{decode, free_walk};
-use kc_found::{Found, Grid, ListSpace, Place, Rule, Scalar, VWord, WalkStop, Walked};
+use kc_cases::{answer_text, space_of, spelled, value_of};
+use kc_found::{Grid, ListSpace, Place, Scalar};
 use kc_word::Steps;
 use std::alloc::{AllocError, Global};
 use std::marker::Brand;
 use std::sync::ledger::{Blank, Ledger};
 use std::test::Fail;
 
-// The word of a slab that has its first free pointer.
-const FREELIST: u64 = 0xffff_ea00_0000_03e0;
+const NAMES: &str = "# The word of a slab that has its first free pointer.
+freelist 0xffffea00000003e0
+# The first object of the slab, and some others, which are 64 bytes long.
+base 0xffff88800000f000
+a 0xffff88800000f040
+b 0xffff88800000f0c0
+c 0xffff88800000f140
+# Two objects at the end of a page, behind which physical addresses begin again.
+e 0xffff88807fffffe0
+f 0xffff888080000020
+# The first of three objects at the end of the addresses and their beginning.
+w 0xffffffffffffffc0";
 
-// The first object of the slab, and some others, which are 64 bytes long.
-const BASE: u64 = 0xffff_8880_0000_f000;
-
-const A: u64 = BASE + 0x40;
-
-const B: u64 = BASE + 0xc0;
-
-const C: u64 = BASE + 0x140;
-
-// The slab, with plain and with encoded free pointers, and with free pointers that stand in two words each.
-const PLAIN: Grid = Grid {
-    base: BASE,
-    size: 0x40,
-    objects: 8,
-    offset: 0x20,
-    random: None,
-};
-
-const ENCODED: Grid = Grid {
-    base: BASE,
-    size: 0x40,
-    objects: 8,
-    offset: 0x20,
-    random: Some(0x1122_3344_5566_7788),
-};
-
-const ACROSS: Grid = Grid {
-    base: BASE,
-    size: 0x40,
-    objects: 8,
-    offset: 0x1c,
-    random: None,
-};
-
-// Two objects, of which the first one's pointer begins at the end of a page.
-const EDGE: Grid = Grid {
-    base: 0xffff_8880_000f_ffe0,
-    size: 0x40,
-    objects: 2,
-    offset: 0x1c,
-    random: None,
-};
-
-const E: u64 = EDGE.base;
-
-const F: u64 = EDGE.base + 0x40;
-
-// One object, whose pointer takes all of it, and three at the end of the addresses and their beginning.
-const ONE: Grid = Grid {
-    base: BASE,
-    size: 8,
-    objects: 1,
-    offset: 0,
-    random: None,
-};
-
-const WRAPPED: Grid = Grid {
-    base: 0xffff_ffff_ffff_ffc0,
-    size: 0x60,
-    objects: 3,
-    offset: 0,
-    random: None,
-};
-
-// The address and value of a word.
-type Word = (u64, u64);
-
-// What a walk answers.
-#[derive(Clone, Copy, Debug, PartialEq, Eq)]
-enum Answer {
-    // At most three objects, and their number.
-    Objects([u64; 3], usize),
-    // A rule, where it is broken, and the first and second word that show it.
-    Broken(Rule, u64, Option<Word>, Option<Word>),
-    // A violation of another form.
-    Other,
-    Failed,
-    OutOfMemory,
-}
+// A slab: its first object, the bytes from one to the next, how many there are, the offset of their free pointers, and
+// what these are encoded with.
+const GRIDS: &str = "plain base 0x40 8 0x20
+encoded base 0x40 8 0x20 0x1122334455667788
+# Free pointers that stand in two words each.
+across base 0x40 8 0x1c
+# Two objects, of which the first one's pointer begins at the end of a page.
+edge e 0x40 2 0x1c
+# One object, whose pointer takes all of it, and three at the end of the addresses and their beginning.
+one base 8 1 0
+wrapped w 0x60 3 0";
 
 // A slab, its first free pointer, the words of memory, and the answer.
-const WALKS: [(Grid, u64, &[Word], Answer); 22] = [
-    // No object, one, and three.
-    (PLAIN, 0, &[], Answer::Objects([0, 0, 0], 0)),
-    (PLAIN, B, &[(B + 0x20, 0)], Answer::Objects([B, 0, 0], 1)),
-    (
-        PLAIN,
-        A,
-        &[(A + 0x20, B), (B + 0x20, C), (C + 0x20, 0)],
-        Answer::Objects([A, B, C], 3),
-    ),
-    // All objects.
-    (ONE, BASE, &[(BASE, 0)], Answer::Objects([BASE, 0, 0], 1)),
-    (
-        WRAPPED,
-        WRAPPED.base,
-        &[(WRAPPED.base, 0x20), (0x20, 0x80), (0x80, 0)],
-        Answer::Objects([WRAPPED.base, 0x20, 0x80], 3),
-    ),
-    // Encoded pointers, and one of them plain.
-    (
-        ENCODED,
-        A,
-        &[
-            (A + 0x20, 0x8e2d_bbc4_d5ee_78b7),
-            (B + 0x20, 0x0e2d_bbc4_d5ee_7937),
-            (C + 0x20, 0x71d3_3344_d5ee_8877),
-        ],
-        Answer::Objects([A, B, C], 3),
-    ),
-    (
-        ENCODED,
-        A,
-        &[(A + 0x20, B)],
-        Answer::Broken(Rule::U5, 0x8e2d_bbc4_d5ee_78b7, Some((A + 0x20, B)), None),
-    ),
-    // The slab's pointer is off the grid, below the base, behind the last object.
-    (
-        PLAIN,
-        A + 1,
-        &[],
-        Answer::Broken(Rule::U5, A + 1, Some((FREELIST, A + 1)), None),
-    ),
-    (
-        PLAIN,
-        BASE - 0x40,
-        &[],
-        Answer::Broken(Rule::U5, BASE - 0x40, Some((FREELIST, BASE - 0x40)), None),
-    ),
-    (
-        PLAIN,
-        BASE + 0x200,
-        &[],
-        Answer::Broken(Rule::U5, BASE + 0x200, Some((FREELIST, BASE + 0x200)), None),
-    ),
-    (
-        WRAPPED,
-        0xe0,
-        &[],
-        Answer::Broken(Rule::U5, 0xe0, Some((FREELIST, 0xe0)), None),
-    ),
-    // So is an object's.
-    (
-        PLAIN,
-        A,
-        &[(A + 0x20, B - 1)],
-        Answer::Broken(Rule::U5, B - 1, Some((A + 0x20, B - 1)), None),
-    ),
-    // A list that runs into itself.
-    (
-        PLAIN,
-        A,
-        &[(A + 0x20, A)],
-        Answer::Broken(Rule::A, A + 0x20, Some((A + 0x20, A)), None),
-    ),
-    (
-        PLAIN,
-        A,
-        &[(A + 0x20, B), (B + 0x20, A)],
-        Answer::Broken(Rule::A, A + 0x20, Some((A + 0x20, B)), None),
-    ),
-    // A pointer that isn't there, of the first object and of a later one.
-    (
-        PLAIN,
-        A,
-        &[],
-        Answer::Broken(Rule::M6, A + 0x20, None, None),
-    ),
-    (
-        PLAIN,
-        A,
-        &[(A + 0x20, B)],
-        Answer::Broken(Rule::M6, B + 0x20, Some((A + 0x20, B)), None),
-    ),
-    // Pointers in two words: the upper half of one, and the lower half of the next.
-    (
-        ACROSS,
-        A,
-        &[
-            (A + 0x18, 0x0000_f0c0_0000_0000),
-            (A + 0x20, 0x0000_0000_ffff_8880),
-            (B + 0x18, 0),
-            (B + 0x20, 0),
-        ],
-        Answer::Objects([A, B, 0], 2),
-    ),
-    (
-        ACROSS,
-        A,
-        &[
-            (A + 0x18, 0x0000_f0c1_0000_0000),
-            (A + 0x20, 0x0000_0000_ffff_8880),
-        ],
-        Answer::Broken(
-            Rule::U5,
-            B + 1,
-            Some((A + 0x18, 0x0000_f0c1_0000_0000)),
-            Some((A + 0x20, 0x0000_0000_ffff_8880)),
-        ),
-    ),
-    (
-        ACROSS,
-        A,
-        &[
-            (A + 0x18, 0x0000_f0c0_0000_0000),
-            (A + 0x20, 0x0000_0000_ffff_8880),
-            (B + 0x18, 0),
-        ],
-        Answer::Broken(
-            Rule::M6,
-            B + 0x20,
-            Some((A + 0x18, 0x0000_f0c0_0000_0000)),
-            Some((A + 0x20, 0x0000_0000_ffff_8880)),
-        ),
-    ),
-    (
-        ACROSS,
-        A,
-        &[
-            (A + 0x18, 0x0000_f040_0000_0000),
-            (A + 0x20, 0x0000_0000_ffff_8880),
-        ],
-        Answer::Broken(
-            Rule::A,
-            A + 0x18,
-            Some((A + 0x18, 0x0000_f040_0000_0000)),
-            None,
-        ),
-    ),
-    // The second word is on the next page, which lies elsewhere in the dump; and that page isn't there.
-    (
-        EDGE,
-        E,
-        &[
-            (E + 0x18, 0x0010_0020_3333_3333),
-            (E + 0x20, 0x4444_4444_ffff_8880),
-            (F + 0x18, 0x0000_0000_5555_5555),
-            (F + 0x20, 0x6666_6666_0000_0000),
-        ],
-        Answer::Objects([E, F, 0], 2),
-    ),
-    (
-        EDGE,
-        E,
-        &[(E + 0x18, 0x0010_0020_3333_3333)],
-        Answer::Broken(Rule::M6, E + 0x20, None, None),
-    ),
-];
+const WALKS: &str = "# No object, one, and three.
+plain 0 : none
+plain b b+0x20=0 : b
+plain a a+0x20=b b+0x20=c c+0x20=0 : a b c
+# All objects.
+one base base=0 : base
+wrapped w w=0x20 0x20=0x80 0x80=0 : w 0x20 0x80
+# Encoded pointers, and one of them plain.
+encoded a a+0x20=0x8e2dbbc4d5ee78b7 b+0x20=0x0e2dbbc4d5ee7937 c+0x20=0x71d33344d5ee8877 : a b c
+encoded a a+0x20=b : U5 at 0x8e2dbbc4d5ee78b7 by a+0x20=b
+# The slab's pointer is off the grid, below the base, behind the last object.
+plain a+1 : U5 at a+1 by freelist=a+1
+plain base-0x40 : U5 at base-0x40 by freelist=base-0x40
+plain base+0x200 : U5 at base+0x200 by freelist=base+0x200
+wrapped 0xe0 : U5 at 0xe0 by freelist=0xe0
+# So is an object's.
+plain a a+0x20=b-1 : U5 at b-1 by a+0x20=b-1
+# A list that runs into itself.
+plain a a+0x20=a : A at a+0x20 by a+0x20=a
+plain a a+0x20=b b+0x20=a : A at a+0x20 by a+0x20=b
+# A pointer that isn't there, of the first object and of a later one.
+plain a : M6 at a+0x20
+plain a a+0x20=b : M6 at b+0x20 by a+0x20=b
+# Pointers in two words: the upper half of one, and the lower half of the next.
+across a a+0x18=0x0000f0c000000000 a+0x20=0x00000000ffff8880 b+0x18=0 b+0x20=0 : a b
+across a a+0x18=0x0000f0c100000000 a+0x20=0x00000000ffff8880 \
+    : U5 at b+1 by a+0x18=0x0000f0c100000000 a+0x20=0x00000000ffff8880
+across a a+0x18=0x0000f0c000000000 a+0x20=0x00000000ffff8880 b+0x18=0 \
+    : M6 at b+0x20 by a+0x18=0x0000f0c000000000 a+0x20=0x00000000ffff8880
+across a a+0x18=0x0000f04000000000 a+0x20=0x00000000ffff8880 : A at a+0x18 by a+0x18=0x0000f04000000000
+# The second word is on the next page, which lies elsewhere in the dump; and that page isn't there.
+edge e e+0x18=0x8000002033333333 e+0x20=0x44444444ffff8880 f+0x18=0x0000000055555555 \
+    f+0x20=0x6666666600000000 : e f
+edge e e+0x18=0x8000002033333333 : M6 at e+0x20";
 
-// The words that are there, each at the physical address that its lower 20 bits tell.
-fn space_of(alloc: Global, words: &[Word]) -> Result<ListSpace, AllocError> {
-    let mut all = Vec::new(alloc);
-    for (va, value) in words {
-        let pa = *va % 0x10_0000;
-        all.push(VWord {
-            va: *va,
-            pa,
-            off: pa.wrapping_add(0x2000),
-            value: *value,
-        })?;
-    }
-    Ok(ListSpace::new(all))
+fn grid_of(name: &str) -> Option<Grid> {
+    let mut words = line_of(GRIDS, name)?.split(' ');
+    Some(Grid {
+        base: value_of(NAMES, words.next()?)?,
+        size: value_of(NAMES, words.next()?)?,
+        objects: value_of(NAMES, words.next()?)?,
+        offset: value_of(NAMES, words.next()?)?,
+        random: words.next().and_then(|word| value_of(NAMES, word)),
+    })
 }
 
-// The address and value of a word that shows a violation.
-fn shown(found: &Found, i: usize) -> Option<Word> {
-    if i < found.places.len() {
-        let place = found.places.get(i);
-        Some((place.va?, place.value))
-    } else {
-        None
-    }
+// The number of a slab's word that has its first free pointer.
+fn first_number(pointer: &str) -> Option<Scalar> {
+    let value = value_of(NAMES, pointer)?;
+    Some(Scalar {
+        value: i128::from(value),
+        first: Place {
+            va: value_of(NAMES, "freelist"),
+            pa: 0x83e0,
+            off: 0xa3e0,
+            value,
+        },
+        second: None,
+    })
 }
 
-// A violation of the audit 7 at the start 9, in which nothing is expected.
-fn violation(found: &Found) -> Answer {
-    if found.audit == 7 && found.start == 9 && found.expected == None && found.places.len() < 3 {
-        Answer::Broken(found.rule, found.at, shown(found, 0), shown(found, 1))
-    } else {
-        Answer::Other
-    }
-}
-
-fn object(walked: &Walked, i: usize) -> u64 {
-    if i < walked.len() { *walked.get(i) } else { 0 }
-}
-
-fn answer_of(walk: Result<Walked, WalkStop>) -> Answer {
-    match walk {
-        Ok(walked) => {
-            let objects = [object(&walked, 0), object(&walked, 1), object(&walked, 2)];
-            Answer::Objects(objects, walked.len())
-        }
-        Err(WalkStop::Broken(found)) => violation(&found),
-        Err(WalkStop::Fault) => Answer::Failed,
-        Err(WalkStop::NoMemory) => Answer::OutOfMemory,
-    }
-}
-
+// What a walk answers.
 fn walk_free<L: Ledger>(
     alloc: Global,
     space: &mut ListSpace,
     grid: &Grid,
-    first: u64,
+    first: Scalar,
     blank: Blank,
-) -> Answer
+) -> Result<String, AllocError>
     requires name { blank.name ≡ L.name }
     requires parts { blank.parts ≡ L.parts }
     requires some { 0 < L.parts }
 {
     let mut steps = Steps::<L>::new(blank);
-    let number = Scalar {
-        value: i128::from(first),
-        first: Place {
-            va: Some(FREELIST),
-            pa: 0x83e0,
-            off: 0xa3e0,
-            value: first,
-        },
-        second: None,
-    };
     if grid.size < 8 || grid.offset > grid.size - 8 {
-        return Answer::Other;
+        return String::from_str(alloc, "no room for a pointer");
     }
-    answer_of(free_walk(alloc, space, grid, number, 7, 9, &mut steps))
+    answer_text(
+        alloc,
+        free_walk(alloc, space, grid, first, 7, 9, &mut steps),
+        9,
+    )
 }
 
 #[test]
 fn a_pointer_is_decoded_by_its_address(rt: HostRuntime) -> Result<(), Fail> {
-    let pointer = decode(0x8e2d_bbc4_d5ee_78b7, 0x1122_3344_5566_7788, A + 0x20);
-    assert_eq!(rt; pointer, B);
+    let pointer = decode(
+        0x8e2d_bbc4_d5ee_78b7,
+        0x1122_3344_5566_7788,
+        0xffff_8880_0000_f060,
+    );
+    assert_eq!(rt; pointer, 0xffff_8880_0000_f0c0);
     Ok(())
 }
 
 #[test]
 fn free_lists(rt: HostRuntime) -> Result<(), Fail> {
-    for (grid, first, words, wanted) in WALKS {
-        let mut space = space_of(rt.alloc(), words)?;
-        let found = walk_free::<Brand>(rt.alloc(), &mut space, &grid, first, Blank::new(1));
-        assert_eq!(rt; found, wanted, "{grid:?} {first:#x} {words:?}");
+    let mut count: usize = 0;
+    for row in WALKS.lines() {
+        if let Some((given, wanted)) = row.split_once(" : ") {
+            let mut words = given.split(' ');
+            let grid = words.next().and_then(grid_of).ok_or("no such slab")?;
+            let first = words.next().and_then(first_number).ok_or("no pointer")?;
+            let mut space = space_of(rt.alloc(), NAMES, given, "")?;
+            let told = walk_free::<Brand>(rt.alloc(), &mut space, &grid, first, Blank::new(1))?;
+            assert_eq!(rt;
+                told.as_str(),
+                spelled(rt.alloc(), NAMES, wanted)?.as_str(),
+                "{row}"
+            );
+            count = count.saturating_add(1);
+        }
     }
+    assert_eq!(rt; count, 22);
     Ok(())
 }

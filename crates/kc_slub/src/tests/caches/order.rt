@@ -1,95 +1,28 @@
 // Of two rules that are broken, the first one in the order of the walk is told.
-use crate::tests::caches::{
-    A, Answer, CACHE, D, HARDENED, HEAD, KNODE, PLAIN, Row, SLAB, V, try_rows,
-};
-use kc_found::Rule;
+use crate::tests::caches::try_rows;
 use std::test::Fail;
 
-const OFF: u64 = V + 0x408;
-
-const RULES: [Row; 9] = [
-    // U3 of the cache and N.
-    (
-        HARDENED,
-        &[(CACHE, 0), (HEAD, 0)],
-        &[],
-        Answer::Broken(Rule::U3, CACHE, (CACHE, 0), None),
-    ),
-    // L1 and U1.
-    (
-        HARDENED,
-        &[(SLAB + 24, 0), (SLAB + 8, 0)],
-        &[],
-        Answer::Broken(Rule::L1, SLAB + 24, (SLAB + 24, 0), Some(HEAD)),
-    ),
-    // U1 and U2.
-    (
-        HARDENED,
-        &[(SLAB + 8, 0), (SLAB + 40, 0x8008_0005)],
-        &[],
-        Answer::Broken(Rule::U1, SLAB + 8, (SLAB + 8, 0), Some(CACHE)),
-    ),
-    // U2 and U3.
-    (
-        HARDENED,
-        &[(SLAB + 40, 0x8000_0005)],
-        &[],
-        Answer::Broken(Rule::U2, SLAB + 43, (SLAB + 40, 0x8000_0005), Some(0)),
-    ),
-    // U3 and U4.
-    (
-        PLAIN,
-        &[
-            (HEAD, OFF + 16),
-            (HEAD + 8, OFF + 16),
-            (OFF + 8, CACHE),
-            (OFF + 16, HEAD),
-            (OFF + 24, HEAD),
-            (OFF + 32, A),
-            (OFF + 40, 0),
-        ],
-        &[],
-        Answer::Broken(Rule::U3, OFF + 42, (OFF + 40, 0), None),
-    ),
-    // U4 and U5.
-    (
-        PLAIN,
-        &[
-            (HEAD, OFF + 16),
-            (HEAD + 8, OFF + 16),
-            (OFF + 8, CACHE),
-            (OFF + 16, HEAD),
-            (OFF + 24, HEAD),
-            (OFF + 32, A + 1),
-            (OFF + 40, 0x8_0005),
-        ],
-        &[],
-        Answer::Broken(Rule::U4, OFF, (OFF + 32, A + 1), None),
-    ),
-    // U5 and U6.
-    (
-        HARDENED,
-        &[(SLAB + 32, A + 1), (SLAB + 40, 0x8_0004)],
-        &[],
-        Answer::Broken(Rule::U5, A + 1, (SLAB + 32, A + 1), None),
-    ),
-    // U6 and U7.
-    (
-        HARDENED,
-        &[(SLAB + 40, 0x8_0004), (KNODE + 8, 2)],
-        &[],
-        Answer::Broken(Rule::U6, SLAB + 40, (SLAB + 40, 0x8_0004), Some(4)),
-    ),
-    // U1 and U7.
-    (
-        HARDENED,
-        &[(SLAB + 8, D), (KNODE + 8, 2)],
-        &[],
-        Answer::Broken(Rule::U1, SLAB + 8, (SLAB + 8, D), Some(CACHE)),
-    ),
-];
+const RULES: &str = "# U3 of the cache and N.
+hardened cache=0 head=0 : U3 at cache by cache=0
+# L1 and U1.
+hardened slab+24=0 slab+8=0 : L1 at slab+24 by slab+24=0 not head
+# U1 and U2.
+hardened slab+8=0 slab+40=0x80080005 : U1 at slab+8 by slab+8=0 not cache
+# U2 and U3.
+hardened slab+40=0x80000005 : U2 at slab+43 by slab+40=0x80000005 not 0
+# U3 and U4.
+plain head=off+16 head+8=off+16 off+8=cache off+16=head off+24=head off+32=a off+40=0 : U3 at off+42 by off+40=0
+# U4 and U5.
+plain head=off+16 head+8=off+16 off+8=cache off+16=head off+24=head off+32=a+1 off+40=0x80005 \
+    : U4 at off by off+32=a+1
+# U5 and U6.
+hardened slab+32=a+1 slab+40=0x80004 : U5 at a+1 by slab+32=a+1
+# U6 and U7.
+hardened slab+40=0x80004 knode+8=2 : U6 at slab+40 by slab+40=0x80004 not 4
+# U1 and U7.
+hardened slab+8=d knode+8=2 : U1 at slab+8 by slab+8=d not cache";
 
 #[test]
 fn the_first_rule_is_told(rt: HostRuntime) -> Result<(), Fail> {
-    try_rows(&rt, &RULES)
+    try_rows(&rt, RULES, 9)
 }

@@ -1,327 +1,78 @@
 // Slabs that break one rule, or none.
-use crate::tests::caches::{
-    A, Answer, B, CACHE, D5, FIVE_LEVELS, HARDENED, HEAD, KNODE, NONE, OBJECTS, ONE, PADDED, PLAIN,
-    Row, SLAB, V, V5, try_rows,
-};
-use kc_found::Rule;
+use crate::tests::caches::try_rows;
 use std::test::Fail;
 
-// Slabs whose descriptors are no page's: off by 8 bytes, before the first one, and the one of page 2^40.
-const OFF: u64 = V + 0x408;
+const GOOD: &str = "hardened : slab
+plain : slab
+# No free object, and all of them.
+plain slab+32=0 slab+40=0x80008 : slab
+plain slab+40=0x30000 a+0x20=objects objects+0x20=objects+0x80 objects+0xa0=0 : slab
+# An object's free pointer ends with the object.
+plain cache=0x28 slab+32=objects+0x28 objects+0x48=0 slab+40=0x80007 : slab
+# The objects lie behind a pad.
+padded cache+8=0x1000000020 slab+32=a+0x10 a+0x30=0 slab+40=0x80007 : slab
+# An empty list.
+plain head=head head+8=head knode+8=0 : none
+# No node.
+plain cache+40=0 : none
+# The slab of the last page.
+plain head=last+16 head+8=last+16 last+8=cache last+16=head last+24=head last+32=last_object last+40=0x80007 \
+    last_object+0x20=0 : last
+# Five levels.
+five_levels head=slab5+16 head+8=slab5+16 slab5+8=cache slab5+16=head slab5+24=head slab5+32=d5+0xf1c0 \
+    slab5+40=0x80007 d5+0xf1e0=0 : slab5";
 
-const BEFORE: u64 = V - 64;
+const SIZES: &str = "# U3 of the cache: no size, and a free pointer that passes the object's end.
+hardened cache=0x4000000000 : U3 at cache by cache=0x4000000000
+hardened cache=0x27 : U3 at cache by cache=0x27
+hardened cache+8=0xffffffff : U3 at cache by cache=0x4000000040
+# U3 of a slab: no objects, and more in use than there are.
+hardened slab+40=0 : U3 at slab+42 by slab+40=0
+hardened slab+40=0x80009 : U3 at slab+42 by slab+40=0x80009
+hardened slab+40=0x1ffff : U3 at slab+42 by slab+40=0x1ffff";
 
-const PAST: u64 = 0x2a00_0000_0000;
+const SLABS: &str = "# U1.
+hardened slab+8=0 : U1 at slab+8 by slab+8=0 not cache
+hardened slab+8=cache+1 : U1 at slab+8 by slab+8=cache+1 not cache
+# U2.
+hardened slab+40=0x80080005 : U2 at slab+43 by slab+40=0x80080005 not 0
+# U6: fewer free objects than aren't in use, and more.
+hardened slab+40=0x80004 : U6 at slab+40 by slab+40=0x80004 not 4
+hardened slab+40=0x80006 : U6 at slab+40 by slab+40=0x80006 not 2
+hardened slab+40=0x80008 : U6 at slab+40 by slab+40=0x80008 not 0
+# U7: the list is shorter than the node says, and longer, and empty.
+hardened knode+8=2 : U7 at knode+8 by knode+8=2 not 1
+hardened knode+8=0 : U7 at knode+8 by knode+8=0 not 1
+hardened head=head head+8=head : U7 at knode+8 by knode+8=1 not 0";
 
-// The slab of the last page, and its first object.
-const LAST: u64 = PAST - 64;
+const DESCRIPTORS: &str = "# U4.
+plain head=off+16 head+8=off+16 off+8=cache off+16=head off+24=head off+32=a off+40=0x80005 \
+    : U4 at off by off+32=a
+plain head=before+16 head+8=before+16 before+8=cache before+16=head before+24=head before+32=0 \
+    before+40=0x80008 : U4 at before by before+32=0
+plain head=past+16 head+8=past+16 past+8=cache past+16=head past+24=head past+32=0 past+40=0x80008 \
+    : U4 at past by past+32=0";
 
-const LAST_OBJECT: u64 = 0x000f_887f_ffff_f000;
-
-// The slab of page 15 under five levels.
-const SLAB5: u64 = V5 + 64 * 15;
-
-const GOOD: [Row; 10] = [
-    (HARDENED, &[], &[], ONE),
-    (PLAIN, &[], &[], ONE),
-    // No free object, and all of them.
-    (PLAIN, &[(SLAB + 32, 0), (SLAB + 40, 0x8_0008)], &[], ONE),
-    (
-        PLAIN,
-        &[
-            (SLAB + 40, 0x3_0000),
-            (A + 0x20, OBJECTS),
-            (OBJECTS + 0x20, OBJECTS + 0x80),
-            (OBJECTS + 0xa0, 0),
-        ],
-        &[],
-        ONE,
-    ),
-    // An object's free pointer ends with the object.
-    (
-        PLAIN,
-        &[
-            (CACHE, 0x28),
-            (SLAB + 32, OBJECTS + 0x28),
-            (OBJECTS + 0x48, 0),
-            (SLAB + 40, 0x8_0007),
-        ],
-        &[],
-        ONE,
-    ),
-    // The objects lie behind a pad.
-    (
-        PADDED,
-        &[
-            (CACHE + 8, 0x10_0000_0020),
-            (SLAB + 32, A + 0x10),
-            (A + 0x30, 0),
-            (SLAB + 40, 0x8_0007),
-        ],
-        &[],
-        ONE,
-    ),
-    // An empty list.
-    (
-        PLAIN,
-        &[(HEAD, HEAD), (HEAD + 8, HEAD), (KNODE + 8, 0)],
-        &[],
-        NONE,
-    ),
-    // No node.
-    (PLAIN, &[(CACHE + 40, 0)], &[], NONE),
-    // The slab of the last page.
-    (
-        PLAIN,
-        &[
-            (HEAD, LAST + 16),
-            (HEAD + 8, LAST + 16),
-            (LAST + 8, CACHE),
-            (LAST + 16, HEAD),
-            (LAST + 24, HEAD),
-            (LAST + 32, LAST_OBJECT),
-            (LAST + 40, 0x8_0007),
-            (LAST_OBJECT + 0x20, 0),
-        ],
-        &[],
-        Answer::Slabs([LAST, 0, 0], 1),
-    ),
-    // Five levels.
-    (
-        FIVE_LEVELS,
-        &[
-            (HEAD, SLAB5 + 16),
-            (HEAD + 8, SLAB5 + 16),
-            (SLAB5 + 8, CACHE),
-            (SLAB5 + 16, HEAD),
-            (SLAB5 + 24, HEAD),
-            (SLAB5 + 32, D5 + 0xf1c0),
-            (SLAB5 + 40, 0x8_0007),
-            (D5 + 0xf1e0, 0),
-        ],
-        &[],
-        Answer::Slabs([SLAB5, 0, 0], 1),
-    ),
-];
-
-const SIZES: [Row; 6] = [
-    // U3 of the cache: no size, and a free pointer that passes the object's end.
-    (
-        HARDENED,
-        &[(CACHE, 0x40_0000_0000)],
-        &[],
-        Answer::Broken(Rule::U3, CACHE, (CACHE, 0x40_0000_0000), None),
-    ),
-    (
-        HARDENED,
-        &[(CACHE, 0x27)],
-        &[],
-        Answer::Broken(Rule::U3, CACHE, (CACHE, 0x27), None),
-    ),
-    (
-        HARDENED,
-        &[(CACHE + 8, 0xffff_ffff)],
-        &[],
-        Answer::Broken(Rule::U3, CACHE, (CACHE, 0x40_0000_0040), None),
-    ),
-    // U3 of a slab: no objects, and more in use than there are.
-    (
-        HARDENED,
-        &[(SLAB + 40, 0)],
-        &[],
-        Answer::Broken(Rule::U3, SLAB + 42, (SLAB + 40, 0), None),
-    ),
-    (
-        HARDENED,
-        &[(SLAB + 40, 0x8_0009)],
-        &[],
-        Answer::Broken(Rule::U3, SLAB + 42, (SLAB + 40, 0x8_0009), None),
-    ),
-    (
-        HARDENED,
-        &[(SLAB + 40, 0x1_ffff)],
-        &[],
-        Answer::Broken(Rule::U3, SLAB + 42, (SLAB + 40, 0x1_ffff), None),
-    ),
-];
-
-const SLABS: [Row; 9] = [
-    // U1.
-    (
-        HARDENED,
-        &[(SLAB + 8, 0)],
-        &[],
-        Answer::Broken(Rule::U1, SLAB + 8, (SLAB + 8, 0), Some(CACHE)),
-    ),
-    (
-        HARDENED,
-        &[(SLAB + 8, CACHE + 1)],
-        &[],
-        Answer::Broken(Rule::U1, SLAB + 8, (SLAB + 8, CACHE + 1), Some(CACHE)),
-    ),
-    // U2.
-    (
-        HARDENED,
-        &[(SLAB + 40, 0x8008_0005)],
-        &[],
-        Answer::Broken(Rule::U2, SLAB + 43, (SLAB + 40, 0x8008_0005), Some(0)),
-    ),
-    // U6: fewer free objects than aren't in use, and more.
-    (
-        HARDENED,
-        &[(SLAB + 40, 0x8_0004)],
-        &[],
-        Answer::Broken(Rule::U6, SLAB + 40, (SLAB + 40, 0x8_0004), Some(4)),
-    ),
-    (
-        HARDENED,
-        &[(SLAB + 40, 0x8_0006)],
-        &[],
-        Answer::Broken(Rule::U6, SLAB + 40, (SLAB + 40, 0x8_0006), Some(2)),
-    ),
-    (
-        HARDENED,
-        &[(SLAB + 40, 0x8_0008)],
-        &[],
-        Answer::Broken(Rule::U6, SLAB + 40, (SLAB + 40, 0x8_0008), Some(0)),
-    ),
-    // U7: the list is shorter than the node says, and longer, and empty.
-    (
-        HARDENED,
-        &[(KNODE + 8, 2)],
-        &[],
-        Answer::Broken(Rule::U7, KNODE + 8, (KNODE + 8, 2), Some(1)),
-    ),
-    (
-        HARDENED,
-        &[(KNODE + 8, 0)],
-        &[],
-        Answer::Broken(Rule::U7, KNODE + 8, (KNODE + 8, 0), Some(1)),
-    ),
-    (
-        HARDENED,
-        &[(HEAD, HEAD), (HEAD + 8, HEAD)],
-        &[],
-        Answer::Broken(Rule::U7, KNODE + 8, (KNODE + 8, 1), Some(0)),
-    ),
-];
-
-const DESCRIPTORS: [Row; 3] = [
-    (
-        PLAIN,
-        &[
-            (HEAD, OFF + 16),
-            (HEAD + 8, OFF + 16),
-            (OFF + 8, CACHE),
-            (OFF + 16, HEAD),
-            (OFF + 24, HEAD),
-            (OFF + 32, A),
-            (OFF + 40, 0x8_0005),
-        ],
-        &[],
-        Answer::Broken(Rule::U4, OFF, (OFF + 32, A), None),
-    ),
-    (
-        PLAIN,
-        &[
-            (HEAD, BEFORE + 16),
-            (HEAD + 8, BEFORE + 16),
-            (BEFORE + 8, CACHE),
-            (BEFORE + 16, HEAD),
-            (BEFORE + 24, HEAD),
-            (BEFORE + 32, 0),
-            (BEFORE + 40, 0x8_0008),
-        ],
-        &[],
-        Answer::Broken(Rule::U4, BEFORE, (BEFORE + 32, 0), None),
-    ),
-    (
-        PLAIN,
-        &[
-            (HEAD, PAST + 16),
-            (HEAD + 8, PAST + 16),
-            (PAST + 8, CACHE),
-            (PAST + 16, HEAD),
-            (PAST + 24, HEAD),
-            (PAST + 32, 0),
-            (PAST + 40, 0x8_0008),
-        ],
-        &[],
-        Answer::Broken(Rule::U4, PAST, (PAST + 32, 0), None),
-    ),
-];
-
-const POINTERS: [Row; 7] = [
-    // U5 of the slab's pointer: off the grid by 1, below the first object, behind the last one, and within the pad.
-    (
-        HARDENED,
-        &[(SLAB + 32, A + 1)],
-        &[],
-        Answer::Broken(Rule::U5, A + 1, (SLAB + 32, A + 1), None),
-    ),
-    (
-        HARDENED,
-        &[(SLAB + 32, OBJECTS - 0x40)],
-        &[],
-        Answer::Broken(Rule::U5, OBJECTS - 0x40, (SLAB + 32, OBJECTS - 0x40), None),
-    ),
-    (
-        HARDENED,
-        &[(SLAB + 32, OBJECTS + 0x200)],
-        &[],
-        Answer::Broken(
-            Rule::U5,
-            OBJECTS + 0x200,
-            (SLAB + 32, OBJECTS + 0x200),
-            None,
-        ),
-    ),
-    (
-        PADDED,
-        &[(CACHE + 8, 0x10_0000_0020)],
-        &[],
-        Answer::Broken(Rule::U5, A, (SLAB + 32, A), None),
-    ),
-    // U5 of an object's: encoded without the swapped address, plain, and encoded in a cache without `random`.
-    (
-        HARDENED,
-        &[(A + 0x20, 0xeedd_bbc4_5566_8748)],
-        &[],
-        Answer::Broken(
-            Rule::U5,
-            0x9f0f_8880_8088_0f3f,
-            (A + 0x20, 0xeedd_bbc4_5566_8748),
-            None,
-        ),
-    ),
-    (
-        HARDENED,
-        &[(A + 0x20, B)],
-        &[],
-        Answer::Broken(Rule::U5, 0x8e2d_bbc4_d5ee_78b7, (A + 0x20, B), None),
-    ),
-    (
-        PLAIN,
-        &[(A + 0x20, 0x8e2d_bbc4_d5ee_78b7)],
-        &[],
-        Answer::Broken(
-            Rule::U5,
-            0x8e2d_bbc4_d5ee_78b7,
-            (A + 0x20, 0x8e2d_bbc4_d5ee_78b7),
-            None,
-        ),
-    ),
-];
+const POINTERS: &str = "# U5 of the slab's pointer: off the grid by 1, below the first object,
+# behind the last one, and within the pad.
+hardened slab+32=a+1 : U5 at a+1 by slab+32=a+1
+hardened slab+32=objects-0x40 : U5 at objects-0x40 by slab+32=objects-0x40
+hardened slab+32=objects+0x200 : U5 at objects+0x200 by slab+32=objects+0x200
+padded cache+8=0x1000000020 : U5 at a by slab+32=a
+# U5 of an object's: encoded without the swapped address, plain, and encoded in a cache without `random`.
+hardened a+0x20=0xeeddbbc455668748 : U5 at 0x9f0f888080880f3f by a+0x20=0xeeddbbc455668748
+hardened a+0x20=b : U5 at 0x8e2dbbc4d5ee78b7 by a+0x20=b
+plain a+0x20=0x8e2dbbc4d5ee78b7 : U5 at 0x8e2dbbc4d5ee78b7 by a+0x20=0x8e2dbbc4d5ee78b7";
 
 #[test]
 fn slabs_in_order(rt: HostRuntime) -> Result<(), Fail> {
-    try_rows(&rt, &GOOD)
+    try_rows(&rt, GOOD, 10)
 }
 
 #[test]
 fn rules_of_slabs(rt: HostRuntime) -> Result<(), Fail> {
-    try_rows(&rt, &SIZES)?;
-    try_rows(&rt, &SLABS)?;
-    try_rows(&rt, &DESCRIPTORS)?;
-    try_rows(&rt, &POINTERS)
+    try_rows(&rt, SIZES, 6)?;
+    try_rows(&rt, SLABS, 9)?;
+    try_rows(&rt, DESCRIPTORS, 3)?;
+    try_rows(&rt, POINTERS, 7)
 }
