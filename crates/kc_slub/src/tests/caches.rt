@@ -11,7 +11,7 @@ ghost use Rattle.kc_slub.specs.Caches.{IsInside};
 use crate::cache_walk;
 use crate::tests::line_of;
 use kc_btf::Btf;
-use kc_cases::{answer_text, space_of, spelled, value_of};
+use kc_cases::{CaseFault, answer_text, space_of, spelled, value_of};
 use kc_fixture::Types;
 use kc_found::{ListShape, ListSpace};
 use kc_layout::{Field, Hops};
@@ -146,7 +146,7 @@ fn shape_of(kernel: &str) -> Option<SlubShape>
 }
 
 // The memory of a made cache, in which these words are changed.
-fn memory_of(alloc: Global, shape: &SlubShape, changed: &str) -> Result<ListSpace, AllocError> {
+fn memory_of(alloc: Global, shape: &SlubShape, changed: &str) -> Result<ListSpace, CaseFault> {
     let pointers = if shape.random.is_some() {
         ENCODED
     } else {
