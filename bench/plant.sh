@@ -1,7 +1,8 @@
 #!/usr/bin/env bash
 # Tries the wrong bodies of planted/, which the gate leaves out: the prover has to refuse each of them.
 # usage: plant.sh [CRATE..]      without a crate: all that planted/ has
-# It works on a copy of what git knows of the repository, as the files stand now, and ends with 1 where one isn't refused.
+# It works on a copy of what git knows of the repository, as the files stand now, in which planted/ stands in must-fail/'s place:
+# proofs that an earlier `rt ci` kept on this machine are taken, others are done first. It ends with 1 where one isn't refused.
 set -eu
 cd "$(dirname "$0")/.."
 if [ $# -gt 0 ]; then crates=("$@"); else mapfile -t crates < <(ls planted); fi
@@ -13,4 +14,4 @@ for crate in "${crates[@]}"; do
   cp -r "planted/$crate" "$copy/crates/$crate/must-fail"
 done
 cd "$copy"
-rt must-fail "${crates[@]}"
+rt ci "${crates[@]}"
