@@ -16,8 +16,8 @@ use Rattle.kc_found.specs.RbTrees.{tree_walk}
 use Rattle.kc_found.specs.Rings.{ring_walk}
 use Rattle.kc_found.specs.Violations.{Violation, missed}
 use Rattle.kc_found.specs.XaSites.{xa_judged}
-use Rattle.kc_slub.specs.Caches.{cache_slabs}
-use Rattle.kc_task.specs.TaskLists.{task_list}
+use Rattle.kc_view.specs.Caches.{cache_slabs}
+use Rattle.kc_view.specs.TaskLists.{task_list}
 use Rattle.kc_plan.specs.declared.kind.Kind.{Kind}
 use Rattle.kc_plan.specs.declared.kind.Kind.TheVariants.{Ring, Hlist, Rbtree, Xarray, Slub, Tasks}
 use Rattle.kc_plan.specs.Checks.{checked, numbers_of}

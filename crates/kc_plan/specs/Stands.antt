@@ -11,8 +11,8 @@ use Rattle.kc_found.specs.RbFinite.{RbTree}
 use Rattle.kc_found.specs.RbTrees.{reads_of}
 use Rattle.kc_found.specs.XaLayouts.{XaLayout}
 use Rattle.kc_found.specs.XaSites.{xa_course}
-use Rattle.kc_slub.specs.FiniteCaches as caches
-use Rattle.kc_task.specs.FiniteTasks as tasks
+use Rattle.kc_view.specs.FiniteCaches as caches
+use Rattle.kc_view.specs.FiniteTasks as tasks
 use Rattle.kc_plan.specs.declared.kind.Kind.{Kind}
 use Rattle.kc_plan.specs.declared.kind.Kind.TheVariants.{Ring, Hlist, Rbtree, Xarray, Slub, Tasks}
 use Rattle.kc_plan.specs.Checks.{CheckHolds, numbers_of}

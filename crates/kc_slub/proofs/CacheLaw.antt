@@ -34,10 +34,10 @@ use Rattle.kc_found.specs.Walks.{OnBroken, WalksAs}
 use Rattle.kc_found.proofs.Known.{ok_after}
 use Rattle.kc_list.specs.Laws.{RingsAreWalked}
 use Rattle.kc_list.proofs.Finite.{not_false}
-use Rattle.kc_slub.specs.declared.cache.Bases.{Bases}
-use Rattle.kc_slub.specs.declared.cache.Objects.{Objects}
-use Rattle.kc_slub.specs.Caches.{base_of, bases_of, cache_slabs, count_of, grid_of, is_descriptor, knode_checked, list_checked, node_checked, nodes_checked, objects_of, optional_of, page_of, partial_of, slab_checked, slab_of, slabs_checked}
-use Rattle.kc_slub.specs.FiniteCaches.{AreBases, AreListed, AreObjects, AreOfNode, BaseIs, CountIs, IsSlab, NoSlub, OptionalIs, Slub}
+use Rattle.kc_view.specs.declared.slub.SlubBases.{SlubBases}
+use Rattle.kc_view.specs.declared.slub.SlabObjects.{SlabObjects}
+use Rattle.kc_view.specs.Caches.{base_of, bases_of, cache_slabs, count_of, grid_of, is_descriptor, knode_checked, list_checked, node_checked, nodes_checked, objects_of, optional_of, page_of, partial_of, slab_checked, slab_of, slabs_checked}
+use Rattle.kc_view.specs.FiniteCaches.{AreBases, AreListed, AreObjects, AreOfNode, BaseIs, CountIs, IsSlab, NoSlub, OptionalIs, Slub}
 use Rattle.kc_slub.specs.Laws.{CachesAreWalked, FreeListsAreWalked}
 use Rattle.kc_slub.proofs.FreeWalk.{free_lists_are_walked}
 
@@ -73,13 +73,13 @@ count_from image asked nodes (At a) count e =
     let s = some_of (λ (m : Number). low_word m.value) (bits image a 0 32 false) count e in
     then_is (or_missed asked (bits image a 0 32 false)) (λ m. Ok (min nodes (low_word m.value))) s.0 (min nodes count) (ap (or_missed asked) s.1) (ap (λ c. Ok (min nodes c)) s.2)
 
-bases_are : (image : Image) (asked : Asked) (shape : SlubShape) (b : Bases) → bases_of image asked shape ≡ Ok b → AreBases image shape b
+bases_are : (image : Image) (asked : Asked) (shape : SlubShape) (b : SlubBases) → bases_of image asked shape ≡ Ok b → AreBases image shape b
 bases_are image asked shape b e =
     let v = ok_after (base_of image asked shape.vmemmap) _ b e in
     let d = ok_after (base_of image asked shape.direct) _ b v.2 in
     let n = ok_after (count_of image asked shape.nodes shape.node_ids) _ b d.2 in
     let c = count_is image asked shape.nodes shape.node_ids n.0 n.1 in
-    let made : Bases = record { vmemmap = v.0; direct = d.0; nodes = n.0 } in
+    let made : SlubBases = record { vmemmap = v.0; direct = d.0; nodes = n.0 } in
     let same : made ≡ b = one_answer made b (Ok made) refl n.2 in
     subst (AreBases image shape) same (record {
       vmemmap = base_is image asked shape.vmemmap v.0 v.1;
@@ -89,7 +89,7 @@ bases_are image asked shape b e =
       nodes = c.2;
     })
 
-bases_from : (image : Image) (asked : Asked) (shape : SlubShape) (b : Bases) → AreBases image shape b → bases_of image asked shape ≡ Ok b
+bases_from : (image : Image) (asked : Asked) (shape : SlubShape) (b : SlubBases) → AreBases image shape b → bases_of image asked shape ≡ Ok b
 bases_from image asked shape b a =
     then_is (base_of image asked shape.vmemmap) _ b.vmemmap b (base_from image asked shape.vmemmap b.vmemmap a.vmemmap)
     (then_is (base_of image asked shape.direct) _ b.direct b (base_from image asked shape.direct b.direct a.direct)
@@ -120,7 +120,7 @@ not_null (suc n) some = eqb-suc-zero n
 neither : (x y : Bool) → x ≡ false → y ≡ false → (x || y) ≡ false
 neither x y first second = ap (λ z. z || y) first ∙ second
 
-objects_are : (image : Image) (asked : Asked) (shape : SlubShape) (o : Objects) → objects_of image asked shape ≡ Ok o → AreObjects image shape asked.start o
+objects_are : (image : Image) (asked : Asked) (shape : SlubShape) (o : SlabObjects) → objects_of image asked shape ≡ Ok o → AreObjects image shape asked.start o
 objects_are image asked shape o e =
     let f = ok_after (read_field image asked asked.start shape.offset) _ o e in
     let s = ok_after (read_field image asked asked.start shape.size) _ o f.2 in
@@ -128,7 +128,7 @@ objects_are image asked shape o e =
     let p = ok_after (optional_of image asked shape.left_pad) _ o r.2 in
     let u = unless_ok _ _ _ o p.2 in
     let parts = or_parts _ _ u.0 in
-    let made : Objects = record { size = value_of s.0; offset = value_of f.0; random = r.0; left_pad = unwrap_or p.0 0 } in
+    let made : SlabObjects = record { size = value_of s.0; offset = value_of f.0; random = r.0; left_pad = unwrap_or p.0 0 } in
     let same : made ≡ o = one_answer made o (Ok made) refl u.1 in
     subst (AreObjects image shape asked.start) same (record {
       offset = field_is image asked asked.start shape.offset f.0 f.1;
@@ -141,13 +141,13 @@ objects_are image asked shape o e =
       inside = ltb-false (value_of s.0) (value_of f.0 + 8) parts.1;
     })
 
-objects_from : (image : Image) (asked : Asked) (shape : SlubShape) (o : Objects) → AreObjects image shape asked.start o → objects_of image asked shape ≡ Ok o
+objects_from : (image : Image) (asked : Asked) (shape : SlubShape) (o : SlabObjects) → AreObjects image shape asked.start o → objects_of image asked shape ≡ Ok o
 objects_from image asked shape o a =
     let f = field_read image asked asked.start shape.offset o.offset a.offset in
     let s = field_read image asked asked.start shape.size o.size a.size in
     let clean : (nat_eq (value_of s.field) 0 || nat_lt (value_of s.field) (value_of f.field + 8)) ≡ false =
     neither _ _ (not_null (value_of s.field) (rw s.value a.some)) (le-ltb (value_of s.field) (value_of f.field + 8) (rw (s.value, f.value) a.inside)) in
-    let made : Objects = record { size = value_of s.field; offset = value_of f.field; random = o.random; left_pad = unwrap_or a.pad 0 } in
+    let made : SlabObjects = record { size = value_of s.field; offset = value_of f.field; random = o.random; left_pad = unwrap_or a.pad 0 } in
     let same : made ≡ o =
     ap (λ n. record { size = n; offset = value_of f.field; random = o.random; left_pad = unwrap_or a.pad 0 }) s.value
     ∙ ap (λ n. record { size = o.size; offset = n; random = o.random; left_pad = unwrap_or a.pad 0 }) f.value
@@ -174,7 +174,7 @@ list_from image asked grid slab wanted inuse first os e all =
     then_is (free_list image grid first asked) (λ os. unless (not (nat_eq (length os) wanted)) (breaks_at asked U6 inuse (Some wanted)) (Ok slab)) os slab e
     (unless_is (not (nat_eq (length os) wanted)) (breaks_at asked U6 inuse (Some wanted)) (Ok slab) slab (ap not (eq-eqb _ _ all)) refl)
 
-slab_is : FreeListsAreWalked → (image : Image) (asked : Asked) (shape : SlubShape) (b : Bases) (o : Objects) (slab s : ℕ) → 1 ≤ o.size → o.offset + 8 ≤ o.size → slab_checked image asked shape b o slab ≡ Ok s →
+slab_is : FreeListsAreWalked → (image : Image) (asked : Asked) (shape : SlubShape) (b : SlubBases) (o : SlabObjects) (slab s : ℕ) → 1 ≤ o.size → o.offset + 8 ≤ o.size → slab_checked image asked shape b o slab ≡ Ok s →
     IsSlab image shape b o asked.start slab × (s ≡ slab)
 slab_is frees image asked shape b o slab s some inside e =
     let c = ok_after (holds image asked U1 slab shape.slab_cache asked.start) _ s e in
@@ -208,7 +208,7 @@ slab_is frees image asked shape b o slab s some inside e =
       l.3,
     )
 
-slab_from : FreeListsAreWalked → (image : Image) (asked : Asked) (shape : SlubShape) (b : Bases) (o : Objects) (slab : ℕ) → 1 ≤ o.size → o.offset + 8 ≤ o.size → IsSlab image shape b o asked.start slab →
+slab_from : FreeListsAreWalked → (image : Image) (asked : Asked) (shape : SlubShape) (b : SlubBases) (o : SlabObjects) (slab : ℕ) → 1 ≤ o.size → o.offset + 8 ≤ o.size → IsSlab image shape b o asked.start slab →
     slab_checked image asked shape b o slab ≡ Ok slab
 slab_from frees image asked shape b o slab some inside h =
     let n = field_read image asked slab shape.objects h.objects h.counted in
@@ -232,7 +232,7 @@ slab_from frees image asked shape b o slab some inside h =
     (list_from image asked grid slab (value_of n.field - value_of u.field) u.field f.field.number h.free walked all)))))))
 
 -- the slabs of a ring
-slabs_are : FreeListsAreWalked → (image : Image) (asked : Asked) (shape : SlubShape) (b : Bases) (o : Objects) (before ns all : List ℕ) → 1 ≤ o.size → o.offset + 8 ≤ o.size →
+slabs_are : FreeListsAreWalked → (image : Image) (asked : Asked) (shape : SlubShape) (b : SlubBases) (o : SlabObjects) (before ns all : List ℕ) → 1 ≤ o.size → o.offset + 8 ≤ o.size →
     slabs_checked image asked shape b o before ns ≡ Ok all → (all ≡ before ++ map (slab_of shape) ns) × AllByRecursion (IsSlab image shape b o asked.start) (map (slab_of shape) ns)
 unfolding slabs_checked
 slabs_are frees image asked shape b o before [] all some inside e = let same : before ≡ all = cc in (sym same ∙ sym (append-nil before), tt)
@@ -242,7 +242,7 @@ slabs_are frees image asked shape b o before (n ∷ ns) all some inside e =
     let more = slabs_are frees image asked shape b o (before ++ s.0 ∷ []) ns all some inside s.2 in
     (more.0 ∙ append_assoc before (s.0 ∷ []) (map (slab_of shape) ns) ∙ ap (λ m. before ++ m ∷ map (slab_of shape) ns) one.1, (one.0, more.1))
 
-slabs_from : FreeListsAreWalked → (image : Image) (asked : Asked) (shape : SlubShape) (b : Bases) (o : Objects) (before ns : List ℕ) → 1 ≤ o.size → o.offset + 8 ≤ o.size →
+slabs_from : FreeListsAreWalked → (image : Image) (asked : Asked) (shape : SlubShape) (b : SlubBases) (o : SlabObjects) (before ns : List ℕ) → 1 ≤ o.size → o.offset + 8 ≤ o.size →
     AllByRecursion (IsSlab image shape b o asked.start) (map (slab_of shape) ns) → slabs_checked image asked shape b o before ns ≡ Ok (before ++ map (slab_of shape) ns)
 unfolding slabs_checked
 slabs_from frees image asked shape b o before [] some inside h = ap Ok (sym (append-nil before))
@@ -253,7 +253,7 @@ slabs_from frees image asked shape b o before (n ∷ ns) some inside h =
     (slabs_from frees image asked shape b o (before ++ slab ∷ []) ns some inside h.1 ∙ ap Ok (append_assoc before (slab ∷ []) (map (slab_of shape) ns)))
 
 -- step 4
-knode_is : RingsAreWalked → FreeListsAreWalked → (image : Image) (asked : Asked) (shape : SlubShape) (b : Bases) (o : Objects) (before : List ℕ) (knode : ℕ) (all : List ℕ) → 1 ≤ o.size → o.offset + 8 ≤ o.size →
+knode_is : RingsAreWalked → FreeListsAreWalked → (image : Image) (asked : Asked) (shape : SlubShape) (b : SlubBases) (o : SlabObjects) (before : List ℕ) (knode : ℕ) (all : List ℕ) → 1 ≤ o.size → o.offset + 8 ≤ o.size →
     knode_checked image asked shape b o before knode ≡ Ok all → (ss : List ℕ) × AreListed image shape b o asked.start knode ss × (all ≡ before ++ ss)
 knode_is rings frees image asked shape b o before knode all some inside e =
     let p = ok_after (read_field image asked knode shape.nr_partial) _ all e in
@@ -274,7 +274,7 @@ knode_is rings frees image asked shape b o before knode all some inside e =
       sym same ∙ s.0,
     )
 
-knode_from : RingsAreWalked → FreeListsAreWalked → (image : Image) (asked : Asked) (shape : SlubShape) (b : Bases) (o : Objects) (before : List ℕ) (knode : ℕ) (ss : List ℕ) → 1 ≤ o.size → o.offset + 8 ≤ o.size →
+knode_from : RingsAreWalked → FreeListsAreWalked → (image : Image) (asked : Asked) (shape : SlubShape) (b : SlubBases) (o : SlabObjects) (before : List ℕ) (knode : ℕ) (ss : List ℕ) → 1 ≤ o.size → o.offset + 8 ≤ o.size →
     AreListed image shape b o asked.start knode ss → knode_checked image asked shape b o before knode ≡ Ok (before ++ ss)
 knode_from rings frees image asked shape b o before knode ss some inside h =
     let p = field_read image asked knode shape.nr_partial (length h.nodes) h.counted in
@@ -288,12 +288,12 @@ knode_from rings frees image asked shape b o before knode ss some inside h =
     (unless_is _ _ _ (before ++ ss) (ap not (eq-eqb _ _ p.value)) (ap (λ xs. Ok (before ++ xs)) (sym h.are)))))
 
 -- the slabs of a pointer, which may be null
-listed_is : RingsAreWalked → FreeListsAreWalked → (image : Image) (asked : Asked) (shape : SlubShape) (b : Bases) (o : Objects) (before : List ℕ) (knode : ℕ) (all : List ℕ) (null : Bool) → 1 ≤ o.size → o.offset + 8 ≤ o.size →
+listed_is : RingsAreWalked → FreeListsAreWalked → (image : Image) (asked : Asked) (shape : SlubShape) (b : SlubBases) (o : SlabObjects) (before : List ℕ) (knode : ℕ) (all : List ℕ) (null : Bool) → 1 ≤ o.size → o.offset + 8 ≤ o.size →
     (if null then Ok before else knode_checked image asked shape b o before knode) ≡ Ok all → (ss : List ℕ) × MatchBool null (ss ≡ []) (AreListed image shape b o asked.start knode ss) × (all ≡ before ++ ss)
 listed_is rings frees image asked shape b o before knode all true some inside e = let same : before ≡ all = cc in ([], refl, sym same ∙ sym (append-nil before))
 listed_is rings frees image asked shape b o before knode all false some inside e = knode_is rings frees image asked shape b o before knode all some inside e
 
-listed_from : RingsAreWalked → FreeListsAreWalked → (image : Image) (asked : Asked) (shape : SlubShape) (b : Bases) (o : Objects) (before : List ℕ) (knode : ℕ) (ss : List ℕ) (null : Bool) → 1 ≤ o.size → o.offset + 8 ≤ o.size →
+listed_from : RingsAreWalked → FreeListsAreWalked → (image : Image) (asked : Asked) (shape : SlubShape) (b : SlubBases) (o : SlabObjects) (before : List ℕ) (knode : ℕ) (ss : List ℕ) (null : Bool) → 1 ≤ o.size → o.offset + 8 ≤ o.size →
     MatchBool null (ss ≡ []) (AreListed image shape b o asked.start knode ss) → (if null then Ok before else knode_checked image asked shape b o before knode) ≡ Ok (before ++ ss)
 listed_from rings frees image asked shape b o before knode ss true some inside h = ap Ok (sym (append-nil before)) ∙ ap (λ xs. Ok (before ++ xs)) (sym h)
 listed_from rings frees image asked shape b o before knode ss false some inside h = knode_from rings frees image asked shape b o before knode ss some inside h
@@ -302,7 +302,7 @@ listed_from rings frees image asked shape b o before knode ss false some inside 
 abbrev pointer_in : Image → Asked → SlubShape → ℕ → Result Number Stopped
 pointer_in image asked shape i = number_in image (at_offset (at_offset asked.start shape.node) (8 * i))
 
-node_is : RingsAreWalked → FreeListsAreWalked → (image : Image) (asked : Asked) (shape : SlubShape) (b : Bases) (o : Objects) (before : List ℕ) (i : ℕ) (all : List ℕ) → 1 ≤ o.size → o.offset + 8 ≤ o.size →
+node_is : RingsAreWalked → FreeListsAreWalked → (image : Image) (asked : Asked) (shape : SlubShape) (b : SlubBases) (o : SlabObjects) (before : List ℕ) (i : ℕ) (all : List ℕ) → 1 ≤ o.size → o.offset + 8 ≤ o.size →
     node_checked image asked shape b o before i ≡ Ok all → (ss : List ℕ) × AreOfNode image shape b o asked.start i ss × (all ≡ before ++ ss)
 node_is rings frees image asked shape b o before i all some inside e =
     let p = ok_after (or_missed asked (pointer_in image asked shape i)) _ all e in
@@ -317,7 +317,7 @@ node_is rings frees image asked shape b o before i all some inside e =
       l.2,
     )
 
-node_from : RingsAreWalked → FreeListsAreWalked → (image : Image) (asked : Asked) (shape : SlubShape) (b : Bases) (o : Objects) (before : List ℕ) (i : ℕ) (ss : List ℕ) → 1 ≤ o.size → o.offset + 8 ≤ o.size →
+node_from : RingsAreWalked → FreeListsAreWalked → (image : Image) (asked : Asked) (shape : SlubShape) (b : SlubBases) (o : SlabObjects) (before : List ℕ) (i : ℕ) (ss : List ℕ) → 1 ≤ o.size → o.offset + 8 ≤ o.size →
     AreOfNode image shape b o asked.start i ss → node_checked image asked shape b o before i ≡ Ok (before ++ ss)
 node_from rings frees image asked shape b o before i ss some inside h =
     let s = some_of (λ (m : Number). low_word m.value) (pointer_in image asked shape i) h.knode h.leads in
@@ -342,7 +342,7 @@ each_other P i s ls all j ss e =
     let here : i + suc j ≡ suc i + j = omega arith in
     subst (λ k. P k ss) here (all (suc j) ss e)
 
-nodes_are : RingsAreWalked → FreeListsAreWalked → (image : Image) (asked : Asked) (shape : SlubShape) (b : Bases) (o : Objects) (left i : ℕ) (before all : List ℕ) → 1 ≤ o.size → o.offset + 8 ≤ o.size →
+nodes_are : RingsAreWalked → FreeListsAreWalked → (image : Image) (asked : Asked) (shape : SlubShape) (b : SlubBases) (o : SlabObjects) (left i : ℕ) (before all : List ℕ) → 1 ≤ o.size → o.offset + 8 ≤ o.size →
     nodes_checked image asked shape b o left i before ≡ Ok all →
     (ls : List (List ℕ)) × (length ls ≡ left) × ((j : ℕ) (ss : List ℕ) → slice_get ls j ≡ Some ss → AreOfNode image shape b o asked.start (i + j) ss) × (all ≡ before ++ concat ls)
 unfolding nodes_checked
@@ -354,7 +354,7 @@ nodes_are rings frees image asked shape b o (suc left) i before all some inside 
     let rest = nodes_are rings frees image asked shape b o left (suc i) m.0 all some inside m.2 in
     (n.0 ∷ rest.0, ap suc rest.1, each_after (AreOfNode image shape b o asked.start) i n.0 rest.0 n.1 rest.2, rest.3 ∙ ap (λ xs. xs ++ concat rest.0) n.2 ∙ append_assoc before n.0 (concat rest.0))
 
-nodes_from : RingsAreWalked → FreeListsAreWalked → (image : Image) (asked : Asked) (shape : SlubShape) (b : Bases) (o : Objects) (left i : ℕ) (before : List ℕ) (ls : List (List ℕ)) → 1 ≤ o.size → o.offset + 8 ≤ o.size →
+nodes_from : RingsAreWalked → FreeListsAreWalked → (image : Image) (asked : Asked) (shape : SlubShape) (b : SlubBases) (o : SlabObjects) (left i : ℕ) (before : List ℕ) (ls : List (List ℕ)) → 1 ≤ o.size → o.offset + 8 ≤ o.size →
     length ls ≡ left → ((j : ℕ) (ss : List ℕ) → slice_get ls j ≡ Some ss → AreOfNode image shape b o asked.start (i + j) ss) → nodes_checked image asked shape b o left i before ≡ Ok (before ++ concat ls)
 unfolding nodes_checked
 nodes_from rings frees image asked shape b o zero i before [] some inside all each = ap Ok (sym (append-nil before))

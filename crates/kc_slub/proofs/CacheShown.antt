@@ -24,9 +24,9 @@ use Rattle.kc_found.specs.Nodes.{at_offset}
 use Rattle.kc_found.specs.Rings.{ring_walk}
 use Rattle.kc_found.specs.Violations.{Violation, breaks_field}
 use Rattle.kc_list.proofs.ChainsShown.{ring_walk_shows}
-use Rattle.kc_slub.specs.declared.cache.Bases.{Bases}
-use Rattle.kc_slub.specs.declared.cache.Objects.{Objects}
-use Rattle.kc_slub.specs.Caches.{base_of, bases_of, cache_slabs, count_of, grid_of, is_descriptor, knode_checked, list_checked, node_checked, nodes_checked, objects_of, optional_of, partial_of, slab_checked, slab_of, slabs_checked}
+use Rattle.kc_view.specs.declared.slub.SlubBases.{SlubBases}
+use Rattle.kc_view.specs.declared.slub.SlabObjects.{SlabObjects}
+use Rattle.kc_view.specs.Caches.{base_of, bases_of, cache_slabs, count_of, grid_of, is_descriptor, knode_checked, list_checked, node_checked, nodes_checked, objects_of, optional_of, partial_of, slab_checked, slab_of, slabs_checked}
 use Rattle.kc_slub.specs.Laws.{CachePlacesStand}
 use Rattle.kc_slub.proofs.FreeShown.{free_places_stand}
 
@@ -65,7 +65,7 @@ objects_show known image asked shape =
     then_shows image (read_field image asked asked.start shape.size) _ (field_shows known.values image asked asked.start shape.size) (λ s size.
     then_shows image (optional_of image asked shape.random) _ (optional_shows known image asked shape.random) (λ r is.
     then_shows image (optional_of image asked shape.left_pad) _ (optional_shows known image asked shape.left_pad) (λ p is.
-    unless_shows {A = Objects} image (nat_eq (value_of s) 0 || nat_lt (value_of s) (value_of o + 8)) (breaks_at asked U3 s None) (Ok (record { size = value_of s; offset = value_of o; random = r; left_pad = unwrap_or p 0 }))
+    unless_shows {A = SlabObjects} image (nat_eq (value_of s) 0 || nat_lt (value_of s) (value_of o + 8)) (breaks_at asked U3 s None) (Ok (record { size = value_of s; offset = value_of o; random = r; left_pad = unwrap_or p 0 }))
     (number_stands known.values image asked asked.start shape.size s size) tt))))
 
 -- step 5
@@ -76,7 +76,7 @@ list_shows known image asked grid slab wanted inuse first used leads =
     then_shows image (free_list image grid first asked) _ (shows_all image (free_list image grid first asked) (λ v is. free_places_stand known.numbers image grid first asked v leads is)) (λ os is.
     unless_shows {A = ℕ} image (not (nat_eq (length os) wanted)) (breaks_at asked U6 inuse (Some wanted)) (Ok slab) used tt)
 
-slab_shows : Known → (image : Image) (asked : Asked) (shape : SlubShape) (b : Bases) (o : Objects) (slab : ℕ) → Shows image (slab_checked image asked shape b o slab)
+slab_shows : Known → (image : Image) (asked : Asked) (shape : SlubShape) (b : SlubBases) (o : SlabObjects) (slab : ℕ) → Shows image (slab_checked image asked shape b o slab)
 slab_shows known image asked shape b o slab =
     let reads = λ (f : Field). field_shows known.values image asked slab f in
     let stands = number_stands known.values image asked slab in
@@ -88,14 +88,14 @@ slab_shows known image asked shape b o slab =
     (list_shows known image asked (grid_of shape b o slab (value_of n)) slab (value_of n - value_of u) u f.number (stands shape.inuse u inuse) (stands shape.freelist f first))))))))
 
 -- step 4
-slabs_show : Known → (image : Image) (asked : Asked) (shape : SlubShape) (b : Bases) (o : Objects) (before ns : List ℕ) → Shows image (slabs_checked image asked shape b o before ns)
+slabs_show : Known → (image : Image) (asked : Asked) (shape : SlubShape) (b : SlubBases) (o : SlabObjects) (before ns : List ℕ) → Shows image (slabs_checked image asked shape b o before ns)
 unfolding slabs_checked
 slabs_show known image asked shape b o before [] = tt
 slabs_show known image asked shape b o before (n ∷ ns) =
     then_shows image (slab_checked image asked shape b o (slab_of shape n)) (λ s. slabs_checked image asked shape b o (before ++ s ∷ []) ns) (slab_shows known image asked shape b o (slab_of shape n)) (λ s is.
     slabs_show known image asked shape b o (before ++ s ∷ []) ns)
 
-knode_shows : Known → (image : Image) (asked : Asked) (shape : SlubShape) (b : Bases) (o : Objects) (before : List ℕ) (knode : ℕ) → Shows image (knode_checked image asked shape b o before knode)
+knode_shows : Known → (image : Image) (asked : Asked) (shape : SlubShape) (b : SlubBases) (o : SlabObjects) (before : List ℕ) (knode : ℕ) → Shows image (knode_checked image asked shape b o before knode)
 knode_shows known image asked shape b o before knode =
     let head = at_offset knode shape.partial in
     let ring = ring_walk image shape.list asked.audit head in
@@ -108,13 +108,13 @@ either_shows : {A : Type 0} (image : Image) (c : Bool) (r q : Result A Violation
 either_shows image true r q here there = here
 either_shows image false r q here there = there
 
-node_shows : Known → (image : Image) (asked : Asked) (shape : SlubShape) (b : Bases) (o : Objects) (before : List ℕ) (i : ℕ) → Shows image (node_checked image asked shape b o before i)
+node_shows : Known → (image : Image) (asked : Asked) (shape : SlubShape) (b : SlubBases) (o : SlabObjects) (before : List ℕ) (i : ℕ) → Shows image (node_checked image asked shape b o before i)
 node_shows known image asked shape b o before i =
     let at = at_offset (at_offset asked.start shape.node) (8 * i) in
     then_shows image (or_missed asked (number_in image at)) _ (number_by image asked (number_in image at) (known.numbers image at 0 64 false)) (λ p is.
     either_shows image (nat_eq (low_word p.value) 0) (Ok before) (knode_checked image asked shape b o before (low_word p.value)) tt (knode_shows known image asked shape b o before (low_word p.value)))
 
-nodes_show : Known → (image : Image) (asked : Asked) (shape : SlubShape) (b : Bases) (o : Objects) (left i : ℕ) (before : List ℕ) → Shows image (nodes_checked image asked shape b o left i before)
+nodes_show : Known → (image : Image) (asked : Asked) (shape : SlubShape) (b : SlubBases) (o : SlabObjects) (left i : ℕ) (before : List ℕ) → Shows image (nodes_checked image asked shape b o left i before)
 unfolding nodes_checked
 nodes_show known image asked shape b o zero i before = tt
 nodes_show known image asked shape b o (suc left) i before =

@@ -17,9 +17,9 @@ use Rattle.kc_found.specs.Walks.{IsBroken, WalksAs}
 use Rattle.kc_view.specs.declared.fields.FieldNumber.{FieldNumber}
 use Rattle.kc_view.specs.declared.slub.SlubShape.{SlubShape}
 use Rattle.kc_view.specs.Fields.{breaks_at, unless}
-use Rattle.kc_slub.specs.declared.cache.Bases.{Bases}
-use Rattle.kc_slub.specs.declared.cache.Objects.{Objects}
-use Rattle.kc_slub.specs.Caches.{list_checked, node_checked, nodes_checked, slab_checked, slab_of, slabs_checked}
+use Rattle.kc_view.specs.declared.slub.SlubBases.{SlubBases}
+use Rattle.kc_view.specs.declared.slub.SlabObjects.{SlabObjects}
+use Rattle.kc_view.specs.Caches.{list_checked, node_checked, nodes_checked, slab_checked, slab_of, slabs_checked}
 use Rattle.kc_memory.specs.declared.rule.Rule.TheVariants.{U6}
 
 -- the first of two steps stops
@@ -56,12 +56,12 @@ list_good None asked grid slab wanted inuse first os e is = tt
 list_good (Some i) asked grid slab wanted inuse first os e is = list_told i asked grid slab wanted inuse first os true e is
 
 -- the slabs of a ring's nodes, one by one
-slabs_at : (i : Image) (asked : Asked) (shape : SlubShape) (b : Bases) (o : Objects) (slabs ns : List ℕ) (k n : ℕ) → drop k ns ≡ n ∷ drop (suc k) ns →
+slabs_at : (i : Image) (asked : Asked) (shape : SlubShape) (b : SlubBases) (o : SlabObjects) (slabs ns : List ℕ) (k n : ℕ) → drop k ns ≡ n ∷ drop (suc k) ns →
     slabs_checked i asked shape b o slabs (drop k ns) ≡ and_then (slab_checked i asked shape b o (slab_of shape n)) (λ s. slabs_checked i asked shape b o (slabs ++ s ∷ []) (drop (suc k) ns))
 unfolding slabs_checked
 slabs_at i asked shape b o slabs ns k n e = ap (slabs_checked i asked shape b o slabs) e
 
-slabs_none : (i : Image) (asked : Asked) (shape : SlubShape) (b : Bases) (o : Objects) (slabs : List ℕ) → slabs_checked i asked shape b o slabs [] ≡ Ok slabs
+slabs_none : (i : Image) (asked : Asked) (shape : SlubShape) (b : SlubBases) (o : SlabObjects) (slabs : List ℕ) → slabs_checked i asked shape b o slabs [] ≡ Ok slabs
 unfolding slabs_checked
 slabs_none i asked shape b o slabs = refl
 
@@ -69,14 +69,14 @@ here : (ns : List ℕ) (k n : ℕ) → slice_get ns k ≡ Some n → drop k ns �
 here ns k n e = drop-cons ns k 0 (slice_get_within ns k n e) ∙ ap (λ m. m ∷ drop (suc k) ns) (get_or_from_slice_get ns k n 0 e)
 
 -- what is left to look at, of all
-abbrev pub SlabsLeft : Option Image → Asked → SlubShape → Bases → Objects → List ℕ → List ℕ → List ℕ → ℕ → Type 0
+abbrev pub SlabsLeft : Option Image → Asked → SlubShape → SlubBases → SlabObjects → List ℕ → List ℕ → List ℕ → ℕ → Type 0
 SlabsLeft image asked shape b o old ns slabs k = IfSome image (λ i. slabs_checked i asked shape b o old ns ≡ slabs_checked i asked shape b o slabs (drop k ns))
 
-pub slabs_begin : (image : Option Image) (asked : Asked) (shape : SlubShape) (b : Bases) (o : Objects) (old ns : List ℕ) → SlabsLeft image asked shape b o old ns old 0
+pub slabs_begin : (image : Option Image) (asked : Asked) (shape : SlubShape) (b : SlubBases) (o : SlabObjects) (old ns : List ℕ) → SlabsLeft image asked shape b o old ns old 0
 slabs_begin None asked shape b o old ns = tt
 slabs_begin (Some i) asked shape b o old ns = refl
 
-pub slabs_stop : {V : Type 0} (v : V → List ℕ) (image : Option Image) (asked : Asked) (shape : SlubShape) (b : Bases) (o : Objects) (old ns slabs : List ℕ) (k n : ℕ) (stop : WalkStop) →
+pub slabs_stop : {V : Type 0} (v : V → List ℕ) (image : Option Image) (asked : Asked) (shape : SlubShape) (b : SlubBases) (o : SlabObjects) (old ns slabs : List ℕ) (k n : ℕ) (stop : WalkStop) →
     SlabsLeft image asked shape b o old ns slabs k → slice_get ns k ≡ Some n → WalksAs (λ (s : ℕ). s) (λ i. slab_checked i asked shape b o (slab_of shape n)) image (Err stop) →
     WalksAs v (λ i. slabs_checked i asked shape b o old ns) image (Err stop)
 slabs_stop v None asked shape b o old ns slabs k n stop left is e = tt
@@ -85,26 +85,26 @@ slabs_stop v (Some i) asked shape b o old ns slabs k n (ends.Broken f) left is e
 slabs_stop v (Some i) asked shape b o old ns slabs k n ends.Fault left is e = tt
 slabs_stop v (Some i) asked shape b o old ns slabs k n ends.NoMemory left is e = tt
 
-pub slabs_go : (image : Option Image) (asked : Asked) (shape : SlubShape) (b : Bases) (o : Objects) (old ns slabs : List ℕ) (k next n s : ℕ) → suc k ≡ next →
+pub slabs_go : (image : Option Image) (asked : Asked) (shape : SlubShape) (b : SlubBases) (o : SlabObjects) (old ns slabs : List ℕ) (k next n s : ℕ) → suc k ≡ next →
     SlabsLeft image asked shape b o old ns slabs k → slice_get ns k ≡ Some n → WalksAs (λ (s : ℕ). s) (λ i. slab_checked i asked shape b o (slab_of shape n)) image (Ok s) →
     SlabsLeft image asked shape b o old ns (slabs ++ s ∷ []) next
 slabs_go None asked shape b o old ns slabs k next n s on left is e = tt
 slabs_go (Some i) asked shape b o old ns slabs k next n s on left is e =
     rw (← on) (left ∙ slabs_at i asked shape b o slabs ns k n (here ns k n is) ∙ ap (λ r. and_then r (λ s. slabs_checked i asked shape b o (slabs ++ s ∷ []) (drop (suc k) ns))) e)
 
-pub slabs_end : {V : Type 0} (v : V → List ℕ) (image : Option Image) (asked : Asked) (shape : SlubShape) (b : Bases) (o : Objects) (old ns : List ℕ) (k : ℕ) (x : V) →
+pub slabs_end : {V : Type 0} (v : V → List ℕ) (image : Option Image) (asked : Asked) (shape : SlubShape) (b : SlubBases) (o : SlabObjects) (old ns : List ℕ) (k : ℕ) (x : V) →
     SlabsLeft image asked shape b o old ns (v x) k → length ns ≤ k → WalksAs v (λ i. slabs_checked i asked shape b o old ns) image (Ok x)
 slabs_end v None asked shape b o old ns k x left all = tt
 slabs_end v (Some i) asked shape b o old ns k x left all =
     left ∙ ap (slabs_checked i asked shape b o (v x)) (drop_of_length-le ns all) ∙ slabs_none i asked shape b o (v x)
 
 -- the nodes of a cache, one by one
-nodes_at : (i : Image) (asked : Asked) (shape : SlubShape) (b : Bases) (o : Objects) (left k : ℕ) (slabs : List ℕ) →
+nodes_at : (i : Image) (asked : Asked) (shape : SlubShape) (b : SlubBases) (o : SlabObjects) (left k : ℕ) (slabs : List ℕ) →
     nodes_checked i asked shape b o (suc left) k slabs ≡ and_then (node_checked i asked shape b o slabs k) (λ more. nodes_checked i asked shape b o left (suc k) more)
 unfolding nodes_checked
 nodes_at i asked shape b o left k slabs = refl
 
-nodes_none : (i : Image) (asked : Asked) (shape : SlubShape) (b : Bases) (o : Objects) (k : ℕ) (slabs : List ℕ) → nodes_checked i asked shape b o 0 k slabs ≡ Ok slabs
+nodes_none : (i : Image) (asked : Asked) (shape : SlubShape) (b : SlubBases) (o : SlabObjects) (k : ℕ) (slabs : List ℕ) → nodes_checked i asked shape b o 0 k slabs ≡ Ok slabs
 unfolding nodes_checked
 nodes_none i asked shape b o k slabs = refl
 
@@ -114,18 +114,18 @@ nodes_more n k lt = omega (arith, lt)
 nodes_all : (n k : ℕ) → n ≤ k → n - k ≡ 0
 nodes_all n k le = omega (arith, le)
 
-abbrev pub NodesLeft : Option Image → Asked → SlubShape → Bases → Objects → ℕ → List ℕ → ℕ → Type 0
+abbrev pub NodesLeft : Option Image → Asked → SlubShape → SlubBases → SlabObjects → ℕ → List ℕ → ℕ → Type 0
 NodesLeft image asked shape b o n slabs k = IfSome image (λ i. nodes_checked i asked shape b o n 0 [] ≡ nodes_checked i asked shape b o (n - k) k slabs)
 
-pub nodes_begin : (image : Option Image) (asked : Asked) (shape : SlubShape) (b : Bases) (o : Objects) (n : ℕ) → NodesLeft image asked shape b o n [] 0
+pub nodes_begin : (image : Option Image) (asked : Asked) (shape : SlubShape) (b : SlubBases) (o : SlabObjects) (n : ℕ) → NodesLeft image asked shape b o n [] 0
 nodes_begin None asked shape b o n = tt
 nodes_begin (Some i) asked shape b o n = let same : n ≡ n - 0 = omega arith in ap (λ m. nodes_checked i asked shape b o m 0 []) same
 
-nodes_here : (i : Image) (asked : Asked) (shape : SlubShape) (b : Bases) (o : Objects) (n k : ℕ) (slabs : List ℕ) → k < n →
+nodes_here : (i : Image) (asked : Asked) (shape : SlubShape) (b : SlubBases) (o : SlabObjects) (n k : ℕ) (slabs : List ℕ) → k < n →
     nodes_checked i asked shape b o (n - k) k slabs ≡ and_then (node_checked i asked shape b o slabs k) (λ more. nodes_checked i asked shape b o (n - suc k) (suc k) more)
 nodes_here i asked shape b o n k slabs lt = ap (λ m. nodes_checked i asked shape b o m k slabs) (nodes_more n k lt) ∙ nodes_at i asked shape b o (n - suc k) k slabs
 
-pub nodes_stop : {U V : Type 0} (u : U → List ℕ) (v : V → List ℕ) (image : Option Image) (asked : Asked) (shape : SlubShape) (b : Bases) (o : Objects) (n : ℕ) (slabs : List ℕ) (k : ℕ) (stop : WalkStop) →
+pub nodes_stop : {U V : Type 0} (u : U → List ℕ) (v : V → List ℕ) (image : Option Image) (asked : Asked) (shape : SlubShape) (b : SlubBases) (o : SlabObjects) (n : ℕ) (slabs : List ℕ) (k : ℕ) (stop : WalkStop) →
     NodesLeft image asked shape b o n slabs k → k < n → WalksAs u (λ i. node_checked i asked shape b o slabs k) image (Err stop) →
     WalksAs v (λ i. nodes_checked i asked shape b o n 0 []) image (Err stop)
 nodes_stop u v None asked shape b o n slabs k stop left lt e = tt
@@ -134,13 +134,13 @@ nodes_stop u v (Some i) asked shape b o n slabs k (ends.Broken f) left lt e =
 nodes_stop u v (Some i) asked shape b o n slabs k ends.Fault left lt e = tt
 nodes_stop u v (Some i) asked shape b o n slabs k ends.NoMemory left lt e = tt
 
-pub nodes_go : {U : Type 0} (u : U → List ℕ) (image : Option Image) (asked : Asked) (shape : SlubShape) (b : Bases) (o : Objects) (n : ℕ) (slabs : List ℕ) (k next : ℕ) (x : U) → suc k ≡ next →
+pub nodes_go : {U : Type 0} (u : U → List ℕ) (image : Option Image) (asked : Asked) (shape : SlubShape) (b : SlubBases) (o : SlabObjects) (n : ℕ) (slabs : List ℕ) (k next : ℕ) (x : U) → suc k ≡ next →
     NodesLeft image asked shape b o n slabs k → k < n → WalksAs u (λ i. node_checked i asked shape b o slabs k) image (Ok x) → NodesLeft image asked shape b o n (u x) next
 nodes_go u None asked shape b o n slabs k next x on left lt e = tt
 nodes_go u (Some i) asked shape b o n slabs k next x on left lt e =
     rw (← on) (left ∙ nodes_here i asked shape b o n k slabs lt ∙ ap (λ r. and_then r (λ more. nodes_checked i asked shape b o (n - suc k) (suc k) more)) e)
 
-pub nodes_end : {V : Type 0} (v : V → List ℕ) (image : Option Image) (asked : Asked) (shape : SlubShape) (b : Bases) (o : Objects) (n k : ℕ) (x : V) →
+pub nodes_end : {V : Type 0} (v : V → List ℕ) (image : Option Image) (asked : Asked) (shape : SlubShape) (b : SlubBases) (o : SlabObjects) (n k : ℕ) (x : V) →
     NodesLeft image asked shape b o n (v x) k → n ≤ k → WalksAs v (λ i. nodes_checked i asked shape b o n 0 []) image (Ok x)
 nodes_end v None asked shape b o n k x left all = tt
 nodes_end v (Some i) asked shape b o n k x left all =

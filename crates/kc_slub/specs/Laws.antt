@@ -9,8 +9,8 @@ use Rattle.kc_found.specs.FiniteLists.{FreeChain}
 use Rattle.kc_found.specs.FreeLists.{IsGrid, free_list, low_word, number_in}
 use Rattle.kc_found.specs.Violations.{Violation, places_by}
 use Rattle.kc_view.specs.declared.slub.SlubShape.{SlubShape}
-use Rattle.kc_slub.specs.Caches.{cache_slabs}
-use Rattle.kc_slub.specs.FiniteCaches.{Slub}
+use Rattle.kc_view.specs.Caches.{cache_slabs}
+use Rattle.kc_view.specs.FiniteCaches.{Slub}
 
 -- a free list of the definition is walked whole, and what is walked without a violation is one
 abbrev pub FreeListsAreWalked : Type 0

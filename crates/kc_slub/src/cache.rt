@@ -2,38 +2,14 @@
 ghost use Rattle.std.specs.Prelude.{◌≡◌, ◌≤◌, ◌+◌, length, IfOk};
 ghost use Rattle.kc_memory.specs.Stays.{SpaceStays};
 ghost use Rattle.kc_found.specs.Walks.{CountsWalkFaults, IsNamed, WalksAs};
-ghost use Rattle.kc_slub.specs.Caches.{base_of, bases_of, count_of, objects_of, optional_of};
+ghost use Rattle.kc_view.specs.Caches.{base_of, bases_of, count_of, objects_of, optional_of};
 
 use kc_found::{Asked, Rule, Space, WalkStop, broken_field, low_word, read_bits, stopped};
 use kc_layout::Field;
-use kc_view::{Base, SlubShape, View, read_field};
+use kc_view::{Base, SlabObjects, SlubBases, SlubShape, View, read_field};
 use kc_word::{Bits, Steps};
 use std::alloc::Global;
 use std::sync::ledger::Ledger;
-
-// Where page descriptors and physical memory stand, and how many nodes there are.
-#[derive(Clone, Copy, Debug, PartialEq, Eq)]
-pub(crate) struct Bases {
-    // The virtual address of the first page descriptor.
-    pub vmemmap: u64,
-    // The virtual address of the first byte of physical memory.
-    pub direct: u64,
-    // How many pointers of the array `node` are looked at.
-    pub nodes: u64,
-}
-
-// How the objects of a cache lie in its slabs, in bytes.
-#[derive(Clone, Copy, Debug, PartialEq, Eq)]
-pub(crate) struct Objects {
-    // From one object to the next.
-    pub size: u64,
-    // From an object's address to its free pointer.
-    pub offset: u64,
-    // What free pointers are encoded with.
-    pub random: Option<u64>,
-    // Before the first object.
-    pub left_pad: u64,
-}
 
 // A base, which may be a word of memory.
 fn read_base<S: Space, L: Ledger>(
@@ -95,7 +71,7 @@ pub(crate) fn read_bases<S: Space, L: Ledger>(
     asked: &Asked,
     shape: &SlubShape,
     steps: &mut Steps<L>,
-) -> Result<Bases, WalkStop>
+) -> Result<SlubBases, WalkStop>
     ensures exact { WalksAs (λ b. b) (λ i. bases_of i asked.now shape.now) (S.image space.old) result }
     ensures few { IfOk result (λ b. b.nodes ≤ shape.now.nodes) }
     ensures named { IsNamed result asked.now.audit asked.now.start }
@@ -106,7 +82,7 @@ pub(crate) fn read_bases<S: Space, L: Ledger>(
     let vmemmap = read_base(alloc, space, asked, shape.vmemmap, steps)?;
     let direct = read_base(alloc, space, asked, shape.direct, steps)?;
     let nodes = read_count(alloc, space, asked, shape.nodes, shape.node_ids, steps)?;
-    Ok(Bases {
+    Ok(SlubBases {
         vmemmap,
         direct,
         nodes,
@@ -146,7 +122,7 @@ pub(crate) fn read_objects<S: Space, L: Ledger>(
     shape: &SlubShape,
     cache: &View<'_>,
     steps: &mut Steps<L>,
-) -> Result<Objects, WalkStop>
+) -> Result<SlabObjects, WalkStop>
     requires { cache.now.at ≡ asked.now.start }
     ensures exact { WalksAs (λ o. o) (λ i. objects_of i asked.now shape.now) (S.image space.old) result }
     ensures fits { IfOk result (λ o. (1 ≤ o.size) × (o.offset + 8 ≤ o.size)) }
@@ -162,7 +138,7 @@ pub(crate) fn read_objects<S: Space, L: Ledger>(
     if size.value() == 0 || u128::from(size.value()) < u128::from(offset) + 8 {
         return Err(broken_field(alloc, asked, Rule::U3, size.at, &size.number, None));
     }
-    Ok(Objects {
+    Ok(SlabObjects {
         size: size.value(),
         offset,
         random,

@@ -3,12 +3,11 @@ ghost use Rattle.std.specs.Prelude.{◌≡◌, ◌≤◌, ◌+◌, length};
 ghost use Rattle.kc_memory.specs.Stays.{SpaceStays};
 ghost use Rattle.kc_found.specs.FreeLists.{IsGrid};
 ghost use Rattle.kc_found.specs.Walks.{CountsWalkFaults, IsNamed, WalksAs};
-ghost use Rattle.kc_slub.specs.Caches.{counts_checked, free_checked, grid_of, is_descriptor, list_checked, page_of, slab_checked};
+ghost use Rattle.kc_view.specs.Caches.{counts_checked, free_checked, grid_of, is_descriptor, list_checked, page_of, slab_checked};
 
-use crate::cache::{Bases, Objects};
 use crate::free::free_walk;
 use kc_found::{Asked, Grid, Rule, Scalar, Space, WalkStop, broken_field};
-use kc_view::{FieldNumber, SlubShape, View, check_field, read_field};
+use kc_view::{FieldNumber, SlabObjects, SlubBases, SlubShape, View, check_field, read_field};
 use kc_word::Steps;
 use std::alloc::Global;
 use std::sync::ledger::Ledger;
@@ -17,21 +16,21 @@ use std::sync::ledger::Ledger;
 const PAGES: u64 = 1 << 40;
 
 // The number of the page that a descriptor stands for.
-fn page_of(shape: &SlubShape, bases: &Bases, slab: u64) -> u64
+fn page_of(shape: &SlubShape, bases: &SlubBases, slab: u64) -> u64
     ensures { result ≡ page_of shape.now bases.now slab }
 {
     slab.wrapping_sub(bases.vmemmap) / shape.page_size
 }
 
 // A page has its descriptor there.
-fn is_descriptor(shape: &SlubShape, bases: &Bases, slab: u64) -> bool
+fn is_descriptor(shape: &SlubShape, bases: &SlubBases, slab: u64) -> bool
     ensures { result ≡ is_descriptor shape.now bases.now slab }
 {
     slab.wrapping_sub(bases.vmemmap) % shape.page_size == 0 && page_of(shape, bases, slab) < PAGES
 }
 
 // Where a slab's objects lie.
-fn grid_of(shape: &SlubShape, bases: &Bases, objects: &Objects, slab: u64, count: u64) -> Grid
+fn grid_of(shape: &SlubShape, bases: &SlubBases, objects: &SlabObjects, slab: u64, count: u64) -> Grid
     ensures { result ≡ grid_of shape.now bases.now objects.now slab count }
 {
     let page = page_of(shape, bases, slab).wrapping_mul(4096);
@@ -90,8 +89,8 @@ fn check_free<S: Space, L: Ledger>(
     space: &mut S,
     asked: &Asked,
     shape: &SlubShape,
-    bases: &Bases,
-    objects: &Objects,
+    bases: &SlubBases,
+    objects: &SlabObjects,
     slab: &View<'_>,
     count: u64,
     inuse: &FieldNumber,
@@ -132,8 +131,8 @@ fn check_counts<S: Space, L: Ledger>(
     space: &mut S,
     asked: &Asked,
     shape: &SlubShape,
-    bases: &Bases,
-    objects: &Objects,
+    bases: &SlubBases,
+    objects: &SlabObjects,
     slab: &View<'_>,
     steps: &mut Steps<L>,
 ) -> Result<u64, WalkStop>
@@ -163,8 +162,8 @@ pub(crate) fn check_slab<S: Space, L: Ledger>(
     space: &mut S,
     asked: &Asked,
     shape: &SlubShape,
-    bases: &Bases,
-    objects: &Objects,
+    bases: &SlubBases,
+    objects: &SlabObjects,
     slab: &View<'_>,
     steps: &mut Steps<L>,
 ) -> Result<u64, WalkStop>

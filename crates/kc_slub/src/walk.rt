@@ -2,15 +2,15 @@
 ghost use Rattle.std.specs.Prelude.{◌≡◌, ℕ, ◌∷◌, ◌++◌, [], ◌≤◌, ◌+◌, ◌^◌, ◌<◌, length, IfOk, IfSome, OnOk};
 ghost use Rattle.kc_memory.specs.Stays.{SpaceStays};
 ghost use Rattle.kc_found.specs.Walks.{CountsWalkFaults, IsNamed, OnBroken, OnWalkFault, WalksAs};
-ghost use Rattle.kc_slub.specs.Caches.{IsInside, cache_slabs, knode_checked, node_checked, nodes_checked, partial_of, slabs_checked};
-ghost use Rattle.kc_slub.specs.FiniteCaches.{NoSlub, Slub};
+ghost use Rattle.kc_view.specs.Caches.{IsInside, cache_slabs, knode_checked, node_checked, nodes_checked, partial_of, slabs_checked};
+ghost use Rattle.kc_view.specs.FiniteCaches.{NoSlub, Slub};
 
-use crate::cache::{Bases, Objects, read_bases, read_objects};
+use crate::cache::{read_bases, read_objects};
 use crate::slab::check_slab;
 use kc_btf::Btf;
 use kc_found::{Asked, Rule, Space, WalkStop, Walked, broken_field, low_word, read_bits, stopped};
 use kc_list::{know_lists, ring};
-use kc_view::{SlubShape, View, read_field, started_at};
+use kc_view::{SlabObjects, SlubBases, SlubShape, View, read_field, started_at};
 use kc_word::{Bits, NoMemory, Steps};
 use std::alloc::Global;
 use std::sync::ledger::Ledger;
@@ -34,8 +34,8 @@ fn check_slabs<S: Space, L: Ledger>(
     asked: &Asked,
     btf: &Btf,
     shape: &SlubShape,
-    bases: &Bases,
-    objects: &Objects,
+    bases: &SlubBases,
+    objects: &SlabObjects,
     nodes: &Walked,
     slabs: &mut Walked,
     steps: &mut Steps<L>,
@@ -94,8 +94,8 @@ fn check_knode<S: Space, L: Ledger>(
     asked: &Asked,
     btf: &Btf,
     shape: &SlubShape,
-    bases: &Bases,
-    objects: &Objects,
+    bases: &SlubBases,
+    objects: &SlabObjects,
     knode: u64,
     slabs: &mut Walked,
     steps: &mut Steps<L>,
@@ -130,8 +130,8 @@ fn check_node<S: Space, L: Ledger>(
     asked: &Asked,
     btf: &Btf,
     shape: &SlubShape,
-    bases: &Bases,
-    objects: &Objects,
+    bases: &SlubBases,
+    objects: &SlabObjects,
     i: u64,
     slabs: &mut Walked,
     steps: &mut Steps<L>,
@@ -172,8 +172,8 @@ fn walk_nodes<S: Space, L: Ledger>(
     asked: &Asked,
     btf: &Btf,
     shape: &SlubShape,
-    bases: &Bases,
-    objects: &Objects,
+    bases: &SlubBases,
+    objects: &SlabObjects,
     steps: &mut Steps<L>,
 ) -> Result<Walked, WalkStop>
     requires few { bases.now.nodes ≤ 65536 }

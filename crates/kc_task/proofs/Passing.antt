@@ -10,7 +10,7 @@ use Rattle.kc_found.specs.declared.found.WalkStop.TheVariants as ends
 use Rattle.kc_found.specs.Trials.{and_then}
 use Rattle.kc_found.specs.Violations.{Violation}
 use Rattle.kc_found.specs.Walks.{WalksAs}
-use Rattle.kc_task.specs.TaskLists.{all_pass, gathered, task_of}
+use Rattle.kc_view.specs.TaskLists.{all_pass, gathered, task_of}
 
 here : (ns : List ℕ) (k n : ℕ) → slice_get ns k ≡ Some n → drop k ns ≡ n ∷ drop (suc k) ns
 here ns k n e = drop-cons ns k 0 (slice_get_within ns k n e) ∙ ap (λ m. m ∷ drop (suc k) ns) (get_or_from_slice_get ns k n 0 e)

@@ -23,10 +23,10 @@ use Rattle.kc_found.specs.Walks.{OnBroken, WalksAs}
 use Rattle.kc_found.proofs.Known.{ok_after}
 use Rattle.kc_list.specs.Laws.{RingsAreWalked}
 use Rattle.kc_list.proofs.Finite.{first_of, some_word}
-use Rattle.kc_task.specs.declared.group.Group.{Group}
-use Rattle.kc_task.specs.FiniteTasks.{AreGroups, AreOn, IsGroup, IsStack, IsThread, NoTasks, Tasks}
+use Rattle.kc_view.specs.declared.tasks.ThreadGroup.{ThreadGroup}
+use Rattle.kc_view.specs.FiniteTasks.{AreGroups, AreOn, IsGroup, IsStack, IsThread, NoTasks, Tasks}
 use Rattle.kc_task.specs.Laws.{HeadIsRead, TasksAreWalked}
-use Rattle.kc_task.specs.TaskLists.{all_pass, among_checked, children_checked, end_checked, gathered, group_of, is_among, leader_checked, shared_checked, stack_checked, stack_end, task_list, task_of, tasks_on, tgid_checked, thread_checked, thread_head, threads_checked}
+use Rattle.kc_view.specs.TaskLists.{all_pass, among_checked, children_checked, end_checked, gathered, group_of, is_among, leader_checked, shared_checked, stack_checked, stack_end, task_list, task_of, tasks_on, tgid_checked, thread_checked, thread_head, threads_checked}
 
 -- each of some tasks
 passed : (go : ℕ → Result ⊤ Violation) (P : ℕ → Type 0) (ts : List ℕ) → ((t : ℕ) → go t ≡ Ok tt → P t) → all_pass go ts ≡ Ok tt → AllByRecursion P ts
@@ -123,7 +123,7 @@ of_stack image asked stack (inl none) = else_true (nat_eq stack 0) (last_word as
 of_stack image asked stack (inr some) = else_same (nat_eq stack 0) (last_word asked (vword image stack)) (ending asked (vword image stack) some)
 
 -- threads
-thread_of : RingsAreWalked → (image : Image) (asked : Asked) (shape : TaskShape) (g : Group) (thread : ℕ) → thread_checked image asked shape g thread ≡ Ok tt → IsThread image shape g thread
+thread_of : RingsAreWalked → (image : Image) (asked : Asked) (shape : TaskShape) (g : ThreadGroup) (thread : ℕ) → thread_checked image asked shape g thread ≡ Ok tt → IsThread image shape g thread
 thread_of rings image asked shape g thread e =
     let shared = ok_after (shared_checked image asked shape g thread) (λ _. and_then (children_checked image asked shape thread) (λ _. stack_checked image asked shape thread)) tt e in
     let a = ok_after (holds image asked T1 thread shape.group_leader g.leader) (λ _. and_then (holds image asked T3 thread shape.signal g.signal) (λ _. holds image asked T4 thread shape.tgid g.tgid)) tt shared.1 in
@@ -143,7 +143,7 @@ thread_of rings image asked shape g thread e =
       whole = stack_of image asked (value_of s.0) s.2;
     }
 
-of_thread : RingsAreWalked → (image : Image) (asked : Asked) (shape : TaskShape) (g : Group) (thread : ℕ) → IsThread image shape g thread → thread_checked image asked shape g thread ≡ Ok tt
+of_thread : RingsAreWalked → (image : Image) (asked : Asked) (shape : TaskShape) (g : ThreadGroup) (thread : ℕ) → IsThread image shape g thread → thread_checked image asked shape g thread ≡ Ok tt
 of_thread rings image asked shape g thread t =
     let s = field_read image asked thread shape.stack t.stack t.stacked in
     let shared : shared_checked image asked shape g thread ≡ Ok tt =
@@ -183,55 +183,55 @@ of_numbers image asked shape leader n pid tgid =
     (unless_is (not (nat_eq (value_of p.field) (value_of t.field))) (breaks_at asked T2 p.field (Some (value_of t.field))) (Ok (value_of t.field)) n (of_equal (value_of p.field) (value_of t.field) (p.value ∙ sym t.value)) (ap Ok t.value)))
 
 -- what a leader's group shares
-abbrev shared_by : Image → Asked → TaskShape → ℕ → ℕ → Result Group Violation
+abbrev shared_by : Image → Asked → TaskShape → ℕ → ℕ → Result ThreadGroup Violation
 shared_by image asked shape leader n = and_then (read_field image asked leader shape.signal) (λ s. Ok (record { leader = leader; signal = value_of s; tgid = n }))
 
-record IsShared (image : Image) (shape : TaskShape) (leader : ℕ) (g : Group) : Type 0 where
+record IsShared (image : Image) (shape : TaskShape) (leader : ℕ) (g : ThreadGroup) : Type 0 where
   leads : g.leader ≡ leader
   itself : FieldIs image leader shape.group_leader leader
   pid : FieldIs image leader shape.pid g.tgid
   tgid : FieldIs image leader shape.tgid g.tgid
   shared : FieldIs image leader shape.signal g.signal
 
-shared_of : (image : Image) (asked : Asked) (shape : TaskShape) (leader : ℕ) (g : Group) → group_of image asked shape leader ≡ Ok g → IsShared image shape leader g
+shared_of : (image : Image) (asked : Asked) (shape : TaskShape) (leader : ℕ) (g : ThreadGroup) → group_of image asked shape leader ≡ Ok g → IsShared image shape leader g
 shared_of image asked shape leader g e =
     let a = ok_after (holds image asked T1 leader shape.group_leader leader) (λ _. and_then (tgid_checked image asked shape leader) (λ n. shared_by image asked shape leader n)) g e in
     let b = ok_after (tgid_checked image asked shape leader) (λ n. shared_by image asked shape leader n) g a.2 in
     let c = ok_after (read_field image asked leader shape.signal) (λ s. Ok (record { leader = leader; signal = value_of s; tgid = b.0 })) g b.2 in
-    let made : Group = record { leader = leader; signal = value_of c.0; tgid = b.0 } in
+    let made : ThreadGroup = record { leader = leader; signal = value_of c.0; tgid = b.0 } in
     let same : made ≡ g = let q = c.2 in cc in
     let numbers = numbers_of image asked shape leader b.0 b.1 in
     record {
-      leads = sym (ap (λ (h : Group). h.leader) same);
+      leads = sym (ap (λ (h : ThreadGroup). h.leader) same);
       itself = held image asked T1 leader shape.group_leader leader a.1;
-      pid = numbers.0 ∙ ap (λ (h : Group). Some h.tgid) same;
-      tgid = numbers.1 ∙ ap (λ (h : Group). Some h.tgid) same;
-      shared = field_is image asked leader shape.signal c.0 c.1 ∙ ap (λ (h : Group). Some h.signal) same;
+      pid = numbers.0 ∙ ap (λ (h : ThreadGroup). Some h.tgid) same;
+      tgid = numbers.1 ∙ ap (λ (h : ThreadGroup). Some h.tgid) same;
+      shared = field_is image asked leader shape.signal c.0 c.1 ∙ ap (λ (h : ThreadGroup). Some h.signal) same;
     }
 
 of_shared : (image : Image) (asked : Asked) (shape : TaskShape) (leader n signal : ℕ) → FieldIs image leader shape.group_leader leader → FieldIs image leader shape.pid n → FieldIs image leader shape.tgid n → FieldIs image leader shape.signal signal →
     group_of image asked shape leader ≡ Ok (record { leader = leader; signal = signal; tgid = n })
 of_shared image asked shape leader n signal itself pid tgid shared =
     let s = field_read image asked leader shape.signal signal shared in
-    let g : Group = record { leader = leader; signal = signal; tgid = n } in
+    let g : ThreadGroup = record { leader = leader; signal = signal; tgid = n } in
     then_is (holds image asked T1 leader shape.group_leader leader) (λ _. and_then (tgid_checked image asked shape leader) (λ n. shared_by image asked shape leader n)) tt g (holding image asked T1 leader shape.group_leader leader itself)
     (then_is (tgid_checked image asked shape leader) (λ n. shared_by image asked shape leader n) n g (of_numbers image asked shape leader n pid tgid)
     (then_is (read_field image asked leader shape.signal) (λ s. Ok (record { leader = leader; signal = value_of s; tgid = n })) s.field g s.read
     (ap (λ v. Ok (record { leader = leader; signal = v; tgid = n })) s.value)))
 
 -- the threads of a group
-abbrev all_checked : Image → Asked → TaskShape → Group → List ℕ → Result (List ℕ) Violation
+abbrev all_checked : Image → Asked → TaskShape → ThreadGroup → List ℕ → Result (List ℕ) Violation
 all_checked image asked shape g threads = and_then (all_pass (thread_checked image asked shape g) threads) (λ _. Ok threads)
 
-abbrev found_checked : Image → Asked → TaskShape → Group → List ℕ → Result (List ℕ) Violation
+abbrev found_checked : Image → Asked → TaskShape → ThreadGroup → List ℕ → Result (List ℕ) Violation
 found_checked image asked shape g threads = and_then (among_checked image asked shape g threads) (λ _. all_checked image asked shape g threads)
 
-record AreThreads (image : Image) (shape : TaskShape) (g : Group) (threads : List ℕ) : Type 0 where
+record AreThreads (image : Image) (shape : TaskShape) (g : ThreadGroup) (threads : List ℕ) : Type 0 where
   ring : AreOn image shape (thread_head shape g) shape.thread_node threads
   among : is_among threads g.leader ≡ true
   members : AllByRecursion (IsThread image shape g) threads
 
-threads_are : RingsAreWalked → (image : Image) (asked : Asked) (shape : TaskShape) (g : Group) (threads : List ℕ) → threads_checked image asked shape g ≡ Ok threads → AreThreads image shape g threads
+threads_are : RingsAreWalked → (image : Image) (asked : Asked) (shape : TaskShape) (g : ThreadGroup) (threads : List ℕ) → threads_checked image asked shape g ≡ Ok threads → AreThreads image shape g threads
 threads_are rings image asked shape g threads e =
     let on = ok_after (tasks_on image asked shape (thread_head shape g) shape.thread_node) (λ ts. found_checked image asked shape g ts) threads e in
     let among = ok_after (among_checked image asked shape g on.0) (λ _. all_checked image asked shape g on.0) threads on.2 in
@@ -243,7 +243,7 @@ threads_are rings image asked shape g threads e =
       members = passed (thread_checked image asked shape g) (IsThread image shape g) on.0 (λ thread is. thread_of rings image asked shape g thread is) members.1;
     })
 
-are_threads : RingsAreWalked → (image : Image) (asked : Asked) (shape : TaskShape) (g : Group) (threads : List ℕ) → AreThreads image shape g threads → threads_checked image asked shape g ≡ Ok threads
+are_threads : RingsAreWalked → (image : Image) (asked : Asked) (shape : TaskShape) (g : ThreadGroup) (threads : List ℕ) → AreThreads image shape g threads → threads_checked image asked shape g ≡ Ok threads
 are_threads rings image asked shape g threads are =
     then_is (tasks_on image asked shape (thread_head shape g) shape.thread_node) (λ ts. found_checked image asked shape g ts) threads threads (ring_on rings image asked shape (thread_head shape g) shape.thread_node threads are.ring)
     (then_is (among_checked image asked shape g threads) (λ _. all_checked image asked shape g threads) tt threads
@@ -272,7 +272,7 @@ group_is rings image asked shape leader threads e =
 
 is_group : RingsAreWalked → (image : Image) (asked : Asked) (shape : TaskShape) (leader : ℕ) (threads : List ℕ) → IsGroup image shape leader threads → leader_checked image asked shape leader ≡ Ok threads
 is_group rings image asked shape leader threads i =
-    let g : Group = record { leader = leader; signal = i.signal; tgid = i.number } in
+    let g : ThreadGroup = record { leader = leader; signal = i.signal; tgid = i.number } in
     then_is (group_of image asked shape leader) (λ h. threads_checked image asked shape h) g threads
     (of_shared image asked shape leader i.number i.signal i.itself i.pid i.tgid i.shared)
     (are_threads rings image asked shape g threads (record { ring = i.ring; among = i.among; members = i.members }))

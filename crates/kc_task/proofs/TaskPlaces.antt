@@ -14,9 +14,9 @@ use Rattle.kc_found.specs.Nodes.{at_offset}
 use Rattle.kc_found.specs.Rings.{ring_walk}
 use Rattle.kc_found.specs.Violations.{Violation, breaks}
 use Rattle.kc_list.proofs.ChainsShown.{ring_walk_shows}
-use Rattle.kc_task.specs.declared.group.Group.{Group}
+use Rattle.kc_view.specs.declared.tasks.ThreadGroup.{ThreadGroup}
 use Rattle.kc_task.specs.Laws.{TaskPlacesStand}
-use Rattle.kc_task.specs.TaskLists.{all_pass, among_checked, children_checked, end_checked, gathered, group_of, is_among, leader_checked, shared_checked, stack_checked, stack_end, task_list, task_of, tasks_on, tgid_checked, thread_checked, thread_head}
+use Rattle.kc_view.specs.TaskLists.{all_pass, among_checked, children_checked, end_checked, gathered, group_of, is_among, leader_checked, shared_checked, stack_checked, stack_end, task_list, task_of, tasks_on, tgid_checked, thread_checked, thread_head}
 
 -- what the laws of the dump's words and fields say
 record Told : Type 0 where
@@ -55,7 +55,7 @@ end_shows told image asked stack =
     (then_shows image (or_missed asked (vword image stack)) _ (word_shows told.words image asked stack)
     (λ w is. unless_shows image (not (nat_eq w.value stack_end)) (breaks asked T6 w (Some stack_end)) (Ok tt) (word_stands told.words image asked stack w is) tt))
 
-thread_shows : Told → (image : Image) (asked : Asked) (shape : TaskShape) (g : Group) (thread : ℕ) → Shows image (thread_checked image asked shape g thread)
+thread_shows : Told → (image : Image) (asked : Asked) (shape : TaskShape) (g : ThreadGroup) (thread : ℕ) → Shows image (thread_checked image asked shape g thread)
 thread_shows told image asked shape g thread =
     then_shows image (shared_checked image asked shape g thread) _
     (then_shows image (holds image asked T1 thread shape.group_leader g.leader) _ (holds_shows told.fields image asked T1 thread shape.group_leader g.leader)
@@ -65,7 +65,7 @@ thread_shows told image asked shape g thread =
     (λ d di. then_shows image (read_field image asked thread shape.stack) (λ s. end_checked image asked (value_of s)) (field_shows told.fields image asked thread shape.stack)
     (λ s si. end_shows told image asked (value_of s))))
 
-among_shows : Told → (image : Image) (asked : Asked) (shape : TaskShape) (g : Group) (threads : List ℕ) → Shows image (among_checked image asked shape g threads)
+among_shows : Told → (image : Image) (asked : Asked) (shape : TaskShape) (g : ThreadGroup) (threads : List ℕ) → Shows image (among_checked image asked shape g threads)
 among_shows told image asked shape g threads =
     let next = at_offset (thread_head shape g) shape.list.next in
     either image (is_among threads g.leader) (Ok tt) _ tt

@@ -8,9 +8,9 @@ use Rattle.kc_view.specs.declared.tasks.TaskShape.{TaskShape}
 use Rattle.kc_found.specs.declared.asked.Asked.{Asked}
 use Rattle.kc_found.specs.Nodes.{at_offset}
 use Rattle.kc_found.specs.Violations.{Violation}
-use Rattle.kc_task.specs.declared.group.Group.{Group}
-use Rattle.kc_task.specs.FiniteTasks.{Tasks}
-use Rattle.kc_task.specs.TaskLists.{task_list, tasks_on, thread_head}
+use Rattle.kc_view.specs.declared.tasks.ThreadGroup.{ThreadGroup}
+use Rattle.kc_view.specs.FiniteTasks.{Tasks}
+use Rattle.kc_view.specs.TaskLists.{task_list, tasks_on, thread_head}
 
 -- a task list of the definition is walked whole, and what is walked without a violation is one
 abbrev pub TasksAreWalked : Type 0
@@ -28,6 +28,6 @@ TaskPlacesStand =
 -- where the ring of a group's threads is walked whole, the `next` of its head can be read: T7 never stops there
 abbrev pub HeadIsRead : Type 0
 HeadIsRead =
-    (image : Image) (asked : Asked) (shape : TaskShape) (g : Group) (threads : List ℕ)
+    (image : Image) (asked : Asked) (shape : TaskShape) (g : ThreadGroup) (threads : List ℕ)
     → tasks_on image asked shape (thread_head shape g) shape.thread_node ≡ Ok threads
     → (w : VWord) × (vword image (at_offset (thread_head shape g) shape.list.next) ≡ Ok w)

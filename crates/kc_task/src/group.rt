@@ -2,30 +2,19 @@
 ghost use Rattle.std.specs.Prelude.{◌≡◌};
 ghost use Rattle.kc_memory.specs.Stays.{SpaceStays};
 ghost use Rattle.kc_found.specs.Walks.{CountsWalkFaults, IsNamed, WalksAs};
-ghost use Rattle.kc_task.specs.TaskLists.{IsInside, all_pass, among_checked, group_of, is_among, leader_checked, tgid_checked, thread_checked, thread_head, threads_checked};
+ghost use Rattle.kc_view.specs.TaskLists.{IsInside, all_pass, among_checked, group_of, is_among, leader_checked, tgid_checked, thread_checked, thread_head, threads_checked};
 
 use crate::rings::tasks_on;
 use crate::thread::check_thread;
 use kc_btf::Btf;
 use kc_found::{Asked, Rule, Space, WalkStop, Walked, broken_at, broken_field, stopped};
-use kc_view::{TaskShape, View, check_field, read_field};
+use kc_view::{TaskShape, ThreadGroup, View, check_field, read_field};
 use kc_word::Steps;
 use std::alloc::Global;
 use std::sync::ledger::Ledger;
 
-// What the threads of a group have in common.
-#[derive(Clone, Copy, Debug, PartialEq, Eq)]
-pub(crate) struct Group {
-    // The virtual address of the leader's task.
-    pub leader: u64,
-    // The virtual address of what they share (`struct signal_struct`).
-    pub signal: u64,
-    // The number of the group, in 64 bits.
-    pub tgid: u64,
-}
-
 // The head of the ring of a group's threads.
-fn thread_head(shape: &TaskShape, group: &Group) -> u64
+fn thread_head(shape: &TaskShape, group: &ThreadGroup) -> u64
     ensures { result ≡ thread_head shape.now group.now }
 {
     group.signal.wrapping_add(shape.thread_head)
@@ -64,7 +53,7 @@ fn read_group<S: Space, L: Ledger>(
     shape: &TaskShape,
     leader: u64,
     steps: &mut Steps<L>,
-) -> Result<Group, WalkStop>
+) -> Result<ThreadGroup, WalkStop>
     requires { IsInside shape.now btf.now }
     ensures exact { WalksAs (λ g. g) (λ i. group_of i asked.now shape.now leader) (S.image space.old) result }
     ensures named { IsNamed result asked.now.audit asked.now.start }
@@ -77,7 +66,7 @@ fn read_group<S: Space, L: Ledger>(
     check_field(alloc, space, asked, Rule::T1, &task, field, leader, steps)?;
     let tgid = check_tgid(alloc, space, asked, shape, &task, steps)?;
     let signal = read_field(alloc, space, asked, &task, &shape.signal, steps)?.value();
-    Ok(Group {
+    Ok(ThreadGroup {
         leader,
         signal,
         tgid,
@@ -97,7 +86,7 @@ fn check_among<S: Space, L: Ledger>(
     space: &mut S,
     asked: &Asked,
     shape: &TaskShape,
-    group: &Group,
+    group: &ThreadGroup,
     threads: &Walked,
     steps: &mut Steps<L>,
 ) -> Result<(), WalkStop>
@@ -125,7 +114,7 @@ fn check_all<S: Space, L: Ledger>(
     asked: &Asked,
     btf: &Btf,
     shape: &TaskShape,
-    group: &Group,
+    group: &ThreadGroup,
     threads: &Walked,
     steps: &mut Steps<L>,
 ) -> Result<(), WalkStop>
@@ -156,7 +145,7 @@ fn check_threads<S: Space, L: Ledger>(
     asked: &Asked,
     btf: &Btf,
     shape: &TaskShape,
-    group: &Group,
+    group: &ThreadGroup,
     steps: &mut Steps<L>,
 ) -> Result<Walked, WalkStop>
     requires { IsInside shape.now btf.now }

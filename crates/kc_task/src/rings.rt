@@ -2,7 +2,7 @@
 ghost use Rattle.std.specs.Prelude.{◌≡◌, map, IfOk};
 ghost use Rattle.kc_memory.specs.Stays.{SpaceStays};
 ghost use Rattle.kc_found.specs.Walks.{CountsWalkFaults, IsNamed, WalksAs};
-ghost use Rattle.kc_task.specs.TaskLists.{task_of, tasks_on};
+ghost use Rattle.kc_view.specs.TaskLists.{task_of, tasks_on};
 
 use kc_found::{Asked, Space, WalkStop, Walked};
 use kc_list::ring;

@@ -4,13 +4,12 @@ ghost use Rattle.kc_memory.specs.declared.rule.Rule.TheVariants.{T5};
 ghost use Rattle.kc_memory.specs.Stays.{SpaceStays};
 ghost use Rattle.kc_found.specs.Walks.{CountsWalkFaults, IsNamed, WalksAs};
 ghost use Rattle.kc_view.specs.Fields.{holds};
-ghost use Rattle.kc_task.specs.TaskLists.{IsInside, all_pass, children_checked, end_checked, shared_checked, stack_checked, thread_checked};
+ghost use Rattle.kc_view.specs.TaskLists.{IsInside, all_pass, children_checked, end_checked, shared_checked, stack_checked, thread_checked};
 
-use crate::group::Group;
 use crate::rings::tasks_on;
 use kc_btf::Btf;
 use kc_found::{Asked, Rule, Space, WalkStop, Walked, broken_at, stopped};
-use kc_view::{TaskShape, View, check_field, read_field};
+use kc_view::{TaskShape, ThreadGroup, View, check_field, read_field};
 use kc_word::Steps;
 use std::alloc::Global;
 use std::sync::ledger::Ledger;
@@ -126,7 +125,7 @@ fn check_shared<S: Space, L: Ledger>(
     space: &mut S,
     asked: &Asked,
     shape: &TaskShape,
-    group: &Group,
+    group: &ThreadGroup,
     thread: &View<'_>,
     steps: &mut Steps<L>,
 ) -> Result<(), WalkStop>
@@ -137,7 +136,7 @@ fn check_shared<S: Space, L: Ledger>(
     ensures stays { SpaceStays S.image S.files S.through S.most space.old space.new }
     ensures cause { CountsWalkFaults result (S.faults space.old) (S.faults space.new) }
 {
-    let Group {
+    let ThreadGroup {
         leader,
         signal,
         tgid,
@@ -157,7 +156,7 @@ pub(crate) fn check_thread<S: Space, L: Ledger>(
     asked: &Asked,
     btf: &Btf,
     shape: &TaskShape,
-    group: &Group,
+    group: &ThreadGroup,
     at: u64,
     steps: &mut Steps<L>,
 ) -> Result<(), WalkStop>

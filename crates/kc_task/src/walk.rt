@@ -3,8 +3,8 @@ ghost use Rattle.std.specs.Prelude.{◌≡◌, ◌∷◌, ◌++◌, IfOk, IfSome
 ghost use Rattle.kc_memory.specs.Stays.{SpaceStays};
 ghost use Rattle.kc_found.specs.Trials.{and_then};
 ghost use Rattle.kc_found.specs.Walks.{CountsWalkFaults, IsNamed, OnBroken, WalksAs};
-ghost use Rattle.kc_task.specs.FiniteTasks.{NoTasks, Tasks};
-ghost use Rattle.kc_task.specs.TaskLists.{IsInside, gathered, leader_checked, task_list};
+ghost use Rattle.kc_view.specs.FiniteTasks.{NoTasks, Tasks};
+ghost use Rattle.kc_view.specs.TaskLists.{IsInside, gathered, leader_checked, task_list};
 
 use crate::group::check_leader;
 use crate::rings::tasks_on;

@@ -1,8 +1,12 @@
+pub mod Caches
 pub mod Elements
 pub mod Fields
+pub mod FiniteCaches
+pub mod FiniteTasks
 pub mod Laws
 pub mod Paths
 pub mod Pointers
+pub mod TaskLists
 pub mod Typed
 pub mod Words
 pub use Rattle.kc_layout.specs.HopList

@@ -12,6 +12,6 @@ mod view;
 
 pub use fields::{FieldNumber, check_field, read_field, started_at};
 pub use laws::know_values;
-pub use slub::{Base, SlubShape};
-pub use tasks::TaskShape;
+pub use slub::{Base, SlabObjects, SlubBases, SlubShape};
+pub use tasks::{TaskShape, ThreadGroup};
 pub use view::{Led, View};

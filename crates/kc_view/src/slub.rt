@@ -1,4 +1,4 @@
-// Where the fields of a slab cache stand. All offsets are in bytes, and addresses wrap at 2^64.
+// Where the fields of a slab cache stand, and what is read of them. All offsets are in bytes, and addresses wrap at 2^64.
 ghost use Rattle.std.specs.Prelude.{◌≤◌};
 
 use kc_found::ListShape;
@@ -62,4 +62,28 @@ pub struct SlubShape {
     pub frozen: Field,
     pub ghost some: { 1 ≤ page_size },
     pub ghost few: { nodes ≤ 65536 },
+}
+
+/// Where page descriptors and physical memory stand, and how many memory nodes there are, as read for one cache.
+#[derive(Clone, Copy, Debug, PartialEq, Eq)]
+pub struct SlubBases {
+    /// The virtual address of the first page descriptor.
+    pub vmemmap: u64,
+    /// The virtual address of the first byte of physical memory.
+    pub direct: u64,
+    /// How many pointers of the array `node` are looked at.
+    pub nodes: u64,
+}
+
+/// How the objects of a cache lie in its slabs, in bytes.
+#[derive(Clone, Copy, Debug, PartialEq, Eq)]
+pub struct SlabObjects {
+    /// From one object to the next.
+    pub size: u64,
+    /// From an object's address to its free pointer.
+    pub offset: u64,
+    /// What free pointers are encoded with, where they are.
+    pub random: Option<u64>,
+    /// Before the first object.
+    pub left_pad: u64,
 }

@@ -1,4 +1,4 @@
-// Where the fields of tasks stand. All offsets are in bytes, and addresses wrap at 2^64.
+// Where the fields of tasks stand, and what is read of a thread group. All offsets are in bytes, and addresses wrap at 2^64.
 use kc_found::ListShape;
 use kc_layout::Field;
 
@@ -32,4 +32,15 @@ pub struct TaskShape {
     pub thread_node: u64,
     /// The field `stack` of a task: the address of the lowest word of its kernel stack, or 0.
     pub stack: Field,
+}
+
+/// What the threads of a group have in common, as read of its leader.
+#[derive(Clone, Copy, Debug, PartialEq, Eq)]
+pub struct ThreadGroup {
+    /// The virtual address of the leader's task.
+    pub leader: u64,
+    /// The virtual address of what they share (`struct signal_struct`).
+    pub signal: u64,
+    /// The number of the group (`tgid`), in 64 bits.
+    pub tgid: u64,
 }

@@ -6,7 +6,7 @@ mod reads;
 mod rules;
 
 ghost use Rattle.std.specs.Prelude.{◌≡◌, ◌<◌, ◌≤◌, IfSome};
-ghost use Rattle.kc_slub.specs.Caches.{IsInside};
+ghost use Rattle.kc_view.specs.Caches.{IsInside};
 
 use crate::cache_walk;
 use crate::tests::line_of;

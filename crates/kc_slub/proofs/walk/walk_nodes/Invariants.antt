@@ -1,7 +1,7 @@
 use Rattle.std.proofs.Common.{◌≡◌, ◌-◌, ◌≤◌, []}
 use Rattle.std.specs.Prelude.{IfSome}
 use Rattle.kc_memory.specs.Stays.{SpaceStays}
-use Rattle.kc_slub.specs.Caches.{nodes_checked}
+use Rattle.kc_view.specs.Caches.{nodes_checked}
 use Rattle.kc_slub.proofs.walk.walk_nodes.Given as goal
 
 abbrev pub invariant-loop-i : goal.invariant-loop-i

@@ -1,7 +1,7 @@
 use Rattle.std.proofs.Common.{◌≡◌, ◌-◌, ◌≤◌, drop, length}
 use Rattle.std.specs.Prelude.{IfSome}
 use Rattle.kc_memory.specs.Stays.{SpaceStays}
-use Rattle.kc_task.specs.TaskLists.{all_pass, thread_checked}
+use Rattle.kc_view.specs.TaskLists.{all_pass, thread_checked}
 use Rattle.kc_task.proofs.group.check_all.Given as goal
 
 abbrev pub invariant-loop-i : goal.invariant-loop-i

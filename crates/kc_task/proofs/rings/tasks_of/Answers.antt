@@ -1,5 +1,5 @@
 use Rattle.std.proofs.Common.{◌++◌, sym, ap, ◌∙◌, ◌∷◌, []}
-use Rattle.kc_task.specs.TaskLists.{task_of}
+use Rattle.kc_view.specs.TaskLists.{task_of}
 use Rattle.kc_task.proofs.Passing.{one_task_more}
 use Rattle.kc_task.proofs.rings.tasks_of.Goals as goal
 

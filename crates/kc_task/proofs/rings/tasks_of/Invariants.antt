@@ -1,6 +1,6 @@
 use Rattle.std.proofs.Common.{◌≡◌, take}
 use Rattle.std.specs.Prelude.{map}
-use Rattle.kc_task.specs.TaskLists.{task_of}
+use Rattle.kc_view.specs.TaskLists.{task_of}
 use Rattle.kc_task.proofs.rings.tasks_of.Given as goal
 
 abbrev pub invariant-loop-i : goal.invariant-loop-i

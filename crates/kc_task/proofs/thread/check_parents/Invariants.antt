@@ -3,7 +3,7 @@ use Rattle.std.specs.Prelude.{IfSome}
 use Rattle.kc_memory.specs.declared.rule.Rule.TheVariants.{T5}
 use Rattle.kc_memory.specs.Stays.{SpaceStays}
 use Rattle.kc_view.specs.Fields.{holds}
-use Rattle.kc_task.specs.TaskLists.{all_pass}
+use Rattle.kc_view.specs.TaskLists.{all_pass}
 use Rattle.kc_task.proofs.thread.check_parents.Given as goal
 
 abbrev pub invariant-loop-i : goal.invariant-loop-i

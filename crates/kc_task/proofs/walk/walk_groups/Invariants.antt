@@ -2,7 +2,7 @@ use Rattle.std.proofs.Common.{◌≡◌, ◌-◌, ◌++◌, ◌≤◌, drop, len
 use Rattle.std.specs.Prelude.{IfSome, Ok}
 use Rattle.kc_memory.specs.Stays.{SpaceStays}
 use Rattle.kc_found.specs.Trials.{and_then}
-use Rattle.kc_task.specs.TaskLists.{gathered, leader_checked}
+use Rattle.kc_view.specs.TaskLists.{gathered, leader_checked}
 use Rattle.kc_task.proofs.walk.walk_groups.Given as goal
 
 abbrev pub invariant-loop-i : goal.invariant-loop-i

@@ -13,7 +13,7 @@ use Rattle.kc_found.specs.Nodes.{at_offset}
 use Rattle.kc_found.specs.Rings.{ring_walk}
 use Rattle.kc_found.specs.Trials.{and_then}
 use Rattle.kc_found.specs.Violations.{Violation, breaks}
-use Rattle.kc_task.specs.declared.group.Group.{Group}
+use Rattle.kc_view.specs.declared.tasks.ThreadGroup.{ThreadGroup}
 
 -- the task that has a node at an offset: addresses wrap at 2^64
 abbrev pub task_of : ℕ → ℕ → ℕ
@@ -51,21 +51,21 @@ stack_checked image asked shape task =
     and_then (read_field image asked task shape.stack) (λ s. end_checked image asked (value_of s))
 
 -- T1, T3 and T4 of a thread
-abbrev pub shared_checked : Image → Asked → TaskShape → Group → ℕ → Result ⊤ Violation
+abbrev pub shared_checked : Image → Asked → TaskShape → ThreadGroup → ℕ → Result ⊤ Violation
 shared_checked image asked shape g thread =
     and_then (holds image asked T1 thread shape.group_leader g.leader) (λ _.
     and_then (holds image asked T3 thread shape.signal g.signal) (λ _.
     holds image asked T4 thread shape.tgid g.tgid))
 
 -- step 3: what a thread shares with its group, its children, and its stack
-abbrev pub thread_checked : Image → Asked → TaskShape → Group → ℕ → Result ⊤ Violation
+abbrev pub thread_checked : Image → Asked → TaskShape → ThreadGroup → ℕ → Result ⊤ Violation
 thread_checked image asked shape g thread =
     and_then (shared_checked image asked shape g thread) (λ _.
     and_then (children_checked image asked shape thread) (λ _.
     stack_checked image asked shape thread))
 
 -- the head of the ring of a group's threads
-abbrev pub thread_head : TaskShape → Group → ℕ
+abbrev pub thread_head : TaskShape → ThreadGroup → ℕ
 thread_head shape g = at_offset g.signal shape.thread_head
 
 -- a task is one of these
@@ -73,7 +73,7 @@ abbrev pub is_among : List ℕ → ℕ → Bool
 is_among tasks task = list_any (λ t. nat_eq t task) tasks
 
 -- T7: it shows the head's `next`, which the walk of the ring could read
-abbrev pub among_checked : Image → Asked → TaskShape → Group → List ℕ → Result ⊤ Violation
+abbrev pub among_checked : Image → Asked → TaskShape → ThreadGroup → List ℕ → Result ⊤ Violation
 among_checked image asked shape g threads =
     if is_among threads g.leader then Ok tt else
     (and_then (or_missed asked (vword image (at_offset (thread_head shape g) shape.list.next))) (λ w.
@@ -87,7 +87,7 @@ tgid_checked image asked shape leader =
     unless (not (nat_eq (value_of p) (value_of t))) (breaks_at asked T2 p (Some (value_of t))) (Ok (value_of t))))
 
 -- step 2, up to the ring: T1 and T2 of a leader, and what its group shares
-abbrev pub group_of : Image → Asked → TaskShape → ℕ → Result Group Violation
+abbrev pub group_of : Image → Asked → TaskShape → ℕ → Result ThreadGroup Violation
 group_of image asked shape leader =
     and_then (holds image asked T1 leader shape.group_leader leader) (λ _.
     and_then (tgid_checked image asked shape leader) (λ t.
@@ -95,7 +95,7 @@ group_of image asked shape leader =
     Ok (record { leader = leader; signal = value_of s; tgid = t }))))
 
 -- step 2, from the ring on: a group's threads, T7, and step 3 of each
-abbrev pub threads_checked : Image → Asked → TaskShape → Group → Result (List ℕ) Violation
+abbrev pub threads_checked : Image → Asked → TaskShape → ThreadGroup → Result (List ℕ) Violation
 threads_checked image asked shape g =
     and_then (tasks_on image asked shape (thread_head shape g) shape.thread_node) (λ threads.
     and_then (among_checked image asked shape g threads) (λ _.

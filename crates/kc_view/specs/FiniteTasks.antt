@@ -8,8 +8,8 @@ use Rattle.kc_view.specs.declared.tasks.TaskShape.{TaskShape}
 use Rattle.kc_view.specs.Fields.{FieldIs}
 use Rattle.kc_found.specs.FiniteLists.{Ring, value_of}
 use Rattle.kc_found.specs.Nodes.{at_offset}
-use Rattle.kc_task.specs.declared.group.Group.{Group}
-use Rattle.kc_task.specs.TaskLists.{is_among, stack_end, task_of}
+use Rattle.kc_view.specs.declared.tasks.ThreadGroup.{ThreadGroup}
+use Rattle.kc_view.specs.TaskLists.{is_among, stack_end, task_of}
 
 -- the nodes of the ring with this head stand in these tasks, at an offset
 pub record AreOn (image : Image) (shape : TaskShape) (head offset : ℕ) (tasks : List ℕ) : Type 0 where
@@ -23,7 +23,7 @@ IsStack image stack = (stack ≡ 0) ⊎ (value_of (vword image stack) ≡ Some s
 
 -- A thread of a group: it has the group's leader, `signal` and `tgid`, each of its children has it as parent, and its
 -- stack is whole.
-pub record IsThread (image : Image) (shape : TaskShape) (g : Group) (thread : ℕ) : Type 0 where
+pub record IsThread (image : Image) (shape : TaskShape) (g : ThreadGroup) (thread : ℕ) : Type 0 where
   pub leader : FieldIs image thread shape.group_leader g.leader
   pub signal : FieldIs image thread shape.signal g.signal
   pub tgid : FieldIs image thread shape.tgid g.tgid

@@ -20,8 +20,8 @@ use Rattle.kc_found.specs.Nodes.{at_offset}
 use Rattle.kc_found.specs.Rings.{ring_walk}
 use Rattle.kc_found.specs.Trials.{and_then}
 use Rattle.kc_found.specs.Violations.{Violation, breaks_field}
-use Rattle.kc_slub.specs.declared.cache.Bases.{Bases}
-use Rattle.kc_slub.specs.declared.cache.Objects.{Objects}
+use Rattle.kc_view.specs.declared.slub.SlubBases.{SlubBases}
+use Rattle.kc_view.specs.declared.slub.SlabObjects.{SlabObjects}
 
 -- a base, which may be a word of memory
 abbrev pub base_of : Image → Asked → Base → Result ℕ Violation
@@ -35,7 +35,7 @@ count_of image asked nodes (At a) =
     and_then (or_missed asked (bits image a 0 32 false)) (λ n. Ok (min nodes (low_word n.value)))
 
 -- steps 1 and 2: the two bases and the number of nodes
-abbrev pub bases_of : Image → Asked → SlubShape → Result Bases Violation
+abbrev pub bases_of : Image → Asked → SlubShape → Result SlubBases Violation
 bases_of image asked shape =
     and_then (base_of image asked shape.vmemmap) (λ v.
     and_then (base_of image asked shape.direct) (λ d.
@@ -48,7 +48,7 @@ optional_of image asked None = Ok None
 optional_of image asked (Some f) = and_then (read_field image asked asked.start f) (λ n. Ok (Some (value_of n)))
 
 -- step 3: how the objects of the cache lie in its slabs; U3 of the size
-abbrev pub objects_of : Image → Asked → SlubShape → Result Objects Violation
+abbrev pub objects_of : Image → Asked → SlubShape → Result SlabObjects Violation
 objects_of image asked shape =
     and_then (read_field image asked asked.start shape.offset) (λ o.
     and_then (read_field image asked asked.start shape.size) (λ s.
@@ -58,20 +58,20 @@ objects_of image asked shape =
     (Ok (record { size = value_of s; offset = value_of o; random = r; left_pad = unwrap_or p 0 }))))))
 
 -- how far a slab's descriptor lies in the array of descriptors
-abbrev pub descriptor_offset : Bases → ℕ → ℕ
+abbrev pub descriptor_offset : SlubBases → ℕ → ℕ
 descriptor_offset b slab = (slab + (2 ^ 64 - b.vmemmap)) % 2 ^ 64
 
 -- the number of the page that it stands for
-abbrev pub page_of : SlubShape → Bases → ℕ → ℕ
+abbrev pub page_of : SlubShape → SlubBases → ℕ → ℕ
 page_of shape b slab = descriptor_offset b slab / shape.page_size
 
 -- it is a page's descriptor: a physical address has 52 bits, so a page's number is below 2^40
-abbrev pub is_descriptor : SlubShape → Bases → ℕ → Bool
+abbrev pub is_descriptor : SlubShape → SlubBases → ℕ → Bool
 is_descriptor shape b slab =
     nat_eq (descriptor_offset b slab % shape.page_size) 0 && nat_lt (page_of shape b slab) (2 ^ 40)
 
 -- where a slab's objects lie
-abbrev pub grid_of : SlubShape → Bases → Objects → ℕ → ℕ → Grid
+abbrev pub grid_of : SlubShape → SlubBases → SlabObjects → ℕ → ℕ → Grid
 grid_of shape b o slab objects = record {
   base = at_offset (at_offset b.direct (4096 * page_of shape b slab)) o.left_pad;
   size = o.size;
@@ -87,14 +87,14 @@ list_checked image asked grid slab wanted inuse first =
     unless (not (nat_eq (length os) wanted)) (breaks_at asked U6 inuse (Some wanted)) (Ok slab))
 
 -- step 5, from `freelist` on: U4 and then the free list
-abbrev pub free_checked : Image → Asked → SlubShape → Bases → Objects → ℕ → ℕ → FieldNumber → Result ℕ Violation
+abbrev pub free_checked : Image → Asked → SlubShape → SlubBases → SlabObjects → ℕ → ℕ → FieldNumber → Result ℕ Violation
 free_checked image asked shape b o slab objects inuse =
     and_then (read_field image asked slab shape.freelist) (λ f.
     unless (not (is_descriptor shape b slab)) (breaks_field asked U4 slab f.number None)
     (list_checked image asked (grid_of shape b o slab objects) slab (objects - value_of inuse) inuse f.number))
 
 -- step 5, of the numbers of objects: U3 of `objects`
-abbrev pub counts_checked : Image → Asked → SlubShape → Bases → Objects → ℕ → Result ℕ Violation
+abbrev pub counts_checked : Image → Asked → SlubShape → SlubBases → SlabObjects → ℕ → Result ℕ Violation
 counts_checked image asked shape b o slab =
     and_then (read_field image asked slab shape.objects) (λ n.
     and_then (read_field image asked slab shape.inuse) (λ u.
@@ -102,7 +102,7 @@ counts_checked image asked shape b o slab =
     (free_checked image asked shape b o slab (value_of n) u)))
 
 -- step 5 whole: U1 of `slab_cache` and U2 of `frozen` come first
-abbrev pub slab_checked : Image → Asked → SlubShape → Bases → Objects → ℕ → Result ℕ Violation
+abbrev pub slab_checked : Image → Asked → SlubShape → SlubBases → SlabObjects → ℕ → Result ℕ Violation
 slab_checked image asked shape b o slab =
     and_then (holds image asked U1 slab shape.slab_cache asked.start) (λ _.
     and_then (holds image asked U2 slab shape.frozen 0) (λ _.
@@ -113,7 +113,7 @@ abbrev pub slab_of : SlubShape → ℕ → ℕ
 slab_of shape node = (node + (2 ^ 64 - shape.slab_list)) % 2 ^ 64
 
 -- the slabs so far, and those of the nodes of a ring
-unfoldable pub slabs_checked : Image → Asked → SlubShape → Bases → Objects → List ℕ → List ℕ → Result (List ℕ) Violation
+unfoldable pub slabs_checked : Image → Asked → SlubShape → SlubBases → SlabObjects → List ℕ → List ℕ → Result (List ℕ) Violation
 slabs_checked image asked shape b o slabs [] = Ok slabs
 slabs_checked image asked shape b o slabs (n ∷ ns) =
     and_then (slab_checked image asked shape b o (slab_of shape n)) (λ s.
@@ -125,7 +125,7 @@ partial_of image asked shape knode =
     started_at asked.start (ring_walk image shape.list asked.audit (at_offset knode shape.partial))
 
 -- step 4 of a node: `nr_partial`, the ring, its slabs, and then U7
-abbrev pub knode_checked : Image → Asked → SlubShape → Bases → Objects → List ℕ → ℕ → Result (List ℕ) Violation
+abbrev pub knode_checked : Image → Asked → SlubShape → SlubBases → SlabObjects → List ℕ → ℕ → Result (List ℕ) Violation
 knode_checked image asked shape b o slabs knode =
     and_then (read_field image asked knode shape.nr_partial) (λ p.
     and_then (partial_of image asked shape knode) (λ ns.
@@ -137,13 +137,13 @@ abbrev pub node_at : Asked → SlubShape → ℕ → ℕ
 node_at asked shape i = at_offset (at_offset asked.start shape.node) (8 * i)
 
 -- step 4 of a pointer: a null one is passed over
-abbrev pub node_checked : Image → Asked → SlubShape → Bases → Objects → List ℕ → ℕ → Result (List ℕ) Violation
+abbrev pub node_checked : Image → Asked → SlubShape → SlubBases → SlabObjects → List ℕ → ℕ → Result (List ℕ) Violation
 node_checked image asked shape b o slabs i =
     and_then (or_missed asked (number_in image (node_at asked shape i))) (λ p.
     if nat_eq (low_word p.value) 0 then Ok slabs else knode_checked image asked shape b o slabs (low_word p.value))
 
 -- step 4 of so many pointers, from index i on
-unfoldable pub nodes_checked : Image → Asked → SlubShape → Bases → Objects → ℕ → ℕ → List ℕ → Result (List ℕ) Violation
+unfoldable pub nodes_checked : Image → Asked → SlubShape → SlubBases → SlabObjects → ℕ → ℕ → List ℕ → Result (List ℕ) Violation
 nodes_checked image asked shape b o zero i slabs = Ok slabs
 nodes_checked image asked shape b o (suc left) i slabs =
     and_then (node_checked image asked shape b o slabs i) (λ more.

@@ -16,9 +16,9 @@ use Rattle.kc_found.specs.FiniteLists.{FreeChain, Ring}
 use Rattle.kc_found.specs.FiniteLists as lists
 use Rattle.kc_found.specs.FreeLists.{low_word, number_in}
 use Rattle.kc_found.specs.Nodes.{at_offset, readable}
-use Rattle.kc_slub.specs.Caches.{descriptor_offset, grid_of, page_of, slab_of}
-use Rattle.kc_slub.specs.declared.cache.Bases.{Bases}
-use Rattle.kc_slub.specs.declared.cache.Objects.{Objects}
+use Rattle.kc_view.specs.Caches.{descriptor_offset, grid_of, page_of, slab_of}
+use Rattle.kc_view.specs.declared.slub.SlubBases.{SlubBases}
+use Rattle.kc_view.specs.declared.slub.SlabObjects.{SlabObjects}
 
 -- a field that a kernel may not have can be read where it is there, and is this number modulo 2^64
 abbrev pub OptionalIs : Image → ℕ → Option Field → Option ℕ → Type 0
@@ -40,7 +40,7 @@ CountIs image (Is count) n = n ≡ count
 CountIs image (At a) n = NumberIs (bits image a 0 32 false) n
 
 -- the bases, and how many pointers of the array `node` count
-pub record AreBases (image : Image) (shape : SlubShape) (b : Bases) : Type 0 where
+pub record AreBases (image : Image) (shape : SlubShape) (b : SlubBases) : Type 0 where
   pub vmemmap : BaseIs image shape.vmemmap b.vmemmap
   pub direct : BaseIs image shape.direct b.direct
   pub count : ℕ
@@ -48,7 +48,7 @@ pub record AreBases (image : Image) (shape : SlubShape) (b : Bases) : Type 0 whe
   pub nodes : b.nodes ≡ min shape.nodes count
 
 -- how the objects of a cache lie: they have a size, in which the 8 bytes of their free pointer lie
-pub record AreObjects (image : Image) (shape : SlubShape) (cache : ℕ) (o : Objects) : Type 0 where
+pub record AreObjects (image : Image) (shape : SlubShape) (cache : ℕ) (o : SlabObjects) : Type 0 where
   pub offset : FieldIs image cache shape.offset o.offset
   pub size : FieldIs image cache shape.size o.size
   pub random : OptionalIs image cache shape.random o.random
@@ -60,7 +60,7 @@ pub record AreObjects (image : Image) (shape : SlubShape) (cache : ℕ) (o : Obj
 
 -- A slab of a cache: it names the cache, no processor owns it, it is a page's descriptor, and its free objects make up
 -- a free list, as many as aren't in use.
-pub record IsSlab (image : Image) (shape : SlubShape) (b : Bases) (o : Objects) (cache slab : ℕ) : Type 0 where
+pub record IsSlab (image : Image) (shape : SlubShape) (b : SlubBases) (o : SlabObjects) (cache slab : ℕ) : Type 0 where
   pub slab_cache : FieldIs image slab shape.slab_cache cache
   pub frozen : FieldIs image slab shape.frozen 0
   pub objects : ℕ
@@ -78,7 +78,7 @@ pub record IsSlab (image : Image) (shape : SlubShape) (b : Bases) (o : Objects) 
   pub length : length free ≡ objects - inuse
 
 -- the slabs of a node: its ring has them, each is one of the cache, and the node says how many they are
-pub record AreListed (image : Image) (shape : SlubShape) (b : Bases) (o : Objects) (cache knode : ℕ) (slabs : List ℕ)
+pub record AreListed (image : Image) (shape : SlubShape) (b : SlubBases) (o : SlabObjects) (cache knode : ℕ) (slabs : List ℕ)
     : Type 0 where
   pub nodes : List ℕ
   pub ring : Ring (vword image) shape.list (at_offset knode shape.partial) nodes
@@ -87,7 +87,7 @@ pub record AreListed (image : Image) (shape : SlubShape) (b : Bases) (o : Object
   pub counted : FieldIs image knode shape.nr_partial (length nodes)
 
 -- the pointer at an index of the array `node` can be read, and where it is null there are no slabs
-pub record AreOfNode (image : Image) (shape : SlubShape) (b : Bases) (o : Objects) (cache i : ℕ) (slabs : List ℕ)
+pub record AreOfNode (image : Image) (shape : SlubShape) (b : SlubBases) (o : SlabObjects) (cache i : ℕ) (slabs : List ℕ)
     : Type 0 where
   pub knode : ℕ
   pub leads : NumberIs (number_in image (at_offset (at_offset cache shape.node) (8 * i))) knode
@@ -95,8 +95,8 @@ pub record AreOfNode (image : Image) (shape : SlubShape) (b : Bases) (o : Object
 
 -- The slabs of a cache, node by node.
 pub record Slub (image : Image) (shape : SlubShape) (cache : ℕ) (slabs : List ℕ) : Type 0 where
-  pub bases : Bases
-  pub objects : Objects
+  pub bases : SlubBases
+  pub objects : SlabObjects
   pub by_node : List (List ℕ)
   pub stand : AreBases image shape bases
   pub lie : AreObjects image shape cache objects
