@@ -1,5 +1,5 @@
 #!/usr/bin/env python3
-"""Compares the tables of definitions in docs/CLAIMS.md with the files.
+"""Compares the tables of definitions in docs/DEFINITIONS.md with the files.
 
 usage: claims.py [--write]    at the top of the repository; --write puts the right numbers into the tables
 
@@ -14,7 +14,7 @@ import os
 import re
 import sys
 
-CLAIMS = "docs/CLAIMS.md"
+TABLES = "docs/DEFINITIONS.md"
 
 # The contracts of each program: a file, and a function of it.
 PROGRAMS = {
@@ -198,10 +198,10 @@ def main():
     columns = [counts(reached(roots["kaudit"], set())), counts(reached(roots["kaudit"], NOT_CLEAN))]
     columns += [counts(reached(it, set())) for program, it in roots.items() if program != "kaudit"]
     wanted = {file: [it.get(file, 0) for it in columns] for file in set().union(*columns)}
-    text = read(CLAIMS)
+    text = read(TABLES)
     right = numbered(text, wanted)
     if "--write" in sys.argv:
-        with open(CLAIMS, "w", encoding="utf-8") as file:
+        with open(TABLES, "w", encoding="utf-8") as file:
             file.write(right)
         text = right
     listed = {it[1] for it in map(ROW.match, text.split("\n")) if it}
