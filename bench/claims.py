@@ -7,7 +7,7 @@ It follows the names of definitions from the contracts of the programs, item by 
 blank lines, comments and imports: all of them, and those on which the clause stands that `check` is clean exactly where every
 structure stands. It prints what the tables lack, what they have too much, and wrong numbers. It also prints where a blank for
 a counter of steps is made outside the crates that may make one: everywhere else the bound on steps would bind a counter that
-nobody looks at.
+nobody looks at. And it prints which crates import another's lemmas, but for those whose lemmas are there for others.
 """
 import glob
 import os
@@ -31,6 +31,11 @@ NOT_CLEAN = {"audited_shown", "refusal_line", "ShownStand", "word_form", "layout
 
 # The crates that make counters of steps.
 MAKE_BLANKS = {"kc_app"}
+
+# The crates whose lemmas speak of their definitions alone, and are there for all above.
+GIVE_LEMMAS = {"kc_word", "kc_memory", "kc_found", "kc_text"}
+
+BORROWED = re.compile(r"\bRattle\.(kc_\w+)\.proofs\.")
 
 USE = re.compile(r"^\s*(?:ghost |pub |unfoldable )*use Rattle\.(kc_\w+)\.specs\.([\w.]+?)(?:\.\{([^}]*)\}| as (\w+))?;?\s*$", re.M)
 BEGINS = re.compile(r"^(?:(?:pub|abbrev|unfoldable|opaque|data|record) )+([^\s(:{]+)")
@@ -193,6 +198,18 @@ def blanks():
             yield f"{path}: a blank is made"
 
 
+def borrowed():
+    """The crates that import another's lemmas, with the number of such files."""
+    found = {}
+    for path in glob.glob("crates/*/**/*", recursive=True):
+        crate = path.split("/")[1]
+        if path.endswith((".rt", ".antt")) and "/out/" not in path:
+            for other in set(BORROWED.findall(read(path))) - GIVE_LEMMAS - {crate}:
+                found[crate, other] = found.get((crate, other), 0) + 1
+    for (crate, other), files in sorted(found.items()):
+        yield f"{crate} imports lemmas of {other}, in {files} files"
+
+
 def main():
     roots = {program: set().union(*(contract(*it) for it in where)) for program, where in PROGRAMS.items() if os.path.exists(where[0][0])}
     columns = [counts(reached(roots["kaudit"], set())), counts(reached(roots["kaudit"], NOT_CLEAN))]
@@ -208,7 +225,7 @@ def main():
     wrong = [f"{file} isn't listed: {wanted[file]}" for file in sorted(wanted.keys() - listed)]
     wrong += [f"{file} isn't cited" for file in sorted(listed - wanted.keys())]
     wrong += [f"{old}   has to be\n{new}" for old, new in zip(text.split("\n"), right.split("\n")) if old != new]
-    wrong += blanks()
+    wrong += [*blanks(), *borrowed()]
     print("\n".join(wrong) or f"{len(wanted)} files as the tables say")
     sys.exit(bool(wrong))
 
