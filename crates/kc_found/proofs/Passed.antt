@@ -1,59 +1,96 @@
 -- What it says that trials pass, one list of them after another.
-use Rattle.std.proofs.Common.{◌≡◌, ℕ, nat_eq, Bool, true, false, List, [], ◌∷◌, ◌++◌, refl, sym, ◌∙◌, ap, append_assoc, append-nil}
+use Rattle.std.proofs.Common.{◌≡◌, ℕ, ◌+◌, nat_eq, Bool, true, false, List, [], ◌∷◌, ◌++◌, length, refl, sym, ◌∙◌, ap, arith}
 use Rattle.std.specs.Prelude.{Result, Ok, Err, if◌then◌else◌}
 use Rattle.std.specs.List.{IsDistinct, AllByRecursion}
-use Rattle.std.specs.Cmp.{nat_eq_equiv}
-use Rattle.std.proofs.lemmas.Map.Keys.{IsDistinct-push}
-use Rattle.kc_found.specs.Taken.{is_taken}
+use Rattle.std.specs.Set.{is_member}
+use Rattle.kc_found.specs.Taken.{is_taken, with_word}
 use Rattle.kc_found.specs.Trials.{Trial, Claim, Break, Meet, and_then, claimed, passed, met, claimed_in, IsUnbroken}
 use Rattle.kc_found.specs.Violations.{Violation}
+use Rattle.kc_memory.proofs.HeldLaws.{AllAmong}
+use Rattle.kc_found.proofs.Rising.{one_longer, all_with, still_distinct, new_before, new_after}
 
 pub distinct_none : IsDistinct nat_eq []
 unfolding IsDistinct
 distinct_none = tt
 
-distinct_at : {X : Type 0} (taken : List ℕ) (pa : ℕ) (v : Violation) (ts : List (Trial X)) (more : List ℕ) (b : Bool) → is_taken taken pa ≡ b →
-    and_then (if b then Err v else Ok (taken ++ pa ∷ [])) (λ m. passed m ts) ≡ Ok more → IsDistinct nat_eq taken →
-    (passed (taken ++ pa ∷ []) ts ≡ Ok more → IsDistinct nat_eq (taken ++ pa ∷ []) → IsDistinct nat_eq more) → IsDistinct nat_eq more
-distinct_at taken pa v ts more true is e d next = absurd (cc)
-distinct_at taken pa v ts more false is e d next = next e (IsDistinct-push nat_eq_equiv taken pa d is)
+-- none of some words was taken
+abbrev AreNew : List ℕ → List ℕ → Type 0
+AreNew taken words = AllByRecursion (λ w. is_taken taken w ≡ false) words
 
--- the words taken stay different
-pub passed_distinct : {X : Type 0} (taken : List ℕ) (ts : List (Trial X)) (more : List ℕ) → passed taken ts ≡ Ok more → IsDistinct nat_eq taken → IsDistinct nat_eq more
-passed_distinct taken [] more e d = let same : taken ≡ more = cc in rw same at d
-passed_distinct taken (Claim pa v ∷ ts) more e d = distinct_at taken pa v ts more (is_taken taken pa) refl e d (passed_distinct (taken ++ pa ∷ []) ts more)
-passed_distinct taken (Break v ∷ ts) more e d = absurd (cc)
-passed_distinct taken (Meet x ∷ ts) more e d = passed_distinct taken ts more e d
+-- What trials that pass say: they break no rule, the words that they take are new and different, and after them these
+-- and those from before are taken.
+pub record Passes {X : Type 0} (taken : List ℕ) (ts : List (Trial X)) (more : List ℕ) : Type 0 where
+  pub unbroken : IsUnbroken ts
+  pub fresh : AreNew taken (claimed_in ts)
+  pub apart : IsDistinct nat_eq (claimed_in ts)
+  pub longer : length more ≡ length taken + length (claimed_in ts)
+  pub distinct : IsDistinct nat_eq taken → IsDistinct nat_eq more
+  pub among : (known : List ℕ) → AllAmong known taken → AllAmong known (claimed_in ts) → AllAmong known more
 
-is_at : {X : Type 0} (taken : List ℕ) (pa : ℕ) (v : Violation) (ts : List (Trial X)) (more : List ℕ) (b : Bool) →
-    and_then (if b then Err v else Ok (taken ++ pa ∷ [])) (λ m. passed m ts) ≡ Ok more →
-    (passed (taken ++ pa ∷ []) ts ≡ Ok more → (more ≡ (taken ++ pa ∷ []) ++ claimed_in ts) × IsUnbroken ts) → (more ≡ taken ++ pa ∷ claimed_in ts) × IsUnbroken ts
-is_at taken pa v ts more true e next = absurd (cc)
-is_at taken pa v ts more false e next = ((next e).0 ∙ append_assoc taken (pa ∷ []) (claimed_in ts), (next e).1)
+-- words that are new after one more are new before it, and differ from it
+fresh_before : (taken : List ℕ) (pa : ℕ) (words : List ℕ) → is_taken taken pa ≡ false → AreNew (with_word taken pa) words → AreNew taken words × AllByRecursion (λ w. nat_eq pa w ≡ false) words
+fresh_before taken pa [] new h = (tt, tt)
+fresh_before taken pa (w ∷ ws) new h =
+    let one = new_before taken pa w new h.0 in
+    let rest = fresh_before taken pa ws new h.1 in
+    ((one.1, rest.0), (one.0, rest.1))
 
--- the words taken are those before and those that the trials take
-pub passed_is : {X : Type 0} (taken : List ℕ) (ts : List (Trial X)) (more : List ℕ) → passed taken ts ≡ Ok more → (more ≡ taken ++ claimed_in ts) × IsUnbroken ts
-passed_is taken [] more e = (let same : taken ≡ more = cc in sym same ∙ sym (append-nil taken), tt)
-passed_is taken (Claim pa v ∷ ts) more e = is_at taken pa v ts more (is_taken taken pa) e (passed_is (taken ++ pa ∷ []) ts more)
-passed_is taken (Break v ∷ ts) more e = absurd (cc)
-passed_is taken (Meet x ∷ ts) more e = passed_is taken ts more e
+fresh_after : (taken : List ℕ) (pa : ℕ) (words : List ℕ) → is_taken taken pa ≡ false → AreNew taken words → AllByRecursion (λ w. nat_eq pa w ≡ false) words → AreNew (with_word taken pa) words
+fresh_after taken pa [] new h other = tt
+fresh_after taken pa (w ∷ ws) new h other = (new_after taken pa w new other.0 h.0, fresh_after taken pa ws new h.1 other.1)
 
-each_after : (P : ℕ → Type 0) (xs : List ℕ) (y : ℕ) (zs : List ℕ) → AllByRecursion P (xs ++ y ∷ zs) → P y
-each_after P [] y zs h = h.0
-each_after P (x ∷ xs) y zs h = each_after P xs y zs h.1
-
-apart : (xs : List ℕ) (y : ℕ) (zs : List ℕ) → IsDistinct nat_eq (xs ++ y ∷ zs) → is_taken xs y ≡ false
+one_more : {X : Type 0} (taken : List ℕ) (pa : ℕ) (v : Violation) (ts : List (Trial X)) (more : List ℕ) → is_taken taken pa ≡ false → Passes (with_word taken pa) ts more → Passes taken (Claim pa v ∷ ts) more
 unfolding IsDistinct
-apart [] y zs d = refl
-apart (x ∷ xs) y zs d = rw (nat_eq_equiv.symm y x, each_after (λ v. nat_eq x v ≡ false) xs y zs d.0) (apart xs y zs d.1)
+one_more taken pa v ts more new p =
+    let rest = fresh_before taken pa (claimed_in ts) new p.fresh in
+    let size = one_longer taken pa new in
+    record {
+      unbroken = p.unbroken;
+      fresh = (new, rest.0);
+      apart = (rest.1, p.apart);
+      longer = omega (arith, p.longer, size);
+      distinct = λ d. p.distinct (still_distinct taken pa new d);
+      among = λ known before words. p.among known (all_with (λ w. is_member nat_eq known w ≡ true) taken pa new before words.0) words.1;
+    }
+
+passes_at : {X : Type 0} (taken : List ℕ) (pa : ℕ) (v : Violation) (ts : List (Trial X)) (more : List ℕ) (b : Bool) → is_taken taken pa ≡ b → and_then (if b then Err v else Ok (with_word taken pa)) (λ m. passed m ts) ≡ Ok more →
+    (passed (with_word taken pa) ts ≡ Ok more → Passes (with_word taken pa) ts more) → Passes taken (Claim pa v ∷ ts) more
+passes_at taken pa v ts more true is e next = absurd (cc)
+passes_at taken pa v ts more false is e next = one_more taken pa v ts more is (next e)
+
+passes_none : {X : Type 0} (taken more : List ℕ) → taken ≡ more → Passes {X = X} taken [] more
+passes_none taken more same = record {
+  unbroken = tt;
+  fresh = tt;
+  apart = distinct_none;
+  longer = ap length (sym same) ∙ omega arith;
+  distinct = λ d. rw same at d;
+  among = λ known before words. rw same at before;
+}
+
+pub passed_is : {X : Type 0} (taken : List ℕ) (ts : List (Trial X)) (more : List ℕ) → passed taken ts ≡ Ok more → Passes taken ts more
+passed_is taken [] more e = passes_none taken more (cc)
+passed_is taken (Claim pa v ∷ ts) more e = passes_at taken pa v ts more (is_taken taken pa) refl e (passed_is (with_word taken pa) ts more)
+passed_is taken (Break v ∷ ts) more e = absurd (cc)
+passed_is taken (Meet x ∷ ts) more e = let p = passed_is taken ts more e in record { unbroken = p.unbroken; fresh = p.fresh; apart = p.apart; longer = p.longer; distinct = p.distinct; among = p.among }
+
+passes_after : {X : Type 0} (taken : List ℕ) (ts : List (Trial X)) → IsUnbroken ts → AreNew taken (claimed_in ts) → IsDistinct nat_eq (claimed_in ts) → (more : List ℕ) × (passed taken ts ≡ Ok more)
+unfolding IsDistinct
+passes_after taken [] u new d = (taken, refl)
+passes_after taken (Claim pa v ∷ ts) u new d = rw (new.0) (passes_after (with_word taken pa) ts u (fresh_after taken pa (claimed_in ts) new.0 new.1 d.0) d.1)
+passes_after taken (Break v ∷ ts) u new d = absurd u
+passes_after taken (Meet x ∷ ts) u new d = passes_after taken ts u new d
+
+all_new : (words : List ℕ) → AreNew [] words
+all_new [] = tt
+all_new (w ∷ ws) = (refl, all_new ws)
+
+pub passed_distinct : {X : Type 0} (taken : List ℕ) (ts : List (Trial X)) (more : List ℕ) → passed taken ts ≡ Ok more → IsDistinct nat_eq taken → IsDistinct nat_eq more
+passed_distinct taken ts more e = (passed_is taken ts more e).distinct
 
 -- trials that break no rule pass, where the words that they take are different
-pub passes : {X : Type 0} (taken : List ℕ) (ts : List (Trial X)) → IsUnbroken ts → IsDistinct nat_eq (taken ++ claimed_in ts) → passed taken ts ≡ Ok (taken ++ claimed_in ts)
-passes taken [] u d = ap Ok (sym (append-nil taken))
-passes taken (Claim pa v ∷ ts) u d =
-    rw (apart taken pa (claimed_in ts) d) (passes (taken ++ pa ∷ []) ts u (rw (append_assoc taken (pa ∷ []) (claimed_in ts)) d) ∙ ap Ok (append_assoc taken (pa ∷ []) (claimed_in ts)))
-passes taken (Break v ∷ ts) u d = absurd u
-passes taken (Meet x ∷ ts) u d = passes taken ts u d
+pub passes : {X : Type 0} (ts : List (Trial X)) → IsUnbroken ts → IsDistinct nat_eq (claimed_in ts) → (more : List ℕ) × (passed [] ts ≡ Ok more)
+passes ts u d = passes_after [] ts u (all_new (claimed_in ts)) d
 
 and_then-assoc : {A B C E : Type 0} (r : Result A E) (f : A → Result B E) (h : B → Result C E) → and_then (and_then r f) h ≡ and_then r (λ x. and_then (f x) h)
 and_then-assoc (Ok x) f h = refl

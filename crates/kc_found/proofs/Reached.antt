@@ -7,7 +7,7 @@ use Rattle.kc_memory.specs.Held.{held, word_count}
 use Rattle.kc_found.specs.Chains.{ChainOf, from_there, chain_trials, chain_sites}
 use Rattle.kc_found.specs.Trials.{Trial, Meet, and_then, passed, met, judged, claimed_in, IsUnbroken}
 use Rattle.kc_found.specs.Violations.{Violation}
-use Rattle.kc_memory.proofs.HeldLaws.{AllAmong, among_append, bounded}
+use Rattle.kc_memory.proofs.HeldLaws.{AllAmong, bounded}
 use Rattle.kc_found.proofs.Passed.{distinct_none, passed_distinct, passed_is, passed_goes, passed_stops, met-append}
 
 -- what is so of each kind of chain, in a memory
@@ -50,7 +50,7 @@ left_of physical k taken walked s r = suc_left (word_count physical) (length wal
 
 -- what was taken after trials that passed
 taken_after : (physical : Physical) (taken : List ℕ) (ts : List (Trial ℕ)) (more : List ℕ) → passed taken ts ≡ Ok more → AllAmong (held physical) taken → AllAmong (held physical) (claimed_in ts) → AllAmong (held physical) more
-taken_after physical taken ts more e h j = rw (passed_is taken ts more e).0 (among_append (held physical) taken (claimed_in ts) h j)
+taken_after physical taken ts more e h j = (passed_is taken ts more e).among (held physical) h j
 
 pub begins : {S : Type 0} (physical : Physical) (k : ChainOf S) (s : S) (more : List ℕ) → IsChain physical k → k.start ≡ Some s → passed [] k.head ≡ Ok more → Reached physical k more [] s
 begins physical k s more is start e =
@@ -79,15 +79,14 @@ goes_on physical k taken walked s t more is r inner next e =
     let fewer : w + 1 - length (walked ++ k.element s ∷ []) ≡ w - length walked = omega (arith, size, fits) in
     let now = Meet (k.element s) ∷ chain_trials k (w - length walked) t in
     let passes = passed_is taken (k.site s) more e in
-    let longer : length more ≡ length taken + length (claimed_in (k.site s)) = ap length passes.0 ∙ length-append taken (claimed_in (k.site s)) in
-    let some = is.site_takes s passes.1 in
+    let some = is.site_takes s passes.unbroken in
     let trials : chain_trials k (w + 1 - length walked) s ≡ k.site s ++ now =
     ap (λ n. chain_trials k n s) left ∙ at_site k (w - length walked) s inner ∙ ap (λ o. k.site s ++ from_there o (λ u. Meet (k.element s) ∷ chain_trials k (w - length walked) u)) next in
     record {
       passes = r.passes ∙ ap (passed taken) trials ∙ passed_goes taken (k.site s) now more e ∙ sym (ap (λ n. passed more (chain_trials k n t)) fewer);
       meets = r.meets ∙ ap (λ ts. walked ++ met ts) trials ∙ ap (λ xs. walked ++ xs) (met-append (k.site s) now ∙ ap (λ xs. xs ++ met now) (is.site_bare s))
           ∙ sym (append_assoc walked (k.element s ∷ []) (met (chain_trials k (w - length walked) t))) ∙ sym (ap (λ n. (walked ++ k.element s ∷ []) ++ met (chain_trials k n t)) fewer);
-      sizes = omega (arith, size, longer, some, r.sizes);
+      sizes = omega (arith, size, passes.longer, some, r.sizes);
       different = passed_distinct taken (k.site s) more e r.different;
       among = taken_after physical taken (k.site s) more e r.among (is.site_known s);
     }

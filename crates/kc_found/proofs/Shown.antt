@@ -4,7 +4,7 @@ use Rattle.std.specs.Prelude.{Result, Ok, Err, ⊤, if◌then◌else◌}
 use Rattle.kc_memory.specs.declared.words.Place.{Place}
 use Rattle.kc_memory.specs.Image.{Image}
 use Rattle.kc_memory.specs.Places.{AllStandIn}
-use Rattle.kc_found.specs.Taken.{is_taken}
+use Rattle.kc_found.specs.Taken.{is_taken, with_word}
 use Rattle.kc_found.specs.Trials.{Trial, Claim, Break, Meet, and_then, broken_if, judged, met, passed}
 use Rattle.kc_found.specs.Violations.{Violation}
 
@@ -33,7 +33,7 @@ claim_shows image false more v w go here next is = next is
 passed_shows : {X : Type 0} (image : Image) (taken : List ℕ) (ts : List (Trial X)) (v : Violation) → AllShow image ts → passed taken ts ≡ Err v → AllStandIn image v.places
 passed_shows image taken [] v a is = let none : ⊥ = cc in absurd none
 passed_shows image taken (Claim pa u ∷ ts) v a is =
-    claim_shows image (is_taken taken pa) (taken ++ pa ∷ []) u v (λ more. passed more ts) a.0 (passed_shows image (taken ++ pa ∷ []) ts v a.1) is
+    claim_shows image (is_taken taken pa) (with_word taken pa) u v (λ more. passed more ts) a.0 (passed_shows image (with_word taken pa) ts v a.1) is
 passed_shows image taken (Break u ∷ ts) v a is = let same : u ≡ v = cc in subst (λ (w : Violation). AllStandIn image w.places) same a.0
 passed_shows image taken (Meet x ∷ ts) v a is = passed_shows image taken ts v a is
 

@@ -8,7 +8,7 @@ use Rattle.kc_found.specs.Chains.{ChainOf, from_there, chain_trials, chain_sites
 use Rattle.kc_found.specs.Trials.{Meet, and_then, passed, met, judged, claimed_in, IsUnbroken}
 use Rattle.kc_found.specs.Violations.{Violation}
 use Rattle.kc_memory.proofs.HeldLaws.{AllAmong, among_append, bounded}
-use Rattle.kc_found.proofs.Passed.{distinct_none, passed_distinct, passed_is, passes, met-append, claimed_in-append, unbroken_parts, unbroken_whole}
+use Rattle.kc_found.proofs.Passed.{passed_is, passes, met-append, claimed_in-append, unbroken_parts, unbroken_whole}
 use Rattle.kc_found.proofs.Reached.{IsChain, at_end, at_site}
 
 -- these are the elements from here to the end, and no rule but A is broken at their sites
@@ -151,15 +151,14 @@ whole_of_walk {S} physical k words ns is has e =
     let all = chain_sites k (w + 1) in
     let j = judged_ok (passed [] all) (met all) ns e in
     let pass = passed_is [] all j.0 j.1 in
-    let apart : IsDistinct nat_eq (claimed_in all) = rw pass.0 at (passed_distinct [] all j.0 j.1 distinct_none) in
-    let parts = unbroken_parts k.head (from_there k.start (chain_trials k (w + 1))) pass.1 in
+    let parts = unbroken_parts k.head (from_there k.start (chain_trials k (w + 1))) pass.unbroken in
     let leads = is.head_leads parts.0 in
     let s = leads.0 in
     let on : from_there k.start (chain_trials k (w + 1)) ≡ chain_trials k (w + 1) s = ap (λ o. from_there o (chain_trials k (w + 1))) leads.1 in
     let good : IsUnbroken (chain_trials k (w + 1) s) = subst (λ (o : Option S). IsUnbroken (from_there o (chain_trials k (w + 1)))) leads.1 parts.1 in
     let words_are : claimed_in all ≡ claimed_in k.head ++ claimed_in (chain_trials k (w + 1) s) = claimed_in-append k.head _ ∙ ap (λ ts. claimed_in k.head ++ claimed_in ts) on in
     let met_are : met (chain_trials k (w + 1) s) ≡ ns = sym (met-append k.head (from_there k.start (chain_trials k (w + 1))) ∙ ap (λ xs. xs ++ met (from_there k.start (chain_trials k (w + 1)))) is.head_bare ∙ ap met on) ∙ j.2 in
-    let differ : IsDistinct nat_eq (claimed_in k.head ++ claimed_in (chain_trials k (w + 1) s)) = rw words_are at apart in
+    let differ : IsDistinct nat_eq (claimed_in k.head ++ claimed_in (chain_trials k (w + 1) s)) = rw words_are at pass.apart in
     let bound = bounded physical (claimed_in k.head ++ claimed_in (chain_trials k (w + 1) s)) differ (among_append (held physical) (claimed_in k.head) _ is.head_known (known_trials physical k (w + 1) s is good)) in
     let few = few_met physical k (w + 1) s is good in
     let size = length-append (claimed_in k.head) (claimed_in (chain_trials k (w + 1) s)) in
@@ -189,5 +188,5 @@ walk_of_whole physical k words ns is has whole =
     let words_are : claimed_in all ≡ claimed_in k.head ++ words ns = ap claimed_in on ∙ claimed_in-append k.head (chain_trials k (w + 1) s) ∙ ap (λ xs. claimed_in k.head ++ xs) sites.words_are in
     let met_are : met all ≡ ns = ap met on ∙ met-append k.head (chain_trials k (w + 1) s) ∙ ap (λ xs. xs ++ met (chain_trials k (w + 1) s)) is.head_bare ∙ sites.met_is in
     let good : IsUnbroken all = rw on (unbroken_whole k.head (chain_trials k (w + 1) s) whole.head sites.good) in
-    let pass = passes [] all good (rw words_are whole.different) in
-    ap (λ t. and_then t (λ taken. Ok (met all))) pass ∙ ap Ok met_are
+    let pass = passes all good (rw words_are whole.different) in
+    ap (λ t. and_then t (λ taken. Ok (met all))) pass.1 ∙ ap Ok met_are

@@ -38,6 +38,6 @@ abbrev pub chain_sites : {S : Type 0} → ChainOf S → ℕ → List (Trial ℕ)
 chain_sites k left = k.head ++ from_there k.start (chain_trials k left)
 
 -- The addresses of the sites after a chain's head, or its first violation. In a memory of W words W + 1 of them are
--- looked at: that many good ones would take more than W words.
+-- looked at, or fewer: W + 1 good ones would take more than W words.
 abbrev pub chain_walk : {S : Type 0} → Physical → ChainOf S → Result (List ℕ) Violation
 chain_walk physical k = judged (chain_sites k (word_count physical + 1))

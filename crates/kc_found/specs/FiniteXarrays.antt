@@ -1,5 +1,6 @@
--- What a finite tree of nodes has to meet, to be an xarray. Source: the kernel's include/linux/xarray.h.
-use Rattle.std.specs.Prelude.{◌≡◌, ℕ, ◌+◌, ◌-◌, ◌<◌, ◌≤◌, ◌^◌, true, nat_eq, IsTrue, List, [], ◌∷◌, ◌++◌, map, Option, Some, None, Result, Ok, ⊤}
+-- What a finite tree of nodes has to meet, to be an xarray. Source: the kernel's include/linux/xarray.h,
+-- `struct xa_node` and the kinds of entries, and lib/xarray.c.
+use Rattle.std.specs.Prelude.{◌≡◌, ℕ, ◌+◌, ◌-◌, ◌<◌, ◌≤◌, ◌^◌, true, nat_eq, IsTrue, List, [], ◌∷◌, ◌++◌, map, Option, Some, None, Ok, ⊤}
 use Rattle.std.specs.List.{IsDistinct}
 use Rattle.kc_memory.specs.declared.words.VWord.{VWord}
 use Rattle.kc_found.specs.declared.xarrays.XaEntry.{XaEntry}

@@ -1,5 +1,5 @@
 -- What a finite tree of nodes has to meet, to be a red-black tree. Source: the kernel's lib/rbtree.c, "red-black trees
--- properties", and include/linux/rbtree.h, `rb_add_cached`.
+-- properties", and for a cached root include/linux/rbtree.h, `rb_add_cached`.
 use Rattle.std.specs.Prelude.{◌≡◌, ℕ, ◌+◌, Bool, true, false, ◌&&◌, nat_eq, ℤ, ◌≤ℤ◌, ◌<ℤ◌, List, [], ◌∷◌, ◌++◌, get_or, Option, Some, None, if◌then◌else◌, Result, Ok, Err, ⊤}
 use Rattle.std.specs.List.{IsDistinct}
 use Rattle.kc_memory.specs.declared.words.VWord.{VWord}
@@ -105,6 +105,18 @@ key_value (Err s) = []
 abbrev pub keys_in : Reads → RbShape → List ℕ → List ℤ
 keys_in read shape [] = []
 keys_in read shape (n ∷ ns) = key_value (key_of read shape n) ++ keys_in read shape ns
+
+-- 1 for a black node, by the colour in its first word
+abbrev pub black_of : Result RbLinks Stopped → ℕ
+black_of (Ok w) = count_of (is_red w.parent.value)
+black_of (Err s) = 0
+
+-- the black nodes above each null from left to right, with those above the tree
+abbrev pub blacks_above : Reads → RbShape → Tree → ℕ → List ℕ
+blacks_above read shape Leaf above = above ∷ []
+blacks_above read shape (Node n l r) above =
+    blacks_above read shape l (above + black_of (links_of read.word shape n))
+    ++ blacks_above read shape r (above + black_of (links_of read.word shape n))
 
 -- numbers that never fall from a lower bound on, and rise where `unique`
 abbrev pub AreRising : Bool → Option ℤ → List ℤ → Type 0

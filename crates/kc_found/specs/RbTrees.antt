@@ -1,6 +1,7 @@
 -- The sites of a red-black tree: its head, then its positions in preorder, nulls too, and the end of a cached root.
--- Source: the kernel's include/linux/rbtree_types.h, `struct rb_node`, and lib/rbtree.c, "red-black trees properties";
--- the order is this project's.
+-- Source: the kernel's include/linux/rbtree_types.h, `struct rb_node`, include/linux/rbtree.h, `rb_parent`,
+-- include/linux/rbtree_augmented.h, `RB_BLACK`, and lib/rbtree.c, "red-black trees properties"; the order is this
+-- project's.
 use Rattle.std.specs.Prelude.{ℕ, zero, suc, ◌+◌, ◌-◌, ◌*◌, ◌/◌, ◌%◌, ◌^◌, Bool, true, false, ◌&&◌, nat_eq, not, int_lt, int_le, ℤ, List, [], ◌∷◌, ◌++◌, get_or, option_map, Option, Some, None, if◌then◌else◌, Result, Ok, Err}
 use Rattle.std.specs.Int.{cast_unsigned}
 use mir.Syntax.{w128}

@@ -1,12 +1,12 @@
 -- What a walk of a ring, a hash chain, a tree, an xarray or a free list tries, in its order, and the first violation: a
 -- list of trials, those of its first site, then those of the next one, and so on. The walks of slab caches and of tasks
 -- are steps one after the other (`and_then`), and such walks are among them.
-use Rattle.std.specs.Prelude.{ℕ, Bool, List, [], ◌∷◌, ◌++◌, None, if◌then◌else◌, Result, Ok, Err, ⊤}
+use Rattle.std.specs.Prelude.{ℕ, Bool, List, [], ◌∷◌, None, if◌then◌else◌, Result, Ok, Err, ⊤}
 use Rattle.kc_memory.specs.declared.words.VWord.{VWord}
 use Rattle.kc_memory.specs.declared.rule.Rule.TheVariants.{A}
 use Rattle.kc_memory.specs.Stopped.{Stopped}
 use Rattle.kc_found.specs.declared.asked.Asked.{Asked}
-use Rattle.kc_found.specs.Taken.{is_taken}
+use Rattle.kc_found.specs.Taken.{is_taken, with_word}
 use Rattle.kc_found.specs.Violations.{Violation, breaks}
 
 -- the words of a memory
@@ -33,11 +33,11 @@ abbrev pub and_then : {A B E : Type 0} → Result A E → (A → Result B E) →
 and_then (Ok a) go = go a
 and_then (Err e) go = Err e
 
--- the words taken after one more, or its violation
+-- the words taken after one more, by rising address, or its violation
 abbrev pub claimed : List ℕ → ℕ → Violation → Result (List ℕ) Violation
-claimed taken pa v = if is_taken taken pa then Err v else Ok (taken ++ pa ∷ [])
+claimed taken pa v = if is_taken taken pa then Err v else Ok (with_word taken pa)
 
--- the words taken after the trials, or the first violation
+-- the words taken after the trials, by rising address, or the first violation
 abbrev pub passed : {X : Type 0} → List ℕ → List (Trial X) → Result (List ℕ) Violation
 passed taken [] = Ok taken
 passed taken (Claim pa v ∷ ts) = and_then (claimed taken pa v) (λ more. passed more ts)

@@ -71,6 +71,6 @@ IsNamed (Err ends.NoMemory) audit start = ⊤
 abbrev pub TakesAs : {A I : Type 0} → (I → List (Trial ℕ)) → List ℕ → List ℕ → Option I → Result A WalkStop → Type 0
 TakesAs trials before after image r = WalksAs (λ _. after) (λ i. passed before (trials i)) image r
 
--- A walk's steps, where a word takes so many at most: in a memory of W words it asks for 2 * W + 128 words at most.
+-- A walk's steps, where a word takes so many at most: in a memory of W words no more than 2 * W + 128 words may take.
 abbrev pub WithinSteps : Option Image → ℕ → ℕ → ℕ → Type 0
 WithinSteps image most before after = IfSome image (λ i. after ≤ before + most * (2 * word_count i.physical + 128))

@@ -1,5 +1,6 @@
--- The sites of an xarray: its head, and then each node before what hangs in its slots, a lower slot first.
-use Rattle.std.specs.Prelude.{◌≡◌, ℕ, zero, suc, ◌+◌, ◌-◌, ◌*◌, ◌^◌, List, [], ◌∷◌, ◌++◌, Option, Some, None, Result, Ok, Err}
+-- The sites of an xarray: its head, and then each node before what hangs in its slots, a lower slot first. Source: the
+-- kernel's include/linux/xarray.h, `xa_to_node`, and lib/xarray.c, `get_offset`; the order is this project's.
+use Rattle.std.specs.Prelude.{ℕ, zero, suc, ◌+◌, ◌-◌, ◌*◌, ◌^◌, List, [], ◌∷◌, ◌++◌, Option, Some, None, Result, Ok, Err}
 use Rattle.kc_memory.specs.declared.words.VWord.{VWord}
 use Rattle.kc_memory.specs.declared.rule.Rule.{Rule}
 use Rattle.kc_memory.specs.Held.{word_count}
@@ -79,7 +80,7 @@ abbrev pub head_trials : XaCourse → Below → Result VWord Violation → List 
 head_trials c below (Err v) = Break v ∷ []
 head_trials c below (Ok w) = claim c.asked w ∷ entry_trials c.asked (head_fault (kind c.shape.chunk w.value)) (kind c.shape.chunk w.value) w 0 (below None w 0)
 
--- the sites that are at most so many slots below the head
+-- the head, the nodes that are at most so many slots below it, and the entries in their slots
 abbrev pub xa_trials : XaCourse → ℕ → List (Trial XaItem)
 xa_trials c deep = head_trials c (λ h e b. node_trials c (deep + 1) h e b) (behind_entry c.read c.asked None (at_offset c.asked.start c.shape.head))
 
@@ -87,8 +88,8 @@ xa_trials c deep = head_trials c (λ h e b. node_trials c (deep + 1) h e b) (beh
 abbrev pub xa_course : Image → XaLayout → Asked → XaCourse
 xa_course image shape asked = record { read = vword image; shape = shape; asked = asked }
 
--- The pointers of the xarray at an address, or its first violation. In a memory of W words the sites up to W + 1 slots
--- below the head are looked at: that many good ones would take more than W words.
+-- The pointers of the xarray at an address, or its first violation. In a memory of W words the nodes up to W + 1 slots
+-- below the head are looked at: good ones one below the other down to there would take more than W words.
 abbrev pub xa_judged : Image → XaLayout → ℕ → ℕ → Result (List XaItem) Violation
 xa_judged image shape audit start =
     judged (xa_trials (xa_course image shape (record { audit = audit; start = start })) (word_count image.physical + 1))

@@ -25,7 +25,8 @@ pub struct XaShape {
     pub slots: u64,
     /// How many slots a node has: 16 or 64.
     pub chunk: u64,
-    /// Whether the xarray is an IDR's, whose nodes may count slots that were emptied. It bears on rule X5 alone.
+    /// Whether the xarray is an IDR's, whose nodes also count slots that are reserved and still null. It bears on rule
+    /// X5 alone.
     pub idr: bool,
 }
 

@@ -18,6 +18,7 @@ use Rattle.kc_found.specs.Nodes.{at_offset, both, is_poison, one_taken, readable
 use Rattle.kc_found.specs.Rings.{RingLed, is_wrong, led_first, led_on, links, ring_chain, ring_site, ring_walk}
 use Rattle.kc_found.specs.Trials.{Trial, Meet, and_then, broken_if}
 use Rattle.kc_found.specs.Violations.{Violation, breaks}
+use Rattle.kc_list.specs.Laws.{HashPlacesStand, RingPlacesStand}
 use Rattle.kc_found.proofs.Shown.{AllShow, all_whole, broken_shows, either_shows, judged_shows, show_whole}
 
 -- A chain whose sites show words of the dump alone, where what leads to them does.
@@ -117,7 +118,7 @@ ring_shows places image shape asked = record {
   next = λ s t p is. led_by image (RingStands image) (links (vword image) shape s.from.value) (led_on s) t (both_stand places image (at_offset s.from.value shape.next) (at_offset s.from.value shape.prev)) (λ q first last. (first, p.1)) is;
 }
 
-pub ring_walk_shows : PlacesStand → (image : Image) (shape : ListShape) (audit head : ℕ) (v : Violation) → ring_walk image shape audit head ≡ Err v → AllStandIn image v.places
+pub ring_walk_shows : PlacesStand → RingPlacesStand
 ring_walk_shows places image shape audit head v is =
     let asked : Asked = record { audit = audit; start = head } in
     walk_shows image (ring_chain (vword image) shape asked) (RingStands image) v (ring_shows places image shape asked) is
@@ -147,7 +148,7 @@ hash_shows places image shape asked = record {
   next = λ s t p is. led_by image (HashStands image) (hash_links (vword image) shape s.value) next_of t (both_stand places image (at_offset s.value shape.next) (at_offset s.value shape.pprev)) (λ q first last. first) is;
 }
 
-pub hash_walk_shows : PlacesStand → (image : Image) (shape : HShape) (audit head : ℕ) (v : Violation) → hash_walk image shape audit head ≡ Err v → AllStandIn image v.places
+pub hash_walk_shows : PlacesStand → HashPlacesStand
 hash_walk_shows places image shape audit head v is =
     let asked : Asked = record { audit = audit; start = head } in
     walk_shows image (hash_chain (vword image) shape asked) (HashStands image) v (hash_shows places image shape asked) is

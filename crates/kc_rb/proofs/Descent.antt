@@ -19,7 +19,7 @@ use Rattle.kc_found.specs.Trials.{Trial, Break, Meet, and_then, broken_if, passe
 use Rattle.kc_found.specs.Violations.{Violation, breaks, missed}
 use Rattle.kc_found.proofs.Known.{ReadsAmong}
 use Rattle.kc_found.proofs.Passed.{distinct_none, passed_distinct, passed_is, passed_goes, passed_stops, met-append}
-use Rattle.kc_memory.proofs.HeldLaws.{AllAmong, among_append, bounded}
+use Rattle.kc_memory.proofs.HeldLaws.{AllAmong, bounded}
 use Rattle.kc_rb.specs.declared.walk.Task.{Task}
 use Rattle.kc_rb.specs.declared.walk.Task.TheVariants.{Visit, Give}
 use Rattle.kc_rb.specs.Faults.{or_else, null_fault, end_fault}
@@ -249,14 +249,14 @@ enters physical c h taken walked first pending rest s depth n key more reads is 
     let now = stack c b w (rest ++ Visit (right_spot s n key) (depth + 1) ∷ Give s.link.value ∷ Visit (left_spot s n key) (depth + 1) ∷ []) in
     let le = room physical c h taken walked first pending depth k deep in
     let o = opens c b w pending rest s depth n key is le node there ek in
-    let is_more : more ≡ taken ++ pas n = (passed_is taken site more e).0 ∙ ap (λ (xs : List ℕ). taken ++ xs) (claimed_site c s (links_at c s) (keys_at c s) n there) in
+    let words_are = claimed_site c s (links_at c s) (keys_at c s) n there in
     record {
       there = k.there;
       passes = k.passes ∙ ap (λ ts. passed taken (ts ++ tail c w h)) o ∙ ap (passed taken) (append_assoc site now (tail c w h)) ∙ passed_goes taken site (now ++ tail c w h) more e;
       meets = k.meets ∙ ap (λ ts. walked ++ met ts) o ∙ ap (λ xs. walked ++ xs) (met-append site now ∙ ap (λ xs. xs ++ met now) (met_site c s (links_at c s) (keys_at c s)));
       number = k.number ∙ ap (first_some first) (node_nulls c w pending rest s depth n key is le node there ek);
       different = passed_distinct taken site more e k.different;
-      among = rw is_more (among_append (held physical) taken (pas n) k.among (among_links (held physical) c.read.word c.shape s.link.value n reads there));
+      among = (passed_is taken site more e).among (held physical) k.among (rw words_are (among_links (held physical) c.read.word c.shape s.link.value n reads there));
     }
 
 -- what stops in front of the rest
@@ -351,14 +351,13 @@ starts physical c h taken reads there e =
     let w = word_count physical in
     let b = number_of c w h in
     let all : w + 2 - 0 ≡ w + 2 = omega arith in
-    let is : taken ≡ head_words h = (passed_is {X = ℕ} [] (head_site c) taken e).0 ∙ claimed_first c h there in
     record {
       there = there;
       passes = ap (passed []) (trials_are c w h there) ∙ passed_goes [] (head_site c) (whole_tree c w h ++ tail c w h) taken e ∙ ap (λ n. passed taken (tree_trials c b n (root_spot h.root) ++ tail c w h)) (sym all);
       meets = ap (λ n. met (tree_trials c b n (root_spot h.root))) (sym all);
       number = ap (λ n. first_of (nulls c n (root_spot h.root))) (sym all);
       different = passed_distinct {X = ℕ} [] (head_site c) taken e distinct_none;
-      among = rw is (among_head (held physical) c.read.word c.shape c.asked.start h reads there);
+      among = (passed_is {X = ℕ} [] (head_site c) taken e).among (held physical) tt (rw (claimed_first c h there) (among_head (held physical) c.read.word c.shape c.asked.start h reads there));
     }
 
 pub stops_first : (physical : Physical) (c : RbCourse) (f : Violation) → passed {X = ℕ} [] (head_site c) ≡ Err f → judged (rb_trials c (word_count physical)) ≡ Err f

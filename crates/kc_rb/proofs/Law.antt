@@ -20,7 +20,7 @@ use Rattle.kc_found.specs.Trials.{Trial, and_then, broken_if, passed, met, judge
 use Rattle.kc_found.specs.Violations.{Violation, breaks, missed}
 use Rattle.kc_found.specs.Walks.{OnBroken}
 use Rattle.kc_found.proofs.Known.{ReadsAmong, reads_held}
-use Rattle.kc_found.proofs.Passed.{distinct_none, passed_distinct, passed_is, passes, claimed_in-append, unbroken_parts, unbroken_whole}
+use Rattle.kc_found.proofs.Passed.{passed_is, passes, claimed_in-append, unbroken_parts, unbroken_whole}
 use Rattle.kc_memory.proofs.HeldLaws.{AllAmong, among_append, bounded}
 use Rattle.kc_rb.proofs.Descent.{tail, trials_are, met_trials, claimed_first, at_null}
 use Rattle.kc_rb.proofs.Growth.{Grown, grown, regrown, no_null, opened, IsLong, split_claims}
@@ -123,14 +123,13 @@ tree_of_walk physical c ns reads e =
     let ts = rb_trials c w in
     let j = judged_ok ns (passed [] ts) (met ts) e in
     let is = passed_is [] ts j.0 j.1 in
-    let hh = head_there c (head_at c) _ refl is.1 in
+    let hh = head_there c (head_at c) _ refl is.unbroken in
     let h : RbHead = hh.0 in
     let there : head_at c ≡ Ok h = hh.1 in
     let whole = whole_tree c w h in
-    let parts = unbroken_parts (head_site c) (whole ++ tail c w h) (rw (trials_are c w h there) at is.1) in
+    let parts = unbroken_parts (head_site c) (whole ++ tail c w h) (rw (trials_are c w h there) at is.unbroken) in
     let tree_parts = unbroken_parts whole (tail c w h) parts.1 in
-    let claims : j.0 ≡ head_words h ++ claimed_in whole = is.0 ∙ claimed_trials c w h there in
-    let different : IsDistinct nat_eq (head_words h ++ claimed_in whole) = rw claims at (passed_distinct [] ts j.0 j.1 distinct_none) in
+    let different : IsDistinct nat_eq (head_words h ++ claimed_in whole) = rw (claimed_trials c w h there) at is.apart in
     let head_in : AllAmong (held physical) (head_words h) = among_head (held physical) c.read.word c.shape c.asked.start h reads there in
     let bound = bounded physical (head_words h ++ claimed_in whole) different (among_append (held physical) (head_words h) (claimed_in whole) head_in (among_trials physical c (number_of c w h) reads (w + 2) (root_spot h.root) tree_parts.0)) in
     let both = length-append (head_words h) (claimed_in whole) in
@@ -161,7 +160,7 @@ walk_of_tree physical c ns reads f =
     let claims : claimed_in ts ≡ head_words h ++ xs = claimed_trials c w h there ∙ ap (λ x. head_words h ++ claimed_in (tree_trials c x (w + 2) (root_spot h.root))) b ∙ ap (λ ys. head_words h ++ ys) r.claims in
     let all : IsUnbroken ts =
     rw (trials_are c w h there) (unbroken_whole (head_site c) (whole ++ tail c w h) (unbroken_head c (head_at c) h there) (unbroken_whole whole (tail c w h) u (good_first c.asked h.leftmost (met whole) (rw m f.first)))) in
-    ap (λ t. and_then t (λ (taken : List ℕ). Ok (met ts))) (passes [] ts all (rw claims f.different)) ∙ ap Ok (met_trials c w h there ∙ m)
+    ap (λ t. and_then t (λ (taken : List ℕ). Ok (met ts))) (passes ts all (rw claims f.different)).1 ∙ ap Ok (met_trials c w h there ∙ m)
 
 -- where the dump is told or not
 no_tree : (physical : Physical) (c : RbCourse) (f : Violation) → ReadsAmong (held physical) c.read.word → judged (rb_trials c (word_count physical)) ≡ Err f → NoRbTree c.read c.shape c.asked.start

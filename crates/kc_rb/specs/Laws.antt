@@ -1,9 +1,10 @@
 -- What the walks of red-black trees say of finite trees of nodes.
 use Rattle.std.specs.Prelude.{◌≡◌, ℕ, List, None, Ok, Err, ◌⊎◌}
+use Rattle.std.specs.List.{AllByRecursion}
 use Rattle.kc_memory.specs.Image.{Image}
 use Rattle.kc_memory.specs.Places.{AllStandIn}
 use Rattle.kc_found.specs.declared.shapes.RbShape.{RbShape}
-use Rattle.kc_found.specs.RbFinite.{RbTree, AreRising, keys_in}
+use Rattle.kc_found.specs.RbFinite.{RbTree, AreRising, blacks_above, keys_in}
 use Rattle.kc_found.specs.RbTrees.{reads_of, tree_walk}
 use Rattle.kc_found.specs.Violations.{Violation}
 
@@ -27,6 +28,12 @@ abbrev pub KeysRise : Type 0
 KeysRise =
     (image : Image) (shape : RbShape) (start : ℕ) (ns : List ℕ)
     → RbTree (reads_of image) shape start ns → AreRising shape.unique None (keys_in (reads_of image) shape ns)
+
+-- all its nulls have one number of black nodes above them
+abbrev pub NullsAgree : Type 0
+NullsAgree =
+    (image : Image) (shape : RbShape) (start : ℕ) (ns : List ℕ) (t : RbTree (reads_of image) shape start ns)
+    → AllByRecursion (λ n. n ≡ t.number) (blacks_above (reads_of image) shape t.tree 0)
 
 -- what a violation shows is true of the dump
 abbrev pub TreePlacesStand : Type 0

@@ -23,18 +23,19 @@ use Rattle.kc_found.specs.FreeLists.{free_list, low_word, number_in}
 use Rattle.kc_found.specs.Nodes.{at_offset}
 use Rattle.kc_found.specs.Rings.{ring_walk}
 use Rattle.kc_found.specs.Violations.{Violation, breaks_field}
-use Rattle.kc_list.proofs.ChainsShown.{ring_walk_shows}
+use Rattle.kc_list.specs.Laws.{RingPlacesStand}
 use Rattle.kc_view.specs.declared.slub.SlubBases.{SlubBases}
 use Rattle.kc_view.specs.declared.slub.SlabObjects.{SlabObjects}
 use Rattle.kc_view.specs.Caches.{base_of, bases_of, cache_slabs, count_of, grid_of, is_descriptor, knode_checked, list_checked, node_checked, nodes_checked, objects_of, optional_of, partial_of, slab_checked, slab_of, slabs_checked}
 use Rattle.kc_slub.specs.Laws.{CachePlacesStand}
 use Rattle.kc_slub.proofs.FreeShown.{free_places_stand}
 
--- what is known of the numbers and words of a dump
+-- what is known of the numbers, words and rings of a dump
 record Known : Type 0 where
   pub places : PlacesStand
   pub numbers : NumbersStand
   pub values : ValuesStand
+  pub rings : RingPlacesStand
 
 number_by : (image : Image) (asked : Asked) (r : Result Number Stopped) → AllStandIn image (number_places r) → Shows image (or_missed asked r)
 number_by image asked (Ok n) here = tt
@@ -100,7 +101,7 @@ knode_shows known image asked shape b o before knode =
     let head = at_offset knode shape.partial in
     let ring = ring_walk image shape.list asked.audit head in
     then_shows image (read_field image asked knode shape.nr_partial) _ (field_shows known.values image asked knode shape.nr_partial) (λ p said.
-    then_shows image (partial_of image asked shape knode) _ (started_shows image asked.start ring (shows_all image ring (λ v is. ring_walk_shows known.places image shape.list asked.audit head v is))) (λ ns is.
+    then_shows image (partial_of image asked shape knode) _ (started_shows image asked.start ring (shows_all image ring (λ v is. known.rings image shape.list asked.audit head v is))) (λ ns is.
     then_shows image (slabs_checked image asked shape b o before ns) _ (slabs_show known image asked shape b o before ns) (λ more is.
     unless_shows {A = List ℕ} image (not (nat_eq (value_of p) (length ns))) (breaks_at asked U7 p (Some (length ns))) (Ok more) (number_stands known.values image asked knode shape.nr_partial p said) tt)))
 
@@ -121,9 +122,9 @@ nodes_show known image asked shape b o (suc left) i before =
     then_shows image (node_checked image asked shape b o before i) (λ more. nodes_checked image asked shape b o left (suc i) more) (node_shows known image asked shape b o before i) (λ more is.
     nodes_show known image asked shape b o left (suc i) more)
 
-pub cache_places_stand : PlacesStand → NumbersStand → ValuesStand → CachePlacesStand
-cache_places_stand places numbers values image shape audit start v is =
-    let known : Known = record { places = places; numbers = numbers; values = values } in
+pub cache_places_stand : PlacesStand → NumbersStand → ValuesStand → RingPlacesStand → CachePlacesStand
+cache_places_stand places numbers values rings image shape audit start v is =
+    let known : Known = record { places = places; numbers = numbers; values = values; rings = rings } in
     let asked : Asked = record { audit = audit; start = start } in
     shown_by image (cache_slabs image shape asked) v
     (then_shows image (bases_of image asked shape) _ (bases_show known image asked shape) (λ b is.

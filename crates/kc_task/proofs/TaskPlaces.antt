@@ -13,15 +13,16 @@ use Rattle.kc_found.specs.declared.asked.Asked.{Asked}
 use Rattle.kc_found.specs.Nodes.{at_offset}
 use Rattle.kc_found.specs.Rings.{ring_walk}
 use Rattle.kc_found.specs.Violations.{Violation, breaks}
-use Rattle.kc_list.proofs.ChainsShown.{ring_walk_shows}
+use Rattle.kc_list.specs.Laws.{RingPlacesStand}
 use Rattle.kc_view.specs.declared.tasks.ThreadGroup.{ThreadGroup}
 use Rattle.kc_task.specs.Laws.{TaskPlacesStand}
 use Rattle.kc_view.specs.TaskLists.{all_pass, among_checked, children_checked, end_checked, gathered, group_of, is_among, leader_checked, shared_checked, stack_checked, stack_end, task_list, task_of, tasks_on, tgid_checked, thread_checked, thread_head}
 
--- what the laws of the dump's words and fields say
+-- what the laws of the dump's words, fields and rings say
 record Told : Type 0 where
   words : PlacesStand
   fields : ValuesStand
+  rings : RingPlacesStand
 
 either : {A : Type 0} (image : Image) (b : Bool) (r q : Result A Violation) → Shows image r → Shows image q → Shows image (if b then r else q)
 either image true r q here there = here
@@ -41,7 +42,7 @@ gathered_shows image go (l ∷ ls) each =
 ring_shows : Told → (image : Image) (asked : Asked) (shape : TaskShape) (head offset : ℕ) → Shows image (tasks_on image asked shape head offset)
 ring_shows told image asked shape head offset =
     then_shows image (started_at asked.start (ring_walk image shape.list asked.audit head)) (λ ns. Ok (map (task_of offset) ns))
-    (started_shows image asked.start (ring_walk image shape.list asked.audit head) (shows_all image (ring_walk image shape.list asked.audit head) (ring_walk_shows told.words image shape.list asked.audit head)))
+    (started_shows image asked.start (ring_walk image shape.list asked.audit head) (shows_all image (ring_walk image shape.list asked.audit head) (told.rings image shape.list asked.audit head)))
     (λ ns is. tt)
 
 children_show : Told → (image : Image) (asked : Asked) (shape : TaskShape) (owner : ℕ) → Shows image (children_checked image asked shape owner)
@@ -87,9 +88,9 @@ leader_shows told image asked shape leader =
     (λ threads ti. then_shows image (among_checked image asked shape g threads) _ (among_shows told image asked shape g threads)
     (λ a ai. then_shows image (all_pass (thread_checked image asked shape g) threads) (λ _. Ok threads) (all_show image (thread_checked image asked shape g) threads (λ thread. thread_shows told image asked shape g thread)) (λ x xi. tt))))
 
-pub task_places_stand : PlacesStand → ValuesStand → TaskPlacesStand
-task_places_stand words fields image shape audit start v is =
-    let told : Told = record { words = words; fields = fields } in
+pub task_places_stand : PlacesStand → ValuesStand → RingPlacesStand → TaskPlacesStand
+task_places_stand words fields rings image shape audit start v is =
+    let told : Told = record { words = words; fields = fields; rings = rings } in
     let asked : Asked = record { audit = audit; start = start } in
     shown_by image (task_list image shape asked) v
     (then_shows image (tasks_on image asked shape (at_offset start shape.tasks) shape.tasks) (λ others. gathered (leader_checked image asked shape) (start ∷ others)) (ring_shows told image asked shape (at_offset start shape.tasks) shape.tasks)

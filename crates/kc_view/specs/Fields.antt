@@ -42,10 +42,11 @@ or_missed asked (Err s) = Err (missed asked None s)
 abbrev pub read_field : Image → Asked → ℕ → Field → Result FieldNumber Violation
 read_field image asked at f = or_missed asked (field_of image at f)
 
--- a rule, broken where a test is true: a field shows it
+-- a violation where a test is true, and else what follows
 abbrev pub unless : {A : Type 0} → Bool → Violation → Result A Violation → Result A Violation
 unless broken v go = if broken then Err v else go
 
+-- the violation of a rule that a field shows, at its first byte
 abbrev pub breaks_at : Asked → Rule → FieldNumber → Option ℕ → Violation
 breaks_at asked rule f expected = breaks_field asked rule f.at f.number expected
 

@@ -1,8 +1,8 @@
 -- What a slot's own trials leave: the slots of the node behind it.
-use Rattle.std.proofs.Common.{◌≡◌, ℕ, suc, ◌-◌, ◌^◌, nat_lt, Bool, true, false, List, ◌++◌, Option, None, Some, refl, sym, ◌∙◌, ap}
+use Rattle.std.proofs.Common.{◌≡◌, ℕ, suc, ◌-◌, ◌^◌, nat_lt, Bool, true, false, List, ◌++◌, Option, None, Some, refl, sym, ◌∙◌, ap, subst}
 use Rattle.std.specs.Prelude.{Result, Ok, Err, IfSome, if◌then◌else◌}
-use Rattle.kc_found.proofs.Passed.{passed_distinct, passed_is, passed_goes, passed_stops, met-append}
-use Rattle.kc_found.specs.FiniteXarrays.{own, holder_of}
+use Rattle.kc_found.proofs.Passed.{passed_is, passed_goes, passed_stops, met-append}
+use Rattle.kc_found.specs.FiniteXarrays.{holder_of}
 use Rattle.kc_found.specs.Trials.{Trial, passed, met}
 use Rattle.kc_found.specs.Violations.{Violation}
 use Rattle.kc_found.specs.Walks.{WalksAs}
@@ -18,7 +18,7 @@ use Rattle.kc_found.specs.declared.xarrays.XaHolder.{XaHolder}
 use Rattle.kc_found.specs.declared.xarrays.XaItem.{XaItem}
 use Rattle.kc_found.specs.declared.xarrays.XaNode.{XaNode}
 use Rattle.kc_found.specs.declared.xarrays.XaWords.{XaWords}
-use Rattle.kc_memory.proofs.HeldLaws.{among_append}
+use Rattle.kc_memory.proofs.HeldLaws.{AllAmong}
 use Rattle.kc_memory.specs.Held.{held}
 use Rattle.kc_memory.specs.Image.{Image}
 use Rattle.kc_memory.specs.declared.rule.Rule.{Rule}
@@ -62,8 +62,9 @@ site_goes c b h w index (Err f) child old new is e = absurd is
 pub kept_at : (m : Image) (asked : Asked) (shape : XaLayout) (h : Option XaHolder) (w : VWord) (there : Result XaWords Violation) (old new : List ℕ) → xa_words (reader m asked w) shape (w.value - 2) ≡ there → passed old (node_site asked shape h (w.value - 2) there) ≡ Ok new → Kept m old → Kept m new
 kept_at m asked shape h w (Ok n) old new there e k =
     let site = node_site asked shape h (w.value - 2) (Ok n) in
-    let is : new ≡ old ++ own n = (passed_is old site new e).0 ∙ ap (λ (xs : List ℕ). old ++ xs) (site_claimed shape asked h (w.value - 2) n) in
-    record { different = passed_distinct old site new e k.different; among = rw is (among_append (held m.physical) old (own n) k.among (node_among m asked w shape (w.value - 2) n there)) }
+    let is = passed_is old site new e in
+    let own_among = subst (AllAmong (held m.physical)) (sym (site_claimed shape asked h (w.value - 2) n)) (node_among m asked w shape (w.value - 2) n there) in
+    record { different = is.distinct k.different; among = is.among (held m.physical) k.among own_among }
 kept_at m asked shape h w (Err f) old new there e k = absurd (cc)
 
 pub enters_node : {B : Type 0} (v : B → List ℕ) (image : Option Image) (shape : XaLayout) (asked : Asked) (o : XaNode) (i : ℕ) (w : VWord) (ix : Option ℕ) (k : XaEntry) (index : ℕ) (old : List ℕ) (walked : List XaItem) (x : B) (child : XaNode) →

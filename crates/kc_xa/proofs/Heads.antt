@@ -1,7 +1,7 @@
 -- The head's site, and the node behind it.
 use Rattle.std.proofs.Common.{◌≡◌, ℕ, suc, ◌+◌, ◌-◌, nat_eq, true, List, [], ◌∷◌, ◌++◌, Option, None, Some, refl, sym, ◌∙◌, ap, arith}
 use Rattle.std.specs.Prelude.{Result, Ok, Err, IfSome}
-use Rattle.kc_found.proofs.Passed.{distinct_none, passed_distinct, passed_is, passed_stops}
+use Rattle.kc_found.proofs.Passed.{distinct_none, passed_is, passed_stops}
 use Rattle.kc_found.specs.Nodes.{at_offset}
 use Rattle.kc_found.specs.Trials.{Trial, claim, and_then, claimed, passed, met, judged}
 use Rattle.kc_found.specs.Violations.{Violation, breaks}
@@ -43,8 +43,8 @@ record Headed (m : Image) (c : XaCourse) (head : VWord) (taken : List ℕ) : Typ
 
 kept_head : (m : Image) (asked : Asked) (head : VWord) (taken : List ℕ) → is_member nat_eq (held m.physical) head.pa ≡ true → passed {X = XaItem} [] (claim asked head ∷ []) ≡ Ok taken → Kept m taken
 kept_head m asked head taken among e =
-    let is : taken ≡ head.pa ∷ [] = (passed_is {X = XaItem} [] (claim asked head ∷ []) taken e).0 in
-    record { different = passed_distinct {X = XaItem} [] (claim asked head ∷ []) taken e distinct_none; among = rw is (among, tt) }
+    let is = passed_is {X = XaItem} [] (claim asked head ∷ []) taken e in
+    record { different = is.distinct distinct_none; among = is.among (held m.physical) tt (among, tt) }
 
 headed : (m : Image) (shape : XaLayout) (asked : Asked) (head : VWord) (k : XaEntry) (taken : List ℕ) → behind_entry (vword m) asked None (at_offset asked.start shape.head) ≡ Ok head → claimed [] head.pa (breaks asked A head None) ≡ Ok taken →
     k ≡ kind shape.chunk head.value → head_fault k ≡ None → k ≡ Node → Headed m (xa_course m shape asked) head taken

@@ -1,7 +1,7 @@
 -- A walk has no violation exactly where there is a finite xarray.
 use Rattle.std.proofs.Common.{◌≡◌, ℕ, suc, ◌+◌, ◌-◌, ◌≤◌, nat_eq, List, [], ◌∷◌, ◌++◌, length, Option, None, Some, refl, sym, ◌∙◌, ap, arith, length-append, ◌⊎◌, inl, inr}
 use Rattle.std.specs.Prelude.{Result, Ok, Err, IfSome, IfOk}
-use Rattle.kc_found.proofs.Passed.{distinct_none, passed_distinct, passed_is, passes}
+use Rattle.kc_found.proofs.Passed.{passed_is, passes}
 use Rattle.kc_found.specs.FiniteXarrays.{NoXArray, own, tree_words, Top, IsTop, top_words, top_items, XArray, Bare, Root}
 use Rattle.kc_found.specs.Nodes.{at_offset}
 use Rattle.kc_found.specs.Trials.{Trial, claim, and_then, passed, met, judged, claimed_in, IsUnbroken}
@@ -79,15 +79,15 @@ finite_at m shape asked walked (Ok h) is e =
     let ts = claim asked h ∷ behind_head c w h in
     let j = judged_at (passed [] ts) (met ts) walked e in
     let known = passed_is [] ts j.0 j.1 in
-    let d : IsDistinct nat_eq (h.pa ∷ claimed_in (behind_head c w h)) = rw known.0 at (passed_distinct [] ts j.0 j.1 distinct_none) in
+    let d : IsDistinct nat_eq (h.pa ∷ claimed_in (behind_head c w h)) = known.apart in
     let read : vword m (at_offset asked.start shape.head) ≡ Ok h = ok_told (missed asked None) (vword m (at_offset asked.start shape.head)) h is in
-    let s = which asked (head_fault (kind shape.chunk h.value)) (kind shape.chunk h.value) h 0 (node_trials c (w + 1 + 1) None h 0) known.1 in
+    let s = which asked (head_fault (kind shape.chunk h.value)) (kind shape.chunk h.value) h 0 (node_trials c (w + 1 + 1) None h 0) known.unbroken in
     elim (s.1) [
       | inl p ↦
           let t = plain_entry asked (head_fault (kind shape.chunk h.value)) (kind shape.chunk h.value) h 0 (node_trials c (w + 1 + 1) None h 0) s.0 p in
           record { head = h; read = read; top = Bare; is = head_stands (kind shape.chunk h.value) p s.0; different = rw t.claims at d; order = sym t.meets ∙ j.2 }
       | inr n ↦
-          let v : IsUnbroken (node_trials c (suc (w + 1)) None h 0) = rw (head_node c w h n) at known.1 in
+          let v : IsUnbroken (node_trials c (suc (w + 1)) None h 0) = rw (head_node c w h n) at known.unbroken in
           let p = open_from c (w + 1) None h 0 v in
           let q = node_parts c (w + 1) None h 0 p v in
           let dv : IsDistinct nat_eq (h.pa ∷ claimed_in (node_trials c (suc (w + 1)) None h 0)) = rw (head_node c w h n) at d in
@@ -139,7 +139,7 @@ walk_of_xarray m shape asked walked x =
     let le = bounded m.physical (h.pa ∷ top_words x.top) x.different (read_among m asked None (at_offset asked.start shape.head) h is, top_held m shape asked h x.top x.is) in
     let t = topped m shape asked h x.top x.is (omega (arith, le)) in
     let d : IsDistinct nat_eq (h.pa ∷ claimed_in (behind_head c w h)) = rw t.claims x.different in
-    ap (λ r. judged (head_trials c (λ h e b. node_trials c (w + 1 + 1) h e b) r)) is ∙ ap (λ (r : Result (List ℕ) Violation). and_then r (λ taken. Ok (met ts))) (passes [] ts t.unbroken d) ∙ ap Ok (t.meets ∙ x.order)
+    ap (λ r. judged (head_trials c (λ h e b. node_trials c (w + 1 + 1) h e b) r)) is ∙ ap (λ (r : Result (List ℕ) Violation). and_then r (λ taken. Ok (met ts))) (passes ts t.unbroken d).1 ∙ ap Ok (t.meets ∙ x.order)
 
 pub unwalked : (m : Image) (shape : XaLayout) (asked : Asked) (v : Violation) → xa_judged m shape asked.audit asked.start ≡ Err v → NoXArray (xa_course m shape asked)
 unwalked m shape asked v e = λ walked x. let k = walk_of_xarray m shape asked walked x in absurd (cc)
