@@ -1,7 +1,11 @@
+pub mod ChainShown
+pub mod Finite
 pub mod Known
+pub mod Pairs
 pub mod Passed
 pub mod Reached
 pub mod Rising
 pub mod Shown
+pub mod Stops
 pub mod Told
 pub mod Whole

@@ -1,9 +1,8 @@
 -- The violations of rings and hash chains show words of the dump alone.
-use Rattle.std.proofs.Common.{◌≡◌, ℕ, zero, suc, ◌+◌, Bool, List, ◌∷◌, ◌++◌, Option, Some, None, refl, subst}
+use Rattle.std.proofs.Common.{◌≡◌, ℕ, Bool, List, Option, Some, None, refl, subst}
 use Rattle.std.specs.Prelude.{Result, Ok, Err, map, option_to_list, option_map, not, nat_eq}
 use Rattle.kc_memory.specs.declared.words.VWord.{VWord}
 use Rattle.kc_memory.specs.declared.rule.Rule.TheVariants.{N, K, L1, H1}
-use Rattle.kc_memory.specs.Held.{word_count}
 use Rattle.kc_memory.specs.Image.{Image}
 use Rattle.kc_memory.specs.Laws.{PlacesStand}
 use Rattle.kc_memory.specs.Places.{AllStandIn, StandsIn, entry_places, place_of, places_of}
@@ -12,41 +11,15 @@ use Rattle.kc_memory.specs.Translation.{vword}
 use Rattle.kc_found.specs.declared.asked.Asked.{Asked}
 use Rattle.kc_found.specs.declared.shapes.HShape.{HShape}
 use Rattle.kc_found.specs.declared.shapes.ListShape.{ListShape}
-use Rattle.kc_found.specs.Chains.{ChainOf, chain_sites, chain_trials, chain_walk, from_there}
+use Rattle.kc_found.specs.Chains.{from_there}
 use Rattle.kc_found.specs.HashChains.{hash_chain, hash_links, hash_site, hash_walk, next_of, points_wrong}
 use Rattle.kc_found.specs.Nodes.{at_offset, both, is_poison, one_taken, readable, two_taken}
 use Rattle.kc_found.specs.Rings.{RingLed, is_wrong, led_first, led_on, links, ring_chain, ring_site, ring_walk}
-use Rattle.kc_found.specs.Trials.{Trial, Meet, and_then, broken_if}
+use Rattle.kc_found.specs.Trials.{and_then, broken_if}
 use Rattle.kc_found.specs.Violations.{Violation, breaks}
 use Rattle.kc_list.specs.Laws.{HashPlacesStand, RingPlacesStand}
-use Rattle.kc_found.proofs.Shown.{AllShow, all_whole, broken_shows, either_shows, judged_shows, show_whole}
-
--- A chain whose sites show words of the dump alone, where what leads to them does.
-pub record Showing {S : Type 0} (image : Image) (k : ChainOf S) (P : S → Type 0) : Type 0 where
-  pub head : AllShow image k.head
-  pub start : (s : S) → k.start ≡ Some s → P s
-  pub last : (s : S) → P s → AllShow image (k.last s)
-  pub site : (s : S) → P s → AllShow image (k.site s)
-  pub next : (s t : S) → P s → k.next s ≡ Some t → P t
-
-pub there_shows : {S X : Type 0} (image : Image) (o : Option S) (go : S → List (Trial X)) → ((s : S) → o ≡ Some s → AllShow image (go s)) → AllShow image (from_there o go)
-there_shows image None go next = tt
-there_shows image (Some s) go next = next s refl
-
-chain_shows : {S : Type 0} (image : Image) (k : ChainOf S) (P : S → Type 0) (left : ℕ) (s : S) → Showing image k P → P s → AllShow image (chain_trials k left s)
-unfolding chain_trials
-chain_shows image k P zero s show p = tt
-chain_shows image k P (suc left) s show p =
-    either_shows image (k.ends s) (k.last s) (k.site s ++ from_there (k.next s) (λ t. Meet (k.element s) ∷ chain_trials k left t)) (show.last s p)
-    (show_whole image (k.site s) (from_there (k.next s) (λ t. Meet (k.element s) ∷ chain_trials k left t)) (show.site s p)
-    (there_shows image (k.next s) (λ t. Meet (k.element s) ∷ chain_trials k left t) (λ t is. chain_shows image k P left t show (show.next s t p is))))
-
-pub walk_shows : {S : Type 0} (image : Image) (k : ChainOf S) (P : S → Type 0) (v : Violation) → Showing image k P → chain_walk image.physical k ≡ Err v → AllStandIn image v.places
-walk_shows image k P v show is =
-    let left = word_count image.physical + 1 in
-    judged_shows image (chain_sites k left) v
-    (show_whole image k.head (from_there k.start (chain_trials k left)) show.head
-    (there_shows image k.start (chain_trials k left) (λ s here. chain_shows image k P left s show (show.start s here)))) is
+use Rattle.kc_found.proofs.ChainShown.{Showing, walk_shows}
+use Rattle.kc_found.proofs.Shown.{AllShow, all_whole, broken_shows, show_whole}
 
 -- the words that are read
 OneStands : Image → Result VWord Stopped → Type 0

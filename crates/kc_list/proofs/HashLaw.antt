@@ -14,9 +14,9 @@ use Rattle.kc_found.specs.Nodes.{at_offset, is_poison, readable, one_taken}
 use Rattle.kc_found.specs.Trials.{Reader, claimed_in, IsUnbroken}
 use Rattle.kc_found.specs.Violations.{breaks}
 use Rattle.kc_found.proofs.Whole.{Linked, HasWords, Whole}
-use Rattle.kc_list.proofs.Finite.{words_at, some_word, first_of, not_false, not_true, or_false}
+use Rattle.kc_found.proofs.Finite.{words_at, some_word, first_of, not_false, not_true, or_false}
 use Rattle.kc_list.proofs.HashSites.{good_hashed, hash_site_is, first_read}
-use Rattle.kc_list.proofs.Pairs.{both_read, both_of, if_passes, leads_by, tested_passes, pair_takes}
+use Rattle.kc_found.proofs.Pairs.{both_read, both_of, if_passes, leads_by, tested_passes, pair_takes}
 
 -- a word that is read is at the address that was asked
 abbrev pub ReadsThere : Reader → Type 0

@@ -15,7 +15,7 @@ use Rattle.kc_found.specs.Nodes.{at_offset, is_poison, readable, one_taken, two_
 use Rattle.kc_found.specs.Trials.{Reader, broken_if, met, claimed_in, IsUnbroken}
 use Rattle.kc_found.specs.Violations.{breaks}
 use Rattle.kc_found.proofs.Reached.{IsChain}
-use Rattle.kc_list.proofs.Pairs.{ReadsAmong, GoodPair, pair_among, pair_takes, two_long, leads_by, if_front, if_passed, tested_bare, tested_takes, tested_passed}
+use Rattle.kc_found.proofs.Pairs.{ReadsAmong, GoodPair, pair_among, pair_takes, two_long, leads_by, if_front, if_passed, tested_bare, tested_takes, tested_passed}
 
 -- what a good site has
 pub record GoodHashed (there : Result (VWord × VWord) Stopped) (from : VWord) : Type 0 where

@@ -1,12 +1,9 @@
-pub mod ChainsShown
-pub mod Finite
+mod ChainsShown
 mod HashLaw
 mod HashSites
 mod HashWalk
-pub mod Pairs
 mod Reading
 mod RingLaw
 mod RingSites
 mod RingWalk
 mod Rows
-pub mod Stops

@@ -19,8 +19,8 @@ use Rattle.kc_found.specs.Trials.{Reader, Trial, broken_if, passed, met, claimed
 use Rattle.kc_found.specs.Violations.{breaks}
 use Rattle.kc_found.specs.Walks.{WalksAs}
 use Rattle.kc_found.proofs.Reached.{IsChain}
-use Rattle.kc_list.proofs.Pairs.{ReadsAmong, GoodPair, pair_among, pair_bare, pair_leads, pair_takes, two_long, leads_by, if_front, if_bare, if_passed, tested_bare, tested_takes, tested_passed}
-use Rattle.kc_list.proofs.Stops.{stops_after, stops_before}
+use Rattle.kc_found.proofs.Pairs.{ReadsAmong, GoodPair, pair_among, pair_bare, pair_leads, pair_takes, two_long, leads_by, if_front, if_bare, if_passed, tested_bare, tested_takes, tested_passed}
+use Rattle.kc_found.proofs.Stops.{stops_after, stops_before}
 
 -- what a good site has
 pub record GoodNode (there : Result (VWord × VWord) Stopped) (from : VWord) (before : ℕ) : Type 0 where

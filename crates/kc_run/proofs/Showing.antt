@@ -28,7 +28,7 @@ use Rattle.kc_task.specs.Laws.{TaskPlacesStand}
 use Rattle.kc_xa.specs.Laws.{XarrayPlacesStand}
 use Rattle.kc_run.specs.Laws.{VerdictsStand}
 use Rattle.kc_run.proofs.Arrays.{array_shows}
-use Rattle.kc_list.proofs.ChainsShown.{hash_walk_shows, ring_walk_shows}
+use Rattle.kc_found.proofs.ChainsShown.{hash_walk_shows, ring_walk_shows}
 
 -- the violations that are seen do
 AllSeen : Image → List Event → Type 0

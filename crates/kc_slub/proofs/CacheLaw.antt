@@ -33,7 +33,7 @@ use Rattle.kc_found.specs.Violations.{Violation}
 use Rattle.kc_found.specs.Walks.{OnBroken, WalksAs}
 use Rattle.kc_found.proofs.Known.{ok_after}
 use Rattle.kc_list.specs.Laws.{RingsAreWalked}
-use Rattle.kc_list.proofs.Finite.{not_false}
+use Rattle.kc_found.proofs.Finite.{not_false}
 use Rattle.kc_view.specs.declared.slub.SlubBases.{SlubBases}
 use Rattle.kc_view.specs.declared.slub.SlabObjects.{SlabObjects}
 use Rattle.kc_view.specs.Caches.{base_of, bases_of, cache_slabs, count_of, grid_of, is_descriptor, knode_checked, list_checked, node_checked, nodes_checked, objects_of, optional_of, page_of, partial_of, slab_checked, slab_of, slabs_checked}

@@ -20,7 +20,7 @@ use Rattle.kc_found.specs.Nodes.{readable}
 use Rattle.kc_found.specs.Trials.{met, claimed_in, IsUnbroken}
 use Rattle.kc_found.specs.Violations.{breaks_field, places_by}
 use Rattle.kc_found.proofs.Reached.{IsChain}
-use Rattle.kc_list.proofs.Pairs.{if_front, if_passed, if_passes}
+use Rattle.kc_found.proofs.Pairs.{if_front, if_passed, if_passes}
 
 places_bare : (asked : Asked) (ps : List Place) → met {X = ℕ} (places_taken asked ps) ≡ []
 places_bare asked [] = refl

@@ -16,7 +16,7 @@ use Rattle.kc_found.specs.Violations.{Violation}
 use Rattle.kc_found.specs.Walks.{OnBroken, WalksAs}
 use Rattle.kc_found.proofs.Told.{AreChains, Reaches, IsWalkOf, told_begins, told_goes, told_goes_broken, told_ends}
 use Rattle.kc_found.proofs.Whole.{whole_of_walk, walk_of_whole}
-use Rattle.kc_list.proofs.Stops.{if_some}
+use Rattle.kc_found.proofs.Stops.{if_some}
 use Rattle.kc_slub.specs.Laws.{FreeListsAreWalked}
 use Rattle.kc_slub.proofs.FreeLaw.{free_words, free_of_whole, whole_of_free}
 use Rattle.kc_slub.proofs.FreeSites.{free_is_chain, leads_on}

@@ -22,7 +22,7 @@ use Rattle.kc_found.specs.Violations.{Violation, breaks}
 use Rattle.kc_found.specs.Walks.{OnBroken, WalksAs}
 use Rattle.kc_found.proofs.Known.{ok_after}
 use Rattle.kc_list.specs.Laws.{RingsAreWalked}
-use Rattle.kc_list.proofs.Finite.{first_of, some_word}
+use Rattle.kc_found.proofs.Finite.{first_of, some_word}
 use Rattle.kc_view.specs.declared.tasks.ThreadGroup.{ThreadGroup}
 use Rattle.kc_view.specs.FiniteTasks.{AreGroups, AreOn, IsGroup, IsStack, IsThread, NoTasks, Tasks}
 use Rattle.kc_task.specs.Laws.{HeadIsRead, TasksAreWalked}

@@ -8,7 +8,7 @@ use Rattle.kc_found.specs.FiniteLists.{value_of, values, words_of}
 use Rattle.kc_found.specs.Nodes.{at_offset, node_words}
 use Rattle.kc_found.specs.Trials.{Reader, broken_if, IsUnbroken}
 use Rattle.kc_found.specs.Violations.{Violation}
-use Rattle.kc_list.proofs.Pairs.{both_read}
+use Rattle.kc_found.proofs.Pairs.{both_read}
 
 pub not_false : (b : Bool) → not b ≡ false → b ≡ true
 not_false true e = refl
