@@ -110,7 +110,7 @@ impl MemStore {
         Ok(())
     }
 
-    /// How many calls of `Store` were made.
+    /// How many calls of `Store` were made, at most 2^64 - 1. It takes no memory.
     pub fn calls(&self) -> u64
         ensures { result ≡ calls_of self.now }
     {
