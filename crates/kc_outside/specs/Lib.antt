@@ -9,5 +9,7 @@ pub mod MemStore
 pub mod Seen
 pub mod SeenLaws
 pub mod Slots
+pub mod SureLaws
+pub mod SureStore
 pub mod Texts
 pub mod WriterSink

@@ -80,14 +80,13 @@ impl<S: System> Store for FileStore<S> {
         ensures later { S.faults (system_of self.old) ≤ S.faults (system_of self.new) }
         ensures quiet { OnOk result (S.faults (system_of self.new) ≡ S.faults (system_of self.old)) }
         ensures cause { OnErr result (Rose (S.faults (system_of self.old)) (S.faults (system_of self.new))) }
-        ensures asked { Rose (S.asked (system_of self.old)) (S.asked (system_of self.new)) }
+        ensures asked { S.asked (system_of self.new) ≡ next_count (S.asked (system_of self.old)) }
         ensures asked_later { S.asked (system_of self.old) ≤ S.asked (system_of self.new) }
 
         // What this store adds.
         ensures file { OnOk result (IsSomeAnd (file_in self.new slot) (S.opens (system_of self.old) name.now)) }
         ensures others_files { OthersStay slot (file_in self.old) (file_in self.new) }
         ensures faults { S.faults (system_of self.new) ≡ faults_after (S.faults (system_of self.old)) result }
-        ensures calls { S.asked (system_of self.new) ≡ next_count (S.asked (system_of self.old)) }
     {
         match self.system.open(name) {
             Ok(file) => {
@@ -118,7 +117,7 @@ impl<S: System> Store for FileStore<S> {
         ensures later { S.faults (system_of self.old) ≤ S.faults (system_of self.new) }
         ensures quiet { OnOk result (S.faults (system_of self.new) ≡ S.faults (system_of self.old)) }
         ensures cause { OnErr result (Rose (S.faults (system_of self.old)) (S.faults (system_of self.new))) }
-        ensures asked { Rose (S.asked (system_of self.old)) (S.asked (system_of self.new)) }
+        ensures asked { S.asked (system_of self.new) ≡ next_count (S.asked (system_of self.old)) }
         ensures asked_later { S.asked (system_of self.old) ≤ S.asked (system_of self.new) }
 
         // What this store adds.
@@ -126,7 +125,6 @@ impl<S: System> Store for FileStore<S> {
             IsSomeAnd (file_in self.old slot) (λ file. S.tells (system_of self.old) file n)) }
         ensures files { file_in self.new ≡ file_in self.old }
         ensures faults { S.faults (system_of self.new) ≡ faults_after (S.faults (system_of self.old)) result }
-        ensures calls { S.asked (system_of self.new) ≡ next_count (S.asked (system_of self.old)) }
     {
         let bytes = match self.held.get(slot) {
             Seen::Opened(file) | Seen::Sized(file, _) => self.system.length(file)?,
@@ -154,7 +152,7 @@ impl<S: System> Store for FileStore<S> {
         ensures later { S.faults (system_of self.old) ≤ S.faults (system_of self.new) }
         ensures quiet { OnOk result (S.faults (system_of self.new) ≡ S.faults (system_of self.old)) }
         ensures cause { OnErr result (Rose (S.faults (system_of self.old)) (S.faults (system_of self.new))) }
-        ensures asked { Rose (S.asked (system_of self.old)) (S.asked (system_of self.new)) }
+        ensures asked { S.asked (system_of self.new) ≡ next_count (S.asked (system_of self.old)) }
         ensures asked_later { S.asked (system_of self.old) ≤ S.asked (system_of self.new) }
 
         // What this store adds.
@@ -162,7 +160,6 @@ impl<S: System> Store for FileStore<S> {
             (IsReadOf (S.reads (system_of self.old)) (file_in self.old slot) (file_in self.new slot) off buf.new) }
         ensures others_files { OthersStay slot (file_in self.old) (file_in self.new) }
         ensures faults { S.faults (system_of self.new) ≡ faults_after (S.faults (system_of self.old)) result }
-        ensures calls { S.asked (system_of self.new) ≡ next_count (S.asked (system_of self.old)) }
     {
         let Seen::Sized(mut file, size) = self.held.replace(slot, Seen::Nothing) else {
             unreachable!()

@@ -78,7 +78,7 @@ impl Sink for MemSink {
         ensures later { faults_of self.old ≤ faults_of self.new }
         ensures quiet { OnOk result (faults_of self.new ≡ faults_of self.old) }
         ensures cause { OnErr result (Rose (faults_of self.old) (faults_of self.new)) }
-        ensures asked { Rose (calls_of self.old) (calls_of self.new) }
+        ensures asked { calls_of self.new ≡ next_count (calls_of self.old) }
         ensures asked_later { calls_of self.old ≤ calls_of self.new }
 
         // What this sink adds.
@@ -87,7 +87,6 @@ impl Sink for MemSink {
             n ≡ min (length piece.now) (limit_of self.old - length (bytes_in self.old))) }
         ensures limit { limit_of self.new ≡ limit_of self.old }
         ensures faults { faults_of self.new ≡ faults_after (faults_of self.old) result }
-        ensures calls { calls_of self.new ≡ next_count (calls_of self.old) }
     {
         self.counts.ask();
         let left = self.limit - self.kept.len();

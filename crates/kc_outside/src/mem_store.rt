@@ -110,7 +110,7 @@ impl MemStore {
         Ok(())
     }
 
-    /// How many calls of `Store` were made.
+    /// How many calls of `Store` were made, at most 2^64 - 1. It takes no memory.
     pub fn calls(&self) -> u64
         ensures { result ≡ calls_of self.now }
     {
@@ -324,14 +324,13 @@ impl Store for MemStore {
         ensures later { faults_of self.old ≤ faults_of self.new }
         ensures quiet { OnOk result (faults_of self.new ≡ faults_of self.old) }
         ensures cause { OnErr result (Rose (faults_of self.old) (faults_of self.new)) }
-        ensures asked { Rose (calls_of self.old) (calls_of self.new) }
+        ensures asked { calls_of self.new ≡ next_count (calls_of self.old) }
         ensures asked_later { calls_of self.old ≤ calls_of self.new }
 
         // What this store adds.
         ensures succeeds { is_ok result ≡ (not (next_fails self.old) && is_some (bytes_in self.old name.now)) }
         ensures name { OnOk result (opened_in self.new slot ≡ Some name.now) }
         ensures faults { faults_of self.new ≡ faults_after (faults_of self.old) result }
-        ensures calls { calls_of self.new ≡ next_count (calls_of self.old) }
         ensures failing { failing_in self.new ≡ failing_in self.old }
     {
         self.put(slot, Held::Nothing);
@@ -363,13 +362,12 @@ impl Store for MemStore {
         ensures later { faults_of self.old ≤ faults_of self.new }
         ensures quiet { OnOk result (faults_of self.new ≡ faults_of self.old) }
         ensures cause { OnErr result (Rose (faults_of self.old) (faults_of self.new)) }
-        ensures asked { Rose (calls_of self.old) (calls_of self.new) }
+        ensures asked { calls_of self.new ≡ next_count (calls_of self.old) }
         ensures asked_later { calls_of self.old ≤ calls_of self.new }
 
         // What this store adds.
         ensures succeeds { is_ok result ≡ not (next_fails self.old) }
         ensures faults { faults_of self.new ≡ faults_after (faults_of self.old) result }
-        ensures calls { calls_of self.new ≡ next_count (calls_of self.old) }
         ensures failing { failing_in self.new ≡ failing_in self.old }
     {
         self.begin()?;
@@ -394,13 +392,12 @@ impl Store for MemStore {
         ensures later { faults_of self.old ≤ faults_of self.new }
         ensures quiet { OnOk result (faults_of self.new ≡ faults_of self.old) }
         ensures cause { OnErr result (Rose (faults_of self.old) (faults_of self.new)) }
-        ensures asked { Rose (calls_of self.old) (calls_of self.new) }
+        ensures asked { calls_of self.new ≡ next_count (calls_of self.old) }
         ensures asked_later { calls_of self.old ≤ calls_of self.new }
 
         // What this store adds.
         ensures succeeds { is_ok result ≡ not (next_fails self.old) }
         ensures faults { faults_of self.new ≡ faults_after (faults_of self.old) result }
-        ensures calls { calls_of self.new ≡ next_count (calls_of self.old) }
         ensures failing { failing_in self.new ≡ failing_in self.old }
     {
         self.begin()?;

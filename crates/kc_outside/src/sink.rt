@@ -1,6 +1,6 @@
 // Where text goes.
 ghost use Rattle.std.specs.Prelude.{◌≡◌, ℕ, ◌<◌, ◌≤◌, List, length, take, Option, IfOk, OnOk, OnErr};
-ghost use Rattle.kc_outside.specs.Counts.{Rose};
+ghost use Rattle.kc_outside.specs.Counts.{Rose, next_count};
 ghost use Rattle.kc_outside.specs.Texts.{with_piece};
 
 use crate::store::Failed;
@@ -33,6 +33,6 @@ pub trait Sink {
         ensures later { faults self.old ≤ faults self.new }
         ensures quiet { OnOk result (faults self.new ≡ faults self.old) }
         ensures cause { OnErr result (Rose (faults self.old) (faults self.new)) }
-        ensures asked { Rose (asked self.old) (asked self.new) }
+        ensures asked { asked self.new ≡ next_count (asked self.old) }
         ensures asked_later { asked self.old ≤ asked self.new };
 }

@@ -2,7 +2,7 @@
 ghost use Rattle.std.specs.Prelude.{◌≡◌, ℕ, ◌+◌, ◌<◌, ◌≤◌, ◌^◌, List, length, Option, Some, None, IsSome, IfSome, IfOk, OnOk, OnErr};
 ghost use Rattle.std.specs.Option.{ForSome};
 ghost use Rattle.kc_outside.specs.declared.store.Slot.{Slot};
-ghost use Rattle.kc_outside.specs.Counts.{Rose};
+ghost use Rattle.kc_outside.specs.Counts.{Rose, next_count};
 ghost use Rattle.kc_outside.specs.Files.{Files, content, named, OthersStay, HasLength, HasPart};
 
 /// The places of a command's files. Each holds at most one file at a time.
@@ -73,7 +73,7 @@ pub trait Store {
         ensures later { faults self.old ≤ faults self.new }
         ensures quiet { OnOk result (faults self.new ≡ faults self.old) }
         ensures cause { OnErr result (Rose (faults self.old) (faults self.new)) }
-        ensures asked { Rose (asked self.old) (asked self.new) }
+        ensures asked { asked self.new ≡ next_count (asked self.old) }
         ensures asked_later { asked self.old ≤ asked self.new };
 
     /// The length of the file in a slot, in bytes.
@@ -96,7 +96,7 @@ pub trait Store {
         ensures later { faults self.old ≤ faults self.new }
         ensures quiet { OnOk result (faults self.new ≡ faults self.old) }
         ensures cause { OnErr result (Rose (faults self.old) (faults self.new)) }
-        ensures asked { Rose (asked self.old) (asked self.new) }
+        ensures asked { asked self.new ≡ next_count (asked self.old) }
         ensures asked_later { asked self.old ≤ asked self.new };
 
     /// Fills the buffer with the file's bytes from the file offset `off` on.
@@ -119,7 +119,7 @@ pub trait Store {
         ensures later { faults self.old ≤ faults self.new }
         ensures quiet { OnOk result (faults self.new ≡ faults self.old) }
         ensures cause { OnErr result (Rose (faults self.old) (faults self.new)) }
-        ensures asked { Rose (asked self.old) (asked self.new) }
+        ensures asked { asked self.new ≡ next_count (asked self.old) }
         ensures asked_later { asked self.old ≤ asked self.new };
 
     /// A slot whose size is learnt holds a file.

@@ -1,7 +1,9 @@
 // The stores, called through their trait.
 ghost use Rattle.std.specs.Prelude.{◌≡◌, IsSome};
 
-use crate::{Failed, FileStore, MemStore, Slot, Store};
+use crate::{
+    Bytes, Failed, FileStore, FourFiles, MemStore, Sink, Slot, Store, SureSink, SureStore,
+};
 use std::alloc::Global;
 use std::io::{Seek, SeekFrom, Write};
 use std::os::fd::AsRawFd;
@@ -162,5 +164,36 @@ fn files_are_read_past_four_gib(rt: HostRuntime) -> Result<(), Fail> {
     let read = read_three(&mut FileStore::new(&rt), name, far);
     fs::remove_file(&rt, name)?;
     assert_eq!(rt; read, Ok((far + 3, *b"end")));
+    Ok(())
+}
+
+// A file of these bytes.
+fn file(alloc: Global, bytes: &[u8]) -> Result<Bytes, Fail> {
+    Ok(Bytes::new(Vec::from_slice(alloc, bytes)?))
+}
+
+#[test]
+fn sure_ones_never_fail(rt: HostRuntime) -> Result<(), Fail> {
+    let mut store = SureStore::new(FourFiles {
+        dump: file(rt.alloc(), b"0123456789")?,
+        btf: file(rt.alloc(), b"abcdef")?,
+        map: file(rt.alloc(), b"map")?,
+        plan: file(rt.alloc(), b"")?,
+    });
+    assert_eq!(rt;
+        read_two(&mut store, "any name", ""),
+        Ok([(10, *b"012"), (6, *b"abc"), (10, *b"789")])
+    );
+    for (slot, size) in [
+        (Slot::Map, 3),
+        (Slot::Plan, 0),
+        (Slot::Report, 0),
+        (Slot::Module, 0),
+    ] {
+        store.open_file(slot, "any name")?;
+        assert_eq!(rt; store.size(slot), Ok(size), "{slot:?}");
+    }
+    let mut sink = SureSink::new();
+    assert_eq!(rt; sink.put(b"hello"), Ok(5));
     Ok(())
 }

@@ -38,7 +38,7 @@ impl<W: Write> WriterSink<W> {
 
 impl<W: Write> Sink for WriterSink<W> {
     ghost use Rattle.std.specs.Prelude.{◌<◌, ◌≤◌, length, OnOk, OnErr};
-    ghost use Rattle.kc_outside.specs.Counts.{Rose, next_count};
+    ghost use Rattle.kc_outside.specs.Counts.{Rose, next_count, faults_after};
     ghost use Rattle.kc_outside.specs.WriterSink.{writer_of, faults_of, calls_of, IsFlushed, GrowsByPart};
 
     ghost taken = { λ _. None };
@@ -63,7 +63,7 @@ impl<W: Write> Sink for WriterSink<W> {
         ensures later { faults_of self.old ≤ faults_of self.new }
         ensures quiet { OnOk result (faults_of self.new ≡ faults_of self.old) }
         ensures cause { OnErr result (Rose (faults_of self.old) (faults_of self.new)) }
-        ensures asked { Rose (calls_of self.old) (calls_of self.new) }
+        ensures asked { calls_of self.new ≡ next_count (calls_of self.old) }
         ensures asked_later { calls_of self.old ≤ calls_of self.new }
 
         // What this sink adds.
@@ -72,7 +72,7 @@ impl<W: Write> Sink for WriterSink<W> {
         ensures part { OnErr result
             (GrowsByPart (W.contents (writer_of self.old)) (W.contents (writer_of self.new)) piece.now) }
         ensures flushed { OnOk result (IsFlushed self.new) }
-        ensures calls { calls_of self.new ≡ next_count (calls_of self.old) }
+        ensures faults { faults_of self.new ≡ faults_after (faults_of self.old) result }
     {
         let count = self.output.write(piece)?;
         self.output.flush()?;
