@@ -6,3 +6,6 @@ mod tlb;
 
 pub use entry::Entry;
 pub use tlb::Tlb;
+
+#[cfg(test)]
+mod tests;
