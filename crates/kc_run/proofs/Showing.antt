@@ -4,7 +4,7 @@ use Rattle.std.specs.Prelude.{Option, Some, None, option_to_list, Result, Ok, Er
 use Rattle.kc_memory.specs.declared.words.Place.{Place}
 use Rattle.kc_memory.specs.Bits.{Number, number_places}
 use Rattle.kc_memory.specs.Image.{Image}
-use Rattle.kc_memory.specs.Laws.{NumbersStand, PlacesStand}
+use Rattle.kc_memory.specs.Laws.{NumbersStand}
 use Rattle.kc_memory.specs.Places.{AllStandIn, StandsIn, entry_places}
 use Rattle.kc_memory.specs.Stopped.{Stopped}
 use Rattle.kc_layout.specs.Ends.{NumberAt}
@@ -22,13 +22,13 @@ use Rattle.kc_plan.specs.Events.{Event, Walk, Wrong, first_wrong, verdict_of}
 use Rattle.kc_plan.specs.Planned.{AuditAt, CheckAt}
 use Rattle.kc_plan.specs.Seen.{PathEnd, EndsAt, NullAt, world, nodes_of, path_end, path_of, is_optional, unless_null, container_of, in_turn, below, checks_seen, number_at, at_element, walked, entered, seen, roots, all_seen}
 use Rattle.kc_plan.specs.Verdicts.{verdict_places}
+use Rattle.kc_list.specs.Laws.{HashPlacesStand, RingPlacesStand}
 use Rattle.kc_rb.specs.Laws.{TreePlacesStand}
 use Rattle.kc_slub.specs.Laws.{CachePlacesStand}
 use Rattle.kc_task.specs.Laws.{TaskPlacesStand}
 use Rattle.kc_xa.specs.Laws.{XarrayPlacesStand}
 use Rattle.kc_run.specs.Laws.{VerdictsStand}
 use Rattle.kc_run.proofs.Arrays.{array_shows}
-use Rattle.kc_found.proofs.ChainsShown.{hash_walk_shows, ring_walk_shows}
 
 -- the violations that are seen do
 AllSeen : Image → List Event → Type 0
@@ -73,11 +73,12 @@ end_stands numbers image at (offset ∷ offsets) byte =
     on_stands image (bytes_on at offset) (pointer image at offset) (λ next. path_end image next offsets byte)
     (numbers image (bytes_on at offset) 0 64 false) (λ next. end_stands numbers image next offsets byte)
 
--- what words, numbers, fields and the walks of each kind show
+-- what numbers, fields and the walks of each kind show
 pub record PlaceLaws : Type 0 where
-  pub words : PlacesStand
   pub numbers : NumbersStand
   pub values : ValuesStand
+  pub rings : RingPlacesStand
+  pub chains : HashPlacesStand
   pub trees : TreePlacesStand
   pub arrays : XarrayPlacesStand
   pub caches : CachePlacesStand
@@ -85,8 +86,8 @@ pub record PlaceLaws : Type 0 where
 
 nodes_show : PlaceLaws → (image : Image) (kind : Kind) (n start : ℕ) (v : Violation) → nodes_of image kind n start ≡ Err v → AllStandIn image v.places
 unfolding nodes_of
-nodes_show laws image (Ring shape) n start v is = ring_walk_shows laws.words image shape n start v is
-nodes_show laws image (Hlist shape) n start v is = hash_walk_shows laws.words image shape n start v is
+nodes_show laws image (Ring shape) n start v is = laws.rings image shape n start v is
+nodes_show laws image (Hlist shape) n start v is = laws.chains image shape n start v is
 nodes_show laws image (Rbtree shape) n start v is = laws.trees image shape n start v is
 nodes_show laws image (Xarray shape) n start v is = array_shows laws.arrays image shape n start v is
 nodes_show laws image (Slub shape) n start v is = laws.caches image shape n start v is

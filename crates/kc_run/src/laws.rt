@@ -2,7 +2,7 @@
 ghost use Rattle.kc_run.specs.Laws.{CleanWhereStanding, VerdictsStand};
 
 use kc_list::know_lists;
-use kc_memory::{know_numbers, know_places};
+use kc_memory::know_numbers;
 use kc_rb::know_trees;
 use kc_slub::know_caches;
 use kc_task::know_tasks;
@@ -20,7 +20,6 @@ pub fn know_verdicts()
     know_xarrays();
     know_caches();
     know_tasks();
-    know_places();
     know_numbers();
     know_values();
 }

@@ -14,9 +14,10 @@ returns-clause-clean c = clean_where_standing (record {
 
 pub returns-clause-places : goal.returns-clause-places
 returns-clause-places c = verdicts_stand (record {
-  words = c.know_places.ensures;
   numbers = c.know_numbers.ensures.stand;
   values = c.know_values.ensures.values;
+  rings = c.know_lists.ensures.ring_places;
+  chains = c.know_lists.ensures.hash_places;
   trees = c.know_trees.ensures.places;
   arrays = c.know_xarrays.ensures.places;
   caches = c.know_caches.ensures.places;
