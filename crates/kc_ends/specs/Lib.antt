@@ -2,6 +2,7 @@ pub mod Answers
 pub mod Asked
 pub mod Ends
 pub mod Failures
+pub mod Last
 pub mod Output
 pub mod Status
 pub mod Unopened

@@ -7,6 +7,7 @@ ghost use Rattle.kc_outside.specs.Texts.{with_piece};
 ghost use Rattle.kc_ends.specs.Answers.{NeedsMemory, OnNone, OnStoreIn, ending};
 ghost use Rattle.kc_ends.specs.Ends.{IsWritten, TookLine, TookOut, TookPrefix};
 ghost use Rattle.kc_ends.specs.Failures.{store_failed, memory_refused, sink_failed};
+ghost use Rattle.kc_ends.specs.Last.{FailedLast, StopsAtFailure};
 ghost use Rattle.kc_ends.specs.Status.{At, is_answer, is_silent, is_sink_quiet, is_store_quiet, number};
 ghost use Rattle.kc_ends.specs.declared.status.Status.TheVariants.{NoCommand, OutOfMemory, SinkFailed, StoreFailed};
 
@@ -30,6 +31,7 @@ fn tell_failure<E: Sink>(err: &mut E)
     ensures whole { E.faults err.old < 2 ^ 64 - 1 → E.faults err.new ≡ E.faults err.old → E.taken err.new ≡ with_piece
         (E.taken err.old) sink_failed }
     ensures later { E.faults err.old ≤ E.faults err.new }
+    ensures last { StopsAtFailure E.taken E.faults E.asked err.old err.new }
 {
     match put_all(err, SINK_FAILED) {
         Ok(()) => (),
@@ -44,6 +46,7 @@ fn put_out<O: Sink, E: Sink>(out: &mut O, err: &mut E, text: &[u8]) -> Result<()
     ensures later { O.faults out.old ≤ O.faults out.new }
     ensures quiet { OnOk result (O.faults out.new ≡ O.faults out.old) }
     ensures cause { OnErr result (Rose (O.faults out.old) (O.faults out.new)) }
+    ensures last { OnErr result (FailedLast O.taken O.faults O.asked out.old out.new) }
 
     ensures err_nothing { OnOk result (E.taken err.new ≡ with_piece (E.taken err.old) []) }
     ensures err_part { OnErr result (TookPrefix (E.taken err.old) (E.taken err.new) sink_failed) }
@@ -52,6 +55,7 @@ fn put_out<O: Sink, E: Sink>(out: &mut O, err: &mut E, text: &[u8]) -> Result<()
         (E.taken err.old) sink_failed) }
     ensures err_later { E.faults err.old ≤ E.faults err.new }
     ensures err_quiet { OnOk result (E.faults err.new ≡ E.faults err.old) }
+    ensures err_last { StopsAtFailure E.taken E.faults E.asked err.old err.new }
 {
     match put_all(out, text) {
         Ok(()) => Ok(()),
@@ -82,6 +86,7 @@ pub fn finish<O: Sink, E: Sink>(
     ensures memory { At result OutOfMemory (NeedsMemory outcome) }
     ensures memory_text { At result OutOfMemory (E.taken err.new ≡ with_piece (E.taken err.old) memory_refused) }
     ensures usage { At result NoCommand (outcome ≡ None) }
+    ensures usage_text { At result NoCommand (E.taken err.new ≡ with_piece (E.taken err.old) usage.now) }
     ensures usage_only { OnNone outcome (IsTrue (nat_eq (number result) 6 || nat_eq (number result) 4)) }
     ensures sink_failed { At result SinkFailed
         (Rose (O.faults out.old) (O.faults out.new) ⊎ Rose (E.faults err.old) (E.faults err.new)) }
@@ -105,6 +110,10 @@ pub fn finish<O: Sink, E: Sink>(
         → O.taken out.new ≡ O.taken out.old) }
     ensures err_failed { At result SinkFailed (O.faults out.old < 2 ^ 64 - 1 → O.faults out.new ≡ O.faults out.old
         → TookLine (ending usage.now outcome) (outcome ≡ Some (Err Store)) (E.taken err.old) (E.taken err.new)) }
+
+    // A sink isn't called again after it failed.
+    ensures out_last { StopsAtFailure O.taken O.faults O.asked out.old out.new }
+    ensures err_last { StopsAtFailure E.taken E.faults E.asked err.old err.new }
 
     // Counts don't fall.
     ensures out_later { O.faults out.old ≤ O.faults out.new }

@@ -1,8 +1,7 @@
 -- What findings, facts and outcomes say.
-use Rattle.std.specs.Prelude.{◌≡◌, ◌≢◌, ⊤, ℕ, ◌+◌, ◌≤◌, ℤ, pos, List, [], length, Option, Some, Result, Ok}
+use Rattle.std.specs.Prelude.{◌≡◌, ◌≢◌, ⊤, ℕ, ◌+◌, ◌≤◌, ℤ, pos, IsTrue, List, [], length, Some, Ok}
 use Rattle.kc_btf.specs.Btf.{Types}
 use Rattle.kc_layout.specs.Ends.{ByteAt, located}
-use Rattle.kc_layout.specs.Find.{find}
 use Rattle.kc_layout.specs.Size.{size}
 use Rattle.kc_syms.specs.Addresses.{common_of}
 use Rattle.kc_match.specs.declared.outcome.Other.{Other}
@@ -11,6 +10,7 @@ use Rattle.kc_match.specs.declared.outcome.Outcome.{Outcome}
 use Rattle.kc_match.specs.declared.outcome.Outcome.TheVariants.{Same, Differs, Unknown}
 use Rattle.kc_match.specs.Facts.{Fact, Symbol, Size, Offset}
 use Rattle.kc_match.specs.Findings.{Finding}
+use Rattle.kc_match.specs.Named.{is_type_of}
 use Rattle.kc_match.specs.Outcomes.{Kernel, outcome}
 use Rattle.kc_match.specs.Text.{differs_count, same_count, unknown_count}
 
@@ -23,23 +23,23 @@ pub record TellsAddress (kernel : Kernel) (name : List ℕ) (address : ℕ) : Ty
   pub common : common_of kernel.kaslr (kernel.listed name) ≡ Ok address
   pub image : 0xffffffff80000000 ≤ address
 
--- the struct or union of a name has this size
+-- a type of a name has this size
 pub record TellsSize (types : Types) (name : List ℕ) (bytes : ℕ) : Type 0 where
   pub id : ℕ
-  pub found : find types name ≡ Some id
+  pub of : IsTrue (is_type_of types name id)
   pub sized : size types id ≡ Some bytes
 
--- a member of the struct or union of a name begins at this byte of it, and no pointer leads there
+-- a member of a type of a name begins at this byte of it, and no pointer leads there
 pub record TellsByte (types : Types) (name member : List ℕ) (byte : ℕ) : Type 0 where
   pub named : member ≢ []
   pub id : ℕ
-  pub found : find types name ≡ Some id
+  pub of : IsTrue (is_type_of types name id)
   pub place : ByteAt
   pub leads : located types id member ≡ Ok place
   pub direct : place.hops ≡ []
   pub there : place.byte ≡ byte
 
--- the files tell this number of what a fact speaks of
+-- the files tell this number of what a fact speaks of; they may tell several, where several types have its name
 abbrev pub Tell : Kernel → Fact → ℕ → Type 0
 Tell kernel (Symbol name address) told = TellsAddress kernel name told
 Tell kernel (Size name stated) told = TellsSize kernel.types name told
@@ -61,10 +61,12 @@ IsCompared (Symbol name address) = 0xffffffff80000000 ≤ address
 IsCompared (Size name size) = ⊤
 IsCompared (Offset name member byte) = ⊤
 
--- what an outcome says: the files tell the number that is stated, or another one, or none that is compared
+-- what an outcome says: the files tell the number that is stated; or they tell another one, and don't tell it; or they tell
+-- none that is compared
 abbrev pub Stands : Kernel → Fact → Outcome → Type 0
 Stands kernel fact Same = (told : ℕ) × Tell kernel fact told × (stated fact ≡ pos told)
-Stands kernel fact (Differs other) = Tell kernel fact (number_of other) × (stated fact ≢ pos (number_of other))
+Stands kernel fact (Differs other) =
+    Tell kernel fact (number_of other) × ((told : ℕ) → Tell kernel fact told → stated fact ≢ pos told)
 Stands kernel fact Unknown = (told : ℕ) → IsCompared fact → Tell kernel fact told → ⊥
 
 abbrev pub OutcomesStand : Type 0

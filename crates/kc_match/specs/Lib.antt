@@ -2,6 +2,7 @@ pub mod Facts
 pub mod Findings
 pub mod Laws
 pub mod Match
+pub mod Named
 pub mod Outcomes
 pub mod Spelling
 pub mod Text

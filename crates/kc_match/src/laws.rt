@@ -3,7 +3,7 @@ ghost use Rattle.kc_match.specs.Laws.{CountsAddUp, OutcomesStand};
 ghost use Rattle.kc_match.specs.Spelling.{FactsAreSpelled};
 
 /// Does nothing. A line states something exactly where it spells it, and each such line is counted once; where one is
-/// the same, the files tell the number that it states, and where one differs, they tell another.
+/// the same, the files tell the number that it states, and where one differs, they tell another and not that one.
 pub fn know_matches()
     ensures spelled { FactsAreSpelled }
     ensures counts { CountsAddUp }

@@ -15,14 +15,14 @@ pub enum Other {
 pub enum Outcome {
     /// They tell the same.
     Same,
-    /// They tell another number.
+    /// They don't tell the same, but another number. Where they tell several, it is the first.
     Differs(Other),
     /// They don't tell it.
     Unknown,
 }
 
 impl Outcome {
-    ghost use Rattle.kc_match.specs.Outcomes.{is_same, is_unknown, differs};
+    ghost use Rattle.kc_match.specs.Outcomes.{differs, either, is_same, is_unknown};
 
     /// The files tell the same.
     pub fn is_same(&self) -> bool
@@ -31,7 +31,7 @@ impl Outcome {
         matches!(self, Outcome::Same)
     }
 
-    /// The files tell another number.
+    /// The files tell another number, and not the same.
     pub fn differs(&self) -> bool
         ensures { result ≡ differs self.now }
     {
@@ -43,5 +43,18 @@ impl Outcome {
         ensures { result ≡ is_unknown self.now }
     {
         matches!(self, Outcome::Unknown)
+    }
+
+    /// What comes of a fact beside what two types tell: the same where one of them tells the same, and else the first that
+    /// tells another number.
+    pub fn or(self, other: Outcome) -> Outcome
+        ensures { result ≡ either self other }
+    {
+        match self {
+            Outcome::Same => Outcome::Same,
+            Outcome::Differs(_) if other.is_same() => Outcome::Same,
+            Outcome::Differs(told) => Outcome::Differs(told),
+            Outcome::Unknown => other,
+        }
     }
 }

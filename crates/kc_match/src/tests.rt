@@ -1,13 +1,14 @@
 // The program over made files. The files beside this one have the cases, and an empty line ends a case. Its lines
 // give what is changed: `note` a line before the usual ones of the note, and `last` one after them without a newline;
-// `row` a line more of the map; `types` a byte of the types at a file offset; `length` how long the dump is;
-// `types_size` and `map_size` of how many zeros a file is; `without` a file that isn't there; `fails` the number of
-// the call that fails; `out_limit` and `err_limit` how much a sink takes; and what is wanted. Numbers are hex.
+// `row` a line more of the map; `type`, which then begins the case, a line of the types in place of the usual ones;
+// `types` a byte of the types at a file offset; `length` how long the dump is; `types_size` and `map_size` of how many
+// zeros a file is; `without` a file that isn't there; `fails` the number of the call that fails; `out_limit` and
+// `err_limit` how much a sink takes; and what is wanted. Numbers are hex.
 mod endings;
 mod facts;
 
 use crate::kmatch;
-use kc_fixture::{MAP, NOTE, btf_file, core_with_note, lines_behind, set_bytes};
+use kc_fixture::{MAP, NOTE, Types, btf_file, core_with_note, lines_behind, set_bytes};
 use kc_outside::{MemSink, MemStore};
 use kc_word::{NoMemory, read_hex};
 use std::alloc::{AllocError, Global};
@@ -51,6 +52,20 @@ fn note_text(alloc: Global, lines: &str) -> Result<Vec<u8>, AllocError> {
     Ok(text)
 }
 
+// The file of types.
+fn types_file(alloc: Global, lines: &str) -> Result<Vec<u8>, AllocError> {
+    if !lines.starts_with("type ") {
+        return btf_file(alloc);
+    }
+    let mut types = Types::new(alloc)?;
+    for line in lines.lines() {
+        if let Some(line) = line.strip_prefix("type ") {
+            types.add(line)?;
+        }
+    }
+    types.file(alloc)
+}
+
 // The words that a line separates by spaces.
 fn read_words(alloc: Global, line: &str) -> Result<Vec<String>, AllocError> {
     let mut words = Vec::new(alloc);
@@ -67,7 +82,7 @@ impl Case {
         Ok(Case {
             words: read_words(alloc, "z.core z.btf z.map")?,
             dump: core_with_note(alloc, &note_text(alloc, lines)?)?,
-            types: btf_file(alloc)?,
+            types: types_file(alloc, lines)?,
             map,
             missing: Vec::new(alloc),
             fails: 0,
@@ -160,7 +175,7 @@ fn run_cases(rt: &(impl Abort + AllocGlobal), text: &str) -> Result<usize, Fail>
 
 #[test]
 fn lines_are_the_same_or_not(rt: HostRuntime) -> Result<(), Fail> {
-    assert_eq!(rt; run_cases(&rt, facts::FACTS)?, 15);
+    assert_eq!(rt; run_cases(&rt, facts::FACTS)?, 17);
     Ok(())
 }
 

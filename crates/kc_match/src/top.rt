@@ -10,9 +10,10 @@ ghost use Rattle.kc_ends.specs.declared.status.Status.TheVariants.{NoCommand, Ou
 ghost use Rattle.kc_ends.specs.Asked.{word_in};
 ghost use Rattle.kc_ends.specs.Ends.{ErrFailed, IsTold, TookPart, TookPrefix};
 ghost use Rattle.kc_ends.specs.Failures.{store_failed, memory_refused, sink_failed};
+ghost use Rattle.kc_ends.specs.Last.{StopsAtFailure};
 ghost use Rattle.kc_ends.specs.Status.{At, is_answer, is_silent, is_sink_quiet, is_store_quiet, number};
 ghost use Rattle.kc_ends.specs.Unopened.{AskedStay};
-ghost use Rattle.kc_match.specs.Match.{match_asks, written_of};
+ghost use Rattle.kc_match.specs.Match.{match_asks, usage_text, written_of};
 
 use crate::files::run;
 use kc_ends::{Status, finish};
@@ -48,6 +49,7 @@ pub fn kmatch<S: Store, O: Sink, E: Sink>(
     ensures store_text { At result StoreFailed (E.taken err.new ≡ with_piece (E.taken err.old) store_failed) }
     ensures memory_text { At result OutOfMemory (E.taken err.new ≡ with_piece (E.taken err.old) memory_refused) }
     ensures usage { At result NoCommand (match_asks (map string_bytes words.now) ≡ None) }
+    ensures usage_text { At result NoCommand (E.taken err.new ≡ with_piece (E.taken err.old) usage_text) }
     ensures usage_only { match_asks (map string_bytes words.now) ≡ None → IsTrue
         (nat_eq (number result) 6 || nat_eq (number result) 4) }
     ensures usage_unasked { match_asks (map string_bytes words.now) ≡ None → S.asked store.new ≡ S.asked store.old }
@@ -79,6 +81,10 @@ pub fn kmatch<S: Store, O: Sink, E: Sink>(
     ensures err_failed { At result SinkFailed (O.faults out.old < 2 ^ 64 - 1 → O.faults out.new ≡ O.faults out.old
         → ErrFailed (written_of (map string_bytes words.now)) (S.files store.old)
         (Rose (S.faults store.old) (S.faults store.new)) (E.taken err.old) (E.taken err.new)) }
+
+    // A sink isn't called again after it failed.
+    ensures out_last { StopsAtFailure O.taken O.faults O.asked out.old out.new }
+    ensures err_last { StopsAtFailure E.taken E.faults E.asked err.old err.new }
 
     // Nothing changes a file, and counts don't fall.
     ensures files { S.files store.new ≡ S.files store.old }

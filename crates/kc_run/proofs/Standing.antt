@@ -1,11 +1,12 @@
 -- A plan's verdict is clean exactly where the plan stands.
 use Rattle.std.proofs.Common.{◌≡◌, ℕ, suc, Bool, true, false, nat_eq, List, [], ◌∷◌, ◌++◌, length, refl}
-use Rattle.std.specs.Prelude.{Result, Ok, Err, ⊤, MatchBool, IsTrue, if◌then◌else◌}
+use Rattle.std.specs.Prelude.{◌↔◌, Option, Some, None, Result, Ok, Err, ⊤, IfSome, MatchBool, IsTrue, if◌then◌else◌}
 use Rattle.std.specs.List.{AllByRecursion}
 use Rattle.kc_memory.specs.Bits.{Number}
 use Rattle.kc_memory.specs.Image.{Image}
 use Rattle.kc_memory.specs.Stopped.{Stopped}
 use Rattle.kc_found.specs.declared.asked.Asked.{Asked}
+use Rattle.kc_found.specs.declared.verdict.Verdict.{Verdict}
 use Rattle.kc_found.specs.Violations.{Violation}
 use Rattle.kc_expr.specs.Values.{is_true}
 use Rattle.kc_list.specs.Laws.{HashChainsAreWalked, RingsAreWalked}
@@ -15,8 +16,8 @@ use Rattle.kc_plan.specs.Checks.{CheckHolds, checked, numbers_of, value_of}
 use Rattle.kc_plan.specs.Events.{Event, Walk, Wrong, first_wrong, verdict_of}
 use Rattle.kc_plan.specs.Planned.{AuditAt, CheckAt}
 use Rattle.kc_plan.specs.Seen.{PathEnd, EndsAt, NullAt, world, nodes_of, path_end, path_of, is_optional, container_of, in_turn, below, checks_seen, number_at, at_element, walked, entered, seen, roots, all_seen}
-use Rattle.kc_plan.specs.Stands.{Holds, ElementStands, WalkStands, EnterStands, Stands}
-use Rattle.kc_plan.specs.Verdicts.{IsClean}
+use Rattle.kc_plan.specs.Stands.{Holds, ElementStands, WalkStands, EnterStands, PlanStands, Stands}
+use Rattle.kc_plan.specs.Verdicts.{IsClean, verdict}
 use Rattle.kc_rb.specs.Laws.{TreesAreWalked}
 use Rattle.kc_slub.specs.Laws.{CachesAreWalked}
 use Rattle.kc_task.specs.Laws.{TasksAreWalked}
@@ -206,3 +207,8 @@ clean_where_standing laws image plan =
       λ c. turn_stands see Stand (roots 0 plan) (λ r d. clean_stands image plan 0 r.0 r.1 kinds d) (none_is (length plan) (all_seen (world image) plan) (all_seen (world image) plan) c),
       λ s. is_none (length plan) (all_seen (world image) plan) (all_seen (world image) plan) (turn_clean see Stand (roots 0 plan) (λ r d. stands_clean image plan 0 r.0 r.1 kinds d) s),
     )
+
+-- and so is the verdict that a dump has, where it is told
+pub stands_told : CleanWhereStanding → (image : Option Image) (plan : List AuditAt) (found : Verdict) → IfSome image (λ i. verdict i plan ≡ found) → IfSome image (λ i. IsClean found ↔ PlanStands i plan)
+stands_told law None plan found is = tt
+stands_told law (Some i) plan found is = rw is at (law i plan)

@@ -1,16 +1,18 @@
 // All audits of a plan.
-ghost use Rattle.std.specs.Prelude.{◌≡◌, ◌<◌, length, IfOk, IfSome};
+ghost use Rattle.std.specs.Prelude.{◌≡◌, ◌<◌, ◌↔◌, length, IfOk, IfSome};
 ghost use Rattle.kc_memory.specs.Stays.{SpaceStays};
 ghost use Rattle.kc_found.specs.Walks.{CountsWalkFaults};
 ghost use Rattle.kc_plan.specs.Inside.{AreInside};
 ghost use Rattle.kc_plan.specs.Seen.{all_seen, in_turn, root_of, seen, world};
-ghost use Rattle.kc_plan.specs.Verdicts.{FitsPlan, verdict};
+ghost use Rattle.kc_plan.specs.Stands.{PlanStands};
+ghost use Rattle.kc_plan.specs.Verdicts.{FitsPlan, IsClean, verdict};
 ghost use Rattle.kc_plan.specs.Planned.{start_seen};
 ghost use Rattle.kc_plan.specs.Views.{plan_seen};
 ghost use Rattle.kc_run.specs.Answers.{CountsRunFaults};
 ghost use Rattle.kc_run.specs.Tally.{NamesBelow, TalliesAs};
 
 use crate::counts::no_walks;
+use crate::laws::know_verdicts;
 use crate::nest::{Known, enter};
 use kc_btf::Btf;
 use kc_found::{Asked, Counts, Space, Verdict, WalkStop};
@@ -96,9 +98,10 @@ fn enter_roots<S: Space, L: Ledger>(
 /// each audit walked, and how many elements it met.
 ///
 /// Root audits are made in the order of the plan. An audit is walked whole first, from where its path leads; then, element
-/// by element, the audits that it names are made there. Where a path stops, or has a null pointer and the audit isn't
-/// optional, the violation names the audit and the address from which the path was followed. A count stays at 2^64 - 1 once
-/// it is there.
+/// by element, its checks are looked at in their order, and after them the audits that it names are made there. Where a
+/// path stops, or has a null pointer and the audit isn't optional, the violation names the audit and the address from which
+/// the path was followed; that of a check names the audit and where its walk started. A count stays at 2^64 - 1 once it is
+/// there.
 ///
 /// # Errors
 ///
@@ -113,11 +116,16 @@ pub fn run<S: Space, L: Ledger>(
     requires { AreInside (length btf.now.records) plan.now.audits }
 
     ensures exact { IfOk result (λ found. IfSome (S.image space.old) (λ image. verdict image (plan_seen plan.now) ≡ found)) }
+    // A verdict on a dump that is told is clean exactly where every root audit stands. Where reading failed, or no memory was
+    // left, there is no verdict, and whether they stand isn't said.
+    ensures stands { IfOk result (λ found. IfSome (S.image space.old)
+        (λ image. IsClean found ↔ PlanStands image (plan_seen plan.now))) }
     ensures fits { IfOk result (FitsPlan (length plan.now.audits)) }
 
     ensures stays { SpaceStays S.image S.files S.through S.most space.old space.new }
     ensures cause { CountsRunFaults result (S.faults space.old) (S.faults space.new) }
 {
+    know_verdicts();
     let known = Known { plan, btf };
     let mut counts = match no_walks(alloc, plan) {
         Ok(counts) => counts,

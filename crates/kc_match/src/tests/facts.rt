@@ -145,4 +145,42 @@ status 1
 out differ SIZE(s?ab)=63 btf 64
 out OSRELEASE -
 out BUILD-ID -
-out same 0 differ 1 unknown 2";
+out same 0 differ 1 unknown 2
+
+type 1 int = int 4 32
+type 2 twice = struct 8
+type 3 twice = struct 16
+note SIZE(twice)=8
+note SIZE(twice)=16
+out OSRELEASE -
+out BUILD-ID -
+out same 2 differ 0 unknown 1
+
+type 1 int = int 4 32
+type 2 twice = struct 8
+type   a = 1 0
+type 3 twice = union 16
+type   b = 1 64
+type   a = 1 32
+type 4 pair = struct 32
+type 5 twice = typedef 4
+type 6 other = typedef 2
+type 7 other = typedef 4
+note SIZE(twice)=32
+note OFFSET(twice.a)=0
+note OFFSET(twice.a)=4
+note OFFSET(twice.a)=8
+note OFFSET(twice.b)=8
+note OFFSET(twice.b)=0
+note OFFSET(twice.c)=0
+note SIZE(other)=8
+note SIZE(other)=32
+note SIZE(other)=16
+status 1
+out differ SIZE(twice)=32 btf 8
+out differ OFFSET(twice.a)=8 btf 0
+out differ OFFSET(twice.b)=0 btf 8
+out differ SIZE(other)=16 btf 8
+out OSRELEASE -
+out BUILD-ID -
+out same 5 differ 4 unknown 2";
