@@ -33,7 +33,7 @@ NOT_CLEAN = {"audited_shown", "refusal_line", "ShownStand", "word_form", "layout
 MAKE_BLANKS = {"kc_app"}
 
 # The crates whose lemmas speak of their definitions alone, and are there for all above.
-GIVE_LEMMAS = {"kc_word", "kc_memory", "kc_found", "kc_text"}
+GIVE_LEMMAS = {"kc_word", "kc_memory", "kc_found", "kc_view", "kc_text", "kc_ends"}
 
 BORROWED = re.compile(r"\bRattle\.(kc_\w+)\.proofs\.")
 
