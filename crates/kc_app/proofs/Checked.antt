@@ -12,8 +12,7 @@ use Rattle.kc_notes.specs.Info.{info}
 use Rattle.kc_found.specs.declared.verdict.Verdict.{Verdict}
 use Rattle.kc_found.specs.declared.verdict.Verdict.TheVariants.{Clean, Broken}
 use Rattle.kc_plan.specs.Planned.{AuditAt}
-use Rattle.kc_plan.specs.Verdicts.{IsClean, verdict, verdict_places}
-use Rattle.kc_run.specs.Laws.{CleanWhereStanding}
+use Rattle.kc_plan.specs.Verdicts.{verdict, verdict_places}
 use Rattle.kc_input.specs.declared.halt.Halt.{Halt}
 use Rattle.kc_input.specs.declared.halt.Halt.TheVariants.{Refused, Store, Memory}
 use Rattle.kc_input.specs.declared.refusal.Refusal.TheVariants.{Notes}
@@ -21,11 +20,10 @@ use Rattle.kc_input.specs.Inputs.{dump_parts, types_in}
 use Rattle.kc_input.specs.Made.{IsOf, checked, gives}
 use Rattle.kc_input.specs.Paging.{by_info}
 use Rattle.kc_ends.specs.declared.answer.Answer.{Answer}
-use Rattle.kc_ends.specs.declared.status.Status.TheVariants.{Done}
 use Rattle.kc_ends.specs.Answers.{Prints, PrintsOf, PrintsOfBytes, StayBehind}
 use Rattle.kc_app.specs.Answer.{Writes}
-use Rattle.kc_app.specs.Check.{ChecksStand, Files, RefusesLate, check_asked, check_made, names_of, planned_in, verdict_said, verdict_shown}
-use Rattle.kc_app.specs.Shown.{said_status, shown_written}
+use Rattle.kc_app.specs.Check.{Files, RefusesLate, check_asked, check_made, names_of, planned_in, verdict_said, verdict_shown}
+use Rattle.kc_app.specs.Shown.{shown_written}
 use Rattle.kc_app.specs.Word.{image_of}
 
 -- a late refusal leaves the files after it unopened
@@ -72,17 +70,3 @@ pub check_prints : {X Y Z : Type 0} (files : Option Told) (f : Files) (core : X 
 check_prints None f core types audits x told y z r is noted typed planned prints = tt
 check_prints (Some files) f core types audits x told y z r is noted typed planned prints =
     prints_made (files slot.Dump f.dump) (files slot.Btf f.btf) (files slot.Map f.map) (files slot.Plan f.plan) (core x) told (types y) (audits z) r is noted typed planned prints
-
--- a verdict is clean exactly where it is shown with the status of what is done
-clean_done : (names : List (List ℕ)) (found : Verdict) → IsClean found → said_status (verdict_said names found) ≡ Done
-clean_done names (Clean counts) clean = refl
-clean_done names (Broken v) clean = absurd clean
-
-done_clean : (names : List (List ℕ)) (found : Verdict) → said_status (verdict_said names found) ≡ Done → IsClean found
-done_clean names (Clean counts) done = tt
-done_clean names (Broken v) done = absurd (let none : ⊥ = cc in none)
-
-pub checks_stand : CleanWhereStanding → ChecksStand
-checks_stand clean all =
-    let found = verdict all.image all.audits in
-    ((λ done. (clean all.image all.audits).0 (done_clean (names_of all.audits) found done)), (λ stands. clean_done (names_of all.audits) found ((clean all.image all.audits).1 stands)))

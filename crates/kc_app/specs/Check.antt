@@ -1,5 +1,5 @@
 -- `check`: the structures of a kernel, by a plan.
-use Rattle.std.specs.Prelude.{◌≡◌, ⊤, ◌⊎◌, ℕ, List, [], ◌∷◌, codes, map, slice_get, Option, Some, None, unwrap_or, Result, Ok, Err}
+use Rattle.std.specs.Prelude.{◌≡◌, ◌↔◌, ⊤, ◌⊎◌, ℕ, List, [], ◌∷◌, codes, map, slice_get, Option, Some, None, unwrap_or, Result, Ok, Err}
 use Rattle.kc_outside.specs.declared.store.Slot.{Slot}
 use Rattle.kc_outside.specs.declared.store.Slot.TheVariants as slot
 use Rattle.kc_memory.specs.Image.{Image}
@@ -22,7 +22,8 @@ use Rattle.kc_input.specs.Slots.{refused_slot}
 use Rattle.kc_ends.specs.Asked.{Asked}
 use Rattle.kc_app.specs.declared.check.Asks.{Asks}
 use Rattle.kc_app.specs.Form.{Form}
-use Rattle.kc_ends.specs.declared.status.Status.TheVariants.{Done}
+use Rattle.kc_ends.specs.declared.status.Status.{Status}
+use Rattle.kc_ends.specs.declared.status.Status.TheVariants as status
 use Rattle.kc_app.specs.Shown.{Said, Sound, Unsound, Shown, Seen, shown_status}
 use Rattle.kc_app.specs.Word.{bytes_of, image_of}
 
@@ -100,12 +101,14 @@ files_view a = record { dump = a.dump.now; btf = a.btf.now; map = a.map.now; pla
 abbrev pub check_view : Asks → Asked Shown
 check_view a = check_asked (files_view a)
 
--- what `check` shows is clean exactly where every structure that the plan reaches stands
+-- a status is 0 exactly where every structure that a plan reaches stands in the memory, and 1 exactly where one doesn't
+abbrev pub TellsStanding : Audited → Status → Type 0
+TellsStanding all told =
+    ((told ≡ status.Done) ↔ PlanStands all.image all.audits) × ((told ≡ status.Broken) ↔ ¬ PlanStands all.image all.audits)
+
+-- what `check` shows has such a status
 abbrev pub ChecksStand : Type 0
-ChecksStand =
-    (all : Audited)
-    → (shown_status (audited_shown all) ≡ Done → PlanStands all.image all.audits)
-    × (PlanStands all.image all.audits → shown_status (audited_shown all) ≡ Done)
+ChecksStand = (all : Audited) → TellsStanding all (shown_status (audited_shown all))
 
 -- a refusal is about the map, and the plan's slot is then as before, or it is about the plan
 abbrev pub RefusesLate : {A : Type 0} → Result A Halt → (Slot → Option (List ℕ)) → (Slot → Option (List ℕ)) → Type 0

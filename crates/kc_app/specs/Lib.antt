@@ -2,6 +2,7 @@ pub mod Answer
 pub mod Check
 pub mod Commands
 pub mod Form
+pub mod Headline
 pub mod Layout
 pub mod Output
 pub mod Said

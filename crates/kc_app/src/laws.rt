@@ -1,16 +1,19 @@
 // What the definition of the output says.
 ghost use Rattle.kc_app.specs.Check.{ChecksStand};
+ghost use Rattle.kc_app.specs.Headline.{ChecksEnd};
 ghost use Rattle.kc_app.specs.Output.{ShownStand};
 
 use kc_memory::know_places;
 use kc_run::know_verdicts;
 use kc_view::know_values;
 
-/// Does nothing. Every word of a dump that an output shows stands in the dump at the printed places, and `check` shows
-/// that a dump is clean exactly where every structure that the plan reaches stands.
+/// Does nothing. Every word of a dump that an output shows stands in the dump at the printed places. `check` shows that a
+/// dump is clean exactly where every structure that the plan reaches stands, and so it ends: with 0 there, with 1 where one
+/// doesn't stand, and with 2 where a file is refused.
 pub fn know_shown()
     ensures shown { ShownStand }
     ensures checked { ChecksStand }
+    ensures ends { ChecksEnd }
 {
     know_places();
     know_values();

@@ -1,5 +1,5 @@
 // The program: a command line, its files, and where its text goes.
-ghost use Rattle.std.specs.Prelude.{◌≡◌, ◌-◌, ◌^◌, ◌<◌, ◌≤◌, ◌⊎◌, ◌||◌, nat_eq, map, None, IsTrue};
+ghost use Rattle.std.specs.Prelude.{◌≡◌, ◌-◌, ◌^◌, ◌<◌, ◌≤◌, ◌⊎◌, ◌||◌, nat_eq, map, None, IfSome, IsTrue};
 ghost use Rattle.std.specs.Bool.{OnTrue};
 ghost use Rattle.std.specs.Option.{ForSome};
 ghost use Rattle.std.specs.String.{string_bytes};
@@ -10,12 +10,15 @@ ghost use Rattle.kc_ends.specs.declared.status.Status.TheVariants.{NoCommand, Ou
 ghost use Rattle.kc_ends.specs.Asked.{word_in};
 ghost use Rattle.kc_ends.specs.Ends.{ErrFailed, IsTold, TookPart, TookPrefix};
 ghost use Rattle.kc_ends.specs.Failures.{store_failed, memory_refused, sink_failed};
+ghost use Rattle.kc_ends.specs.Last.{StopsAtFailure};
 ghost use Rattle.kc_ends.specs.Status.{At, is_answer, is_silent, is_sink_quiet, is_store_quiet, number};
 ghost use Rattle.kc_ends.specs.Unopened.{AskedStay};
-ghost use Rattle.kc_app.specs.Commands.{command};
-ghost use Rattle.kc_app.specs.Output.{written_of};
+ghost use Rattle.kc_app.specs.Commands.{command, usage_text};
+ghost use Rattle.kc_app.specs.Headline.{CheckEnds};
+ghost use Rattle.kc_app.specs.Output.{TookTrue, out_of, written_of};
 
 use crate::command::{USAGE, run};
+use crate::laws::know_shown;
 use kc_ends::{Status, finish};
 use kc_outside::{Sink, Store};
 use std::alloc::Global;
@@ -35,6 +38,14 @@ pub fn kaudit<S: Store, O: Sink, E: Sink>(
         (IsTold (written_of (map string_bytes words.now)) (S.files store.old) result (O.taken out.old) (O.taken out.new)
         (E.taken err.old) (E.taken err.new)) }
 
+    // And `check` then ends with 0 exactly where every root audit stands in the dump, and with 1 exactly where one doesn't, by
+    // what its files hold; or with 2, where one of them is refused. The words that are printed stand in the dump at their
+    // printed places.
+    ensures stands { OnTrue (is_answer result)
+        (IfSome (S.files store.old) (λ files. CheckEnds (map string_bytes words.now) files result)) }
+    ensures shown { OnTrue (is_answer result) (IfSome (S.files store.old)
+        (λ files. TookTrue (out_of (map string_bytes words.now) files) (O.taken out.old) (O.taken out.new))) }
+
     // Where nothing failed, there is an answer or want of memory.
     ensures complete { (Rose (S.faults store.old) (S.faults store.new) → ⊥)
         → (Rose (O.faults out.old) (O.faults out.new) → ⊥)
@@ -45,6 +56,7 @@ pub fn kaudit<S: Store, O: Sink, E: Sink>(
     ensures store_text { At result StoreFailed (E.taken err.new ≡ with_piece (E.taken err.old) store_failed) }
     ensures memory_text { At result OutOfMemory (E.taken err.new ≡ with_piece (E.taken err.old) memory_refused) }
     ensures usage { At result NoCommand (command (map string_bytes words.now) ≡ None) }
+    ensures usage_text { At result NoCommand (E.taken err.new ≡ with_piece (E.taken err.old) usage_text) }
     ensures usage_only { command (map string_bytes words.now) ≡ None → IsTrue
         (nat_eq (number result) 6 || nat_eq (number result) 4) }
     ensures usage_unasked { command (map string_bytes words.now) ≡ None → S.asked store.new ≡ S.asked store.old }
@@ -77,12 +89,17 @@ pub fn kaudit<S: Store, O: Sink, E: Sink>(
         → ErrFailed (written_of (map string_bytes words.now)) (S.files store.old)
         (Rose (S.faults store.old) (S.faults store.new)) (E.taken err.old) (E.taken err.new)) }
 
+    // A sink isn't called again after it failed.
+    ensures out_last { StopsAtFailure O.taken O.faults O.asked out.old out.new }
+    ensures err_last { StopsAtFailure E.taken E.faults E.asked err.old err.new }
+
     // Nothing changes a file, and counts don't fall.
     ensures files { S.files store.new ≡ S.files store.old }
     ensures store_later { S.faults store.old ≤ S.faults store.new }
     ensures out_later { O.faults out.old ≤ O.faults out.new }
     ensures err_later { E.faults err.old ≤ E.faults err.new }
 {
+    know_shown();
     let outcome = run(alloc, store, words);
     finish(alloc, outcome, USAGE, out, err)
 }

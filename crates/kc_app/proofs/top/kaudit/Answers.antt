@@ -3,12 +3,23 @@ use Rattle.std.specs.String.{string_bytes}
 use Rattle.kc_ends.proofs.Ending.{fails, parts, tells}
 use Rattle.kc_app.specs.Commands.{command, usage_text}
 use Rattle.kc_app.specs.Shown.{shown_written}
+use Rattle.kc_app.proofs.Ends.{answer_ends, answer_true}
 use Rattle.kc_app.proofs.top.kaudit.Goals as goal
 
 pub returns-clause-told : goal.returns-clause-told
 returns-clause-told g c =
     tells usage_text shown_written (command (map string_bytes c.args.words.now)) (g.S.Store.files c.args.store.now) c.run-outcome.result _ _ c.finish.result (g.O.Sink.taken c.args.out.now) (g.O.Sink.taken c.finish.new.out) (g.E.Sink.taken c.args.err.now) (g.E.Sink.taken c.finish.new.err)
     c.run-outcome.ensures.output c.finish.ensures.told
+
+pub returns-clause-stands : goal.returns-clause-stands
+returns-clause-stands g c =
+    answer_ends c.know_shown.ensures.ends (map string_bytes c.args.words.now) (g.S.Store.files c.args.store.now) c.finish.result (g.O.Sink.taken c.args.out.now) (g.O.Sink.taken c.finish.new.out) (g.E.Sink.taken c.args.err.now) (g.E.Sink.taken c.finish.new.err)
+    (returns-clause-told g c)
+
+pub returns-clause-shown : goal.returns-clause-shown
+returns-clause-shown g c =
+    answer_true c.know_shown.ensures.shown (map string_bytes c.args.words.now) (g.S.Store.files c.args.store.now) c.finish.result (g.O.Sink.taken c.args.out.now) (g.O.Sink.taken c.finish.new.out) (g.E.Sink.taken c.args.err.now) (g.E.Sink.taken c.finish.new.err)
+    (returns-clause-told g c)
 
 pub returns-clause-out_part : goal.returns-clause-out_part
 returns-clause-out_part g c =

@@ -1,0 +1,32 @@
+-- What the end of `check` says of the dump.
+use Rattle.std.specs.Prelude.{◌≡◌, ℕ, List, [], ◌∷◌, codes, Option, Some, None, IfSome, Result, Ok, Err}
+use Rattle.kc_outside.specs.declared.store.Slot.{Slot}
+use Rattle.kc_outside.specs.declared.store.Slot.TheVariants.{Dump, Btf, Map, Plan}
+use Rattle.kc_outside.specs.Files.{Files as Told}
+use Rattle.kc_input.specs.Made.{Made}
+use Rattle.kc_ends.specs.declared.status.Status.{Status}
+use Rattle.kc_ends.specs.declared.status.Status.TheVariants as status
+use Rattle.kc_app.specs.Check.{Audited, Files, TellsStanding, audited}
+use Rattle.kc_app.specs.Output.{out, output_written}
+
+-- A check ends with 0 exactly where every root audit of what its files hold stands in the dump, and with 1 exactly where one
+-- doesn't; or with 2, where a file is refused. Where a file isn't there, it doesn't end so.
+abbrev pub EndsBy : Made Audited → Status → Type 0
+EndsBy None ends = ⊥
+EndsBy (Some (Err refusal)) ends = ends ≡ status.Refused
+EndsBy (Some (Ok all)) ends = TellsStanding all ends
+
+-- the words of a check of four files
+abbrev pub check_words : Files → List (List ℕ)
+check_words f = codes "check" ∷ f.dump ∷ f.btf ∷ f.map ∷ f.plan ∷ []
+
+-- where the words are those of a check of four files, a status is its end
+abbrev pub CheckEnds : List (List ℕ) → Told → Status → Type 0
+CheckEnds words files ends =
+    (f : Files) → words ≡ check_words f → EndsBy (audited (files Dump f.dump) (files Btf f.btf) (files Map f.map) (files Plan f.plan)) ends
+
+-- each output of a check has such a status
+abbrev pub ChecksEnd : Type 0
+ChecksEnd =
+    (f : Files) (files : Slot → Option (List ℕ)) → IfSome (out (check_words f) files)
+    (λ output. EndsBy (audited (files Dump) (files Btf) (files Map) (files Plan)) (output_written output).status)
