@@ -1,8 +1,7 @@
 -- That the end of a check says what stands in the dump.
-use Rattle.std.proofs.Common.{◌≡◌, ℕ, Bool, true, false, List, Option, Some, None, option_map, IfSome, Result, Ok, Err, refl}
+use Rattle.std.proofs.Common.{◌≡◌, ℕ, Bool, true, false, List, Option, Some, None, option_map, IfSome, Ok, Err, refl}
 use Rattle.std.specs.Prelude.{◌↔◌}
 use Rattle.std.specs.Bool.{OnTrue}
-use Rattle.kc_outside.specs.declared.store.Slot.{Slot}
 use Rattle.kc_outside.specs.declared.store.Slot.TheVariants.{Dump, Btf, Map, Plan}
 use Rattle.kc_outside.specs.Files.{Files as Told}
 use Rattle.kc_found.specs.declared.verdict.Verdict.{Verdict}
@@ -12,14 +11,13 @@ use Rattle.kc_run.specs.Laws.{CleanWhereStanding}
 use Rattle.kc_input.specs.Made.{◌>>=◌, Made, gives}
 use Rattle.kc_ends.specs.declared.status.Status.{Status}
 use Rattle.kc_ends.specs.declared.status.Status.TheVariants.{Done, Broken}
-use Rattle.kc_ends.specs.Asked.{Asked}
 use Rattle.kc_ends.specs.Ends.{IsTold, IsWritten}
 use Rattle.kc_ends.specs.Output.{Output, Ends, word_files}
 use Rattle.kc_ends.specs.Status.{is_answer}
-use Rattle.kc_app.specs.Check.{Audited, ChecksStand, Files, audited, audited_shown, check_asked, names_of, verdict_said}
+use Rattle.kc_app.specs.Check.{Audited, ChecksStand, audited, audited_shown, names_of, verdict_said}
 use Rattle.kc_app.specs.Commands.{command}
 use Rattle.kc_app.specs.Headline.{CheckEnds, ChecksEnd, EndsBy, check_words}
-use Rattle.kc_app.specs.Output.{ShownStand, StandsIn, TookTrue, out, out_of, output_written, written_of}
+use Rattle.kc_app.specs.Output.{ShownStand, StandsIn, TookTrue, out_of, output_written, written_of}
 use Rattle.kc_app.specs.Shown.{Shown, said_status}
 
 -- a verdict that is clean exactly where something holds is shown with 0 exactly there, and else with 1
