@@ -3,6 +3,7 @@
 // at a physical address, `bytes` some at a file offset, `types` some of the types at a file offset, `map` the map's
 // lines, `row` one line more, `planned` a plan by its name and `plan` a line more of it; which files aren't there; which
 // call fails; and what is wanted, where `usage` stands for its lines. Numbers are hex.
+mod calls;
 mod checks;
 mod commands;
 mod kernel;
@@ -252,7 +253,7 @@ fn run_cases(rt: &(impl Abort + AllocGlobal), text: &str) -> Result<usize, Fail>
 #[test]
 fn words_are_found_by_every_kind_of_page(rt: HostRuntime) -> Result<(), Fail> {
     assert_eq!(rt; run_cases(&rt, pages::PAGES)?, 16);
-    assert_eq!(rt; run_cases(&rt, pages::SEGMENTS)?, 8);
+    assert_eq!(rt; run_cases(&rt, pages::SEGMENTS)?, 9);
     Ok(())
 }
 
@@ -310,12 +311,13 @@ fn plans_are_refused_with_audit_and_key(rt: HostRuntime) -> Result<(), Fail> {
     Ok(())
 }
 
-// How a run ended, and what the sinks took.
+// How a run ended, what the sinks took, and how many calls of the store it made.
 #[derive(Drop)]
 struct Ran {
     status: u8,
     out: Vec<u8>,
     err: Vec<u8>,
+    calls: u64,
 }
 
 // Runs a case whose standard output takes so many bytes.
@@ -328,26 +330,24 @@ fn run_limited(alloc: Global, case: &Case, limit: usize) -> Result<Ran, Fail> {
         status: u8::from(status),
         out: out.bytes().to_vec(alloc)?,
         err: err.bytes().to_vec(alloc)?,
+        calls: store.calls(),
     })
 }
 
 #[test]
 fn each_failing_call_of_a_check_is_told(rt: HostRuntime) -> Result<(), Fail> {
     let mut case = read_case(rt.alloc(), checks::SOUND_KIN)?;
-    let mut failed: u64 = 0;
-    for call in 1..400 {
+    let whole = run_limited(rt.alloc(), &case, ENOUGH)?;
+    assert_eq!(rt; whole.status, 0);
+    assert!(rt; whole.calls > 0);
+    for call in 1..=whole.calls {
         case.fails = call;
         let ran = run_limited(rt.alloc(), &case, ENOUGH)?;
-        if ran.status != 0 {
-            assert_eq!(rt; ran.status, 3, "{call}");
-            assert_eq!(rt; &ran.out[..], b"".as_slice(), "{call}");
-            assert_eq!(rt; &ran.err[..], b"store failed\n".as_slice(), "{call}");
-            assert_eq!(rt; failed, call - 1, "{call}");
-            failed = call;
-        }
+        assert_eq!(rt; ran.status, 3, "{call}");
+        assert_eq!(rt; ran.calls, call);
+        assert_eq!(rt; &ran.out[..], b"".as_slice(), "{call}");
+        assert_eq!(rt; &ran.err[..], b"store failed\n".as_slice(), "{call}");
     }
-    assert!(rt; failed > 100);
-    assert!(rt; failed < 399);
     Ok(())
 }
 
@@ -419,12 +419,12 @@ fn files_above_64_mib_are_refused(rt: HostRuntime) -> Result<(), Fail> {
     Ok(())
 }
 
-// Reads a word through the calls that take memory.
+// Reads a word through the calls that take memory, once or twice.
 fn read_counted<S: Store, L: Ledger>(
     alloc: Global,
     store: &mut S,
     segments: &[Segment],
-    va: u64,
+    asked: Asked,
     blank: Blank,
 ) -> Result<Option<VWord>, NoMemory>
     requires name { blank.name ≡ L.name }
@@ -440,10 +440,26 @@ fn read_counted<S: Store, L: Ledger>(
     let frames = Phys::new(alloc, store, segments)?;
     let mut memory = Memory::new(alloc, frames, paging, 4096)?;
     let mut steps = Steps::<L>::new(blank);
-    Ok(memory.word(va, &mut steps).ok())
+    let first = memory.word(asked.va, &mut steps).ok();
+    if asked.twice {
+        Ok(memory.word(asked.va, &mut steps).ok())
+    } else {
+        Ok(first)
+    }
 }
 
-fn read_word<S: Store>(alloc: Global, store: &mut S, va: u64) -> Result<Option<VWord>, NoMemory>
+// The address of a word, and whether it is asked again.
+#[derive(Clone, Copy)]
+struct Asked {
+    va: u64,
+    twice: bool,
+}
+
+fn read_word<S: Store>(
+    alloc: Global,
+    store: &mut S,
+    asked: Asked,
+) -> Result<Option<VWord>, NoMemory>
     requires { S.may store.old Dump (codes "z.core") }
 {
     let Ok(()) = store.open_file(Slot::Dump, "z.core") else {
@@ -455,21 +471,31 @@ fn read_word<S: Store>(alloc: Global, store: &mut S, va: u64) -> Result<Option<V
     let Ok(core) = read_core(alloc, store, Slot::Dump) else {
         return Ok(None);
     };
-    read_counted::<S, Brand>(alloc, store, core.segments(), va, Blank::new(1))
+    read_counted::<S, Brand>(alloc, store, core.segments(), asked, Blank::new(1))
+}
+
+// The word at an address of the made dump, and how many calls of the store were made for it.
+fn read_made(alloc: Global, va: u64, twice: bool) -> Result<(Option<VWord>, u64), Fail> {
+    let mut store = MemStore::new(alloc);
+    store.add("z.core", &core_file(alloc)?)?;
+    let word = read_word(alloc, &mut store, Asked { va, twice })?;
+    Ok((word, store.calls()))
 }
 
 #[test]
 fn memory_is_made_from_a_core(rt: HostRuntime) -> Result<(), Fail> {
-    let alloc = rt.alloc();
-    let mut store = MemStore::new(alloc);
-    store.add("z.core", &core_file(alloc)?)?;
     let word = VWord {
         va: 0xffff_ffff_8000_b120,
         pa: 0xb120,
         off: 0xd120,
         value: 0xffff_8880_0001_1000,
     };
-    assert_eq!(rt; read_word(alloc, &mut store, word.va)?, Some(word));
-    assert_eq!(rt; read_word(alloc, &mut store, word.va + 1)?, None);
+    let (once, calls) = read_made(rt.alloc(), word.va, false)?;
+    assert_eq!(rt; once, Some(word));
+    let (again, calls_again) = read_made(rt.alloc(), word.va, true)?;
+    assert_eq!(rt; again, Some(word));
+    assert_eq!(rt; calls_again, calls);
+    let (unaligned, _) = read_made(rt.alloc(), word.va + 1, false)?;
+    assert_eq!(rt; unaligned, None);
     Ok(())
 }
