@@ -4,8 +4,8 @@
 usage: walk.py
 
 It works on a copy of the crates, in which a test of kc_list walks a ring, proves and builds it, and prints for each
-number of nodes the time and the most memory of that test's program. The claims of a walk are searched one by one, so the time grows with the
-square of the nodes; the memory grows with the nodes.
+number of nodes the time and the most memory of that test's program. The words that a walk takes stand in an ordered set, so the time a
+node grows with the logarithm of the nodes; the memory grows with the nodes.
 """
 import os
 import shutil
