@@ -30,7 +30,13 @@ fn is_descriptor(shape: &SlubShape, bases: &SlubBases, slab: u64) -> bool
 }
 
 // Where a slab's objects lie.
-fn grid_of(shape: &SlubShape, bases: &SlubBases, objects: &SlabObjects, slab: u64, count: u64) -> Grid
+fn grid_of(
+    shape: &SlubShape,
+    bases: &SlubBases,
+    objects: &SlabObjects,
+    slab: u64,
+    count: u64,
+) -> Grid
     ensures { result ≡ grid_of shape.now bases.now objects.now slab count }
 {
     let page = page_of(shape, bases, slab).wrapping_mul(4096);
