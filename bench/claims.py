@@ -7,7 +7,7 @@ It follows the names of definitions from the contracts of the programs, item by 
 blank lines, comments and imports: all of them, and those on which the clause stands that `check` is clean exactly where every
 structure stands. It prints what the tables lack, what they have too much, and wrong numbers. It also prints where a blank for
 a counter of steps is made outside the crates that may make one: everywhere else the bound on steps would bind a counter that
-nobody looks at. And it prints which crates import another's lemmas, but for those whose lemmas are there for others.
+nobody looks at. And it prints which crates import another's lemmas, where a public law should stand, and how many such imports there are.
 """
 import glob
 import os
@@ -31,9 +31,6 @@ NOT_CLEAN = {"audited_shown", "refusal_line", "ShownStand", "word_form", "layout
 
 # The crates that make counters of steps.
 MAKE_BLANKS = {"kc_app"}
-
-# The crates whose lemmas speak of their definitions alone, and are there for all above.
-GIVE_LEMMAS = {"kc_word", "kc_memory", "kc_found", "kc_view", "kc_text", "kc_ends"}
 
 BORROWED = re.compile(r"\bRattle\.(kc_\w+)\.proofs\.")
 
@@ -199,15 +196,18 @@ def blanks():
 
 
 def borrowed():
-    """The crates that import another's lemmas, with the number of such files."""
-    found = {}
+    """How many imports of another crate's lemmas there are, by crates, and all together with their files."""
+    found, files = {}, set()
     for path in glob.glob("crates/*/**/*", recursive=True):
         crate = path.split("/")[1]
         if path.endswith((".rt", ".antt")) and "/out/" not in path:
-            for other in set(BORROWED.findall(read(path))) - GIVE_LEMMAS - {crate}:
-                found[crate, other] = found.get((crate, other), 0) + 1
-    for (crate, other), files in sorted(found.items()):
-        yield f"{crate} imports lemmas of {other}, in {files} files"
+            for other in BORROWED.findall(read(path)):
+                if other != crate:
+                    found[crate, other] = found.get((crate, other), 0) + 1
+                    files.add(path)
+    for (crate, other), count in sorted(found.items(), key=lambda it: -it[1]):
+        yield f"{crate} imports lemmas of {other}: {count}"
+    yield f"{sum(found.values())} imports of another crate's lemmas, in {len(files)} files"
 
 
 def main():
@@ -225,8 +225,9 @@ def main():
     wrong = [f"{file} isn't listed: {wanted[file]}" for file in sorted(wanted.keys() - listed)]
     wrong += [f"{file} isn't cited" for file in sorted(listed - wanted.keys())]
     wrong += [f"{old}   has to be\n{new}" for old, new in zip(text.split("\n"), right.split("\n")) if old != new]
-    wrong += [*blanks(), *borrowed()]
+    wrong += blanks()
     print("\n".join(wrong) or f"{len(wanted)} files as the tables say")
+    print("\n".join(borrowed()))
     sys.exit(bool(wrong))
 
 
