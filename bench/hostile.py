@@ -1,0 +1,397 @@
+#!/usr/bin/env python3
+"""Tries kaudit and kmatch on random and on damaged files, for as long as one likes, and looks at how each run ends.
+
+usage: hostile.py KAUDIT KMATCH [--runs N] [--jobs N] [--seed N] [--keep FOLDER]
+
+as `hostile.py crates/kaudit/out/kaudit crates/kmatch/out/kmatch --runs 200000 --jobs 4 --keep /tmp/found`. Each run is a small kernel made
+at random (`made.py`), of which words, bits, headers, page tables, types, rows or the plan are changed, or files of bytes that follow no
+grammar. It runs under a limit of 512 MiB and of ten seconds, and has to end
+
+- with a status from 0 to 6, never by a signal, and never with 3, 4 or 5, which nothing here causes;
+- with one line or usage on standard error and nothing on standard output, or the other way round;
+- with a report in its one spelling, each of whose places stands in the dump: its word at its file offset, the offset that of its
+  physical address, and the address led there by the page tables, each read by `second.py`, which shares no code with kaudit;
+- where `second.py` reads the files too, with the same status and the same texts.
+
+A run that ends otherwise is printed, and its files are kept in FOLDER. It prints how many runs ended how.
+"""
+import argparse
+import collections
+import multiprocessing
+import os
+import random
+import re
+import resource
+import shutil
+import subprocess
+import sys
+import tempfile
+
+import made
+import second
+
+TOP = 1 << 64
+HERE = os.path.dirname(os.path.abspath(__file__))
+DATA = os.path.join(HERE, "..", "crates", "kaudit", "data")
+SPECIAL = (0, 1, 2, 3, 7, 8, 0xFF, 0xFFF, 0x1000, 0xFFFF, 0x7FFFFFFF, 0xFFFFFFFF, 1 << 63, TOP - 1, TOP - 8, TOP - 4096,
+           0xDEAD000000000100, 0xDEAD000000000122, 0xDEAD4EAD00000000, 0x6B6B6B6B6B6B6B6B, 0x800000000000, 1030, 1026, 402)
+NAMES = ("my_ring", "my_hl", "my_rb", "my_xa", "init_task", "slab_caches", "an_item", "far_ring", "a_slab", "nobody")
+STRUCTS = ("item", "kmem_cache", "slab", "task_struct", "list_head", "rb_node", "xa_node", "signal_struct", "page", "nothing", "")
+PATHS = ("link", "hnode", "key", "small", "rb", "link.next->prev", "signal->thread_head", "signal", "children", "tasks", "sibling", "node",
+         "node[0]->partial", "list", "slab_list", "", "rb.rb_left", "key.key", "->x", "node[9]", "real_parent->real_parent->pid", "slots")
+CHECKS = ("key == 7", "key < 1000", "small != 3", "pid >= 0", "signal != 0", "size", "object_size <= size", "inuse <= objects", "0", "1",
+          "signal->thread_head.next != 0", "real_parent->pid + 1 > 0", "key - small & 3 | 1", "!(key == 0 - 20)", "link.next->prev != 0")
+LINE = re.compile(r"refused [a-z]+( .*)?\n|store failed\n|sink failed\n|memory refused\n|(usage: .*\n)+")
+CLEAN = re.compile(r"clean\n(audit [\w-]{1,64} walks (0|[1-9]\d*) elements (0|[1-9]\d*)\n)*", re.A)
+WORDS = r"(place (-|[0-9a-f]{16}) [0-9a-f]{16} [0-9a-f]{16} [0-9a-f]{16}\n)*"
+RULE = r"rule ([A-Z][1-9]?)\nat [0-9a-f]{16}\n"
+STOP = r"(stop [0-5] [0-9a-f]{16}\n)?"
+BROKEN = re.compile(r"broken\naudit [\w-]{1,64}\nstart [0-9a-f]{16}\n" + RULE + r"expected (none|[0-9a-f]{16})\n" + STOP + WORDS, re.A)
+STOPPED = re.compile(r"broken\n" + RULE + STOP + WORDS)
+FOUND = re.compile(r"[0-9a-f]{16} [0-9a-f]{16} [0-9a-f]{16} [0-9a-f]{16}\n")
+SHOWN = re.compile(r"value -?(0|[1-9]\d*)\n(place [0-9a-f]{16} [0-9a-f]{16} [0-9a-f]{16} [0-9a-f]{16}\n){1,2}")
+LAYOUT = re.compile(r"(struct|union) \S* size (0|[1-9]\d*)\n(member \d+ (\d+|-) \S+\n)*")
+MATCHED = re.compile(r"(?s).*same (0|[1-9]\d*) differ (0|[1-9]\d*) unknown (0|[1-9]\d*)\n")
+FORMS = {"check": (CLEAN, BROKEN), "word": (FOUND, STOPPED), "show": (SHOWN, STOPPED), "layout": (LAYOUT, None), "kmatch": (MATCHED, MATCHED)}
+
+
+# How files are damaged.
+
+
+def damage_words(rng, core):
+    """Some words of the memory are changed: to numbers at their limits, to other words of it, to addresses of it."""
+    for _ in range(rng.choice((1, 1, 1, 2, 3, 8))):
+        at = place_of_use(rng, core)
+        old = int.from_bytes(core[at : at + 8], "little")
+        far = place_of_use(rng, core)
+        new = rng.choice((
+            lambda: rng.choice(SPECIAL), lambda: old ^ 1 << rng.randrange(64), lambda: int.from_bytes(core[far : far + 8], "little"),
+            lambda: made.direct(far - 0x2000), lambda: made.image(far - 0x2000), lambda: made.image(at - 0x2000),
+            lambda: (old + rng.choice((-8, -1, 1, 2, 8, 64, 4096))) % TOP, lambda: other_name(old), lambda: rng.randrange(TOP),
+        ))()
+        core[at : at + 8] = (new % TOP).to_bytes(8, "little")
+
+
+def other_name(word):
+    """The other address of what a pointer leads to."""
+    return word - made.DIRECT + made.IMAGE if made.DIRECT <= word < made.DIRECT + made.SIZE else word
+
+
+def place_of_use(rng, core):
+    """The file place of a word of memory that isn't 0, mostly."""
+    for _ in range(40):
+        at = 0x2000 + 8 * rng.randrange((len(core) - 0x2000) // 8)
+        if core[at : at + 8] != bytes(8):
+            return at
+    return at
+
+
+def damage_tables(rng, core):
+    """Page tables that lead to themselves, to one another, to nowhere."""
+    for _ in range(rng.choice((1, 2, 5))):
+        table = rng.choice((0x1000, 0x2000, 0x3000, 0x4000, 0x5000, 0x6000, 0x7000, 0x9000, 0xA000))
+        slot = rng.choice((0, 1, 256, 273, 468, 510, 511, rng.randrange(512), rng.randrange(32)))
+        entry = rng.choice((table | 3, 0x1003, 0x4003, 0x83, 0x10000000000083, 0, 1, 0x2083, 1 << 51 | 3, TOP - 1, rng.randrange(128) * 4096 + 3))
+        at = 0x2000 + table + 8 * slot
+        core[at : at + 8] = (entry % TOP).to_bytes(8, "little")
+
+
+def damage_bytes(rng, data):
+    """Bytes flipped, cut, doubled, moved; numbers at their limits."""
+    for _ in range(rng.choice((1, 1, 2, 4))):
+        if not data:
+            return
+        at, length = rng.randrange(len(data)), rng.choice((1, 2, 4, 8, 12, 56, 512))
+        kind = rng.randrange(6)
+        if kind == 0:
+            data[at] ^= 1 << rng.randrange(8)
+        elif kind == 1:
+            del data[at:]
+        elif kind == 2:
+            data[at:at] = data[at : at + length]
+        elif kind == 3:
+            del data[at : at + length]
+        elif kind == 4:
+            width = rng.choice((1, 2, 4, 8))
+            data[at : at + width] = (rng.choice(SPECIAL) % (1 << 8 * width)).to_bytes(width, "little")[: len(data) - at]
+        else:
+            data[at : at + length] = rng.randbytes(min(length, len(data) - at))
+
+
+def damage_head(rng, core):
+    """The file header, the program headers and the notes."""
+    head = bytearray(core[:0x1200])
+    if rng.random() < 0.5:
+        at = rng.choice((32, 40, 56, 64 + 8, 64 + 32, 120, 128, 144, 152, 160, 64 + 56 * 2 + 8))
+        width = rng.choice((2, 4, 8))
+        head[at : at + width] = (rng.choice(SPECIAL + (len(core), len(core) + 1, 0x1000, 64)) % (1 << 8 * width)).to_bytes(width, "little")
+    else:
+        at = 0x1000 + rng.randrange(0xB0)
+        head[at] = rng.choice(b"0123456789abcdef=\n\0-") if rng.random() < 0.8 else rng.randrange(256)
+    core[:0x1200] = head
+
+
+def damage_rows(rng, rows):
+    lines = bytes(rows).split(b"\n")
+    for _ in range(rng.choice((1, 1, 3))):
+        k = rng.randrange(len(lines))
+        lines[k] = rng.choice((lines[k][:-1], lines[k].upper(), lines[k] + b"\r", b"", lines[k] + b" x", lines[rng.randrange(len(lines))],
+                               b"%016x T " % rng.choice(SPECIAL) + rng.choice(lines)[19:], lines[k].replace(b" D ", b" ? ")))
+    rows[:] = b"\n".join(lines)
+
+
+# Plans by their grammar, and off it.
+
+
+def quoted(text):
+    return '"' + text + '"'
+
+
+def some_audit(rng, name, nested, each):
+    kind = rng.choice(("ring", "hlist", "rbtree", "xarray", "slub", "tasks", "ring", "rbtree"))
+    usual = {"ring": ("my_ring", "link"), "hlist": ("my_hl", "hnode"), "rbtree": ("my_rb", "rb"), "xarray": ("my_xa", None),
+             "slub": (None, None), "tasks": ("init_task", None)}[kind]
+    odd = rng.random() < 0.08
+    keys = [("name", quoted(name)), ("kind", quoted(kind))]
+    if nested:
+        keys.append(("from", quoted(rng.choice(PATHS))))
+    else:
+        keys.append(("root", quoted(rng.choice(NAMES) if odd or usual[0] is None else usual[0])))
+    if kind in ("ring", "hlist", "rbtree", "xarray"):
+        keys.append(("element", quoted(rng.choice(STRUCTS) if odd else "item")))
+    if usual[1]:
+        keys.append(("link", quoted(rng.choice(PATHS) if odd else usual[1])))
+    if kind == "rbtree" and rng.random() < 0.7:
+        keys += [("key", quoted(rng.choice(PATHS) if odd else "key")), ("unique", rng.choice(("true", "false")))]
+    if kind == "rbtree" and rng.random() < 0.5:
+        keys.append(("cached", "true"))
+    if nested and rng.random() < 0.5:
+        keys.append(("optional", "true"))
+    if rng.random() < 0.4:
+        keys.append(("check", "[" + ", ".join(quoted(rng.choice(CHECKS)) for _ in range(rng.randrange(3))) + "]"))
+    if each:
+        keys.append(("each", "[" + ", ".join(map(quoted, each)) + "]"))
+    return "[[audit]]\n" + "".join(f"{key} = {value}\n" for key, value in keys)
+
+
+def some_plan(rng):
+    count = rng.choice((1, 1, 2, 3, 6))
+    names = [f"a{k}" for k in range(count)]
+    above = {k: rng.randrange(k) for k in range(1, count) if rng.random() < 0.3}
+    parts = [some_audit(rng, names[k], k in above, [names[j] for j, owner in above.items() if owner == k]) for k in range(count)]
+    return ("version = 1\n" + "".join(parts)).encode()
+
+
+WHOLE = b"".join(
+    [b"version = 1\n"]
+    + [b"[[audit]]\n" + b"".join(key.encode() + b" = " + value.encode() + b"\n" for key, value in keys) for keys in (
+        (("name", '"tasks"'), ("kind", '"tasks"'), ("root", '"init_task"'), ("check", '["pid >= 0"]')),
+        (("name", '"caches"'), ("kind", '"ring"'), ("root", '"slab_caches"'), ("element", '"kmem_cache"'), ("link", '"list"'),
+         ("each", '["slabs"]')),
+        (("name", '"slabs"'), ("kind", '"slub"'), ("from", '""')),
+        (("name", '"ring"'), ("kind", '"ring"'), ("root", '"my_ring"'), ("element", '"item"'), ("link", '"link"')),
+        (("name", '"chain"'), ("kind", '"hlist"'), ("root", '"my_hl"'), ("element", '"item"'), ("link", '"hnode"')),
+        (("name", '"tree"'), ("kind", '"rbtree"'), ("root", '"my_rb"'), ("element", '"item"'), ("link", '"rb"'), ("key", '"key"'),
+         ("unique", "true"), ("cached", "true")),
+        (("name", '"array"'), ("kind", '"xarray"'), ("root", '"my_xa"')),
+    )]
+)
+
+
+def shuffled(rng, plan):
+    """The plan with its audits in another order, so that each kind is the first to be looked at."""
+    head, *audits = plan.split(b"[[audit]]\n")
+    nested = [k for k, text in enumerate(audits) if b"from" in text]
+    if not nested:
+        rng.shuffle(audits)
+        return head + b"".join(b"[[audit]]\n" + text for text in audits)
+    groups = [[0], [1, 2], [3], [4], [5], [6]]
+    rng.shuffle(groups)
+    kept = groups[: rng.randrange(1, 7)]
+    return head + b"".join(b"[[audit]]\n" + audits[k] for group in kept for k in group)
+
+
+# One run.
+
+
+class Case:
+    """The files and the words of one run, by its number."""
+
+    def __init__(self, seed, btf):
+        rng = self.rng = random.Random(seed)
+        kernel = made.Made(rng)
+        self.files = {"z.core": bytearray(kernel.core()), "z.btf": bytearray(btf), "z.map": bytearray(made.MAP),
+                      "z.toml": bytearray(shuffled(rng, WHOLE))}
+        self.plan_kept = True
+        how = rng.random()
+        if how < 0.45:
+            damage_words(rng, self.files["z.core"])
+        elif how < 0.55:
+            damage_tables(rng, self.files["z.core"])
+        elif how < 0.62:
+            damage_head(rng, self.files["z.core"])
+        elif how < 0.66:
+            damage_bytes(rng, self.files["z.core"])
+        elif how < 0.74:
+            damage_bytes(rng, self.files["z.btf"])
+        elif how < 0.79:
+            damage_rows(rng, self.files["z.map"])
+        elif how < 0.90:
+            self.files["z.toml"] = bytearray(some_plan(rng))
+        elif how < 0.95:
+            self.files["z.toml"] = bytearray(some_plan(rng))
+            damage_bytes(rng, self.files["z.toml"])
+            self.plan_kept = False
+        elif how < 0.97:
+            name = rng.choice(list(self.files))
+            self.files[name] = bytearray(rng.randbytes(rng.randrange(3000)))
+            self.plan_kept = name != "z.toml"
+        if rng.random() < 0.1:
+            damage_tables(rng, self.files["z.core"]) if len(self.files["z.core"]) > 0x10000 else None
+        self.words = self.some_words()
+
+    def some_words(self):
+        rng, how = self.rng, self.rng.random()
+        if how < 0.70:
+            return ["check", "z.core", "z.btf", "z.map", "z.toml"]
+        if how < 0.80:
+            return ["word", "z.core", rng.choice(("1000", "1000", "-", "2000", "0", "ffffffffff000", "zz")), self.some_address()]
+        if how < 0.90:
+            return ["show", "z.core", "z.btf", "z.map", rng.choice(NAMES), rng.choice(STRUCTS), rng.choice(PATHS)]
+        if how < 0.94:
+            return ["layout", "z.btf", rng.choice(STRUCTS)]
+        if how < 0.98:
+            return ["kmatch", "z.core", "z.btf", "z.map"]
+        return [rng.choice(("check", "word", "", "help", "layout", "--")), *[rng.choice(("z.core", "z.btf", "", "x" * 300))] * rng.randrange(7)]
+
+    def some_address(self):
+        rng = self.rng
+        base = rng.choice((made.IMAGE, made.DIRECT, made.VMEMMAP, 0, TOP - 4096, 1 << 47, rng.randrange(TOP)))
+        return f"{(base + rng.choice((0xB120, rng.randrange(0x90000), 8 * rng.randrange(0x12000)))) % TOP:x}"
+
+
+def spoken(case, status, out, err):
+    """What is wrong with how a run ended, by its texts alone."""
+    if not 0 <= status <= 6 or status in (3, 4, 5):
+        return f"status {status}"
+    name = case.words[0]
+    if status in (0, 1):
+        form = FORMS[name][status]
+        if err or form is None or not form.fullmatch(out):
+            return "texts of an answer"
+        return None
+    if out or not LINE.fullmatch(err) or err.startswith("usage") != (status == 6):
+        return "texts of a refusal"
+    return None
+
+
+def placed(case, out):
+    """What is wrong with the places that are printed."""
+    core = second.Core(bytes(case.files["z.core"]))
+    if case.words[0] == "word" and case.words[2] != "-":
+        memory = second.Memory(core, int(case.words[2], 16), 4, 0)
+    else:
+        info = second.Info(core)
+        memory = second.Memory(core, info.table, info.levels, info.mask)
+    for line in out.splitlines():
+        if line.startswith("place "):
+            va, pa, offset, word = line.split()[1:]
+            pa, offset, word = int(pa, 16), int(offset, 16), int(word, 16)
+            if core.offset(pa) != offset or core.word(pa) != word:
+                return "a place isn't in the dump"
+            if va != "-" and memory.place(int(va, 16)) != (int(va, 16), pa, offset, word):
+                return "an address doesn't lead to its place"
+    return None
+
+
+def compared(case, status, out, err):
+    """What the second reader tells otherwise; and whether it was asked."""
+    f, words = {name: bytes(data) for name, data in case.files.items()}, case.words
+    if words[0] == "word" and len(words) == 4 and re.fullmatch("[0-9a-f]+", words[2]):
+        if int(words[2], 16) % 4096 or int(words[2], 16) >= 1 << 52:
+            return None, False
+        return (None if second.word(f["z.core"], int(words[2], 16), int(words[3], 16)) == (status, out, err) else "word"), True
+    if words[0] != "check" or status == 6:
+        return None, False
+    told = second.verdict(f["z.core"], f["z.btf"], f["z.map"], f["z.toml"])
+    if err.startswith("refused plan") and (told[0] == 2 and told[2] == "refused plan\n" or not case.plan_kept or f["z.btf"] != BTF):
+        return None, False
+    if err.startswith("refused plan") and case.files["z.map"] != made.MAP:
+        return None, False
+    return (None if told == (status, out, err) else f"check: the second reader has {told}"), True
+
+
+def one(seed, programs, folder, names):
+    """Runs one case. What is wrong with it, how it ended, and whether the second reader was asked."""
+    case = Case(seed, BTF)
+    for name, data in case.files.items():
+        with open(os.path.join(folder, name), "wb") as file:
+            file.write(data)
+    program, words = (programs[1], case.words[1:]) if case.words[0] == "kmatch" else (programs[0], case.words)
+    try:
+        done = subprocess.run([program] + words, cwd=folder, stdin=subprocess.DEVNULL, capture_output=True, timeout=10, close_fds=False)
+    except subprocess.TimeoutExpired:
+        return case, "no end within ten seconds", None, False
+    status, out, err = done.returncode, done.stdout.decode(), done.stderr.decode()
+    wrong, asked = spoken(case, status, out, err), False
+    try:
+        if not wrong and status in (0, 1) and case.words[0] in ("check", "word", "show"):
+            wrong = placed(case, out)
+        if not wrong:
+            wrong, asked = compared(case, status, out, err)
+    except Exception as fault:  # the second reader must read what kaudit reads
+        wrong = f"the second reader fails: {fault!r}"
+    if wrong:
+        wrong += f"\n  words {case.words}\n  status {status}\n  out {out!r}\n  err {err!r}"
+    return case, wrong, (case.words[0] if case.words[0] in FORMS else "other words", status, rule_of(status, out, err)), asked
+
+
+def rule_of(status, out, err):
+    found = re.search(r"^rule (\S+)", out, re.M)
+    return found[1] if found else " ".join(err.split()[1:3]) if status == 2 else ""
+
+
+def work(task):
+    first, count, programs, keep = task
+    resource.setrlimit(resource.RLIMIT_AS, (512 << 20, 512 << 20))
+    ends, faults, asked = collections.Counter(), 0, 0
+    with tempfile.TemporaryDirectory() as folder:
+        for seed in range(first, first + count):
+            case, wrong, end, compared_too = one(seed, programs, folder, None)
+            ends[end] += 1
+            asked += compared_too
+            if wrong:
+                faults += 1
+                print(f"WRONG run {seed}: {wrong}", flush=True)
+                if keep:
+                    shutil.copytree(folder, os.path.join(keep, str(seed)), dirs_exist_ok=True)
+    return ends, faults, asked
+
+
+BTF = open(os.path.join(DATA, "z.btf"), "rb").read()
+
+
+def main():
+    words = argparse.ArgumentParser()
+    words.add_argument("kaudit")
+    words.add_argument("kmatch")
+    words.add_argument("--runs", type=int, default=20000)
+    words.add_argument("--jobs", type=int, default=2)
+    words.add_argument("--seed", type=int, default=1)
+    words.add_argument("--keep")
+    asks = words.parse_args()
+    programs = os.path.abspath(asks.kaudit), os.path.abspath(asks.kmatch)
+    step = 500
+    tasks = [(asks.seed + k, min(step, asks.runs - k), programs, asks.keep) for k in range(0, asks.runs, step)]
+    ends, faults, asked = collections.Counter(), 0, 0
+    with multiprocessing.Pool(asks.jobs) as pool:
+        for told in pool.imap_unordered(work, tasks):
+            ends, faults, asked = ends + told[0], faults + told[1], asked + told[2]
+    for (name, status, rule), count in sorted(ends.items()):
+        print(f"{count:8} {name} status {status} {rule}")
+    print(f"{asks.runs} runs, {asked} of them answered by the second reader too, {faults} wrong")
+    sys.exit(faults != 0)
+
+
+if __name__ == "__main__":
+    main()
