@@ -57,6 +57,14 @@ fn put_pairs(file: &mut Vec<u8>, offset: usize, pairs: &str) {
     }
 }
 
+// Has each word of physical memory from one address to another name itself, by its address in the direct map.
+fn put_selves(file: &mut Vec<u8>, from: u64, to: u64) {
+    for place in from / 8..to / 8 {
+        let pa = place.saturating_mul(8);
+        set_word(file, pa, pa.saturating_add(0xffff_8880_0000_0000));
+    }
+}
+
 // Adds the words that a line separates by spaces.
 fn push_words(alloc: Global, words: &mut Vec<String>, line: &str) -> Result<(), AllocError> {
     for word in line.split(' ') {
@@ -113,6 +121,7 @@ impl Case {
         let (at, rest) = value.split_once(' ').unwrap_or((value, ""));
         match name {
             "put" => set_word(&mut self.files.dump, hex(at), hex(rest)),
+            "selves" => put_selves(&mut self.files.dump, hex(at), hex(rest)),
             "bytes" => put_pairs(&mut self.files.dump, small(at), rest),
             "types" => put_pairs(&mut self.files.types, small(at), rest),
             "length" => self.files.dump.truncate(small(at)),

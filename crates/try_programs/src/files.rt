@@ -87,13 +87,14 @@ fn map_text(alloc: Global, lines: &str) -> Result<Vec<u8>, AllocError> {
     Ok(text)
 }
 
-// The plan: one by its name and `plan` lines after it, or so many spaces.
+// The plan: one by its name and `plan` lines after it, or so many zeros or spaces.
 fn plan_text(alloc: Global, lines: &str, texts: &Texts) -> Result<Vec<u8>, AllocError> {
     let mut text = Vec::new(alloc);
     for line in lines.lines() {
         match line.split_once(' ').unwrap_or((line, "")) {
             ("planned", name) => text.extend_from_slice(texts.plan(name).as_bytes())?,
             ("plan", value) => push_line(&mut text, value)?,
+            ("plan_size", length) => return vec![in alloc; 0; small(length)],
             ("plan_spaces", length) => return vec![in alloc; b' '; small(length)],
             _ => {}
         }

@@ -5,7 +5,7 @@
 //! spaces), what is changed of the usual files, which files aren't there, which call fails, how much a sink takes, and how the program is to
 //! end. Numbers are in hex. `put` is a word of the dump at a physical address, `bytes` and `types` bytes of the dump and of the
 //! types at a file offset, `length` and `types_length` where they are cut, `grown` how long the dump is then;
-//! `call` a call of the store in its order; `note`, `stated` and `last` are lines of the kernel's note, `map` and
+//! `selves` words that name themselves, from one physical address to another; `call` a call of the store in its order; `note`, `stated` and `last` are lines of the kernel's note, `map` and
 //! `row` of the map, `type` of the types, `plan` of the plan, and `planned` is a plan by its name.
 #![tactic(auto)]
 
@@ -22,7 +22,7 @@ use crate::trying::{try_calls, try_each, try_lengths};
 use std::io;
 
 // The files of cases of kaudit.
-const KAUDIT: [&str; 22] = [
+const KAUDIT: [&str; 23] = [
     "pages",
     "segments",
     "stops",
@@ -45,6 +45,7 @@ const KAUDIT: [&str; 22] = [
     "checks",
     "plans",
     "failing",
+    "loops",
 ];
 
 // Those of kmatch.
