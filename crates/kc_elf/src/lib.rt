@@ -13,4 +13,4 @@ mod tests;
 pub use fault::{CoreFault, CoreStop};
 pub use laws::know_core;
 pub use parts::Core;
-pub use read::read_core;
+pub use read::{read_core, read_core_of};

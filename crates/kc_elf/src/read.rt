@@ -18,7 +18,7 @@ use crate::program_header::{
     HEADER_BYTES, Kind, ProgramHeader, are_within, first_bad, is_inside, of_kind, read_headers,
 };
 use byteorder::{ByteOrder, LittleEndian};
-use kc_outside::{Slot, Store, know_learnt};
+use kc_outside::{Slot, Store, know_learnt, know_size};
 use kc_word::Segment;
 use std::alloc::Global;
 
@@ -221,7 +221,43 @@ fn read_sized<S: Store>(
     Ok(Core::new(loads, parts))
 }
 
-/// Reads a core file: the program headers and the notes, and of the memory only where it stands.
+/// Reads a core file whose size was learnt, in bytes: the program headers and the notes, and of the memory only where it stands.
+///
+/// # Errors
+///
+/// The file's first fault; `ReadFault` where a call of the store failed, which ends the reading; or want
+/// of memory.
+pub fn read_core_of<S: Store>(
+    alloc: Global,
+    store: &mut S,
+    slot: Slot,
+    size: u64,
+) -> Result<Core, CoreStop>
+    requires { S.sizes store.old slot ≡ Some size }
+
+    // Where files are told, the answer is what the file's bytes mean: what they hold, or the first fault.
+    ensures told { Answers (λ parts. parts) (content (S.files store.old) slot (S.opened store.old slot)) result core }
+
+    // Of every store. A segment's bytes are inside the file, and its memory ends at 2^64 at the latest.
+    ensures inside { IfOk result (λ parts. All (λ s. s.offset + s.filesz ≤ size) parts.segments) }
+    ensures below { IfOk result (λ parts. All (λ s. s.paddr + max s.filesz s.memsz ≤ 2 ^ 64) parts.segments) }
+
+    // What stays of the store, and the failures of its calls.
+    ensures sizes { S.sizes store.new ≡ S.sizes store.old }
+    ensures opened { S.opened store.new ≡ S.opened store.old }
+    ensures files { S.files store.new ≡ S.files store.old }
+    ensures may { (s : Slot) (n : List ℕ) → S.may store.old s n → S.may store.new s n }
+    ensures may_no_more { (s : Slot) (n : List ℕ) → S.may store.new s n → S.may store.old s n }
+    ensures later { S.faults store.old ≤ S.faults store.new }
+    ensures quiet { UnlessReadFault result (S.faults store.new ≡ S.faults store.old) }
+    ensures cause { OnReadFault result (Rose (S.faults store.old) (S.faults store.new)) }
+    ensures asked_later { S.asked store.old ≤ S.asked store.new }
+{
+    know_size(store, slot, size);
+    read_sized(alloc, store, slot, size)
+}
+
+/// Asks the size of a core file again, and reads it as `read_core_of` does.
 ///
 /// # Errors
 ///
@@ -251,5 +287,5 @@ pub fn read_core<S: Store>(alloc: Global, store: &mut S, slot: Slot) -> Result<C
 {
     know_learnt(store, slot);
     let size = store.size(slot)?;
-    read_sized(alloc, store, slot, size)
+    read_core_of(alloc, store, slot, size)
 }

@@ -17,7 +17,7 @@ ghost use Rattle.kc_input.specs.Halts.{OnStore, UnlessStore};
 use crate::file::open;
 use crate::halt::Halt;
 use crate::refusal::Refusal;
-use kc_elf::{Core, read_core};
+use kc_elf::{Core, read_core_of};
 use kc_notes::{Info, kernel_info, vmcoreinfo};
 use kc_outside::{Slot, Store};
 use kc_word::PageCfg;
@@ -45,8 +45,8 @@ pub fn read_dump<S: Store>(alloc: Global, store: &mut S, name: &str) -> Result<C
     ensures quiet { UnlessStore result (S.faults store.new ≡ S.faults store.old) }
     ensures cause { OnStore result (Rose (S.faults store.old) (S.faults store.new)) }
 {
-    let _ = open(store, Slot::Dump, name)?;
-    Ok(read_core(alloc, store, Slot::Dump)?)
+    let size = open(store, Slot::Dump, name)?;
+    Ok(read_core_of(alloc, store, Slot::Dump, size)?)
 }
 
 /// What the notes of a dump tell of its kernel.

@@ -1,0 +1,94 @@
+// A store that writes down which calls are made of it.
+ghost use Rattle.std.specs.Prelude.{◌≡◌};
+
+use kc_outside::{Failed, Slot, Store};
+use std::alloc::{AllocError, Global};
+
+/// A store over a store, and a line for each call of it: what is asked, of which slot, and the name, or the file offset and the length.
+#[derive(Drop)]
+pub struct Noting<S> {
+    alloc: Global,
+    store: S,
+    /// The lines, short of those for which there was no memory.
+    pub lines: Vec<String>,
+}
+
+fn slot_name(slot: Slot) -> &'static str {
+    match slot {
+        Slot::Dump => "dump",
+        Slot::Btf => "btf",
+        Slot::Map => "map",
+        Slot::Plan => "plan",
+        Slot::Report => "report",
+        Slot::Module => "module",
+    }
+}
+
+fn open_line(alloc: Global, slot: Slot, name: &str) -> Result<String, AllocError> {
+    format!(in alloc; "open {} {}", slot_name(slot), name)
+}
+
+fn size_line(alloc: Global, slot: Slot) -> Result<String, AllocError> {
+    format!(in alloc; "size {}", slot_name(slot))
+}
+
+fn read_line(alloc: Global, slot: Slot, off: u64, length: usize) -> Result<String, AllocError> {
+    format!(in alloc; "read {} {} {}", slot_name(slot), off, length)
+}
+
+impl<S: Store + Drop> Noting<S> {
+    /// A store over this one, of which no call was made.
+    pub fn new(alloc: Global, store: S) -> Noting<S>
+        ensures { result.store ≡ store }
+    {
+        Noting {
+            alloc,
+            store,
+            lines: Vec::new(alloc),
+        }
+    }
+
+    // Writes a line down, if there is memory for it.
+    fn note(&mut self, line: Result<String, AllocError>)
+        ensures { self.new.store ≡ self.old.store }
+    {
+        if let Ok(line) = line {
+            let _ = self.lines.push(line);
+        }
+    }
+}
+
+impl<S: Store + Drop> Store for Noting<S> {
+    ghost may = { λ self. S.may self.store };
+
+    ghost files = { λ self. S.files self.store };
+
+    ghost opened = { λ self. S.opened self.store };
+
+    ghost sizes = { λ self. S.sizes self.store };
+
+    ghost faults = { λ self. S.faults self.store };
+
+    ghost asked = { λ self. S.asked self.store };
+
+    ghost size_opened = { λ self. S.size_opened self.store };
+
+    ghost size_fits = { λ self. S.size_fits self.store };
+
+    ghost size_length = { λ self. S.size_length self.store };
+
+    fn open_file(&mut self, slot: Slot, name: &str) -> Result<(), Failed> {
+        self.note(open_line(self.alloc, slot, name));
+        self.store.open_file(slot, name)
+    }
+
+    fn size(&mut self, slot: Slot) -> Result<u64, Failed> {
+        self.note(size_line(self.alloc, slot));
+        self.store.size(slot)
+    }
+
+    fn read_at(&mut self, slot: Slot, off: u64, buf: &mut [u8]) -> Result<(), Failed> {
+        self.note(read_line(self.alloc, slot, off, buf.len()));
+        self.store.read_at(slot, off, buf)
+    }
+}

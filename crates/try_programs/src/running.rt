@@ -1,0 +1,104 @@
+// A case that is run, and what came of it.
+use crate::case::{Case, Ended};
+use crate::noting::Noting;
+use kc_app::kaudit;
+use kc_match::kmatch;
+use kc_outside::MemSink;
+use kc_report::{read_report, text};
+use kc_word::NoMemory;
+use std::alloc::Global;
+
+/// Which program a case runs.
+#[derive(Clone, Copy, Debug, PartialEq, Eq)]
+pub enum Program {
+    Kaudit,
+    Kmatch,
+}
+
+/// How a run ended, and the calls of the store that it made.
+#[derive(Drop)]
+pub struct Ran {
+    /// How it ended.
+    pub ended: Ended,
+    /// A line for each call.
+    pub calls: Vec<String>,
+}
+
+/// What is changed of a case before it runs.
+#[derive(Clone, Copy)]
+pub struct Limits {
+    /// The number of the call that fails, or 0.
+    pub fails: u64,
+    /// How many bytes standard output takes.
+    pub out: usize,
+}
+
+impl Case {
+    /// Its own limits.
+    pub fn limits(&self) -> Limits {
+        Limits {
+            fails: self.fails,
+            out: self.out_limit,
+        }
+    }
+
+    /// Runs the case.
+    ///
+    /// # Errors
+    ///
+    /// No memory was left for its files, or for what came of it.
+    pub fn run(&self, alloc: Global, program: Program, limits: Limits) -> Result<Ran, NoMemory> {
+        let mut store = Noting::new(alloc, self.files.store(alloc, limits.fails)?);
+        let mut out = MemSink::new(alloc, limits.out)?;
+        let mut err = MemSink::new(alloc, self.err_limit)?;
+        let status = match program {
+            Program::Kaudit => {
+                u8::from(kaudit(alloc, &self.words, &mut store, &mut out, &mut err))
+            }
+            Program::Kmatch => {
+                u8::from(kmatch(alloc, &self.words, &mut store, &mut out, &mut err))
+            }
+        };
+        Ok(Ran {
+            ended: Ended {
+                status,
+                out: out.bytes().to_vec(alloc)?,
+                err: err.bytes().to_vec(alloc)?,
+            },
+            calls: store.lines,
+        })
+    }
+
+    /// Whether a run is as the case has it.
+    pub fn is_met(&self, ran: &Ran) -> bool {
+        let wanted = &self.wanted;
+        ran.ended.status == wanted.status
+            && &ran.ended.out[..] == front(&wanted.out, self.out_limit)
+            && &ran.ended.err[..] == front(&wanted.err, self.err_limit)
+            && (self.calls.is_empty() || are_equal(&self.calls, &ran.calls))
+    }
+}
+
+fn are_equal(wanted: &[String], lines: &[String]) -> bool {
+    wanted.len() == lines.len()
+        && wanted
+            .iter()
+            .zip(lines)
+            .all(|(one, other)| one.as_str() == other.as_str())
+}
+
+/// What a sink of this limit takes of a text.
+pub fn front(text: &[u8], limit: usize) -> &[u8] {
+    &text[..text.len().min(limit)]
+}
+
+/// Whether bytes are a report's text, which is that of the report that they are read as.
+pub fn reads_back(alloc: Global, bytes: &[u8]) -> bool {
+    match read_report(alloc, bytes) {
+        Ok(report) => match text(alloc, &report) {
+            Ok(again) => &again[..] == bytes,
+            Err(NoMemory) => false,
+        },
+        Err(_) => false,
+    }
+}
