@@ -6,8 +6,8 @@ use kc_found::ListSpace;
 use std::alloc::{AllocError, Global};
 
 /// A file of cases. What stands before its first section says what it has. A section begins with a line `== NAME`. The last
-/// one is `== cases`, where each line is a case: what is given, ` : ` and what is wanted. Empty lines and lines that begin
-/// with `#` are the reader's.
+/// one is `== cases`, where each line is a case: what is given, ` : ` and what is wanted; empty lines and lines that begin
+/// with `#` are the reader's. Or it is `== paragraphs`, where each paragraph is a case of several lines.
 #[derive(Drop)]
 pub struct CaseFile {
     text: String,
@@ -37,6 +37,18 @@ impl CaseFile {
             }
         }
         None
+    }
+
+    /// The cases: lines, or paragraphs.
+    ///
+    /// # Errors
+    ///
+    /// The file has no section of cases; out of memory.
+    pub fn cases(&self, alloc: Global) -> Result<Vec<&str>> {
+        match self.find("paragraphs") {
+            Some(text) => Ok(paragraphs(alloc, text)?),
+            None => Ok(lines(alloc, self.section("cases")?)?),
+        }
     }
 
     /// What follows a name on its line of a section.
@@ -85,4 +97,24 @@ impl CaseFile {
             None => String::from_str(alloc, text),
         }
     }
+}
+
+// The paragraphs of a text.
+fn paragraphs(alloc: Global, text: &str) -> Result<Vec<&str>, AllocError> {
+    let mut cases = Vec::new(alloc);
+    for paragraph in text.split("\n\n") {
+        cases.push(paragraph.trim())?;
+    }
+    Ok(cases)
+}
+
+// The lines of a text that aren't the reader's.
+fn lines(alloc: Global, text: &str) -> Result<Vec<&str>, AllocError> {
+    let mut cases = Vec::new(alloc);
+    for line in text.lines() {
+        if !line.is_empty() && !line.starts_with('#') {
+            cases.push(line)?;
+        }
+    }
+    Ok(cases)
 }

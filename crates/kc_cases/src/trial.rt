@@ -10,13 +10,13 @@ use std::rt::Files;
 pub struct Case<'c> {
     /// The file in which it stands.
     pub file: &'c CaseFile,
-    /// Its text, without what it wants.
+    /// Its text, of a line without what it wants.
     pub given: &'c str,
 }
 
 /// What the cases of a file are about.
 pub trait Subject {
-    /// What comes of what a case gives, as a text.
+    /// What comes of what a case gives, as a text: of a line what it should want, of a paragraph the paragraph as it should be.
     ///
     /// # Errors
     ///
@@ -39,12 +39,10 @@ pub fn try_file<S: Subject>(
     let path = format!(in alloc; "{name}.cases")?;
     let file = CaseFile::new(fs::read_to_string(rt, path.as_str())?);
     let mut count: usize = 0;
-    for line in file.section("cases")?.lines() {
-        if !line.is_empty() && !line.starts_with('#') {
-            count = count.saturating_add(1);
-            if let Some(told) = difference(alloc, &file, subject, line)? {
-                println!(rt; "{name}, case {count}: {line}\n  has: {told}")?;
-            }
+    for case in file.cases(alloc)? {
+        count = count.saturating_add(1);
+        if let Some(told) = difference(alloc, &file, subject, case)? {
+            println!(rt; "{name}, case {count}: {case}\n  has: {told}")?;
         }
     }
     println!(rt; "{name} {count}")?;
@@ -56,9 +54,9 @@ fn difference<S: Subject>(
     alloc: Global,
     file: &CaseFile,
     subject: &S,
-    line: &str,
+    case: &str,
 ) -> Result<Option<String>> {
-    let (given, wanted) = line.split_once(" : ").unwrap_or((line, ""));
+    let (given, wanted) = parts(case);
     let wanted = file.wanted(alloc, wanted)?;
     let told = match subject.answer(alloc, &Case { file, given }) {
         Ok(told) => told,
@@ -68,5 +66,14 @@ fn difference<S: Subject>(
         Ok(None)
     } else {
         Ok(Some(told))
+    }
+}
+
+// What a case gives, and what it wants: the parts of a line; of a paragraph the whole, which has its answers in it.
+fn parts(case: &str) -> (&str, &str) {
+    if case.contains('\n') {
+        (case, case)
+    } else {
+        case.rsplit_once(" : ").unwrap_or((case, ""))
     }
 }
