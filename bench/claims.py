@@ -30,7 +30,7 @@ PINNED = {("kc_expr/specs/Machine.antt", "parsed"): ("kc_expr/specs/Spelling.ant
 NOT_CLEAN = {"audited_shown", "refusal_line", "ShownStand", "word_form", "layout_form", "show_form"}
 
 # The crates that make counters of steps.
-MAKE_BLANKS = {"kc_app"}
+MAKE_BLANKS = {"kc_app", "try_walks"}
 
 BORROWED = re.compile(r"\bRattle\.(kc_\w+)\.proofs\.")
 

@@ -1,0 +1,42 @@
+//! Tries the cases of walks that stand in `data/`, a file each subject: the words of a memory, and what is found in it.
+#![tactic(auto)]
+
+mod frames;
+mod lists;
+mod numbers;
+mod pages;
+mod slabs;
+mod tasks;
+mod trees;
+mod types;
+mod views;
+mod walk;
+mod words;
+mod xarrays;
+
+use anyhow::Result;
+use kc_cases::try_file;
+use lists::{HashChains, Rings};
+use numbers::Numbers;
+use pages::Pages;
+use slabs::{FreeLists, SlabCaches};
+use tasks::Tasks;
+use trees::Trees;
+use views::Views;
+use walk::Walk;
+use words::Words;
+use xarrays::Xarrays;
+
+fn main(rt: HostRuntime) -> Result<()> {
+    try_file(&rt, "rings", &Walk(Rings))?;
+    try_file(&rt, "hash_chains", &Walk(HashChains))?;
+    try_file(&rt, "trees", &Walk(Trees))?;
+    try_file(&rt, "xarrays", &Walk(Xarrays))?;
+    try_file(&rt, "slab_caches", &Walk(SlabCaches))?;
+    try_file(&rt, "free_lists", &Walk(FreeLists))?;
+    try_file(&rt, "tasks", &Walk(Tasks))?;
+    try_file(&rt, "numbers", &Walk(Numbers))?;
+    try_file(&rt, "views", &Walk(Views))?;
+    try_file(&rt, "pages", &Walk(Pages))?;
+    try_file(&rt, "words", &Walk(Words))
+}
