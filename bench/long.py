@@ -28,10 +28,8 @@ PLAN = """version = 1
 name = "large"
 kind = "{kind}"
 root = "large"
-root_type = "{head}"
 element = "item"
 """
-HEADS = {"ring": "list_head", "rbtree": "rb_root", "xarray": "xarray"}
 LINKS = {"ring": "link", "rbtree": "rb"}
 # The byte of `rb` in an item.
 RB = 40
@@ -133,7 +131,7 @@ def main():
         command = [kaudit, "check", "core", os.path.join(data, "z.btf"), "map", "plan"]
         for kind, build in (("ring", ring), ("rbtree", tree), ("xarray", xarray)):
             link = f'link = "{LINKS[kind]}"\n' if kind in LINKS else ""
-            open(os.path.join(work, "plan"), "w").write(PLAN.format(kind=kind, head=HEADS[kind]) + link)
+            open(os.path.join(work, "plan"), "w").write(PLAN.format(kind=kind) + link)
             for name in ("in order", "at random"):
                 make(data, os.path.join(work, "core"), build(1, [0]))
                 start, least = measured(command, work, 1)

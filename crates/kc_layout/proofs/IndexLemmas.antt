@@ -23,11 +23,7 @@ use Rattle.kc_layout.specs.declared.find.Wanted.TheVariants.{Compound, Alias}
 use Rattle.kc_layout.specs.Find.{find, least, is_named, is_wanted, is_typedef, leads_to_compound}
 use Rattle.kc_layout.specs.Names.{chosen, bucket_of, is_kept, falls, kept_one, kept, bears, is_bearer, first_in, sought, IsNumber, StandsFor}
 use Rattle.kc_layout.proofs.FindLemmas.{nothing, position-at, position-none}
-
-both : (a b : Bool) → (a && b) ≡ true → (a ≡ true) × (b ≡ true)
-both true true is = (refl, refl)
-both true false is = let none : ⊥ = cc in absurd none
-both false b is = let none : ⊥ = cc in absurd none
+use Rattle.kc_layout.proofs.FoundLemmas.{both}
 
 either : (a b : Bool) → b ≡ true → (a || b) ≡ true
 either true b is = refl
