@@ -1,11 +1,17 @@
 #!/usr/bin/env python3
-"""Measures `check` against a plain loop that reads the same places of the dump, in one run.
+"""Measures `check` against plain loops in C over the same dump, in one run.
 
 usage: floor.py KAUDIT FOLDER PLAN..
 
-FOLDER has `vmcore`, `btf`, `System.map` and the plans `PLAN.toml`. The places are those of the program's own system calls,
-told by strace; the loop is a C program that seeks and reads each. It wants strace and a C compiler. The programs run five
-times by turns; the time is the least in seconds.
+FOLDER has `vmcore`, `btf`, `System.map` and the plans `PLAN.toml`. Two floors are told:
+
+- for each plan, the time that the program's own reads of the dump take alone: their places are told by strace, and a C program
+  seeks and reads each;
+- for `inodes` and `pages`, the time of the walk alone, which is the whole less that of the same plan without what it names in
+  `each`, and beside it that of `floor.c`, which makes the same walk over the mapped dump: without the test that no word is taken
+  twice, and with it.
+
+It wants strace and a C compiler. The programs run by turns; each time is the least in seconds.
 """
 import os
 import re
@@ -16,7 +22,7 @@ import tempfile
 
 import child
 
-RUNS = 5
+RUNS = 9
 LOOP = r"""
 #include <fcntl.h>
 #include <stdint.h>
@@ -38,6 +44,28 @@ int main(int n, char **words) {
 }
 """
 CALL = re.compile(r"(openat|lseek|read|pread64)\((.*)\)\s+= (\d+)")
+WALKED = ("inodes", "pages")
+# The members whose offsets `floor.c` takes, in its order: a type and a path of members.
+OFFSETS = """list_head next
+list_head prev
+hlist_node next
+hlist_node pprev
+super_block s_list
+super_block s_inodes
+inode i_sb_list
+inode i_dentry
+dentry d_u.d_alias
+inode i_data.i_pages
+xarray xa_head
+xa_node shift
+xa_node offset
+xa_node count
+xa_node nr_values
+xa_node parent
+xa_node array
+xa_node slots"""
+# What a member of such a path is, where it isn't the last one; the members of `d_u` have no type with a name, and begin at byte 0.
+INNER = {"i_data": "address_space"}
 
 
 def places(command, folder, log):
@@ -57,26 +85,89 @@ def places(command, folder, log):
             yield (int(words[-1]) if name == "pread64" else at), answer
 
 
+def offset(kaudit, folder, kind, path):
+    """The byte of a member, by `layout`."""
+    told = subprocess.run([kaudit, "layout", "btf", kind], cwd=folder, capture_output=True, text=True, check=True).stdout
+    name, _, rest = path.partition(".")
+    byte = next(int(row.split()[1]) // 8 for row in told.splitlines() if row.split()[-1] == name)
+    return byte + offset(kaudit, folder, INNER[name], rest) if name in INNER else byte
+
+
+def told(notes, key):
+    """A value of the dump's note, as it is written."""
+    return re.search(rb"\n" + re.escape(key.encode()) + rb"=(-?[0-9a-f]+)", notes).group(1).decode()
+
+
+def where(folder):
+    """The address of the ring of super blocks, and the physical top table, in hex digits."""
+    with open(os.path.join(folder, "vmcore"), "rb") as file:
+        notes = file.read(1 << 20)
+    for row in open(os.path.join(folder, "System.map")):
+        if row.split()[2] == "super_blocks":
+            start = int(row.split()[0], 16) + int(told(notes, "KERNELOFFSET"), 16)
+    table = int(told(notes, "SYMBOL(swapper_pg_dir)"), 16) - 0xFFFFFFFF80000000 + int(told(notes, "NUMBER(phys_base)"))
+    return [f"{start:x}", f"{table:x}"]
+
+
+def compiled(work, name, source):
+    """A program in C."""
+    program = os.path.join(work, name)
+    subprocess.run(["cc", "-O2", "-o", program, source], check=True)
+    return program
+
+
+def reads_alone(kaudit, folder, plan, work, loop):
+    """The whole time, its memory, and that of the reads alone."""
+    command, listed = [kaudit, "check", "vmcore", "btf", "System.map", plan + ".toml"], os.path.join(work, "places")
+    reads = list(places(command, folder, os.path.join(work, "log")))
+    with open(listed, "wb") as file:
+        for place in reads:
+            file.write(struct.pack("<QQ", *place))
+    ours, floor = [], []
+    for _ in range(RUNS):
+        ours.append(child.run(command, folder)[3])
+        floor.append(child.run([loop, "vmcore", listed], folder)[3])
+    memory = child.most_memory(command, folder)
+    print(f"{plan}: {min(ours):.3f} s {memory:.1f} MiB; {len(reads)} reads alone {min(floor):.3f} s; ratio {min(ours) / min(floor):.1f}")
+
+
+def walk_alone(kaudit, folder, plan, work, walker):
+    """The walk beside the same one in C."""
+    text = open(os.path.join(folder, plan + ".toml")).read()
+    start = os.path.join(work, "start.toml")
+    open(start, "w").write(text[: text.index("each =")])
+    begin = [kaudit, "check", "vmcore", "btf", "System.map"]
+    where_to = where(folder) + [plan]
+    offsets = [str(offset(kaudit, folder, *row.split())) for row in OFFSETS.splitlines()]
+    whole, before, floors = [], [], {"plain": [], "taken": []}
+    for _ in range(RUNS):
+        whole.append(child.run(begin + [plan + ".toml"], folder))
+        before.append(child.run(begin + [start], folder))
+        for way, times in floors.items():
+            times.append(child.run([walker, "vmcore"] + where_to + [way] + offsets, folder))
+    elements = [row.split()[-1] for row in whole[0][1].decode().splitlines()[1:]]
+    counted = floors["plain"][0][1].decode().split()[:3]
+    assert elements == counted, (elements, counted)
+    all_of_it, start_of_it = (min(run[3] for run in runs) for runs in (whole, before))
+    plain, taken = (min(float(run[1].split()[-1]) for run in floors[way]) for way in ("plain", "taken"))
+    alone = all_of_it - start_of_it
+    print(
+        f"{plan}: whole {all_of_it * 1e3:.1f} ms, start {start_of_it * 1e3:.1f} ms, walk {alone * 1e3:.1f} ms; "
+        f"in C {plain * 1e3:.1f} ms, and {taken * 1e3:.1f} ms with words taken once; ratios {alone / plain:.1f} and {alone / taken:.1f}"
+    )
+
+
 def main():
     kaudit, folder, plans = os.path.abspath(sys.argv[1]), sys.argv[2], sys.argv[3:]
     with tempfile.TemporaryDirectory() as work:
-        source, loop, listed = (os.path.join(work, name) for name in ("loop.c", "loop", "places"))
+        source = os.path.join(work, "loop.c")
         open(source, "w").write(LOOP)
-        subprocess.run(["cc", "-O2", "-o", loop, source], check=True)
+        loop = compiled(work, "loop", source)
+        walker = compiled(work, "walker", os.path.join(os.path.dirname(os.path.abspath(__file__)), "floor.c"))
         for plan in plans:
-            command = [kaudit, "check", "vmcore", "btf", "System.map", plan + ".toml"]
-            reads = list(places(command, folder, os.path.join(work, "log")))
-            with open(listed, "wb") as file:
-                for place in reads:
-                    file.write(struct.pack("<QQ", *place))
-            ours, floor = [], []
-            for _ in range(RUNS):
-                ours.append(child.run(command, folder)[3])
-                floor.append(child.run([loop, "vmcore", listed], folder)[3])
-            memory = child.most_memory(command, folder)
-            print(
-                f"{plan}: {min(ours):.3f} s {memory:.1f} MiB; {len(reads)} reads alone {min(floor):.3f} s; ratio {min(ours) / min(floor):.1f}"
-            )
+            reads_alone(kaudit, folder, plan, work, loop)
+            if plan in WALKED:
+                walk_alone(kaudit, folder, plan, work, walker)
 
 
 main()

@@ -1,5 +1,5 @@
 -- A name that is compared without going through all of another.
-use Rattle.std.proofs.Common.{◌≡◌, ℕ, suc, ◌+◌, Bool, true, false, List, [], ◌∷◌, length, take, min, bytes_eq, ◌==◌, ◌&&◌, refl, ap, ◌∙◌, if◌then◌else◌, arith}
+use Rattle.std.proofs.Common.{◌≡◌, ℕ, zero, suc, ◌+◌, Bool, true, false, List, [], ◌∷◌, length, take, min, bytes_eq, ◌==◌, ◌&&◌, refl, ap, ◌∙◌, if◌then◌else◌, arith}
 use Rattle.std.specs.List.{before_first, position_or_len}
 use Rattle.std.proofs.lemmas.List.{take_min}
 
@@ -30,3 +30,17 @@ pub window_is_enough : (text name : List ℕ) → bytes_eq (before_first (λ c. 
 window_is_enough text name =
     ap (λ window. bytes_eq (before_first (λ c. c == 0) window) name) (take_min (length name + 1) text ∙ ap (λ n. take n text) (more_by_one (length name)))
     ∙ window_tells (λ c. c == 0) text name
+
+start_by : (p : ℕ → Bool) (c : ℕ) (cs : List ℕ) (n : ℕ) (b : Bool) → p c ≡ b → before_first p (take n cs) ≡ take n (before_first p cs)
+    → before_first p (c ∷ take n cs) ≡ take (suc n) (before_first p (c ∷ cs))
+start_by p c cs n true is inner = rw (first_is p c (take n cs) true is, first_is p c cs true is) refl
+start_by p c cs n false is inner = rw (first_is p c (take n cs) false is, first_is p c cs false is) (ap (λ e. c ∷ e) inner)
+
+-- the first bytes of a text before what passes are the first of those before it
+start_of_start : (p : ℕ → Bool) (n : ℕ) (text : List ℕ) → before_first p (take n text) ≡ take n (before_first p text)
+start_of_start p zero text = refl
+start_of_start p (suc n) [] = refl
+start_of_start p (suc n) (c ∷ cs) = start_by p c cs n (p c) refl (start_of_start p n cs)
+
+pub start_before : (text : List ℕ) (n : ℕ) → before_first (λ c. c == 0) (take (min n (length text)) text) ≡ take n (before_first (λ c. c == 0) text)
+start_before text n = ap (λ window. before_first (λ c. c == 0) window) (take_min n text) ∙ start_of_start (λ c. c == 0) n text

@@ -31,7 +31,7 @@ impl Model for Btf {
 }
 
 impl Btf {
-    ghost use Rattle.std.specs.Prelude.{◌≡◌, ◌+◌, ◌<◌, ◌≤◌, length, bytes_eq, Some, option_map, option_and_then, All, IsTrue, IfOk};
+    ghost use Rattle.std.specs.Prelude.{◌≡◌, ◌+◌, ◌<◌, ◌≤◌, length, take, bytes_eq, Some, option_map, option_and_then, All, IsTrue, IfOk};
     ghost use Rattle.std.specs.List.{flat_map};
     ghost use Rattle.kc_word.specs.Answers.{GivesTold};
     ghost use Rattle.kc_btf.specs.Answers.{told};
@@ -114,6 +114,15 @@ impl Btf {
         is_before_nul(&strings[off as usize..], name)
     }
 
+    /// The first bytes of a name: so many at most, and all of a shorter one. It looks at no more.
+    pub fn name_start(&self, off: u32, most: usize) -> &[u8]
+        requires { off < length self.now.strings }
+        ensures { result.now ≡ take most (name_at self.now.strings off) }
+    {
+        let strings = &self.bytes[self.header.strings..self.header.strings_end];
+        start_before_nul(&strings[off as usize..], most)
+    }
+
     /// The members of a struct or union, in their order.
     pub fn members(&self, t: TypeRef) -> Members<'_>
         requires ours { type_numbered self.now t.id ≡ Some t }
@@ -145,7 +154,7 @@ impl Btf {
     }
 }
 
-ghost use Rattle.std.specs.Prelude.{◌≡◌, ◌+◌, ◌-◌, ◌^◌, ◌<◌, ◌≤◌, length, slice_index, bytes_eq, ◌==◌};
+ghost use Rattle.std.specs.Prelude.{◌≡◌, ◌+◌, ◌-◌, ◌^◌, ◌<◌, ◌≤◌, length, take, slice_index, bytes_eq, ◌==◌};
 ghost use Rattle.std.specs.List.{before_first};
 
 // Where the record of a type lies in the file.
@@ -188,4 +197,11 @@ fn is_before_nul(text: &[u8], name: &[u8]) -> bool
 {
     let window = &text[..(name.len() + 1).min(text.len())];
     before_nul_or_end(window) == name
+}
+
+// The first of the bytes before the first NUL.
+fn start_before_nul(text: &[u8], most: usize) -> &[u8]
+    ensures { result.now ≡ take most (before_first (λ c. c == 0) text.now) }
+{
+    before_nul_or_end(&text[..most.min(text.len())])
 }

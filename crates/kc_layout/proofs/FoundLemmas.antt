@@ -20,7 +20,7 @@ use Rattle.kc_layout.proofs.FindLemmas.{nothing, named-at}
 use Rattle.kc_layout.proofs.PathLemmas.{position_or_len-None}
 use Rattle.kc_layout.proofs.LayerLemmas.{under-here, under-next}
 
-both : (a b : Bool) → (a && b) ≡ true → (a ≡ true) × (b ≡ true)
+pub both : (a b : Bool) → (a && b) ≡ true → (a ≡ true) × (b ≡ true)
 both true true is = (refl, refl)
 both true false is = let none : ⊥ = cc in absurd none
 both false b is = let none : ⊥ = cc in absurd none

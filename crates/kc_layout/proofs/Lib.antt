@@ -1,6 +1,7 @@
 pub mod AllLinesLemmas
 pub mod FindLemmas
 pub mod FoundLemmas
+pub mod IndexLemmas
 pub mod LayerLemmas
 pub mod LineLemmas
 pub mod ListingLemmas

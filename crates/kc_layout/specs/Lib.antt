@@ -3,6 +3,7 @@ pub mod Ends
 pub mod Find
 pub mod HopList
 pub mod Listing
+pub mod Names
 pub mod Path
 pub mod PathViews
 pub mod Places

@@ -61,7 +61,7 @@ fn least(btf: &Btf, name: &[u8], wanted: Wanted) -> Option<u32>
 }
 
 // Whether a type has a name and is wanted.
-fn is_named(btf: &Btf, t: TypeRef, name: &[u8], wanted: Wanted) -> bool
+pub(crate) fn is_named(btf: &Btf, t: TypeRef, name: &[u8], wanted: Wanted) -> bool
     requires text { t.name < length btf.now.strings }
     requires target { LiesInside (length btf.now.strings) (length btf.now.records) (rest_role t.kind) t.rest }
     ensures { result ≡ (bytes_eq (name_at btf.now.strings t.name) name.now && is_wanted btf.now wanted t.kind t.rest) }

@@ -3,10 +3,11 @@ ghost use Rattle.std.specs.Prelude.{IfOk, IfSome};
 ghost use Rattle.kc_layout.specs.Listing.{AreNamed};
 
 use crate::{
-    Field, Hops, Line, Located, PathFault, QRule, compound_under, find_type, list_members, locate,
-    pointers_under, resolve, size_of,
+    Field, Hops, Line, Located, Names, PathFault, QRule, compound_under, find_type, list_members,
+    locate, pointers_under, resolve, size_of,
 };
 use kc_btf::Btf;
+use kc_fixture::btf_file;
 use kc_word::Bits;
 use std::alloc::Global;
 use std::process::Abort;
@@ -14,31 +15,60 @@ use std::test::Fail;
 
 mod made;
 
-use made::{crowds, levels, types};
+use made::{crowds, levels, named, types};
+
+// Names, and the numbers of the types with them, as both searches find them.
+fn are_found(rt: &(impl Abort + AllocGlobal), btf: &Btf, rows: &str) -> Result<usize, Fail> {
+    let names = Names::new(rt.alloc(), btf)?;
+    assert_eq!(rt; names.find(btf, b""), None);
+    assert_eq!(rt; find_type(btf, b""), None);
+    let mut count: usize = 0;
+    for row in rows.lines() {
+        let (name, wanted) = row.split_once(" : ").ok_or("no answer")?;
+        let number: Option<u32> = wanted.parse().ok();
+        assert_eq!(rt; names.find(btf, name.as_bytes()), number);
+        assert_eq!(rt; find_type(btf, name.as_bytes()), number);
+        count = count.saturating_add(1);
+    }
+    Ok(count)
+}
 
 #[test]
 fn names_are_found(rt: HostRuntime) -> Result<(), Fail> {
-    let btf = types(rt.alloc())?;
-    let rows: [(&[u8], Option<u32>); 12] = [
-        (b"slab", Some(8)),
-        (b"twice", Some(19)),
-        // a struct stands before a typedef of the same name
-        (b"list_head", Some(5)),
-        (b"union_alias", Some(39)),
-        (b"through32", Some(73)),
-        (b"through33", None),
-        (b"circle", None),
-        (b"int", None),
-        (b"mode", None),
-        (b"sla", None),
-        (b"slabs", None),
-        (b"", None),
-    ];
-    for (name, found) in rows.iter() {
-        assert_eq!(rt; find_type(&btf, *name), *found);
-    }
+    let made = are_found(&rt, &types(rt.alloc())?, MADE)?;
+    let named = are_found(&rt, &named(rt.alloc())?, NAMED)?;
+    let kernel = are_found(&rt, &Btf::read(rt.alloc(), btf_file(rt.alloc())?)?, KERNEL)?;
+    assert_eq!(rt; (made, named, kernel), (11, 9, 3));
     Ok(())
 }
+
+// Of the types made here. A struct stands before a typedef of the same name.
+const MADE: &str = "slab : 8
+twice : 19
+list_head : 5
+union_alias : 39
+through32 : 73
+through33 : none
+circle : none
+int : none
+mode : none
+sla : none
+slabs : none";
+
+const NAMED: &str = "both : 3
+alias : 5
+number : none
+further : none
+int : none
+a_name_of_more_than_64_bytes_is_kept_by_its_first_64_bytes_and_compared_whole : 9
+a_name_of_more_than_64_bytes_is_kept_by_its_first_64_bytes_and_compared_as_well : 10
+a_name_of_more_than_64_bytes_is_kept_by_its_first_64_bytes_and_compared : none
+a_name_of_more_than_64_bytes_is_kept_by_its_first_64_bytes_and_c : none";
+
+// Of a small kernel's types.
+const KERNEL: &str = "slab : 26
+item : 32
+nothing : none";
 
 #[test]
 fn sizes_are_known(rt: HostRuntime) -> Result<(), Fail> {

@@ -9,7 +9,7 @@ use Rattle.toml.specs.View.{table_view}
 use Rattle.toml.specs.declared.value.Value.{Value}
 use Rattle.kc_layout.specs.Views.{bits_view}
 use Rattle.kc_syms.specs.Symbols.{symbol}
-use Rattle.kc_plan.specs.declared.begin.Known.{Known}
+use Rattle.kc_plan.specs.declared.known.Known.{Known}
 use Rattle.kc_btf.specs.Btf.{Types}
 use Rattle.kc_notes.specs.declared.info.Info.{Info}
 use Rattle.kc_syms.specs.declared.symbols.Symbols.{Symbols}

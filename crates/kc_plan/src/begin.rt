@@ -16,23 +16,14 @@ ghost use Rattle.kc_syms.specs.Symbols.{symbol};
 
 use crate::fault::{PRule, PlanKey, PlanStop};
 use crate::item::StartWords;
+use crate::known::Known;
 use crate::planned::Start;
 use crate::shape::{Row, is_struct};
 use crate::value::stop;
 use kc_btf::Btf;
-use kc_layout::{Hops, Located, find_type, locate, resolve};
+use kc_layout::{Hops, Located, locate, resolve};
 use kc_syms::Symbols;
 use kc_word::Bits;
-
-// What an audit is read against: the types, the symbols, how far KASLR moved the kernel, in bytes, and whether its page
-// tables have five levels.
-#[derive(Clone, Copy)]
-pub(crate) struct Known<'k> {
-    pub btf: &'k Btf,
-    pub symbols: &'k Symbols<'k>,
-    pub kaslr: u64,
-    pub five: bool,
-}
 
 // Where a path from a type leads, where that is this struct; else this stop.
 fn struct_at(
@@ -58,11 +49,11 @@ fn struct_at(
 }
 
 // The type with a name.
-fn type_named(btf: &Btf, name: &str, audit: u32, key: PlanKey) -> Result<u32, PlanStop>
-    ensures exact { Gives (λ ty. ty) result (at (Some audit) key (type_named btf.now name.now)) }
-    ensures there { IfOk result (λ ty. ty ≤ length btf.now.records) }
+fn type_named(known: &Known<'_>, name: &str, audit: u32, key: PlanKey) -> Result<u32, PlanStop>
+    ensures exact { Gives (λ ty. ty) result (at (Some audit) key (type_named known.now.btf.now name.now)) }
+    ensures there { IfOk result (λ ty. ty ≤ length known.now.btf.now.records) }
 {
-    match find_type(btf, name.as_bytes()) {
+    match known.names.find(known.btf, name.as_bytes()) {
         Some(ty) => Ok(ty),
         None => Err(stop(PRule::P10, Some(audit), key)),
     }
@@ -98,15 +89,15 @@ fn first_byte(ty: u32) -> Located
 
 // Where a root audit begins, whose symbol is at an address.
 fn root_at(
-    btf: &Btf,
+    known: &Known<'_>,
     needs: &Row,
     audit: u32,
     address: u64,
     start: StartWords<'_>,
 ) -> Result<Start, PlanStop>
-    requires { IsRow (length btf.now.records) needs.now }
-    ensures exact { Gives start_seen result (root_at btf.now needs.now audit address (option_copied start.entry.root_type) (unwrap_or (option_copied start.entry.root_path) [])) }
-    ensures there { IfOk result (StartsInside (length btf.now.records)) }
+    requires { IsRow (length known.now.btf.now.records) needs.now }
+    ensures exact { Gives start_seen result (root_at known.now.btf.now needs.now audit address (option_copied start.entry.root_type) (unwrap_or (option_copied start.entry.root_path) [])) }
+    ensures there { IfOk result (StartsInside (length known.now.btf.now.records)) }
 {
     let Some(name) = start.root_type else {
         let ty = needs.head.unwrap_or(0);
@@ -116,9 +107,9 @@ fn root_at(
             to: first_byte(ty),
         });
     };
-    let ty = type_named(btf, name, audit, PlanKey::RootType)?;
+    let ty = type_named(known, name, audit, PlanKey::RootType)?;
     let path = start.root_path.unwrap_or("");
-    let to = struct_at(btf, needs.head, ty, path, audit, PlanKey::RootPath)?;
+    let to = struct_at(known.btf, needs.head, ty, path, audit, PlanKey::RootPath)?;
     Ok(Start::Root {
         symbol: address,
         ty,
@@ -163,43 +154,43 @@ pub(crate) fn root_of(
 
 // Where an audit begins, where its symbol has this address and the element of the audit above has this type.
 pub(crate) fn begun(
-    btf: &Btf,
+    known: &Known<'_>,
     needs: &Row,
     audit: u32,
     above: Option<u32>,
     root: Option<u64>,
     start: StartWords<'_>,
 ) -> Result<Start, PlanStop>
-    requires row { IsRow (length btf.now.records) needs.now }
-    requires above { IfSome above (λ id. id ≤ length btf.now.records) }
-    ensures exact { Gives start_seen result (begun btf.now needs.now audit above (start_text start.entry) root) }
-    ensures there { IfOk result (StartsInside (length btf.now.records)) }
+    requires row { IsRow (length known.now.btf.now.records) needs.now }
+    requires above { IfSome above (λ id. id ≤ length known.now.btf.now.records) }
+    ensures exact { Gives start_seen result (begun known.now.btf.now needs.now audit above (start_text start.entry) root) }
+    ensures there { IfOk result (StartsInside (length known.now.btf.now.records)) }
 {
     let Some(address) = root else {
         let path = start.from.unwrap_or("");
-        let to = from_at(btf, needs, audit, above, path)?;
+        let to = from_at(known.btf, needs, audit, above, path)?;
         return Ok(Start::From {
             to,
             optional: start.optional,
         });
     };
-    root_at(btf, needs, audit, address, start)
+    root_at(known, needs, audit, address, start)
 }
 
 // The type of the elements.
 pub(crate) fn element_at(
-    btf: &Btf,
+    known: &Known<'_>,
     needs: &Row,
     audit: u32,
     name: Option<&str>,
 ) -> Result<Option<u32>, PlanStop>
-    requires { IsRow (length btf.now.records) needs.now }
-    ensures exact { Gives (λ ty. ty) result (at (Some audit) key.Element (element_at btf.now needs.now.element (option_copied name.entry))) }
-    ensures there { IfOk result (λ ty. IfSome ty (λ id. id ≤ length btf.now.records)) }
+    requires { IsRow (length known.now.btf.now.records) needs.now }
+    ensures exact { Gives (λ ty. ty) result (at (Some audit) key.Element (element_at known.now.btf.now needs.now.element (option_copied name.entry))) }
+    ensures there { IfOk result (λ ty. IfSome ty (λ id. id ≤ length known.now.btf.now.records)) }
 {
     match name {
         Some(name) => {
-            let ty = type_named(btf, name, audit, PlanKey::Element)?;
+            let ty = type_named(known, name, audit, PlanKey::Element)?;
             Ok(Some(ty))
         }
         None => Ok(needs.element),

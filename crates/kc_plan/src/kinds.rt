@@ -6,10 +6,10 @@ ghost use Rattle.kc_plan.specs.Kinds.{sort_of, needs_of, hlist_words, root_words
 ghost use Rattle.kc_plan.specs.Inside.{KindInside};
 ghost use Rattle.kc_plan.specs.Views.{kernel, own_seen};
 
-use crate::begin::Known;
 use crate::fault::PRule;
 use crate::keys::{Need, Needs};
 use crate::kind::Kind;
+use crate::known::Known;
 use crate::shape::{Own, Row, byte_in, chunk_in, list_words, small_in, struct_named, word_in};
 use crate::slabs::{are_single, slub_words};
 use crate::tasks::task_words;
@@ -95,9 +95,9 @@ fn slub_row(known: &Known<'_>) -> Row
     ensures there { IsRow (length (kernel known.now).types.records) result }
 {
     Row {
-        head: struct_named(known.btf, b"kmem_cache"),
-        node: struct_named(known.btf, b"list_head"),
-        element: struct_named(known.btf, b"slab"),
+        head: struct_named(known, b"kmem_cache"),
+        node: struct_named(known, b"list_head"),
+        element: struct_named(known, b"slab"),
         clear: are_single(known),
     }
 }
@@ -107,10 +107,10 @@ fn task_row(known: &Known<'_>) -> Row
     ensures exact { result ≡ row (kernel known.now) sort.Tasks false }
     ensures there { IsRow (length (kernel known.now).types.records) result }
 {
-    let task = struct_named(known.btf, b"task_struct");
+    let task = struct_named(known, b"task_struct");
     Row {
         head: task,
-        node: struct_named(known.btf, b"list_head"),
+        node: struct_named(known, b"list_head"),
         element: task,
         clear: true,
     }
@@ -120,10 +120,10 @@ fn task_row(known: &Known<'_>) -> Row
 pub(crate) fn rows_of(known: &Known<'_>) -> Rows
     ensures { AreRows (kernel known.now) result }
 {
-    let list = struct_named(known.btf, b"list_head");
-    let head = struct_named(known.btf, b"hlist_head");
-    let node = struct_named(known.btf, b"hlist_node");
-    let tree = struct_named(known.btf, b"rb_node");
+    let list = struct_named(known, b"list_head");
+    let head = struct_named(known, b"hlist_head");
+    let node = struct_named(known, b"hlist_node");
+    let tree = struct_named(known, b"rb_node");
     Rows {
         ring: Row {
             head: list,
@@ -138,20 +138,20 @@ pub(crate) fn rows_of(known: &Known<'_>) -> Rows
             clear: true,
         },
         rbtree: Row {
-            head: struct_named(known.btf, b"rb_root"),
+            head: struct_named(known, b"rb_root"),
             node: tree,
             element: None,
             clear: true,
         },
         cached: Row {
-            head: struct_named(known.btf, b"rb_root_cached"),
+            head: struct_named(known, b"rb_root_cached"),
             node: tree,
             element: None,
             clear: true,
         },
         xarray: Row {
-            head: struct_named(known.btf, b"xarray"),
-            node: struct_named(known.btf, b"xa_node"),
+            head: struct_named(known, b"xarray"),
+            node: struct_named(known, b"xa_node"),
             element: None,
             clear: true,
         },
@@ -199,20 +199,20 @@ pub(crate) struct RootWords {
 
 // The words of a root, which may keep the first node.
 #[tactic(auto, unfolding(crate::specs::Kinds::root_words))]
-fn root_words(btf: &Btf, head: Option<u32>, cached: bool) -> Option<RootWords>
-    requires { IfSome head (λ id. id ≤ length btf.now.records) }
-    ensures { result ≡ root_words btf.now head cached }
+fn root_words(known: &Known<'_>, head: Option<u32>, cached: bool) -> Option<RootWords>
+    requires { IfSome head (λ id. id ≤ length known.now.btf.now.records) }
+    ensures { result ≡ root_words known.now.btf.now head cached }
 {
     if !cached {
-        let root = word_in(btf, head, b"rb_node")?;
+        let root = word_in(known.btf, head, b"rb_node")?;
         return Some(RootWords {
             root,
             leftmost: None,
         });
     }
-    let inner = byte_in(btf, head, b"rb_root")?;
-    let root = word_in(btf, struct_named(btf, b"rb_root"), b"rb_node")?;
-    let leftmost = word_in(btf, head, b"rb_leftmost")?;
+    let inner = byte_in(known.btf, head, b"rb_root")?;
+    let root = word_in(known.btf, struct_named(known, b"rb_root"), b"rb_node")?;
+    let leftmost = word_in(known.btf, head, b"rb_leftmost")?;
     Some(RootWords {
         root: inner.wrapping_add(root),
         leftmost: Some(leftmost),
@@ -221,15 +221,15 @@ fn root_words(btf: &Btf, head: Option<u32>, cached: bool) -> Option<RootWords>
 
 // The words of a red-black tree.
 #[tactic(auto, using(crate::proofs::BitsLemmas::key_kept), unfolding(crate::specs::Kinds::tree_words))]
-fn tree_words(btf: &Btf, head: Option<u32>, node: Option<u32>, own: &Own) -> Option<RbShape>
-    requires head { IfSome head (λ id. id ≤ length btf.now.records) }
-    requires node { IfSome node (λ id. id ≤ length btf.now.records) }
-    ensures { result ≡ tree_words btf.now head node (own_seen own.now) }
+fn tree_words(known: &Known<'_>, head: Option<u32>, node: Option<u32>, own: &Own) -> Option<RbShape>
+    requires head { IfSome head (λ id. id ≤ length known.now.btf.now.records) }
+    requires node { IfSome node (λ id. id ≤ length known.now.btf.now.records) }
+    ensures { result ≡ tree_words known.now.btf.now head node (own_seen own.now) }
 {
-    let parent_color = word_in(btf, node, b"__rb_parent_color")?;
-    let right = word_in(btf, node, b"rb_right")?;
-    let left = word_in(btf, node, b"rb_left")?;
-    let words = root_words(btf, head, own.cached)?;
+    let parent_color = word_in(known.btf, node, b"__rb_parent_color")?;
+    let right = word_in(known.btf, node, b"rb_right")?;
+    let left = word_in(known.btf, node, b"rb_left")?;
+    let words = root_words(known, head, own.cached)?;
     Some(RbShape {
         parent_color,
         right,
@@ -306,9 +306,9 @@ pub(crate) fn shape_of(known: &Known<'_>, needs: &Row, own: &Own, sort: Sort) ->
     match sort {
         Sort::Ring => Some(Kind::Ring(list_words(btf, needs.node)?)),
         Sort::Hlist => Some(Kind::Hlist(hlist_words(btf, needs.head, needs.node)?)),
-        Sort::Rbtree => Some(Kind::Rbtree(tree_words(btf, needs.head, needs.node, own)?)),
+        Sort::Rbtree => Some(Kind::Rbtree(tree_words(known, needs.head, needs.node, own)?)),
         Sort::Xarray => Some(Kind::Xarray(xarray_words(btf, needs.head, needs.node)?)),
         Sort::Slub => Some(Kind::Slub(slub_words(known, needs)?)),
-        Sort::Tasks => Some(Kind::Tasks(task_words(btf, needs)?)),
+        Sort::Tasks => Some(Kind::Tasks(task_words(known, needs)?)),
     }
 }

@@ -10,6 +10,7 @@ mod item;
 mod keys;
 mod kind;
 mod kinds;
+mod known;
 mod laws;
 mod link;
 mod plan;

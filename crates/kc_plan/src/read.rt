@@ -7,12 +7,13 @@ ghost use Rattle.kc_plan.specs.Plans.{children, element_of, element_above, plann
 ghost use Rattle.kc_plan.specs.Planned.{audit_seen, audits_seen};
 ghost use Rattle.kc_plan.specs.Views.{kernel, kernel_of, audit_text, plan_seen};
 
-use crate::begin::{Known, begun, element_at, key_at, link_at, root_of};
+use crate::begin::{begun, element_at, key_at, link_at, root_of};
 use crate::checks::checks_of;
 use crate::document::{audits_in, document_of};
 use crate::fault::{PRule, PlanKey, PlanStop};
 use crate::item::{AuditWords, Link};
 use crate::kinds::{Rows, row_of, rows_of, shape_of};
+use crate::known::Known;
 use crate::link::{above_of, links_of};
 use crate::plan::Plan;
 use crate::planned::{Audit, AuditList, Numbers};
@@ -20,6 +21,7 @@ use crate::shape::Own;
 use crate::value::{refuse_if, stop};
 use kc_btf::Btf;
 use kc_found::{Items, Name};
+use kc_layout::Names;
 use kc_notes::Info;
 use kc_syms::Symbols;
 use kc_word::NoMemory;
@@ -91,8 +93,8 @@ fn planned(
     let above = element_above(known.btf, links, before, number);
     let root = root_of(known, number, audit.start.root)?;
     refuse_if(!needs.clear, PRule::P9, Some(number), PlanKey::Kind)?;
-    let start = begun(known.btf, &needs, number, above, root, audit.start)?;
-    let element = element_at(known.btf, &needs, number, audit.parts.element)?;
+    let start = begun(known, &needs, number, above, root, audit.start)?;
+    let element = element_at(known, &needs, number, audit.parts.element)?;
     let link = link_at(known.btf, &needs, number, element, audit.parts.link)?;
     let key = key_at(known.btf, number, element, tree.key)?;
     let own = Own {
@@ -185,8 +187,10 @@ pub fn read_plan(
 {
     let table = document_of(alloc, bytes)?;
     let written = audits_in(alloc, &table)?;
+    let names = Names::new(alloc, btf)?;
     let known = Known {
         btf,
+        names: &names,
         symbols: syms,
         kaslr: info.kaslr,
         five: info.five,

@@ -3,9 +3,10 @@ ghost use Rattle.std.specs.Prelude.{◌≡◌, ◌≤◌, length, IfSome};
 ghost use Rattle.kc_plan.specs.Shapes.{struct_named, byte_in, chunk_in, inner_in, is_struct, is_that, list_words, scalar_in, small_in, word_in};
 ghost use Rattle.kc_found.specs.XaLayouts.{IsChunk};
 
+use crate::known::Known;
 use kc_btf::Btf;
 use kc_found::ListShape;
-use kc_layout::{Field, array_under, compound_under, find_type, locate, resolve};
+use kc_layout::{Field, array_under, compound_under, locate, resolve};
 use kc_word::Bits;
 
 // What a kind needs of a kernel.
@@ -32,12 +33,12 @@ pub(crate) struct Own {
 }
 
 // The number of the struct with a name.
-pub(crate) fn struct_named(btf: &Btf, name: &[u8]) -> Option<u32>
-    ensures exact { result ≡ struct_named btf.now name.now }
-    ensures there { IfSome result (λ id. id ≤ length btf.now.records) }
+pub(crate) fn struct_named(known: &Known<'_>, name: &[u8]) -> Option<u32>
+    ensures exact { result ≡ struct_named known.now.btf.now name.now }
+    ensures there { IfSome result (λ id. id ≤ length known.now.btf.now.records) }
 {
-    let id = find_type(btf, name)?;
-    Some(compound_under(btf, id)?.id)
+    let id = known.names.find(known.btf, name)?;
+    Some(compound_under(known.btf, id)?.id)
 }
 
 // The byte at which a word of 64 bits stands in a struct.

@@ -8,7 +8,7 @@ ghost use Rattle.kc_plan.specs.Shapes.{struct_named};
 ghost use Rattle.kc_plan.specs.Slabs.{IsCacheInside, IsNodeInside, IsSlabInside, cache_fields, node_fields, pointers_in, slab_fields, slub_of, slub_words};
 ghost use Rattle.kc_plan.specs.Views.{kernel};
 
-use crate::begin::Known;
+use crate::known::Known;
 use crate::shape::{Row, inner_in, list_words, scalar_in, struct_named};
 use kc_btf::Btf;
 use kc_found::ListShape;
@@ -198,10 +198,10 @@ fn slab_fields(btf: &Btf, list: Option<u32>, slab: Option<u32>) -> Option<SlabFi
 }
 
 // The size of a page descriptor in bytes.
-fn page_size(btf: &Btf) -> Option<u64>
-    ensures { result ≡ option_and_then (size btf.now) (struct_named btf.now (codes "page")) }
+fn page_size(known: &Known<'_>) -> Option<u64>
+    ensures { result ≡ option_and_then (size known.now.btf.now) (struct_named known.now.btf.now (codes "page")) }
 {
-    size_of(btf, struct_named(btf, b"page")?)
+    size_of(known.btf, struct_named(known, b"page")?)
 }
 
 // A cache of these fields, where page descriptors have a size and there are not too many memory nodes.
@@ -257,9 +257,9 @@ pub(crate) fn slub_words(known: &Known<'_>, needs: &Row) -> Option<SlubShape>
 {
     let list = list_words(known.btf, needs.node)?;
     let cache = cache_fields(known.btf, needs.head)?;
-    let knode = struct_named(known.btf, b"kmem_cache_node");
+    let knode = struct_named(known, b"kmem_cache_node");
     let node = node_fields(known.btf, needs.node, knode)?;
     let slab = slab_fields(known.btf, needs.node, needs.element)?;
-    let page = page_size(known.btf)?;
+    let page = page_size(known)?;
     slub_of(known, list, cache, node, slab, page)
 }

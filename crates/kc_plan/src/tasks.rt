@@ -4,6 +4,7 @@ ghost use Rattle.kc_plan.specs.Inside.{AreTasksInside};
 ghost use Rattle.kc_plan.specs.Kinds.{IsRow};
 ghost use Rattle.kc_plan.specs.Tasks.{AreNumbersInside, task_numbers, task_rings, task_words};
 
+use crate::known::Known;
 use crate::shape::{Row, inner_in, list_words, scalar_in, struct_named};
 use kc_btf::Btf;
 use kc_layout::Field;
@@ -81,16 +82,16 @@ fn task_rings(
 
 // Where the fields of tasks stand, where the kernel has them.
 #[tactic(auto, unfolding(crate::specs::Tasks::task_words))]
-pub(crate) fn task_words(btf: &Btf, needs: &Row) -> Option<TaskShape>
-    requires { IsRow (length btf.now.records) needs.now }
-    ensures exact { result ≡ task_words btf.now needs.now }
-    ensures there { IfSome result (AreTasksInside (length btf.now.records)) }
+pub(crate) fn task_words(known: &Known<'_>, needs: &Row) -> Option<TaskShape>
+    requires { IsRow (length known.now.btf.now.records) needs.now }
+    ensures exact { result ≡ task_words known.now.btf.now needs.now }
+    ensures there { IfSome result (AreTasksInside (length known.now.btf.now.records)) }
 {
     let task = needs.head?;
-    let list = list_words(btf, needs.node)?;
-    let numbers = task_numbers(btf, needs.head)?;
-    let signal = struct_named(btf, b"signal_struct");
-    let rings = task_rings(btf, needs.node, needs.head, signal)?;
+    let list = list_words(known.btf, needs.node)?;
+    let numbers = task_numbers(known.btf, needs.head)?;
+    let signal = struct_named(known, b"signal_struct");
+    let rings = task_rings(known.btf, needs.node, needs.head, signal)?;
     Some(TaskShape {
         task,
         list,

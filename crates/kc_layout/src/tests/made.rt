@@ -162,6 +162,25 @@ pub(crate) fn levels(alloc: Global) -> Result<Btf, Fail> {
     read(alloc, &types)
 }
 
+// A name before a struct of the same one, two structs with it, typedefs of typedefs, and names with the same first 64 bytes.
+const NAMED: &str = "1 int = int 4 0x1000020
+2 both = typedef 4
+3 both = union 4
+4 both = struct 8
+5 alias = typedef 6
+6 alias = typedef 3
+7 number = typedef 1
+8 further = typedef 7
+9 a_name_of_more_than_64_bytes_is_kept_by_its_first_64_bytes_and_compared_whole = struct 4
+10 a_name_of_more_than_64_bytes_is_kept_by_its_first_64_bytes_and_compared_as_well = struct 4
+11 = struct 4";
+
+pub(crate) fn named(alloc: Global) -> Result<Btf, Fail> {
+    let mut types = Types::new(alloc)?;
+    types.add(NAMED)?;
+    read(alloc, &types)
+}
+
 fn read(alloc: Global, types: &Types) -> Result<Btf, Fail> {
     Ok(Btf::read(alloc, types.file(alloc)?)?)
 }
