@@ -1,0 +1,9 @@
+pub mod Array
+pub mod Bytes
+pub mod Header
+pub mod Items
+pub mod Least
+pub mod Memory
+pub mod Places
+pub mod Texts
+pub mod Types

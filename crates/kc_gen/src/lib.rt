@@ -1,0 +1,17 @@
+//! Made inputs: the four files of a small kernel whose ring, tree and xarray hold as many items as are wanted, with one
+//! fault or none.
+#![tactic(auto)]
+
+mod array;
+mod bytes;
+mod files;
+mod header;
+mod items;
+mod memory;
+mod texts;
+mod types;
+
+pub use files::make;
+
+#[cfg(test)]
+mod tests;
