@@ -25,9 +25,10 @@ use kc_elf::read_core;
 use kc_fixture::{
     MAP, NOTE, btf_file, core_file, core_with_note, lines_behind, push_line, set_bytes, set_word,
 };
+use kc_gen::make;
 use kc_mem::Memory;
 use kc_memory::{Space, VWord};
-use kc_outside::{MemSink, MemStore, Slot, Store};
+use kc_outside::{MemSink, MemStore, Slot, Store, SureStore};
 use kc_phys::Phys;
 use kc_report::{read_report, text};
 use kc_word::{NoMemory, PageCfg, Segment, Steps, read_hex};
@@ -269,6 +270,26 @@ fn the_first_fault_is_told(rt: HostRuntime) -> Result<(), Fail> {
     assert_eq!(rt; run_cases(&rt, refusals::REFUSALS)?, 38);
     assert_eq!(rt; run_cases(&rt, refusals::UNOPENED)?, 6);
     assert_eq!(rt; run_cases(&rt, commands::COMMANDS)?, 18);
+    assert_eq!(rt; run_cases(&rt, commands::SELFTESTS)?, 11);
+    Ok(())
+}
+
+// What the verdict is on five made items of which the third is hurt.
+const HURT: &[u8] =
+    b"broken\naudit ring\nstart ffffffff8000b120\nrule L1\nat ffff888000100088\nexpected ffff888000100040\nplace ffff888000100088 0000000000100088 0000000000102088 0000000000000000\n";
+
+#[test]
+fn a_hurt_item_breaks_the_ring(rt: HostRuntime) -> Result<(), Fail> {
+    let alloc = rt.alloc();
+    let mut store = SureStore::new(make(alloc, 5, Some(2))?);
+    let mut words = Vec::new(alloc);
+    push_words(alloc, &mut words, "check a b c d")?;
+    let mut out = MemSink::new(alloc, ENOUGH)?;
+    let mut err = MemSink::new(alloc, ENOUGH)?;
+    let status = kaudit(alloc, &words, &mut store, &mut out, &mut err);
+    assert_eq!(rt; u8::from(status), 1);
+    assert_eq!(rt; out.bytes(), HURT);
+    assert_eq!(rt; err.bytes(), b"".as_slice());
     Ok(())
 }
 

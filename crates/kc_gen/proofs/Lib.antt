@@ -1,1 +1,2 @@
+mod KeyLaws
 mod Loops

@@ -7,11 +7,13 @@ mod bytes;
 mod files;
 mod header;
 mod items;
+mod laws;
 mod memory;
 mod texts;
 mod types;
 
 pub use files::make;
+pub use laws::know_made;
 
 #[cfg(test)]
 mod tests;

@@ -5,7 +5,59 @@ pub const USAGE: &str = "usage: kaudit word DUMP TABLE ADDRESS
 usage: kaudit layout BTF TYPE
 usage: kaudit show DUMP BTF MAP SYMBOL TYPE PATH
 usage: kaudit check DUMP BTF MAP PLAN
+usage: kaudit selftest N
 ";
+
+/// Made files: how many items there may be.
+pub const SELFTESTS: &str = "words selftest 5
+out clean
+out audit ring walks 1 elements 5
+out audit tree walks 1 elements 5
+out audit array walks 1 elements 5
+
+words selftest 000017
+fails 1
+out clean
+out audit ring walks 1 elements 17
+out audit tree walks 1 elements 17
+out audit array walks 1 elements 17
+
+words selftest
+status 6
+usage
+
+words selftest 5 5
+status 6
+usage
+
+words selftest
+word 
+status 6
+usage
+
+words selftest 0
+status 6
+usage
+
+words selftest 100001
+status 6
+usage
+
+words selftest 0000005
+status 6
+usage
+
+words selftest -5
+status 6
+usage
+
+words selftest +5
+status 6
+usage
+
+words selftest f
+status 6
+usage";
 
 /// Words that are no command, and names that aren't there.
 pub const COMMANDS: &str = "status 6
