@@ -1,3 +1,5 @@
 mod Checked
+mod Counts
 mod Ends
 mod Planned
+mod Selftests

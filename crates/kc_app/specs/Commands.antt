@@ -5,13 +5,14 @@ use Rattle.kc_ends.specs.Asked.{Asked}
 use Rattle.kc_app.specs.Check.{check_form}
 use Rattle.kc_app.specs.Form.{Form}
 use Rattle.kc_app.specs.Layout.{layout_form}
+use Rattle.kc_app.specs.Selftest.{selftest_form}
 use Rattle.kc_app.specs.Show.{show_form}
 use Rattle.kc_app.specs.Shown.{Shown}
 use Rattle.kc_app.specs.Word.{word_form}
 
 -- the commands in the order of usage
 abbrev pub forms : List Form
-forms = word_form ∷ layout_form ∷ show_form ∷ check_form ∷ []
+forms = word_form ∷ layout_form ∷ show_form ∷ check_form ∷ selftest_form ∷ []
 
 -- what the words behind the program's name ask for: the first one names the command, the others are its words
 abbrev pub command : List (List ℕ) → Option (Asked Shown)

@@ -6,6 +6,7 @@ pub mod Headline
 pub mod Layout
 pub mod Output
 pub mod Said
+pub mod Selftest
 pub mod Show
 pub mod Shown
 pub mod Word

@@ -7,6 +7,7 @@ ghost use Rattle.kc_outside.specs.Counts.{Rose};
 ghost use Rattle.kc_ends.specs.Answers.{OnNone, OnStoreIn, Runs, UnlessStoreIn};
 ghost use Rattle.kc_ends.specs.Asked.{word_in};
 ghost use Rattle.kc_app.specs.Commands.{command};
+ghost use Rattle.kc_app.specs.Selftest.{IsSelftest};
 ghost use Rattle.kc_app.specs.Shown.{shown_written};
 
 use kc_ends::Answer;
@@ -16,7 +17,7 @@ use std::alloc::Global;
 
 /// A line for each command.
 pub const USAGE: &[u8] =
-    b"usage: kaudit word DUMP TABLE ADDRESS\nusage: kaudit layout BTF TYPE\nusage: kaudit show DUMP BTF MAP SYMBOL TYPE PATH\nusage: kaudit check DUMP BTF MAP PLAN\n";
+    b"usage: kaudit word DUMP TABLE ADDRESS\nusage: kaudit layout BTF TYPE\nusage: kaudit show DUMP BTF MAP SYMBOL TYPE PATH\nusage: kaudit check DUMP BTF MAP PLAN\nusage: kaudit selftest N\n";
 
 /// Runs the command that the words behind the program's name are: the first one names it. `None` exactly where
 /// they aren't a command; the store isn't asked then.
@@ -26,6 +27,8 @@ pub fn run<S: Store>(alloc: Global, store: &mut S, words: &[String]) -> Option<R
     ensures output { Runs shown_written (command (map string_bytes words.now)) (S.files store.old) result
         (S.opened store.old) (S.opened store.new) }
     ensures unasked { OnNone result (S.asked store.new ≡ S.asked store.old) }
+    ensures selftest_unasked { IsSelftest (map string_bytes words.now) → S.asked store.new ≡ S.asked store.old }
+    ensures selftest_sure { IsSelftest (map string_bytes words.now) → OnStoreIn result ⊥ }
     ensures files { S.files store.new ≡ S.files store.old }
     ensures later { S.faults store.old ≤ S.faults store.new }
     ensures quiet { UnlessStoreIn result (S.faults store.new ≡ S.faults store.old) }
@@ -39,6 +42,7 @@ pub fn run<S: Store>(alloc: Global, store: &mut S, words: &[String]) -> Option<R
         "layout" => crate::layout::run(alloc, store, words),
         "show" => crate::show::run(alloc, store, words),
         "check" => crate::check::run(alloc, store, words),
+        "selftest" => crate::selftest::run(alloc, store, words),
         _ => None,
     }
 }

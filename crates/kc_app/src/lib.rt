@@ -7,6 +7,7 @@ mod check;
 mod command;
 mod laws;
 mod layout;
+mod selftest;
 mod show;
 mod top;
 mod word;

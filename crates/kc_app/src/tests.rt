@@ -6,9 +6,10 @@ ghost use Rattle.kc_phys.specs.Stored.{AreInside};
 use crate::kaudit;
 use kc_elf::read_core;
 use kc_fixture::{MAP, btf_file, core_file};
+use kc_gen::make;
 use kc_mem::Memory;
 use kc_memory::{Space, VWord};
-use kc_outside::{MemSink, MemStore, Slot, Store};
+use kc_outside::{MemSink, MemStore, Slot, Store, SureStore};
 use kc_phys::Phys;
 use kc_report::{read_report, text};
 use kc_word::{NoMemory, PageCfg, Segment, Steps};
@@ -55,7 +56,9 @@ show z.core z.btf z.map an_item item small : 0 : value -1|place ffff888000011020
 check z.core z.btf z.map z.plan : 0 : clean|audit tasks walks 1 elements 3|audit caches walks 1 elements 1|audit slabs walks 1 elements 1|audit ids walks 1 elements 1|
 show z.core z.btf z.map an_item item smell : 2 : refused path Q2 step 1|
 check z.core z.btf z.map x.plan : 3 : store failed|
-check a b c : 6 : usage: kaudit word DUMP TABLE ADDRESS|usage: kaudit layout BTF TYPE|usage: kaudit show DUMP BTF MAP SYMBOL TYPE PATH|usage: kaudit check DUMP BTF MAP PLAN|";
+check a b c : 6 : usage: kaudit word DUMP TABLE ADDRESS|usage: kaudit layout BTF TYPE|usage: kaudit show DUMP BTF MAP SYMBOL TYPE PATH|usage: kaudit check DUMP BTF MAP PLAN|usage: kaudit selftest N|
+selftest 5 : 0 : clean|audit ring walks 1 elements 5|audit tree walks 1 elements 5|audit array walks 1 elements 5|
+selftest 0 : 6 : usage: kaudit word DUMP TABLE ADDRESS|usage: kaudit layout BTF TYPE|usage: kaudit show DUMP BTF MAP SYMBOL TYPE PATH|usage: kaudit check DUMP BTF MAP PLAN|usage: kaudit selftest N|";
 
 fn words_of(alloc: Global, line: &str) -> Result<Vec<String>, AllocError> {
     let mut words = Vec::new(alloc);
@@ -111,6 +114,24 @@ fn each_command_ends_as_it_should(rt: HostRuntime) -> Result<(), Fail> {
     for line in CASES.lines() {
         run_case(&rt, line)?;
     }
+    Ok(())
+}
+
+// What the verdict is on five made items of which the third is hurt.
+const HURT: &[u8] =
+    b"broken\naudit ring\nstart ffffffff8000b120\nrule L1\nat ffff888000100088\nexpected ffff888000100040\nplace ffff888000100088 0000000000100088 0000000000102088 0000000000000000\n";
+
+#[test]
+fn a_hurt_item_breaks_the_ring(rt: HostRuntime) -> Result<(), Fail> {
+    let alloc = rt.alloc();
+    let mut store = SureStore::new(make(alloc, 5, Some(2))?);
+    let words = words_of(alloc, "check a b c d")?;
+    let mut out = MemSink::new(alloc, 1000)?;
+    let mut err = MemSink::new(alloc, 1000)?;
+    let status = kaudit(alloc, &words, &mut store, &mut out, &mut err);
+    assert_eq!(rt; u8::from(status), 1);
+    assert_eq!(rt; out.bytes(), HURT);
+    assert_eq!(rt; err.bytes(), b"".as_slice());
     Ok(())
 }
 

@@ -15,6 +15,7 @@ ghost use Rattle.kc_ends.specs.Status.{At, is_answer, is_silent, is_sink_quiet, 
 ghost use Rattle.kc_ends.specs.Unopened.{AskedStay};
 ghost use Rattle.kc_app.specs.Commands.{command, usage_text};
 ghost use Rattle.kc_app.specs.Headline.{CheckEnds};
+ghost use Rattle.kc_app.specs.Selftest.{IsSelftest};
 ghost use Rattle.kc_app.specs.Output.{TookTrue, out_of, written_of};
 
 use crate::command::{USAGE, run};
@@ -50,6 +51,12 @@ pub fn kaudit<S: Store, O: Sink, E: Sink>(
     ensures complete { (Rose (S.faults store.old) (S.faults store.new) → ⊥)
         → (Rose (O.faults out.old) (O.faults out.new) → ⊥)
         → (Rose (E.faults err.old) (E.faults err.new) → ⊥) → IsTrue (is_answer result || nat_eq (number result) 5) }
+
+    // `selftest` makes no call of the store, so nothing but a sink and memory can keep it from an answer.
+    ensures selftest_unasked { IsSelftest (map string_bytes words.now) → S.asked store.new ≡ S.asked store.old }
+    ensures selftest_complete { IsSelftest (map string_bytes words.now)
+        → (Rose (O.faults out.old) (O.faults out.new) → ⊥) → (Rose (E.faults err.old) (E.faults err.new) → ⊥)
+        → IsTrue (is_answer result || nat_eq (number result) 5) }
 
     // Each status has its cause.
     ensures store_failed { At result StoreFailed (Rose (S.faults store.old) (S.faults store.new)) }

@@ -22,7 +22,7 @@ use crate::trying::{try_calls, try_each, try_lengths};
 use std::io;
 
 // The files of cases of kaudit.
-const KAUDIT: [&str; 23] = [
+const KAUDIT: [&str; 24] = [
     "pages",
     "segments",
     "stops",
@@ -31,6 +31,7 @@ const KAUDIT: [&str; 23] = [
     "unopened",
     "cuts",
     "commands",
+    "selftests",
     "failures",
     "layouts",
     "numbers",

@@ -4,6 +4,7 @@ use Rattle.kc_ends.proofs.Ending.{fails, parts, tells}
 use Rattle.kc_app.specs.Commands.{command, usage_text}
 use Rattle.kc_app.specs.Shown.{shown_written}
 use Rattle.kc_app.proofs.Ends.{answer_ends, answer_true}
+use Rattle.kc_app.proofs.Selftests.{answers_or_memory}
 use Rattle.kc_app.proofs.top.kaudit.Goals as goal
 
 pub returns-clause-told : goal.returns-clause-told
@@ -30,3 +31,7 @@ pub returns-clause-err_failed : goal.returns-clause-err_failed
 returns-clause-err_failed g c =
     fails usage_text shown_written (command (map string_bytes c.args.words.now)) (g.S.Store.files c.args.store.now) c.run-outcome.result _ _ c.finish.result (g.S.Store.faults c.args.store.now) (g.S.Store.faults c.run-outcome.new.store) (g.O.Sink.faults c.args.out.now) (g.O.Sink.faults c.finish.new.out) (g.E.Sink.taken c.args.err.now) (g.E.Sink.taken c.finish.new.err)
     c.run-outcome.ensures.output c.run-outcome.ensures.cause c.finish.ensures.err_failed
+
+pub returns-clause-selftest_complete : goal.returns-clause-selftest_complete
+returns-clause-selftest_complete g c named out err =
+    answers_or_memory c.finish.result c.run-outcome.result (c.run-outcome.ensures.selftest_sure named) c.finish.ensures.store_failed c.finish.ensures.sink_failed out err

@@ -1,0 +1,10 @@
+pub mod Array
+pub mod Bytes
+pub mod Header
+pub mod Items
+pub mod Laws
+pub mod Least
+pub mod Memory
+pub mod Places
+pub mod Texts
+pub mod Types
