@@ -1,6 +1,5 @@
 pub mod ChainShown
 pub mod Finite
-pub mod Known
 pub mod Pairs
 pub mod Passed
 pub mod Reached

@@ -1,3 +1,4 @@
+pub use Rattle.kc_memory.specs.Among
 pub use Rattle.kc_memory.specs.Bits
 pub use Rattle.kc_memory.specs.Frames
 pub use Rattle.kc_memory.specs.Held
@@ -27,3 +28,8 @@ pub mod XaEntries
 pub mod XaLayouts
 pub mod XaNodes
 pub mod XaSites
+pub mod Going
+pub mod Linked
+pub mod Pairs
+pub mod Passing
+pub mod Showing

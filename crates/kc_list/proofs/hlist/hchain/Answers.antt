@@ -1,7 +1,7 @@
 use Rattle.std.proofs.Common.{List, ℕ, rules, arith, ◌∙◌, ◌∷◌, [], ap, length, length-append}
 use Rattle.kc_memory.specs.declared.words.VWord.{VWord}
-use Rattle.kc_memory.proofs.StaysLaws.{stays_on}
-use Rattle.kc_found.proofs.Told.{site_steps, next_steps, two_reads}
+use Rattle.kc_memory.specs.Stays.{stays_on}
+use Rattle.kc_laws.specs.Chains.{site_steps, next_steps, two_reads}
 use Rattle.kc_list.proofs.HashWalk.{hashes, hash_begins, hash_begins_broken, hash_goes, hash_goes_broken, hash_ends, hash_finite, hash_none}
 use Rattle.kc_list.proofs.hlist.hchain.Goals as goal
 

@@ -1,8 +1,8 @@
 use Rattle.std.proofs.Common.{List, ℕ, rules, ◌∙◌, ◌∷◌, [], ap, length, length-append}
 use Rattle.kc_memory.specs.Bits.{Number}
-use Rattle.kc_memory.proofs.StaysLaws.{stays_on}
+use Rattle.kc_memory.specs.Stays.{stays_on}
 use Rattle.kc_found.specs.FreeLists.{free_first}
-use Rattle.kc_found.proofs.Told.{site_steps, next_steps, two_reads}
+use Rattle.kc_laws.specs.Chains.{site_steps, next_steps, two_reads}
 use Rattle.kc_slub.proofs.FreeWalk.{asked_at, frees, free_begins, free_goes, free_goes_broken, free_ends, free_finite, free_none}
 use Rattle.kc_slub.proofs.free.free_walk.Goals as goal
 

@@ -1,7 +1,7 @@
 use Rattle.std.proofs.Common.{◌≡◌, ◌+◌, ◌*◌, ◌^◌, ◌-◌, ◌<◌, ◌≤◌, length}
 use Rattle.kc_memory.specs.Stays.{SpaceStays}
 use Rattle.kc_found.specs.FreeLists.{free_first}
-use Rattle.kc_found.proofs.Told.{Reaches}
+use Rattle.kc_found.specs.Going.{Reaches}
 use Rattle.kc_slub.proofs.FreeWalk.{frees}
 use Rattle.kc_slub.proofs.free.free_walk.Given as goal
 
