@@ -1,4 +1,5 @@
 pub mod ChainShown
+mod Few
 pub mod Finite
 pub mod Pairs
 pub mod Passed

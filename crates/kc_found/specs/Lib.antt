@@ -11,6 +11,7 @@ pub use Rattle.kc_memory.specs.Stays
 pub use Rattle.kc_memory.specs.Stopped
 pub use Rattle.kc_memory.specs.Translation
 pub mod Chains
+pub mod Counts
 pub mod FiniteLists
 pub mod FiniteXarrays
 pub mod FreeLists
