@@ -7,15 +7,8 @@ use Rattle.kc_memory.specs.Places.{AllStandIn}
 use Rattle.kc_found.specs.Chains.{ChainOf, chain_sites, chain_trials, chain_walk, from_there}
 use Rattle.kc_found.specs.Trials.{Trial, Meet}
 use Rattle.kc_found.specs.Violations.{Violation}
-use Rattle.kc_found.proofs.Shown.{AllShow, either_shows, judged_shows, show_whole}
-
--- A chain whose sites show words of the dump alone, where what leads to them does.
-pub record Showing {S : Type 0} (image : Image) (k : ChainOf S) (P : S → Type 0) : Type 0 where
-  pub head : AllShow image k.head
-  pub start : (s : S) → k.start ≡ Some s → P s
-  pub last : (s : S) → P s → AllShow image (k.last s)
-  pub site : (s : S) → P s → AllShow image (k.site s)
-  pub next : (s t : S) → P s → k.next s ≡ Some t → P t
+use Rattle.kc_found.specs.Showing.{AllShow, Showing}
+use Rattle.kc_found.proofs.Shown.{either_shows, judged_shows, show_whole}
 
 pub there_shows : {S X : Type 0} (image : Image) (o : Option S) (go : S → List (Trial X)) → ((s : S) → o ≡ Some s → AllShow image (go s)) → AllShow image (from_there o go)
 there_shows image None go next = tt

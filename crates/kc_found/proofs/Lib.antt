@@ -1,6 +1,6 @@
 pub mod ChainShown
+mod Few
 pub mod Finite
-pub mod Known
 pub mod Pairs
 pub mod Passed
 pub mod Reached

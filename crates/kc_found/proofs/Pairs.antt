@@ -1,15 +1,15 @@
 -- Sites at which two words are read and taken, after tests of the pointer, and before one of the words.
-use Rattle.std.proofs.Common.{◌≡◌, ℕ, ◌≤◌, nat_eq, Bool, true, false, List, [], ◌∷◌, ◌++◌, length, Option, Some, option_map, refl, ap, arith}
+use Rattle.std.proofs.Common.{◌≡◌, ℕ, ◌≤◌, Bool, true, false, List, [], ◌∷◌, ◌++◌, length, Option, Some, option_map, refl, ap, arith}
 use Rattle.std.specs.Prelude.{Result, Ok, Err}
-use Rattle.std.specs.Set.{is_member}
 use Rattle.kc_memory.specs.declared.words.VWord.{VWord}
 use Rattle.kc_memory.specs.Stopped.{Stopped}
 use Rattle.kc_found.specs.declared.asked.Asked.{Asked}
-use Rattle.kc_found.specs.Chains.{from_there}
 use Rattle.kc_found.specs.Nodes.{both, readable, two_taken}
 use Rattle.kc_found.specs.Trials.{Reader, Trial, and_then, broken_if, met, claimed_in, IsUnbroken}
 use Rattle.kc_found.specs.Violations.{Violation}
-use Rattle.kc_memory.proofs.HeldLaws.{AllAmong}
+use Rattle.kc_memory.specs.Among.{AllAmong}
+use Rattle.kc_found.specs.Passing.{ReadsAmong}
+use Rattle.kc_found.specs.Pairs.{tested_pair, GoodPair}
 
 both_cases : (r s : Result VWord Stopped) (p : VWord × VWord) → and_then r (λ v. and_then s (λ w. Ok (v, w))) ≡ Ok p → (r ≡ Ok p.0) × (s ≡ Ok p.1)
 both_cases (Ok v) (Ok w) p e = let same : (v, w) ≡ p = cc in (ap (λ (q : VWord × VWord). Ok q.0) same, ap (λ (q : VWord × VWord). Ok q.1) same)
@@ -22,10 +22,6 @@ both_read read a b p e = both_cases (read a) (read b) p e
 
 pub both_of : (read : Reader) (a b : ℕ) (v w : VWord) → read a ≡ Ok v → read b ≡ Ok w → both read a b ≡ Ok (v, w)
 both_of read a b v w ea eb = rw (ea, eb) refl
-
--- the words that a reader gives are among these
-abbrev pub ReadsAmong : List ℕ → Reader → Type 0
-ReadsAmong known read = (va : ℕ) (w : VWord) → read va ≡ Ok w → is_member nat_eq known w.pa ≡ true
 
 pub pair_among : (known : List ℕ) (read : Reader) (a b : ℕ) (asked : Asked) (led : Option VWord) (there : Result (VWord × VWord) Stopped) → ReadsAmong known read → both read a b ≡ there → AllAmong known (claimed_in {X = ℕ} (two_taken asked led there))
 pair_among known read a b asked led (Ok p) among e = let r = both_read read a b p e in (among a p.0 r.0, (among b p.1 r.1, tt))
@@ -59,10 +55,6 @@ pub if_passes : (b : Bool) (v : Violation) (ts : List (Trial ℕ)) → b ≡ fal
 if_passes true v ts e u = absurd (cc)
 if_passes false v ts e u = u
 
--- two words are read and taken, and then tested
-abbrev pub tested_pair : Asked → Option VWord → Result (VWord × VWord) Stopped → (VWord × VWord → Bool) → (VWord × VWord → Violation) → List (Trial ℕ)
-tested_pair asked led there test broken = two_taken asked led there ++ from_there (readable there) (λ p. broken_if (test p) (broken p))
-
 pub tested_bare : (asked : Asked) (led : Option VWord) (there : Result (VWord × VWord) Stopped) (test : VWord × VWord → Bool) (broken : VWord × VWord → Violation) → met (tested_pair asked led there test broken) ≡ []
 tested_bare asked led (Ok p) test broken = (if_bare (test p) (broken p)).0
 tested_bare asked led (Err s) test broken = refl
@@ -70,12 +62,6 @@ tested_bare asked led (Err s) test broken = refl
 pub tested_takes : (asked : Asked) (led : Option VWord) (there : Result (VWord × VWord) Stopped) (test : VWord × VWord → Bool) (broken : VWord × VWord → Violation) → claimed_in (tested_pair asked led there test broken) ≡ claimed_in {X = ℕ} (two_taken asked led there)
 tested_takes asked led (Ok p) test broken = ap (λ xs. p.0.pa ∷ p.1.pa ∷ xs) (if_bare (test p) (broken p)).1
 tested_takes asked led (Err s) test broken = refl
-
--- the pair of a site that is good
-pub record GoodPair (there : Result (VWord × VWord) Stopped) (test : VWord × VWord → Bool) : Type 0 where
-  pub pair : VWord × VWord
-  pub read : there ≡ Ok pair
-  pub passed : test pair ≡ false
 
 if_only : (b : Bool) (v : Violation) → IsUnbroken {X = ℕ} (broken_if b v) → b ≡ false
 if_only true v u = absurd u

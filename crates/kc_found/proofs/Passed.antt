@@ -1,31 +1,17 @@
 -- What it says that trials pass, one list of them after another.
-use Rattle.std.proofs.Common.{◌≡◌, ℕ, ◌+◌, nat_eq, Bool, true, false, List, [], ◌∷◌, ◌++◌, length, refl, sym, ◌∙◌, ap, arith}
+use Rattle.std.proofs.Common.{◌≡◌, ℕ, nat_eq, Bool, true, false, List, [], ◌∷◌, ◌++◌, length, refl, sym, ◌∙◌, ap, arith}
 use Rattle.std.specs.Prelude.{Result, Ok, Err, if◌then◌else◌}
 use Rattle.std.specs.List.{IsDistinct, AllByRecursion}
 use Rattle.std.specs.Set.{is_member}
 use Rattle.kc_found.specs.Taken.{is_taken, with_word}
 use Rattle.kc_found.specs.Trials.{Trial, Claim, Break, Meet, and_then, claimed, passed, met, claimed_in, IsUnbroken}
 use Rattle.kc_found.specs.Violations.{Violation}
-use Rattle.kc_memory.proofs.HeldLaws.{AllAmong}
 use Rattle.kc_found.proofs.Rising.{one_longer, all_with, still_distinct, new_before, new_after}
+use Rattle.kc_found.specs.Passing.{AreNew, Passes}
 
 pub distinct_none : IsDistinct nat_eq []
 unfolding IsDistinct
 distinct_none = tt
-
--- none of some words was taken
-abbrev AreNew : List ℕ → List ℕ → Type 0
-AreNew taken words = AllByRecursion (λ w. is_taken taken w ≡ false) words
-
--- What trials that pass say: they break no rule, the words that they take are new and different, and after them these
--- and those from before are taken.
-pub record Passes {X : Type 0} (taken : List ℕ) (ts : List (Trial X)) (more : List ℕ) : Type 0 where
-  pub unbroken : IsUnbroken ts
-  pub fresh : AreNew taken (claimed_in ts)
-  pub apart : IsDistinct nat_eq (claimed_in ts)
-  pub longer : length more ≡ length taken + length (claimed_in ts)
-  pub distinct : IsDistinct nat_eq taken → IsDistinct nat_eq more
-  pub among : (known : List ℕ) → AllAmong known taken → AllAmong known (claimed_in ts) → AllAmong known more
 
 -- words that are new after one more are new before it, and differ from it
 fresh_before : (taken : List ℕ) (pa : ℕ) (words : List ℕ) → is_taken taken pa ≡ false → AreNew (with_word taken pa) words → AreNew taken words × AllByRecursion (λ w. nat_eq pa w ≡ false) words

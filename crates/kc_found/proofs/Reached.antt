@@ -1,34 +1,14 @@
 -- How far a walk of a chain has come.
-use Rattle.std.proofs.Common.{◌≡◌, ℕ, suc, ◌+◌, ◌-◌, ◌≤◌, nat_eq, true, false, List, [], ◌∷◌, ◌++◌, length, Some, refl, sym, ◌∙◌, ap, arith, append_assoc, append-nil, length-append}
+use Rattle.std.proofs.Common.{◌≡◌, ℕ, suc, ◌+◌, ◌-◌, ◌≤◌, true, false, List, [], ◌∷◌, ◌++◌, length, Some, refl, sym, ◌∙◌, ap, arith, append_assoc, append-nil, length-append}
 use Rattle.std.specs.Prelude.{Ok, Err}
-use Rattle.std.specs.List.{IsDistinct}
 use Rattle.kc_memory.specs.Image.{Physical}
 use Rattle.kc_memory.specs.Held.{held, word_count}
 use Rattle.kc_found.specs.Chains.{ChainOf, from_there, chain_trials, chain_sites}
-use Rattle.kc_found.specs.Trials.{Trial, Meet, and_then, passed, met, judged, claimed_in, IsUnbroken}
+use Rattle.kc_found.specs.Trials.{Trial, Meet, and_then, passed, met, judged, claimed_in}
 use Rattle.kc_found.specs.Violations.{Violation}
-use Rattle.kc_memory.proofs.HeldLaws.{AllAmong, bounded}
+use Rattle.kc_memory.specs.Among.{AllAmong, bounded}
 use Rattle.kc_found.proofs.Passed.{distinct_none, passed_distinct, passed_is, passed_goes, passed_stops, met-append}
-
--- what is so of each kind of chain, in a memory
-pub record IsChain {S : Type 0} (physical : Physical) (k : ChainOf S) : Type 0 where
-  pub head_bare : met k.head ≡ []
-  pub site_bare : (s : S) → met (k.site s) ≡ []
-  pub last_bare : (s : S) → (met (k.last s) ≡ []) × (claimed_in (k.last s) ≡ [])
-  pub head_leads : IsUnbroken k.head → (s : S) × (k.start ≡ Some s)
-  pub site_leads : (s : S) → IsUnbroken (k.site s) → (t : S) × (k.next s ≡ Some t)
-  pub site_takes : (s : S) → IsUnbroken (k.site s) → 1 ≤ length (claimed_in (k.site s))
-  pub head_known : AllAmong (held physical) (claimed_in k.head)
-  pub site_known : (s : S) → AllAmong (held physical) (claimed_in (k.site s))
-
--- The trials are those that were passed, and then those from here on. Each site took a word, and all that were taken are
--- different words of the memory, so their number never passes that of its words.
-pub record Reached {S : Type 0} (physical : Physical) (k : ChainOf S) (taken walked : List ℕ) (s : S) : Type 0 where
-  pub passes : passed [] (chain_sites k (word_count physical + 1)) ≡ passed taken (chain_trials k (word_count physical + 1 - length walked) s)
-  pub meets : met (chain_sites k (word_count physical + 1)) ≡ walked ++ met (chain_trials k (word_count physical + 1 - length walked) s)
-  pub sizes : length walked ≤ length taken
-  pub different : IsDistinct nat_eq taken
-  pub among : AllAmong (held physical) taken
+use Rattle.kc_found.specs.Going.{IsChain, Reached}
 
 pub at_end : {S : Type 0} (k : ChainOf S) (left : ℕ) (s : S) → k.ends s ≡ true → chain_trials k (suc left) s ≡ k.last s
 unfolding chain_trials

@@ -1,23 +1,17 @@
 -- Trials whose violations show words of the dump alone.
 use Rattle.std.proofs.Common.{◌≡◌, ℕ, Bool, true, false, List, [], ◌∷◌, ◌++◌, ap, subst}
-use Rattle.std.specs.Prelude.{Result, Ok, Err, ⊤, if◌then◌else◌}
+use Rattle.std.specs.Prelude.{Result, Ok, Err, if◌then◌else◌}
 use Rattle.kc_memory.specs.declared.words.Place.{Place}
 use Rattle.kc_memory.specs.Image.{Image}
 use Rattle.kc_memory.specs.Places.{AllStandIn}
 use Rattle.kc_found.specs.Taken.{is_taken, with_word}
 use Rattle.kc_found.specs.Trials.{Trial, Claim, Break, Meet, and_then, broken_if, judged, met, passed}
 use Rattle.kc_found.specs.Violations.{Violation}
+use Rattle.kc_found.specs.Showing.{AllShow}
 
 pub all_whole : (image : Image) (ps qs : List Place) → AllStandIn image ps → AllStandIn image qs → AllStandIn image (ps ++ qs)
 all_whole image [] qs a b = b
 all_whole image (p ∷ ps) qs a b = (a.0, all_whole image ps qs a.1 b)
-
--- the violations of these trials do
-abbrev pub AllShow : {X : Type 0} → Image → List (Trial X) → Type 0
-AllShow image [] = ⊤
-AllShow image (Claim pa v ∷ ts) = AllStandIn image v.places × AllShow image ts
-AllShow image (Break v ∷ ts) = AllStandIn image v.places × AllShow image ts
-AllShow image (Meet x ∷ ts) = AllShow image ts
 
 pub show_whole : {X : Type 0} (image : Image) (ts us : List (Trial X)) → AllShow image ts → AllShow image us → AllShow image (ts ++ us)
 show_whole image [] us a b = b

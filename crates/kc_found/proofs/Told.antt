@@ -1,29 +1,17 @@
 -- The walk of a chain, where the dump is told or not.
 use Rattle.std.proofs.Common.{◌≡◌, ℕ, ◌+◌, ◌*◌, ◌≤◌, true, false, List, [], ◌∷◌, ◌++◌, length, Option, None, Some, sym, ◌∙◌, ap, arith}
-use Rattle.std.specs.Prelude.{Result, Ok, Err, ⊤, IfSome}
+use Rattle.std.specs.Prelude.{Ok, Err, IfSome}
 use Rattle.std.proofs.Math.Nat.{mul-le-mul_left, mul-add}
 use Rattle.kc_memory.specs.Image.{Physical, Image}
 use Rattle.kc_memory.specs.Held.{word_count}
 use Rattle.kc_found.specs.declared.found.WalkStop.{WalkStop}
 use Rattle.kc_found.specs.declared.found.WalkStop.TheVariants as ends
-use Rattle.kc_found.specs.Chains.{ChainOf, chain_walk}
+use Rattle.kc_found.specs.Chains.{ChainOf}
 use Rattle.kc_found.specs.Trials.{Break, and_then, passed}
 use Rattle.kc_found.specs.Violations.{Violation}
 use Rattle.kc_found.specs.Walks.{IsBroken, WalksAs, WithinSteps}
-use Rattle.kc_found.proofs.Reached.{IsChain, Reached, begins, begins_broken, goes_on, goes_broken, ends_with, few}
-
--- each is a chain of its dump's memory
-abbrev pub AreChains : {S : Type 0} → (Image → ChainOf S) → Type 0
-AreChains chain = (image : Image) → IsChain image.physical (chain image)
-
--- how far a walk has come
-abbrev pub Reaches : {S : Type 0} → (Image → ChainOf S) → Option Image → List ℕ → List ℕ → S → Type 0
-Reaches chain None taken walked s = ⊤
-Reaches chain (Some image) taken walked s = Reached image.physical (chain image) taken walked s
-
--- what a walk answers
-abbrev pub IsWalkOf : {A S : Type 0} → (A → List ℕ) → (Image → ChainOf S) → Option Image → Result A WalkStop → Type 0
-IsWalkOf view chain image result = WalksAs view (λ i. chain_walk i.physical (chain i)) image result
+use Rattle.kc_found.proofs.Reached.{begins, begins_broken, goes_on, goes_broken, ends_with, few}
+use Rattle.kc_found.specs.Going.{AreChains, Reaches, IsWalkOf}
 
 pub told_begins : {A S : Type 0} (v : A → List ℕ) (chain : Image → ChainOf S) (image : Option Image) (x : A) (s : S) → AreChains chain →
     IfSome image (λ i. (chain i).start ≡ Some s) → WalksAs v (λ i. passed [] (chain i).head) image (Ok x) → Reaches chain image (v x) [] s

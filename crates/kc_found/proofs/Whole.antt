@@ -7,26 +7,11 @@ use Rattle.kc_memory.specs.Held.{held, word_count}
 use Rattle.kc_found.specs.Chains.{ChainOf, from_there, chain_trials, chain_sites}
 use Rattle.kc_found.specs.Trials.{Meet, and_then, passed, met, judged, claimed_in, IsUnbroken}
 use Rattle.kc_found.specs.Violations.{Violation}
-use Rattle.kc_memory.proofs.HeldLaws.{AllAmong, among_append, bounded}
+use Rattle.kc_memory.specs.Among.{AllAmong, among_append, bounded}
 use Rattle.kc_found.proofs.Passed.{passed_is, passes, met-append, claimed_in-append, unbroken_parts, unbroken_whole}
-use Rattle.kc_found.proofs.Reached.{IsChain, at_end, at_site}
-
--- these are the elements from here to the end, and no rule but A is broken at their sites
-unfoldable pub Linked : {S : Type 0} → ChainOf S → S → List ℕ → Type 0
-Linked k s [] = (k.ends s ≡ true) × IsUnbroken (k.last s)
-Linked {S} k s (n ∷ ns) = (k.ends s ≡ false) × (k.element s ≡ n) × IsUnbroken (k.site s) × ((t : S) × (k.next s ≡ Some t) × Linked k t ns)
-
--- the words that the sites of some elements take
-pub record HasWords {S : Type 0} (k : ChainOf S) (words : List ℕ → List ℕ) : Type 0 where
-  pub none : words [] ≡ []
-  pub more : (s : S) (ns : List ℕ) → IsUnbroken (k.site s) → words (k.element s ∷ ns) ≡ claimed_in (k.site s) ++ words ns
-
-pub record Whole {S : Type 0} (k : ChainOf S) (words : List ℕ → List ℕ) (ns : List ℕ) : Type 0 where
-  pub from : S
-  pub start : k.start ≡ Some from
-  pub head : IsUnbroken k.head
-  pub linked : Linked k from ns
-  pub different : IsDistinct nat_eq (claimed_in k.head ++ words ns)
+use Rattle.kc_found.specs.Going.{IsChain}
+use Rattle.kc_found.proofs.Reached.{at_end, at_site}
+use Rattle.kc_found.specs.Linked.{Linked, HasWords, Whole}
 
 -- the trials at a site that leads on
 sites_at : {S : Type 0} (k : ChainOf S) (left : ℕ) (s t : S) → k.ends s ≡ false → k.next s ≡ Some t → chain_trials k (suc left) s ≡ k.site s ++ (Meet (k.element s) ∷ chain_trials k left t)

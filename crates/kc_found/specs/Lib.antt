@@ -1,3 +1,4 @@
+pub use Rattle.kc_memory.specs.Among
 pub use Rattle.kc_memory.specs.Bits
 pub use Rattle.kc_memory.specs.Frames
 pub use Rattle.kc_memory.specs.Held
@@ -10,6 +11,7 @@ pub use Rattle.kc_memory.specs.Stays
 pub use Rattle.kc_memory.specs.Stopped
 pub use Rattle.kc_memory.specs.Translation
 pub mod Chains
+pub mod Counts
 pub mod FiniteLists
 pub mod FiniteXarrays
 pub mod FreeLists
@@ -27,3 +29,8 @@ pub mod XaEntries
 pub mod XaLayouts
 pub mod XaNodes
 pub mod XaSites
+pub mod Going
+pub mod Linked
+pub mod Pairs
+pub mod Passing
+pub mod Showing

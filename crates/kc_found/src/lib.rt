@@ -3,9 +3,11 @@
 
 mod asked;
 mod claims;
+mod counted;
 mod found;
 mod free;
 mod items;
+mod laws;
 mod list_space;
 mod shapes;
 mod take;
@@ -15,6 +17,7 @@ mod xarrays;
 
 pub use asked::Asked;
 pub use claims::Claims;
+pub use counted::Counted;
 pub use found::{Found, WalkStop, broken_at, broken_field, stopped, stopped_behind};
 pub use free::{FreeLed, Grid, low_word};
 pub use items::{Counts, Items, Name, Places, Walked};
@@ -22,6 +25,7 @@ pub use kc_memory::{
     FrameStop, Frames, Miss, PWord, Place, Rule, Scalar, Space, Stop, VWord, entry_place,
     know_numbers, know_pages, know_places, know_words, place_of, read_bits,
 };
+pub use laws::know_steps;
 pub use list_space::ListSpace;
 pub use shapes::{HShape, ListShape, RbShape};
 pub use take::take_word;

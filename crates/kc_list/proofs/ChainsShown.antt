@@ -18,8 +18,8 @@ use Rattle.kc_found.specs.Rings.{RingLed, is_wrong, led_first, led_on, links, ri
 use Rattle.kc_found.specs.Trials.{and_then, broken_if}
 use Rattle.kc_found.specs.Violations.{Violation, breaks}
 use Rattle.kc_list.specs.Laws.{HashPlacesStand, RingPlacesStand}
-use Rattle.kc_found.proofs.ChainShown.{Showing, walk_shows}
-use Rattle.kc_found.proofs.Shown.{AllShow, all_whole, broken_shows, show_whole}
+use Rattle.kc_found.specs.Showing.{Showing, AllShow}
+use Rattle.kc_laws.specs.Places.{walk_shows, all_whole, broken_shows, show_whole}
 
 -- the words that are read
 OneStands : Image → Result VWord Stopped → Type 0

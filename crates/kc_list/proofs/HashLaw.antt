@@ -13,10 +13,11 @@ use Rattle.kc_found.specs.HashChains.{hash_links, points_wrong, next_of, hash_ch
 use Rattle.kc_found.specs.Nodes.{at_offset, is_poison, readable, one_taken}
 use Rattle.kc_found.specs.Trials.{Reader, claimed_in, IsUnbroken}
 use Rattle.kc_found.specs.Violations.{breaks}
-use Rattle.kc_found.proofs.Whole.{Linked, HasWords, Whole}
-use Rattle.kc_found.proofs.Finite.{words_at, some_word, first_of, not_false, not_true, or_false}
+use Rattle.kc_found.specs.Linked.{Linked, HasWords, Whole}
+use Rattle.kc_laws.specs.Lists.{words_at, some_word, first_of, not_false, not_true, or_false}
 use Rattle.kc_list.proofs.HashSites.{good_hashed, hash_site_is, first_read}
-use Rattle.kc_found.proofs.Pairs.{both_read, both_of, if_passes, leads_by, tested_passes, pair_takes}
+use Rattle.kc_laws.specs.Pairs.{both_read, both_of, leads_by, tested_passes, pair_takes}
+use Rattle.kc_laws.specs.Trials.{if_passes}
 
 -- a word that is read is at the address that was asked
 abbrev pub ReadsThere : Reader → Type 0

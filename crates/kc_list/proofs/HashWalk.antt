@@ -14,14 +14,14 @@ use Rattle.kc_found.specs.Nodes.{at_offset, readable, one_taken}
 use Rattle.kc_found.specs.Trials.{passed}
 use Rattle.kc_found.specs.Violations.{Violation}
 use Rattle.kc_found.specs.Walks.{OnBroken, WalksAs}
-use Rattle.kc_found.proofs.Told.{AreChains, Reaches, IsWalkOf, told_begins, told_begins_broken, told_goes, told_goes_broken, told_ends}
-use Rattle.kc_found.proofs.Whole.{whole_of_walk, walk_of_whole}
+use Rattle.kc_found.specs.Going.{AreChains, Reaches, IsWalkOf}
+use Rattle.kc_laws.specs.Chains.{told_begins, told_begins_broken, told_goes, told_goes_broken, told_ends, whole_of_walk, walk_of_whole}
 use Rattle.kc_list.proofs.HashLaw.{hash_words, hashed_of_whole, whole_of_hashed}
 use Rattle.kc_list.proofs.HashSites.{hash_is_chain}
-use Rattle.kc_found.proofs.Pairs.{leads_by}
+use Rattle.kc_laws.specs.Pairs.{leads_by}
 use Rattle.kc_list.proofs.Reading.{reads_held, reads_there}
 use Rattle.kc_list.proofs.RingWalk.{asked_at}
-use Rattle.kc_found.proofs.Stops.{if_some}
+use Rattle.kc_laws.specs.Trials.{if_some}
 
 -- the hash chain of each dump
 abbrev pub hashes : HShape → ℕ → ℕ → Image → ChainOf VWord

@@ -7,9 +7,9 @@ use Rattle.kc_memory.specs.Stopped.{Stopped}
 use Rattle.kc_memory.specs.Held.{held}
 use Rattle.kc_memory.specs.Image.{Image, pword}
 use Rattle.kc_memory.specs.Translation.{and_then, stop, translated, vword, word_or_stop}
-use Rattle.kc_memory.proofs.HeldLaws.{found_is_held}
+use Rattle.kc_laws.specs.Words.{found_is_held}
 use Rattle.kc_list.proofs.HashLaw.{ReadsThere}
-use Rattle.kc_found.proofs.Pairs.{ReadsAmong}
+use Rattle.kc_found.specs.Passing.{ReadsAmong}
 
 pub reads_held : (image : Image) → ReadsAmong (held image.physical) (vword image)
 reads_held image va w e = found_is_held image va w e

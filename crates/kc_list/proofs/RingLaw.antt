@@ -14,9 +14,10 @@ use Rattle.kc_found.specs.Nodes.{at_offset, is_poison, two_taken}
 use Rattle.kc_found.specs.Rings.{RingLed, links, is_wrong, led_first, led_on, ring_chain}
 use Rattle.kc_found.specs.Trials.{Reader, IsUnbroken}
 use Rattle.kc_found.specs.Violations.{breaks}
-use Rattle.kc_found.proofs.Whole.{Linked, HasWords, Whole}
-use Rattle.kc_found.proofs.Finite.{words_at, some_word, first_of, snoc_some, turned, turned_some, if_only, not_false, not_true, or_false}
-use Rattle.kc_found.proofs.Pairs.{both_read, both_of, if_none, if_passes, leads_by, tested_passes, pair_takes}
+use Rattle.kc_found.specs.Linked.{Linked, HasWords, Whole}
+use Rattle.kc_laws.specs.Lists.{words_at, some_word, first_of, snoc_some, turned, turned_some, not_false, not_true, or_false}
+use Rattle.kc_laws.specs.Trials.{if_only, if_none, if_passes}
+use Rattle.kc_laws.specs.Pairs.{both_read, both_of, leads_by, tested_passes, pair_takes}
 use Rattle.kc_list.proofs.RingSites.{good_node, site_is}
 
 pub ring_words : (read : Reader) (shape : ListShape) (asked : Asked) → HasWords (ring_chain read shape asked) (words_of read shape.next shape.prev)

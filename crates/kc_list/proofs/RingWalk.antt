@@ -16,12 +16,12 @@ use Rattle.kc_found.specs.Trials.{passed, broken_if}
 use Rattle.kc_found.specs.FiniteLists.{Ring, words_of}
 use Rattle.kc_found.specs.Violations.{Violation, breaks}
 use Rattle.kc_found.specs.Walks.{IsBroken, OnBroken, WalksAs}
-use Rattle.kc_found.proofs.Told.{AreChains, Reaches, IsWalkOf, told_begins, told_begins_broken, told_goes, told_goes_broken, told_ends, told_ends_broken}
-use Rattle.kc_found.proofs.Whole.{whole_of_walk, walk_of_whole}
-use Rattle.kc_found.proofs.Pairs.{leads_by}
+use Rattle.kc_found.specs.Going.{AreChains, Reaches, IsWalkOf}
+use Rattle.kc_laws.specs.Chains.{told_begins, told_begins_broken, told_goes, told_goes_broken, told_ends, told_ends_broken, whole_of_walk, walk_of_whole}
+use Rattle.kc_laws.specs.Pairs.{leads_by}
 use Rattle.kc_list.proofs.RingLaw.{ring_words, ring_of_whole, whole_of_ring}
 use Rattle.kc_list.proofs.RingSites.{ring_is_chain}
-use Rattle.kc_found.proofs.Stops.{if_some}
+use Rattle.kc_laws.specs.Trials.{if_some}
 use Rattle.kc_list.proofs.Reading.{reads_held}
 
 abbrev pub asked_at : ℕ → ℕ → Asked

@@ -1,11 +1,13 @@
 // Hash chains.
-ghost use Rattle.std.specs.Prelude.{◌≡◌, ℕ, List, ◌+◌, ◌*◌, ◌≤◌, Ok, IfOk, IfSome};
+ghost use Rattle.std.specs.Prelude.{◌≡◌, ℕ, List, ◌+◌, ◌*◌, ◌≤◌, length, Ok, IfOk, IfSome};
+ghost use Rattle.std.specs.Bool.{OnTrue};
 ghost use Rattle.kc_memory.specs.Stays.{SpaceStays};
 ghost use Rattle.kc_memory.specs.Translation.{vword};
 ghost use Rattle.kc_found.specs.FiniteLists.{HChain, NoHChain};
-ghost use Rattle.kc_found.specs.HashChains.{hash_links, hash_site, hash_walk};
-ghost use Rattle.kc_found.specs.Nodes.{at_offset, one_taken, two_taken};
+ghost use Rattle.kc_found.specs.HashChains.{hash_chain, hash_links, hash_site, hash_walk};
+ghost use Rattle.kc_found.specs.Nodes.{at_offset, is_poison, one_taken, two_taken};
 ghost use Rattle.kc_found.specs.Walks.{CountsWalkFaults, IsNamed, OnBroken, TakesAs, WalksAs, WithinSteps};
+ghost use Rattle.kc_list.specs.Near.{EndsSoon};
 
 use crate::words::{enter_both, enter_word, is_poison, push_node};
 use kc_found::{Asked, Claims, HShape, Rule, Space, VWord, WalkStop, Walked, broken_at};
@@ -25,7 +27,7 @@ fn enter_head<S: Space, L: Ledger>(
     ensures word { IfOk result (λ w. IfSome (S.image space.old) (λ i. vword i (at_offset asked.now.start shape.now.first) ≡ Ok w)) }
     ensures site { TakesAs (λ i. one_taken asked.now None (vword i (at_offset asked.now.start shape.now.first))) claims.old claims.new (S.image space.old) result }
     ensures named { IsNamed result asked.now.audit asked.now.start }
-    ensures steps { steps.new ≤ steps.old + 2 * S.most space.old }
+    ensures steps { steps.new ≤ steps.old + S.most space.old }
 
     ensures stays { SpaceStays S.image S.files S.through S.most space.old space.new }
     ensures cause { CountsWalkFaults result (S.faults space.old) (S.faults space.new) }
@@ -71,6 +73,8 @@ fn enter_node<S: Space, L: Ledger>(
     ensures site { TakesAs (λ i. hash_site asked.now (hash_links (vword i) shape.now from.value) from) claims.old claims.new (S.image space.old) result }
     ensures named { IsNamed result asked.now.audit asked.now.start }
     ensures steps { steps.new ≤ steps.old + 2 * S.most space.old }
+    // K is told by the pointer: no word is read then.
+    ensures unread { OnTrue (is_poison from.value) (steps.new ≡ steps.old) }
 
     ensures stays { SpaceStays S.image S.files S.through S.most space.old space.new }
     ensures cause { CountsWalkFaults result (S.faults space.old) (S.faults space.new) }
@@ -108,6 +112,10 @@ pub fn hchain<S: Space, L: Ledger>(
     ensures none { OnBroken result (IfSome (S.image space.old) (λ image. NoHChain (vword image) shape.now head)) }
     ensures named { IsNamed result audit head }
     ensures bound { WithinSteps (S.image space.old) (S.most space.old) steps.old steps.new }
+    // One word at the head and two at each node, and no other; and up to a violation no more than those of its site.
+    ensures words { IfOk result (λ ns. steps.new ≤ steps.old + S.most space.old * (1 + 2 * length ns)) }
+    ensures soon { OnBroken result (EndsSoon (λ i. hash_chain (vword i) shape.now (record { audit = audit; start = head }))
+        (S.image space.old) (S.most space.old) steps.old steps.new) }
 
     ensures stays { SpaceStays S.image S.files S.through S.most space.old space.new }
     ensures cause { CountsWalkFaults result (S.faults space.old) (S.faults space.new) }

@@ -1,11 +1,13 @@
 // Rings.
-ghost use Rattle.std.specs.Prelude.{◌≡◌, ℕ, List, ◌+◌, ◌*◌, ◌≤◌, Ok, IfOk, IfSome};
+ghost use Rattle.std.specs.Prelude.{◌≡◌, ℕ, List, ◌+◌, ◌*◌, ◌≤◌, ◌||◌, nat_eq, length, Ok, IfOk, IfSome};
+ghost use Rattle.std.specs.Bool.{OnTrue};
 ghost use Rattle.kc_memory.specs.Stays.{SpaceStays};
 ghost use Rattle.kc_memory.specs.Translation.{vword};
 ghost use Rattle.kc_found.specs.FiniteLists.{NoRing, Ring};
-ghost use Rattle.kc_found.specs.Nodes.{two_taken};
-ghost use Rattle.kc_found.specs.Rings.{links, ring_site, ring_walk};
+ghost use Rattle.kc_found.specs.Nodes.{is_poison, two_taken};
+ghost use Rattle.kc_found.specs.Rings.{links, ring_chain, ring_site, ring_walk};
 ghost use Rattle.kc_found.specs.Walks.{CountsWalkFaults, IsNamed, OnBroken, TakesAs, WalksAs, WithinSteps};
+ghost use Rattle.kc_list.specs.Near.{EndsSoon};
 
 use crate::words::{enter_both, is_poison, push_node};
 use kc_found::{Asked, Claims, ListShape, Rule, Space, VWord, WalkStop, Walked, broken_at};
@@ -52,6 +54,8 @@ fn enter_node<S: Space, L: Ledger>(
     ensures site { TakesAs (λ i. ring_site asked.now (links (vword i) shape.now from.value) from before) claims.old claims.new (S.image space.old) result }
     ensures named { IsNamed result asked.now.audit asked.now.start }
     ensures steps { steps.new ≤ steps.old + 2 * S.most space.old }
+    // N and K are told by the pointer: no word is read then.
+    ensures unread { OnTrue (nat_eq from.value 0 || is_poison from.value) (steps.new ≡ steps.old) }
 
     ensures stays { SpaceStays S.image S.files S.through S.most space.old space.new }
     ensures cause { CountsWalkFaults result (S.faults space.old) (S.faults space.new) }
@@ -93,6 +97,10 @@ pub fn ring<S: Space, L: Ledger>(
     ensures none { OnBroken result (IfSome (S.image space.old) (λ image. NoRing (vword image) shape.now head)) }
     ensures named { IsNamed result audit head }
     ensures bound { WithinSteps (S.image space.old) (S.most space.old) steps.old steps.new }
+    // Two words at the head and at each node, and no other; and up to a violation no more than those of its site.
+    ensures words { IfOk result (λ ns. steps.new ≤ steps.old + S.most space.old * (2 + 2 * length ns)) }
+    ensures soon { OnBroken result (EndsSoon (λ i. ring_chain (vword i) shape.now (record { audit = audit; start = head }))
+        (S.image space.old) (S.most space.old) steps.old steps.new) }
 
     ensures stays { SpaceStays S.image S.files S.through S.most space.old space.new }
     ensures cause { CountsWalkFaults result (S.faults space.old) (S.faults space.new) }

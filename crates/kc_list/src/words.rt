@@ -42,7 +42,7 @@ pub(crate) fn enter_word<S: Space, L: Ledger>(
     ensures word { IfOk result (λ w. IfSome (S.image space.old) (λ image. vword image va ≡ Ok w)) }
     ensures site { TakesAs (λ i. one_taken asked.now led (vword i va)) claims.old claims.new (S.image space.old) result }
     ensures named { IsNamed result asked.now.audit asked.now.start }
-    ensures steps { steps.new ≤ steps.old + 2 * S.most space.old }
+    ensures steps { steps.new ≤ steps.old + S.most space.old }
 
     ensures stays { SpaceStays S.image S.files S.through S.most space.old space.new }
     ensures cause { CountsWalkFaults result (S.faults space.old) (S.faults space.new) }

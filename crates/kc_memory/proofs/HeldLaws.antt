@@ -1,10 +1,8 @@
 -- A word that is found is one that the dump holds, so a list of different ones isn't longer than their number.
-use Rattle.std.proofs.Common.{◌≡◌, ℕ, zero, suc, ◌*◌, ◌/◌, ◌%◌, ◌^◌, ◌<◌, ◌≤◌, nat_eq, Bool, true, false, if◌then◌else◌, List, [], ◌∷◌, ◌++◌, length, Option, Some, None, Result, Ok, Err, refl, subst, arith, inl, inr}
-use Rattle.std.specs.Prelude.{is_some, ◌||◌}
-use Rattle.std.specs.List.{IsDistinct, AllByRecursion}
+use Rattle.std.proofs.Common.{◌≡◌, ℕ, zero, suc, ◌*◌, ◌/◌, ◌%◌, ◌^◌, ◌<◌, ◌≤◌, nat_eq, Bool, true, false, if◌then◌else◌, List, ◌∷◌, Option, Some, None, Result, Ok, Err, refl, subst, arith, inl, inr}
+use Rattle.std.specs.Prelude.{is_some}
 use Rattle.std.specs.Set.{is_member}
 use Rattle.std.specs.Cmp.{nat_eq_equiv}
-use Rattle.std.proofs.lemmas.Map.Made.{length-le_from_is_member}
 use Rattle.std.proofs.lemmas.Bool.{eqb-true}
 use Rattle.std.proofs.Math.Nat.{eq-or-lt_of_le}
 use Rattle.std.proofs.Math.Bool.{or-true}
@@ -13,30 +11,10 @@ use Rattle.kc_memory.specs.declared.words.PWord.{PWord}
 use Rattle.kc_memory.specs.declared.words.VWord.{VWord}
 use Rattle.kc_memory.specs.Stopped.{Stopped}
 use Rattle.kc_memory.specs.Image.{Physical, Image, pword}
-use Rattle.kc_memory.specs.Held.{held, held_below, word_count}
+use Rattle.kc_memory.specs.Held.{held, held_below}
 use Rattle.kc_memory.specs.Translation.{and_then, is_canonical, levels, stop, translated, vword, word_or_stop, xlate}
 use Rattle.kc_memory.specs.Laws.{FoundIsHeld}
 use Rattle.kc_memory.proofs.PageLaws.{arrives}
-
--- each address is one of a list
-abbrev pub AllAmong : List ℕ → List ℕ → Type 0
-AllAmong known xs = AllByRecursion (λ pa. is_member nat_eq known pa ≡ true) xs
-
-pub among_append : (known xs ys : List ℕ) → AllAmong known xs → AllAmong known ys → AllAmong known (xs ++ ys)
-among_append known [] ys first then_all = then_all
-among_append known (x ∷ xs) ys first then_all = (first.0, among_append known xs ys first.1 then_all)
-
-either_among : (known xs : List ℕ) (x q : ℕ) (b : Bool) → nat_eq q x ≡ b → (b || is_member nat_eq xs q) ≡ true → is_member nat_eq known x ≡ true → (is_member nat_eq xs q ≡ true → is_member nat_eq known q ≡ true) → is_member nat_eq known q ≡ true
-either_among known xs x q true is e here next = rw (eqb-true q x is) here
-either_among known xs x q false is e here next = next e
-
-among_each : (known xs : List ℕ) → AllAmong known xs → (q : ℕ) → is_member nat_eq xs q ≡ true → is_member nat_eq known q ≡ true
-among_each known [] all q e = absurd (cc)
-among_each known (x ∷ xs) all q e = either_among known xs x q (nat_eq q x) refl e all.0 (among_each known xs all.1 q)
-
--- different addresses of words that a dump holds are no more than its words
-pub bounded : (physical : Physical) (taken : List ℕ) → IsDistinct nat_eq taken → AllAmong (held physical) taken → length taken ≤ word_count physical
-bounded physical taken different among = length-le_from_is_member nat_eq_equiv taken (held physical) different (among_each (held physical) taken among)
 
 member_at : (b : Bool) (x y : ℕ) (xs : List ℕ) → is_member nat_eq xs y ≡ true → is_member nat_eq (if b then x ∷ xs else xs) y ≡ true
 member_at true x y xs there = rw there (or-true (nat_eq y x))

@@ -2,5 +2,4 @@ pub mod HeldLaws
 mod NumberLaws
 mod PageLaws
 mod PlaceLaws
-pub mod StaysLaws
 mod WordLaws

@@ -1,3 +1,4 @@
+pub mod Among
 pub mod Bits
 pub mod Frames
 pub mod Held

@@ -17,9 +17,9 @@ use Rattle.kc_found.specs.RbFinite.{pas, head_words, leftmost_word}
 use Rattle.kc_found.specs.RbTrees.{RbCourse, links_at, keys_at, node_site, site_with, null_site, nulls, first_of, tree_trials, whole_tree, number_of, rb_trials, head_at, head_site, end_site, left_spot, right_spot, root_spot, key_in, behind_ok, broken_by, where_ok, link_fault, key_fault, head_claims, leftmost_claims}
 use Rattle.kc_found.specs.Trials.{Trial, Break, Meet, and_then, broken_if, passed, met, judged, claimed_in}
 use Rattle.kc_found.specs.Violations.{Violation, breaks, missed}
-use Rattle.kc_found.proofs.Known.{ReadsAmong}
-use Rattle.kc_found.proofs.Passed.{distinct_none, passed_distinct, passed_is, passed_goes, passed_stops, met-append}
-use Rattle.kc_memory.proofs.HeldLaws.{AllAmong, bounded}
+use Rattle.kc_found.specs.Passing.{ReadsAmong}
+use Rattle.kc_laws.specs.Trials.{distinct_none, passed_distinct, passed_is, passed_goes, passed_stops, met-append}
+use Rattle.kc_memory.specs.Among.{AllAmong, bounded}
 use Rattle.kc_rb.specs.declared.walk.Task.{Task}
 use Rattle.kc_rb.specs.declared.walk.Task.TheVariants.{Visit, Give}
 use Rattle.kc_rb.specs.Faults.{or_else, null_fault, end_fault}

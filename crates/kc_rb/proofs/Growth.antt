@@ -12,7 +12,7 @@ use Rattle.kc_found.specs.RbFinite.{Tree, Leaf, Node, inorder, IsRb, tree_words,
 use Rattle.kc_found.specs.RbTrees.{RbCourse, links_of, links_at, keys_at, node_site, null_site, nulls, tree_trials, left_spot, right_spot, blacks, bound_of, is_red, key_in, behind_ok}
 use Rattle.kc_found.specs.Trials.{Trial, Meet, broken_if, met, claimed_in, IsUnbroken}
 use Rattle.kc_found.specs.Violations.{Violation, breaks}
-use Rattle.kc_found.proofs.Passed.{met-append, claimed_in-append, unbroken_parts, unbroken_whole}
+use Rattle.kc_laws.specs.Trials.{met-append, claimed_in-append, unbroken_parts, unbroken_whole}
 use Rattle.kc_rb.proofs.Descent.{at_null, at_node, node_is, nulls_null, nulls_node, nulls_is, claimed_site, met_site}
 use Rattle.kc_rb.proofs.Opening.{Good, good, fine}
 

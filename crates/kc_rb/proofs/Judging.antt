@@ -15,7 +15,7 @@ use Rattle.kc_found.specs.RbTrees.{RbCourse, course_of, reads_of, links_of, key_
 use Rattle.kc_found.specs.Trials.{Trial, passed}
 use Rattle.kc_found.specs.Violations.{Violation, missed}
 use Rattle.kc_found.specs.Walks.{WalksAs}
-use Rattle.kc_found.proofs.Passed.{passed_goes}
+use Rattle.kc_laws.specs.Trials.{passed_goes}
 use Rattle.kc_rb.specs.Faults.{StopIs}
 
 -- the rules of a node, behind its claims

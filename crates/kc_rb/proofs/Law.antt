@@ -19,9 +19,10 @@ use Rattle.kc_found.specs.RbTrees.{Reads, RbCourse, reads_of, course_of, null_si
 use Rattle.kc_found.specs.Trials.{Trial, and_then, broken_if, passed, met, judged, claimed_in, IsUnbroken}
 use Rattle.kc_found.specs.Violations.{Violation, breaks, missed}
 use Rattle.kc_found.specs.Walks.{OnBroken}
-use Rattle.kc_found.proofs.Known.{ReadsAmong, reads_held}
-use Rattle.kc_found.proofs.Passed.{passed_is, passes, claimed_in-append, unbroken_parts, unbroken_whole}
-use Rattle.kc_memory.proofs.HeldLaws.{AllAmong, among_append, bounded}
+use Rattle.kc_found.specs.Passing.{ReadsAmong}
+use Rattle.kc_laws.specs.Words.{reads_held}
+use Rattle.kc_laws.specs.Trials.{passed_is, passes, claimed_in-append, unbroken_parts, unbroken_whole}
+use Rattle.kc_memory.specs.Among.{AllAmong, among_append, bounded}
 use Rattle.kc_rb.proofs.Descent.{tail, trials_are, met_trials, claimed_first, at_null}
 use Rattle.kc_rb.proofs.Growth.{Grown, grown, regrown, no_null, opened, IsLong, split_claims}
 use Rattle.kc_rb.proofs.Rise.{RbIs}

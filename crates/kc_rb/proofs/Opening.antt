@@ -13,7 +13,7 @@ use Rattle.kc_found.specs.RbFinite.{IsOver, IsUnder, IsBetween}
 use Rattle.kc_found.specs.RbTrees.{RbCourse, links_at, keys_at, site_with, broken_by, link_fault, red_fault, key_fault, bound_fault, is_below, is_above, is_red, parent_in}
 use Rattle.kc_found.specs.Trials.{Break, IsUnbroken}
 use Rattle.kc_found.specs.Violations.{Violation, breaks, missed}
-use Rattle.kc_found.proofs.Passed.{unbroken_parts}
+use Rattle.kc_laws.specs.Trials.{unbroken_parts}
 
 pub over : (strict : Bool) (low : Option ℤ) (k : ℤ) → is_below strict low k ≡ false → IsOver strict low k
 over strict None k e = tt

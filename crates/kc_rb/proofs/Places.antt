@@ -21,7 +21,8 @@ use Rattle.kc_found.specs.Nodes.{at_offset}
 use Rattle.kc_found.specs.RbTrees.{course_of, reads_of, links_of, links_at, leftmost_of, head_of, head_at, head_site, head_claims, leftmost_claims, key_at, keys_at, as_key, byte_of, element_of, key_in, node_site, site_with, null_site, node_claims, link_fault, red_fault, key_fault, bound_fault, is_below, is_above, is_red, parent_in, differs, left_spot, right_spot, root_spot, where_ok, behind_ok, broken_by, end_site, tree_trials, whole_tree, number_of, rb_trials, tree_walk}
 use Rattle.kc_found.specs.Trials.{Trial, Meet, and_then, met}
 use Rattle.kc_found.specs.Violations.{Violation, breaks, missed}
-use Rattle.kc_found.proofs.Shown.{AllShow, show_whole, judged_shows, broken_shows, either_shows}
+use Rattle.kc_found.specs.Showing.{AllShow}
+use Rattle.kc_laws.specs.Places.{show_whole, judged_shows, broken_shows, either_shows}
 use Rattle.kc_rb.proofs.Descent.{tail}
 use Rattle.kc_rb.proofs.Growth.{below}
 use Rattle.kc_rb.proofs.Judging.{judged_with}

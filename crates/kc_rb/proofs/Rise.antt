@@ -17,8 +17,8 @@ use Rattle.kc_found.specs.RbTrees.{course_of, reads_of, links_of, key_of, head_o
 use Rattle.kc_found.specs.Trials.{Trial, passed, judged}
 use Rattle.kc_found.specs.Violations.{missed}
 use Rattle.kc_found.specs.Walks.{WalksAs, WithinSteps}
-use Rattle.kc_found.proofs.Known.{reads_held}
-use Rattle.kc_memory.proofs.HeldLaws.{bounded}
+use Rattle.kc_laws.specs.Words.{reads_held}
+use Rattle.kc_memory.specs.Among.{bounded}
 use Rattle.kc_rb.specs.declared.walk.Task.{Task}
 use Rattle.kc_rb.specs.declared.walk.Task.TheVariants.{Visit, Give}
 use Rattle.kc_rb.specs.Faults.{StopIs, or_else, null_fault, end_fault}

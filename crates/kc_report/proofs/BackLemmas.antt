@@ -6,8 +6,8 @@ use Rattle.std.proofs.lemmas.List.{append-nil, length-append}
 use Rattle.kc_memory.specs.declared.words.Place.{Place}
 use Rattle.kc_text.specs.Format.{Format, IsFormat, Begins}
 use Rattle.kc_text.specs.Reading.{and_then}
-use Rattle.kc_text.specs.Compose.{lines, either}
-use Rattle.kc_text.proofs.LineLaws.{Goes, goes-more, goes-smaller, goes-stop, goes-end, stop-place, stop-none}
+use Rattle.kc_text.specs.Compose.{lines, either, Goes}
+use Rattle.kc_laws.specs.Formats.{goes-more, goes-smaller, goes-stop, goes-end, stop-place, stop-none}
 use Rattle.kc_report.specs.declared.read.Head.{Head}
 use Rattle.kc_report.specs.declared.report.Report.{Report}
 use Rattle.kc_report.specs.declared.report.Report.TheVariants.{Clean, Broken}
@@ -22,20 +22,20 @@ use Rattle.kc_report.specs.Report.{AuditLine, BrokenLines}
 use Rattle.kc_report.proofs.FormatLaws.{broken-law, either-report-law}
 
 module _ {X : Type 0} (f : Format X) (F : IsFormat f) (some : (x : X) → f.Good x → 1 ≤ length (f.spell x)) where
-  pub more_reads : (bytes : List ℕ) (done new : List X) (rest : List ℕ) (next : Bor (List ℕ)) → Goes f F some bytes done rest → 1 ≤ length rest
-      → AddsOne (f.read rest) done new (Ok next) → Goes f F some bytes new next.now
+  pub more_reads : (bytes : List ℕ) (done new : List X) (rest : List ℕ) (next : Bor (List ℕ)) → Goes f bytes done rest → 1 ≤ length rest
+      → AddsOne (f.read rest) done new (Ok next) → Goes f bytes new next.now
   more_reads bytes done new rest next goes long adds =
-      subst (λ (l : List X). Goes f F some bytes l next.now) (sym adds.2) (goes-more f F some bytes done rest next.now adds.0 goes long adds.1)
+      subst (λ (l : List X). Goes f bytes l next.now) (sym adds.2) (goes-more f F some bytes done rest next.now adds.0 goes long adds.1)
 
   pub reads_less : (done new : List X) (rest : List ℕ) (next : Bor (List ℕ)) → AddsOne (f.read rest) done new (Ok next) → length next.now < length rest
   reads_less done new rest next adds = goes-smaller f F some rest next.now adds.0 adds.1
 
-  pub stop_reads : (bytes : List ℕ) (done new : List X) (rest : List ℕ) (stop : ReadStop) → Goes f F some bytes done rest → 1 ≤ length rest
+  pub stop_reads : (bytes : List ℕ) (done new : List X) (rest : List ℕ) (stop : ReadStop) → Goes f bytes done rest → 1 ≤ length rest
       → AddsOne (f.read rest) done new (Err stop) → ReadsWhole {A = List X} (λ l. l) (Err stop) ((lines f).read bytes)
   stop_reads bytes done new rest (At s) goes long adds = goes-stop f F some bytes done rest s.now goes long adds
   stop_reads bytes done new rest NoMemory goes long adds = tt
 
-  pub end_reads : (bytes : List ℕ) (done : List X) (rest : List ℕ) → Goes f F some bytes done rest → length rest ≡ 0 → (lines f).read bytes ≡ Ok (done, [])
+  pub end_reads : (bytes : List ℕ) (done : List X) (rest : List ℕ) → Goes f bytes done rest → length rest ≡ 0 → (lines f).read bytes ≡ Ok (done, [])
   end_reads bytes done rest goes none = goes-end f F some bytes done rest goes none
 
 -- whether bytes are left

@@ -9,9 +9,7 @@ use Rattle.kc_word.specs.Hex.{hex_digits}
 use Rattle.kc_text.specs.Format.{Format, Anything, Nothing, IsFormat, IsWhole}
 use Rattle.kc_text.specs.Readers.{literal, name_and, decimal_and, hex16, read_hex_digits, digit_from, IsAmong}
 use Rattle.kc_text.specs.Compose.{both, mapped, either, after, followed, texts, lines}
-use Rattle.kc_text.proofs.FormatLaws.{both-law, mapped-law, nothing-law, either-law, ok_not_err}
-use Rattle.kc_text.proofs.ReaderLaws.{literal-law, name-law, decimal-law, hex-law, digit-law}
-use Rattle.kc_text.proofs.LineLaws.{after-law, followed-law, one-law, lines-law}
+use Rattle.kc_laws.specs.Formats.{both-law, mapped-law, nothing-law, either-law, ok_not_err, literal-law, name-law, decimal-law, hex-law, digit-law, after-law, followed-law, one-law, lines-law}
 use Rattle.kc_report.specs.declared.read.Coded.{Coded}
 use Rattle.kc_report.specs.Lines.{rule_code, address_text, place_line, place_lines}
 use Rattle.kc_report.specs.Report.{AuditLine, BrokenLines, IsNumber, IsStopNumber, IsLine, IsShown, IsBroken, stop_levels, is_stop_at}

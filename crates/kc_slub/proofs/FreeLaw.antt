@@ -13,8 +13,8 @@ use Rattle.kc_found.specs.declared.free.Grid.{Grid}
 use Rattle.kc_found.specs.FiniteLists.{FreeChain, IsFree, pointer_of, pointer_words}
 use Rattle.kc_found.specs.FreeLists.{NumberReader, above_base, free_chain, free_next, is_object, pointer_at, pointer_by}
 use Rattle.kc_found.specs.Nodes.{readable}
-use Rattle.kc_found.proofs.Whole.{Linked, HasWords, Whole}
-use Rattle.kc_found.proofs.Finite.{first_of, not_false, not_true}
+use Rattle.kc_found.specs.Linked.{Linked, HasWords, Whole}
+use Rattle.kc_laws.specs.Lists.{first_of, not_false, not_true}
 use Rattle.kc_slub.proofs.FreeSites.{good_free, is_good, free_site_is, leads_on}
 
 on_grid : (above size objects : ℕ) → (nat_eq (above % size) 0 && nat_lt (above / size) objects) ≡ true → (above / size < objects) × (above ≡ above / size * size)

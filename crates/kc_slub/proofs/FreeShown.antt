@@ -18,8 +18,8 @@ use Rattle.kc_found.specs.FreeLists.{free_chain, free_first, free_next, free_sit
 use Rattle.kc_found.specs.Nodes.{readable}
 use Rattle.kc_found.specs.Trials.{broken_if}
 use Rattle.kc_found.specs.Violations.{breaks_field, places_by}
-use Rattle.kc_found.proofs.Shown.{AllShow, all_whole, broken_shows, show_whole}
-use Rattle.kc_found.proofs.ChainShown.{Showing, walk_shows}
+use Rattle.kc_found.specs.Showing.{AllShow, Showing}
+use Rattle.kc_laws.specs.Places.{all_whole, broken_shows, show_whole, walk_shows}
 use Rattle.kc_slub.specs.Laws.{FreePlacesStand}
 
 -- the place of a word is that of the word at it

@@ -10,7 +10,8 @@ use Rattle.kc_memory.specs.Held.{held}
 use Rattle.kc_memory.specs.Image.{Image}
 use Rattle.kc_memory.specs.Stopped.{Stopped}
 use Rattle.kc_memory.specs.Translation.{and_then, vword}
-use Rattle.kc_memory.proofs.HeldLaws.{AllAmong, found_is_held}
+use Rattle.kc_memory.specs.Among.{AllAmong}
+use Rattle.kc_laws.specs.Words.{found_is_held}
 use Rattle.kc_found.specs.declared.asked.Asked.{Asked}
 use Rattle.kc_found.specs.declared.free.FreeLed.{FreeLed}
 use Rattle.kc_found.specs.declared.free.Grid.{Grid}
@@ -19,8 +20,8 @@ use Rattle.kc_found.specs.FreeLists.{free_chain, free_next, free_site, is_object
 use Rattle.kc_found.specs.Nodes.{readable}
 use Rattle.kc_found.specs.Trials.{met, claimed_in, IsUnbroken}
 use Rattle.kc_found.specs.Violations.{breaks_field, places_by}
-use Rattle.kc_found.proofs.Reached.{IsChain}
-use Rattle.kc_found.proofs.Pairs.{if_front, if_passed, if_passes}
+use Rattle.kc_found.specs.Going.{IsChain}
+use Rattle.kc_laws.specs.Trials.{if_front, if_passed, if_passes}
 
 places_bare : (asked : Asked) (ps : List Place) → met {X = ℕ} (places_taken asked ps) ≡ []
 places_bare asked [] = refl

@@ -14,9 +14,9 @@ use Rattle.kc_found.specs.FreeLists.{free_chain, free_first, free_next, free_sit
 use Rattle.kc_found.specs.Trials.{passed}
 use Rattle.kc_found.specs.Violations.{Violation}
 use Rattle.kc_found.specs.Walks.{OnBroken, WalksAs}
-use Rattle.kc_found.proofs.Told.{AreChains, Reaches, IsWalkOf, told_begins, told_goes, told_goes_broken, told_ends}
-use Rattle.kc_found.proofs.Whole.{whole_of_walk, walk_of_whole}
-use Rattle.kc_found.proofs.Stops.{if_some}
+use Rattle.kc_found.specs.Going.{AreChains, Reaches, IsWalkOf}
+use Rattle.kc_laws.specs.Chains.{told_begins, told_goes, told_goes_broken, told_ends, whole_of_walk, walk_of_whole}
+use Rattle.kc_laws.specs.Trials.{if_some}
 use Rattle.kc_slub.specs.Laws.{FreeListsAreWalked}
 use Rattle.kc_slub.proofs.FreeLaw.{free_words, free_of_whole, whole_of_free}
 use Rattle.kc_slub.proofs.FreeSites.{free_is_chain, leads_on}

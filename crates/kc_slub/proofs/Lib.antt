@@ -5,3 +5,4 @@ mod FreeShown
 mod FreeSites
 mod FreeWalk
 mod Steps
+mod Spending

@@ -205,6 +205,8 @@ pub fn free_walk<S: Space, L: Ledger>(
         (IfSome (S.image space.old) (λ i. NoFreeChain (number_in i) grid.now (low_word first.value))) }
     ensures named { IsNamed result audit start }
     ensures bound { WithinSteps (S.image space.old) (S.most space.old) steps.old steps.new }
+    // At most two words at each object, and no other.
+    ensures words { IfOk result (λ os. steps.new ≤ steps.old + S.most space.old * (2 * length os)) }
 
     ensures stays { SpaceStays S.image S.files S.through S.most space.old space.new }
     ensures cause { CountsWalkFaults result (S.faults space.old) (S.faults space.new) }

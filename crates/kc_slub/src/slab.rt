@@ -6,8 +6,9 @@ ghost use Rattle.kc_found.specs.Walks.{CountsWalkFaults, IsNamed, WalksAs};
 ghost use Rattle.kc_view.specs.Caches.{counts_checked, free_checked, grid_of, is_descriptor, list_checked, page_of, slab_checked};
 
 use crate::free::free_walk;
+use kc_fields::{check_field, read_field};
 use kc_found::{Asked, Grid, Rule, Scalar, Space, WalkStop, broken_field};
-use kc_view::{FieldNumber, SlabObjects, SlubBases, SlubShape, View, check_field, read_field};
+use kc_view::{FieldNumber, SlabObjects, SlubBases, SlubShape, View};
 use kc_word::Steps;
 use std::alloc::Global;
 use std::sync::ledger::Ledger;

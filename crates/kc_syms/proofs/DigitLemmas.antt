@@ -1,11 +1,12 @@
 -- Lower-case digits, read one by one.
-use Rattle.std.proofs.Common.{◌≡◌, ℕ, suc, ◌+◌, ◌*◌, ◌<◌, ◌≤◌, Bool, true, false, ◌&&◌, List, ◌∷◌, length, drop, get_or, Option, Some, None, refl, sym, ap, ◌∙◌, arith, drop-cons, if◌then◌else◌}
+use Rattle.std.proofs.Common.{◌≡◌, ℕ, suc, ◌+◌, ◌*◌, ◌^◌, ◌<◌, ◌≤◌, Bool, true, false, ◌&&◌, List, ◌∷◌, length, drop, get_or, add-one, Option, Some, None, refl, sym, ap, ◌∙◌, arith, lit<, drop-cons, if◌then◌else◌}
+use Rattle.std.proofs.Math.Nat.{pow-le-pow_right}
 use Rattle.std.proofs.Math.ListN.{drop_of_length-le}
 use Rattle.std.specs.List.{list_all}
 use Rattle.kc_word.specs.Hex.{digit_value, hex_from, hex_number}
-use Rattle.kc_word.proofs.HexLemmas.{hex_from-bad, hex_from-cons, hex_from-nil}
+use Rattle.kc_word.specs.HexDigits.{hex_from-bad, hex_from-cons, hex_from-nil}
 use Rattle.kc_syms.specs.Rows.{is_digit, listed_in}
-use Rattle.kc_syms.proofs.HexBack.{plain}
+use Rattle.kc_syms.proofs.HexBack.{plain, pow_step}
 
 -- what a digit is worth
 abbrev pub worth : ℕ → Option ℕ
@@ -56,3 +57,10 @@ no_digit ds i n past = ap (listed_from n) (drop_of_length-le ds past) ∙ hex_fr
 -- sixteen digits list an address
 pub lists : (ds : List ℕ) → length ds ≡ 16 → listed_from 0 ds ≡ listed_in ds
 lists ds long = same_where (list_all is_digit ds) (hex_from 0 ds) (hex_number ds) (λ all. sym (rw (plain ds all, long)))
+
+-- the digits so far and one more, and sixteen of them, are below these powers
+pub digit_fits : (i n d : ℕ) → i < 16 → n < 16 ^ i → d < 16 → 16 * n + d < 16 ^ (i + 1)
+digit_fits i n d more small digit = let step : 16 ^ (i + 1) ≡ 16 * 16 ^ i = rw add-one (pow_step i) in omega arith
+
+pub power_fits : (i : ℕ) → i ≤ 16 → 16 ^ i ≤ 2 ^ 64
+power_fits i within = pow-le-pow_right {n = 16} (lit< tt) within

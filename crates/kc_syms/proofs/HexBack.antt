@@ -5,7 +5,7 @@ use Rattle.std.proofs.lemmas.Bool.Decides.{nat_tests}
 use Rattle.std.proofs.lemmas.List.Folds.{list_all-append}
 use Rattle.std.specs.List.{list_all}
 use Rattle.kc_word.specs.Hex.{digit_value, digits_of, hex_digit, hex_digits, hex_from, hex_number}
-use Rattle.kc_word.proofs.HexLemmas.{hex_from-cons, pow_step}
+use Rattle.kc_word.specs.HexDigits.{hex_from-cons}
 use Rattle.kc_syms.specs.Rows.{is_digit}
 
 -- both of two tests hold
@@ -25,6 +25,9 @@ worth_of c = if nat_le c 57 then c - 48 else (c - 87)
 worth : (c : ℕ) → is_digit c ≡ true → IsWorth c (worth_of c)
 unfolding worth_of
 worth c is = record { small = grind (arith, nat_tests); worth = grind (arith, nat_tests); digit = grind (arith, nat_tests) }
+
+pub pow_step : (k : ℕ) → 16 ^ suc k ≡ 16 * 16 ^ k
+pow_step k = grind arith
 
 -- the digits of a number, the highest in front
 hex_digits-front : (k d v : ℕ) → d < 16 → v < 16 ^ k → hex_digits (suc k) (16 ^ k * d + v) ≡ hex_digit d ∷ hex_digits k v

@@ -12,7 +12,7 @@ use Rattle.kc_syms.specs.declared.symbols.Symbols.{Symbols}
 use Rattle.kc_syms.specs.Answers.{IsAnswer, IsAnswerBySpelling, IsFirstBad}
 use Rattle.kc_syms.specs.Rows.{RowText, is_digit, is_kind, is_name_byte, lines, listed_in, name_behind, name_in, row_before, row_of, row_with, rows, rows_from}
 use Rattle.kc_syms.specs.Spelling.{IsKind, IsNameByte, SpellAll, Spells, SpellsNone}
-use Rattle.kc_word.proofs.HexLemmas.{hex_number-digits, length-hex_digits}
+use Rattle.kc_word.specs.HexDigits.{HexReadsBack, length-hex_digits}
 use Rattle.kc_syms.proofs.HexBack.{both, digits_are, written}
 
 -- a choice that gives something
@@ -125,22 +125,22 @@ spelled line row is =
     }
 
 -- what spells a row is read as it
-pub reads_back : (line : List ℕ) (row : RowText) → Spells line row → row_of line ≡ Some row
+pub reads_back : HexReadsBack → (line : List ℕ) (row : RowText) → Spells line row → row_of line ≡ Some row
 unfolding row_of
-reads_back line row is =
+reads_back hex line row is =
     let digits = hex_digits 16 row.listed in
     let behind = 32 ∷ is.kind ∷ 32 ∷ row.name in
     let long : length digits ≡ 16 = length-hex_digits 16 row.listed in
     let enough : nat_lt (length line) 16 ≡ false = rw (is.text, length-append digits behind, long) (grind (arith, nat_tests)) in
     let front : take 16 line ≡ digits = ap (take 16) is.text ∙ ap (λ n. take n (digits ++ behind)) (sym long) ∙ take-append_seam digits behind in
     let rest : drop 16 line ≡ behind = ap (drop 16) is.text ∙ ap (λ n. drop n (digits ++ behind)) (sym long) ∙ drop-append_seam digits behind in
-    let number : listed_in digits ≡ Some row.listed = rw (digits_are 16 row.listed) (hex_number-digits row.listed is.fits) in
+    let number : listed_in digits ≡ Some row.listed = rw (digits_are 16 row.listed) (hex row.listed is.fits) in
     let word : name_behind behind ≡ Some row.name = rw (kind_is is.kind is.is_kind) (name_in-is row.name is.named is.visible) in
     rw (enough, front, rest, number, word)
 
 -- a line that is no row spells none
-pub spells_none : (line : List ℕ) → row_of line ≡ None → SpellsNone line
-spells_none line is row spells = let read : row_of line ≡ Some row = reads_back line row spells in cc
+pub spells_none : HexReadsBack → (line : List ℕ) → row_of line ≡ None → SpellsNone line
+spells_none hex line is row spells = let read : row_of line ≡ Some row = reads_back hex line row spells in cc
 
 -- what the rows of lines that are counted from a number on say of them, or the first that is none
 abbrev pub Said : ℕ → List (List ℕ) → Result (List RowText) ℕ → Type 0
@@ -148,9 +148,9 @@ Said first lines (Ok rows) = SpellAll lines rows
 Said first lines (Err number) = IsFirstBad first number lines
 
 -- the same with a line more in front
-said_before : (first : ℕ) (line : List ℕ) (lines : List (List ℕ)) (o : Option RowText) → row_of line ≡ o
+said_before : HexReadsBack → (first : ℕ) (line : List ℕ) (lines : List (List ℕ)) (o : Option RowText) → row_of line ≡ o
     → (r : Result (List RowText) ℕ) → Said (first + 1) lines r → Said first (line ∷ lines) (row_before o first r)
-said_before first line lines None is r rest = record {
+said_before hex first line lines None is r rest = record {
   front = [];
   line = line;
   back = lines;
@@ -158,10 +158,10 @@ said_before first line lines None is r rest = record {
   place = omega arith;
   rows = [];
   before = tt;
-  none = spells_none line is;
+  none = spells_none hex line is;
 }
-said_before first line lines (Some row) is (Ok rows) rest = (spelled line row is, rest)
-said_before first line lines (Some row) is (Err number) rest = record {
+said_before hex first line lines (Some row) is (Ok rows) rest = (spelled line row is, rest)
+said_before hex first line lines (Some row) is (Err number) rest = record {
   front = line ∷ rest.front;
   line = rest.line;
   back = rest.back;
@@ -172,14 +172,14 @@ said_before first line lines (Some row) is (Err number) rest = record {
   none = rest.none;
 }
 
-said : (first : ℕ) (lines : List (List ℕ)) → Said first lines (rows_from first lines)
-said first [] = tt
-said first (line ∷ lines) = said_before first line lines (row_of line) refl (rows_from (first + 1) lines) (said (first + 1) lines)
+said : HexReadsBack → (first : ℕ) (lines : List (List ℕ)) → Said first lines (rows_from first lines)
+said hex first [] = tt
+said hex first (line ∷ lines) = said_before hex first line lines (row_of line) refl (rows_from (first + 1) lines) (said hex (first + 1) lines)
 
 -- what an answer says of the file's lines
-pub answers_by_spelling : (result : Result Symbols SymStop) (bytes : List ℕ) → IsAnswer result (rows bytes) → IsAnswerBySpelling result (lines bytes)
+pub answers_by_spelling : HexReadsBack → (result : Result Symbols SymStop) (bytes : List ℕ) → IsAnswer result (rows bytes) → IsAnswerBySpelling result (lines bytes)
 unfolding rows
-answers_by_spelling (Ok symbols) bytes is =
-    (is.0, subst (Said 1 (lines bytes)) is.1 (said 1 (lines bytes)), is.2)
-answers_by_spelling (Err (S1 number)) bytes is = subst (Said 1 (lines bytes)) is (said 1 (lines bytes))
-answers_by_spelling (Err NoMemory) bytes is = tt
+answers_by_spelling hex (Ok symbols) bytes is =
+    (is.0, subst (Said 1 (lines bytes)) is.1 (said hex 1 (lines bytes)), is.2)
+answers_by_spelling hex (Err (S1 number)) bytes is = subst (Said 1 (lines bytes)) is (said hex 1 (lines bytes))
+answers_by_spelling hex (Err NoMemory) bytes is = tt

@@ -12,6 +12,7 @@ use crate::index::{BYTES_A_ROOM, Index, add, new_index};
 use crate::part::part_of;
 use crate::row::{Row, read_row};
 use bstr::ByteSlice;
+use kc_word::know_hex;
 use std::alloc::Global;
 
 // The kernel's image is linked to stand at this address and above.
@@ -38,6 +39,7 @@ impl<'a> Symbols<'a> {
         ensures exact { IsAnswer result (rows bytes.now) }
         ensures spelled { IsAnswerBySpelling result (lines bytes.now) }
     {
+        know_hex();
         let mut index = new_index(alloc);
         let room = bytes.len() / BYTES_A_ROOM;
         let mut number = 1;

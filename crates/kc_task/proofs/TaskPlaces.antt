@@ -8,7 +8,7 @@ use Rattle.kc_memory.specs.Translation.{vword}
 use Rattle.kc_view.specs.declared.tasks.TaskShape.{TaskShape}
 use Rattle.kc_view.specs.Fields.{breaks_at, holds, or_missed, read_field, started_at, value_of}
 use Rattle.kc_view.specs.Laws.{ValuesStand}
-use Rattle.kc_view.proofs.FieldLaws.{Shows, field_shows, holds_shows, number_stands, shown_by, shows_all, started_shows, then_shows, unless_shows, word_shows, word_stands}
+use Rattle.kc_view.specs.Steps.{Shows, field_shows, holds_shows, number_stands, shown_by, shows_all, started_shows, then_shows, unless_shows, word_shows, word_stands}
 use Rattle.kc_found.specs.declared.asked.Asked.{Asked}
 use Rattle.kc_found.specs.Nodes.{at_offset}
 use Rattle.kc_found.specs.Rings.{ring_walk}

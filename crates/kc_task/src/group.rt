@@ -7,8 +7,9 @@ ghost use Rattle.kc_view.specs.TaskLists.{IsInside, all_pass, among_checked, gro
 use crate::rings::tasks_on;
 use crate::thread::check_thread;
 use kc_btf::Btf;
+use kc_fields::{check_field, read_field};
 use kc_found::{Asked, Rule, Space, WalkStop, Walked, broken_at, broken_field, stopped};
-use kc_view::{TaskShape, ThreadGroup, View, check_field, read_field};
+use kc_view::{TaskShape, ThreadGroup, View};
 use kc_word::Steps;
 use std::alloc::Global;
 use std::sync::ledger::Ledger;

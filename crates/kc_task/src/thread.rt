@@ -8,8 +8,9 @@ ghost use Rattle.kc_view.specs.TaskLists.{IsInside, all_pass, children_checked, 
 
 use crate::rings::tasks_on;
 use kc_btf::Btf;
+use kc_fields::{check_field, read_field};
 use kc_found::{Asked, Rule, Space, WalkStop, Walked, broken_at, stopped};
-use kc_view::{TaskShape, ThreadGroup, View, check_field, read_field};
+use kc_view::{TaskShape, ThreadGroup, View};
 use kc_word::Steps;
 use std::alloc::Global;
 use std::sync::ledger::Ledger;

@@ -7,7 +7,7 @@ use Rattle.std.proofs.lemmas.Bool.{cases_lt}
 use Rattle.kc_text.specs.Format.{Format, Anything, Nothing, Begins, NoMore, Stops, IsRead, IsFormat, IsWhole, IsPlace}
 use Rattle.kc_text.specs.Reading.{and_then, shorter, or_else}
 use Rattle.kc_text.specs.Readers.{read_literal, literal, read_one_of, IsAmong, one_of}
-use Rattle.kc_text.specs.Compose.{both, mapped, after, followed, texts, read_lines, lines}
+use Rattle.kc_text.specs.Compose.{Goes, both, mapped, after, followed, texts, read_lines, lines}
 use Rattle.kc_text.proofs.FormatLaws.{ok_is, err_is, ok_not_err, cut, none_further, shorter_first, shorter_other, both-law, mapped-law}
 use Rattle.kc_text.proofs.ReaderLaws.{literal-law, literal-takes}
 
@@ -231,17 +231,11 @@ module _ {X : Type 0} (f : Format X) (F : IsFormat f) (some : (x : X) → f.Good
     stops = λ bytes rest is. lines-stop bytes rest (read_lines f.read (length bytes) bytes) refl is;
   }
 
-  -- a loop that reads line by line: these values are read, and these bytes are left
-  pub record Goes (bytes : List ℕ) (done : List X) (rest : List ℕ) : Type 0 where
-    pub most : ℕ
-    pub fits : length rest ≤ most
-    pub same : and_then {B = List X} (read_lines f.read most rest) (λ xs. Ok (done ++ xs)) ≡ read_lines f.read (length bytes) bytes
-
   none-before : (r : Result (List X) (List ℕ)) → and_then {B = List X} r (λ xs. Ok ([] ++ xs)) ≡ r
   none-before (Ok xs) = refl
   none-before (Err e) = refl
 
-  pub goes-first : (bytes : List ℕ) → Goes bytes [] bytes
+  pub goes-first : (bytes : List ℕ) → Goes f bytes [] bytes
   goes-first bytes = record { most = length bytes; fits = omega arith; same = none-before (read_lines f.read (length bytes) bytes) }
 
   one-before : (done : List X) (x : X) (r : Result (List X) (List ℕ))
@@ -250,7 +244,7 @@ module _ {X : Type 0} (f : Format X) (F : IsFormat f) (some : (x : X) → f.Good
   one-before done x (Err e) = refl
 
   goes-more-at : (most : ℕ) (bytes : List ℕ) (done : List X) (rest next : List ℕ) (x : X) → 1 ≤ length rest → f.read rest ≡ Ok (x, next) → length rest ≤ most
-      → and_then {B = List X} (read_lines f.read most rest) (λ xs. Ok (done ++ xs)) ≡ read_lines f.read (length bytes) bytes → Goes bytes (done ++ x ∷ []) next
+      → and_then {B = List X} (read_lines f.read most rest) (λ xs. Ok (done ++ xs)) ≡ read_lines f.read (length bytes) bytes → Goes f bytes (done ++ x ∷ []) next
   goes-more-at zero bytes done rest next x long at fits same = absurd (omega arith)
   goes-more-at (suc most) bytes done rest next x long at fits same =
       let first = F.takes rest next x at in
@@ -263,7 +257,7 @@ module _ {X : Type 0} (f : Format X) (F : IsFormat f) (some : (x : X) → f.Good
         same = one-before done x (read_lines f.read most next) ∙ ap (λ (r : Result (List X) (List ℕ)). and_then {B = List X} r (λ xs. Ok (done ++ xs))) (sym step) ∙ same;
       }
 
-  pub goes-more : (bytes : List ℕ) (done : List X) (rest next : List ℕ) (x : X) → Goes bytes done rest → 1 ≤ length rest → f.read rest ≡ Ok (x, next) → Goes bytes (done ++ x ∷ []) next
+  pub goes-more : (bytes : List ℕ) (done : List X) (rest next : List ℕ) (x : X) → Goes f bytes done rest → 1 ≤ length rest → f.read rest ≡ Ok (x, next) → Goes f bytes (done ++ x ∷ []) next
   goes-more bytes done rest next x goes long at = goes-more-at goes.most bytes done rest next x long at goes.fits goes.same
 
   pub goes-smaller : (rest next : List ℕ) (x : X) → f.read rest ≡ Ok (x, next) → length next < length rest
@@ -281,7 +275,7 @@ module _ {X : Type 0} (f : Format X) (F : IsFormat f) (some : (x : X) → f.Good
       let whole : read_lines f.read (length bytes) bytes ≡ Err stop = sym same ∙ ap (λ (r : Result (List X) (List ℕ)). and_then {B = List X} r (λ xs. Ok (done ++ xs))) step in
       ap (λ (r : Result (List X) (List ℕ)). and_then {B = List X × List ℕ} r (λ xs. Ok (xs, []))) whole
 
-  pub goes-stop : (bytes : List ℕ) (done : List X) (rest stop : List ℕ) → Goes bytes done rest → 1 ≤ length rest → f.read rest ≡ Err stop → (lines f).read bytes ≡ Err stop
+  pub goes-stop : (bytes : List ℕ) (done : List X) (rest stop : List ℕ) → Goes f bytes done rest → 1 ≤ length rest → f.read rest ≡ Err stop → (lines f).read bytes ≡ Err stop
   goes-stop bytes done rest stop goes long at = goes-stop-at goes.most bytes done rest stop long at goes.fits goes.same
 
   goes-end-at : (most : ℕ) (bytes : List ℕ) (done : List X) → and_then {B = List X} (read_lines f.read most []) (λ xs. Ok (done ++ xs)) ≡ read_lines f.read (length bytes) bytes
@@ -291,7 +285,7 @@ module _ {X : Type 0} (f : Format X) (F : IsFormat f) (some : (x : X) → f.Good
       ap (λ (r : Result (List X) (List ℕ)). and_then {B = List X} r (λ xs. Ok (done ++ xs))) (lines-none most) ∙ ap (λ l. Ok l) (append-nil done) in
       ap (λ (r : Result (List X) (List ℕ)). and_then {B = List X × List ℕ} r (λ xs. Ok (xs, []))) (sym same ∙ step)
 
-  pub goes-end : (bytes : List ℕ) (done : List X) (rest : List ℕ) → Goes bytes done rest → length rest ≡ 0 → (lines f).read bytes ≡ Ok (done, [])
+  pub goes-end : (bytes : List ℕ) (done : List X) (rest : List ℕ) → Goes f bytes done rest → length rest ≡ 0 → (lines f).read bytes ≡ Ok (done, [])
   goes-end bytes done [] goes none = goes-end-at goes.most bytes done goes.same
   goes-end bytes done (c ∷ cs) goes none = absurd (omega arith)
 

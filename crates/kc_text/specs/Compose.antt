@@ -1,5 +1,5 @@
 -- Formats made of others. Each law is proved once, so a composition has its laws from its parts.
-use Rattle.std.specs.Prelude.{◌≡◌, ℕ, zero, suc, ◌⊎◌, List, [], ◌∷◌, ◌++◌, length, Result, Ok, Err, All}
+use Rattle.std.specs.Prelude.{◌≡◌, ◌≤◌, ℕ, zero, suc, ◌⊎◌, List, [], ◌∷◌, ◌++◌, length, Result, Ok, Err, All}
 use Rattle.std.proofs.Common.{inl, inr}
 use Rattle.kc_text.specs.Format.{Format}
 use Rattle.kc_text.specs.Reading.{and_then, or_else}
@@ -72,3 +72,9 @@ lines f = record {
   spell = texts f.spell;
   read = λ bytes. and_then (read_lines f.read (length bytes) bytes) (λ xs. Ok (xs, []));
 }
+
+-- a loop that reads line by line: these values are read, and these bytes are left
+pub record Goes {X : Type 0} (f : Format X) (bytes : List ℕ) (done : List X) (rest : List ℕ) : Type 0 where
+  pub most : ℕ
+  pub fits : length rest ≤ most
+  pub same : and_then {B = List X} (read_lines f.read most rest) (λ xs. Ok (done ++ xs)) ≡ read_lines f.read (length bytes) bytes

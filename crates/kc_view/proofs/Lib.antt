@@ -1,4 +1,3 @@
-pub mod FieldLaws
 mod PointerLemmas
 mod ValueLaws
 mod WordLemmas

@@ -6,6 +6,7 @@ pub mod FiniteTasks
 pub mod Laws
 pub mod Paths
 pub mod Pointers
+pub mod Steps
 pub mod TaskLists
 pub mod Typed
 pub mod Words

@@ -6,6 +6,8 @@ use Rattle.kc_memory.specs.Bits.{Number, bits, first_bit, word_of}
 use Rattle.kc_memory.specs.Image.{Image}
 use Rattle.kc_memory.specs.Space.{UnlessFault}
 use Rattle.kc_memory.specs.Stopped.{Stopped}
+use Rattle.kc_found.specs.declared.found.WalkStop.{WalkStop}
+use Rattle.kc_found.specs.declared.found.WalkStop.TheVariants as ends
 use Rattle.kc_view.specs.Pointers.{behind, pointer, target}
 use Rattle.kc_view.specs.Typed.{bytes_on}
 
@@ -55,3 +57,11 @@ words_reached image at (offset ∷ offsets) =
 abbrev pub StepsOf : {A : Type 0} → (Image → ℕ) → Option Image → Result A Stop → ℕ → ℕ → ℕ → Type 0
 StepsOf words None answer most before after = ⊤
 StepsOf words (Some image) answer most before after = UnlessFault answer (after ≤ before + words image * most)
+
+-- the same of a walk's answer: a violation and want of memory too
+abbrev pub WalkStepsOf : {A : Type 0} → (Image → ℕ) → Option Image → Result A WalkStop → ℕ → ℕ → ℕ → Type 0
+WalkStepsOf words None answer most before after = ⊤
+WalkStepsOf words (Some image) (Ok a) most before after = after ≤ before + words image * most
+WalkStepsOf words (Some image) (Err (ends.Broken f)) most before after = after ≤ before + words image * most
+WalkStepsOf words (Some image) (Err ends.Fault) most before after = ⊤
+WalkStepsOf words (Some image) (Err ends.NoMemory) most before after = after ≤ before + words image * most

@@ -10,7 +10,7 @@ mod tasks;
 mod tests;
 mod view;
 
-pub use fields::{FieldNumber, check_field, read_field, started_at};
+pub use fields::{FieldNumber, field_of, started_at};
 pub use laws::know_values;
 pub use slub::{Base, SlabObjects, SlubBases, SlubShape};
 pub use tasks::{TaskShape, ThreadGroup};

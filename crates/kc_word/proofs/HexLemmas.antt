@@ -4,28 +4,12 @@ use Rattle.std.proofs.Math.Nat.{div-add-mod, mul_assoc, pow-le-pow_right}
 use Rattle.std.proofs.Math.ListN.{drop_of_length-le}
 use Rattle.std.proofs.lemmas.List.{length-append, append-nil, drop-set}
 use Rattle.std.proofs.lemmas.Bool.Decides.{nat_tests}
+use Rattle.kc_word.specs.HexDigits.{hex_from-bad, hex_from-cons, hex_from-nil, length-hex_digits}
 use Rattle.kc_word.specs.Hex.{hex_digit, hex_digits, hex_from, digit_value, digits_of, hex_number}
 
 -- a digit is worth what it was printed for
 pub digit_back : (d : ℕ) → d < 16 → digit_value (hex_digit d) ≡ Some d
 digit_back d small = grind (arith, nat_tests)
-
-pub length-hex_digits : (k n : ℕ) → length (hex_digits k n) ≡ k
-unfolding hex_digits
-length-hex_digits zero n = refl
-length-hex_digits (suc k) n = omega (arith, length-append (hex_digits k (n / 16)) (hex_digit (n % 16) ∷ []), length-hex_digits k (n / 16))
-
-pub hex_from-cons : (n c d : ℕ) (cs : List ℕ) → digit_value c ≡ Some d → hex_from n (c ∷ cs) ≡ hex_from (16 * n + d) cs
-unfolding hex_from
-hex_from-cons n c d cs is = rw is
-
-pub hex_from-bad : (n c : ℕ) (cs : List ℕ) → digit_value c ≡ None → hex_from n (c ∷ cs) ≡ None
-unfolding hex_from
-hex_from-bad n c cs is = rw is
-
-pub hex_from-nil : (n : ℕ) → hex_from n [] ≡ Some n
-unfolding hex_from
-hex_from-nil n = refl
 
 pub pow_step : (k : ℕ) → 16 ^ suc k ≡ 16 * 16 ^ k
 pow_step k = grind arith

@@ -1,7 +1,7 @@
 -- What a slot's own trials leave: the slots of the node behind it.
 use Rattle.std.proofs.Common.{◌≡◌, ℕ, suc, ◌-◌, ◌^◌, nat_lt, Bool, true, false, List, ◌++◌, Option, None, Some, refl, sym, ◌∙◌, ap, subst}
 use Rattle.std.specs.Prelude.{Result, Ok, Err, IfSome, if◌then◌else◌}
-use Rattle.kc_found.proofs.Passed.{passed_is, passed_goes, passed_stops, met-append}
+use Rattle.kc_laws.specs.Trials.{passed_is, passed_goes, passed_stops, met-append}
 use Rattle.kc_found.specs.FiniteXarrays.{holder_of}
 use Rattle.kc_found.specs.Trials.{Trial, passed, met}
 use Rattle.kc_found.specs.Violations.{Violation}
@@ -18,7 +18,7 @@ use Rattle.kc_found.specs.declared.xarrays.XaHolder.{XaHolder}
 use Rattle.kc_found.specs.declared.xarrays.XaItem.{XaItem}
 use Rattle.kc_found.specs.declared.xarrays.XaNode.{XaNode}
 use Rattle.kc_found.specs.declared.xarrays.XaWords.{XaWords}
-use Rattle.kc_memory.proofs.HeldLaws.{AllAmong}
+use Rattle.kc_memory.specs.Among.{AllAmong}
 use Rattle.kc_memory.specs.Held.{held}
 use Rattle.kc_memory.specs.Image.{Image}
 use Rattle.kc_memory.specs.declared.rule.Rule.{Rule}

@@ -1,7 +1,7 @@
 -- How far the walk of a node's slots has come.
 use Rattle.std.proofs.Common.{◌≡◌, ℕ, zero, suc, ◌+◌, ◌<◌, ◌≤◌, List, [], ◌∷◌, ◌++◌, length, drop, Option, None, Some, refl, sym, ◌∙◌, ap, arith, append_assoc, append-nil}
 use Rattle.std.specs.Prelude.{Result, Ok, Err, IfSome, ⊤}
-use Rattle.kc_found.proofs.Passed.{passed_goes, passed_stops, met-append}
+use Rattle.kc_laws.specs.Trials.{passed_goes, passed_stops, met-append}
 use Rattle.kc_found.specs.Trials.{passed, met}
 use Rattle.kc_found.specs.Violations.{Violation}
 use Rattle.kc_found.specs.XaLayouts.{XaLayout}
@@ -11,7 +11,7 @@ use Rattle.kc_found.specs.declared.asked.Asked.{Asked}
 use Rattle.kc_found.specs.declared.found.WalkStop.{WalkStop}
 use Rattle.kc_found.specs.declared.xarrays.XaItem.{XaItem}
 use Rattle.kc_found.specs.declared.xarrays.XaNode.{XaNode}
-use Rattle.kc_memory.proofs.HeldLaws.{bounded}
+use Rattle.kc_memory.specs.Among.{bounded}
 use Rattle.kc_memory.specs.Held.{word_count}
 use Rattle.kc_memory.specs.Image.{Image}
 use Rattle.kc_memory.specs.declared.words.VWord.{VWord}

@@ -1,7 +1,7 @@
 -- The slots of a node have no violation exactly where they are a finite tree.
 use Rattle.std.proofs.Common.{◌≡◌, ℕ, zero, suc, ◌+◌, ◌-◌, ◌≤◌, List, [], ◌∷◌, ◌++◌, length, Option, Some, refl, ◌∙◌, ap, arith, append_assoc, length-append, ◌⊎◌, inl, inr}
 use Rattle.std.specs.Prelude.{Ok}
-use Rattle.kc_found.proofs.Passed.{met-append, claimed_in-append, unbroken_parts, unbroken_whole}
+use Rattle.kc_laws.specs.Trials.{met-append, claimed_in-append, unbroken_parts, unbroken_whole}
 use Rattle.kc_found.specs.FiniteXarrays.{Tree, own, tree_words, NodeHolds, IsLeaf, item_of, holder_of, IsTree, items, End, Leaf, Down}
 use Rattle.kc_found.specs.Trials.{Trial, met, claimed_in, IsUnbroken}
 use Rattle.kc_found.specs.Violations.{missed}
@@ -15,7 +15,7 @@ use Rattle.kc_found.specs.declared.xarrays.XaHolder.{XaHolder}
 use Rattle.kc_found.specs.declared.xarrays.XaItem.{XaItem}
 use Rattle.kc_found.specs.declared.xarrays.XaNode.{XaNode}
 use Rattle.kc_found.specs.declared.xarrays.XaWords.{XaWords}
-use Rattle.kc_memory.proofs.HeldLaws.{AllAmong, among_append}
+use Rattle.kc_memory.specs.Among.{AllAmong, among_append}
 use Rattle.kc_memory.specs.Held.{held}
 use Rattle.kc_memory.specs.Image.{Image}
 use Rattle.kc_memory.specs.declared.words.VWord.{VWord}

@@ -1,7 +1,7 @@
 -- The head's site, and the node behind it.
 use Rattle.std.proofs.Common.{◌≡◌, ℕ, suc, ◌+◌, ◌-◌, nat_eq, true, List, [], ◌∷◌, ◌++◌, Option, None, Some, refl, sym, ◌∙◌, ap, arith}
 use Rattle.std.specs.Prelude.{Result, Ok, Err, IfSome}
-use Rattle.kc_found.proofs.Passed.{distinct_none, passed_is, passed_stops}
+use Rattle.kc_laws.specs.Trials.{distinct_none, passed_is, passed_stops}
 use Rattle.kc_found.specs.Nodes.{at_offset}
 use Rattle.kc_found.specs.Trials.{Trial, claim, and_then, claimed, passed, met, judged}
 use Rattle.kc_found.specs.Violations.{Violation, breaks}

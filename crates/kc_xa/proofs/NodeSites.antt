@@ -1,7 +1,7 @@
 -- A node's claims and rules, one behind the other.
 use Rattle.std.proofs.Common.{◌≡◌, ℕ, ◌-◌, List, Option, None, Some, ◌∙◌}
 use Rattle.std.specs.Prelude.{Result, Ok, Err}
-use Rattle.kc_found.proofs.Passed.{passed_goes, passed_stops}
+use Rattle.kc_laws.specs.Trials.{passed_goes, passed_stops}
 use Rattle.kc_found.specs.Trials.{passed}
 use Rattle.kc_found.specs.Violations.{Violation}
 use Rattle.kc_found.specs.Walks.{IsWalk, WalksAs}

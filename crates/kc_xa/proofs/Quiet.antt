@@ -1,11 +1,10 @@
 -- What the trials of a node's own words claim and meet.
 use Rattle.std.proofs.Common.{◌≡◌, ℕ, zero, suc, ◌*◌, nat_eq, Bool, true, false, List, [], ◌∷◌, ◌++◌, map, Option, Some, refl, ◌∙◌, ap, append-nil}
 use Rattle.std.specs.Prelude.{Result, Ok, Err, not}
-use Rattle.kc_found.proofs.Known.{ok_after}
-use Rattle.kc_found.proofs.Passed.{met-append, claimed_in-append}
+use Rattle.kc_found.specs.Trials.{ok_after, Trial, broken_if, claim, and_then, met, claimed_in}
+use Rattle.kc_laws.specs.Trials.{met-append, claimed_in-append}
 use Rattle.kc_found.specs.FiniteXarrays.{own}
 use Rattle.kc_found.specs.Nodes.{at_offset}
-use Rattle.kc_found.specs.Trials.{Trial, broken_if, claim, and_then, met, claimed_in}
 use Rattle.kc_found.specs.Violations.{Violation, breaks, missed}
 use Rattle.kc_found.specs.XaLayouts.{XaLayout}
 use Rattle.kc_found.specs.XaNodes.{breaks_in, found_by, behind_entry, first_words, word_of, byte_in, xa_words, is_shift, shift_wanted, is_slot, slot_wanted, parent_wanted, filled, odd, is_count, is_odd_count, xa_rules, xa_claims}
@@ -13,7 +12,8 @@ use Rattle.kc_found.specs.declared.asked.Asked.{Asked}
 use Rattle.kc_found.specs.declared.xarrays.XaHolder.{XaHolder}
 use Rattle.kc_found.specs.declared.xarrays.XaItem.{XaItem}
 use Rattle.kc_found.specs.declared.xarrays.XaWords.{XaWords}
-use Rattle.kc_memory.proofs.HeldLaws.{AllAmong, among_append, found_is_held}
+use Rattle.kc_memory.specs.Among.{AllAmong, among_append}
+use Rattle.kc_laws.specs.Words.{found_is_held}
 use Rattle.kc_memory.specs.Held.{held}
 use Rattle.kc_memory.specs.Image.{Image}
 use Rattle.kc_memory.specs.Stopped.{Stopped}

@@ -1,7 +1,7 @@
 -- Trials without a broken rule go over a finite tree.
 use Rattle.std.proofs.Common.{◌≡◌, ℕ, suc, ◌-◌, nat_eq, Bool, true, false, List, [], ◌∷◌, ◌++◌, map, Option, None, Some, refl, ◌∙◌, ap, ◌⊎◌, inl, inr}
 use Rattle.std.specs.Prelude.{Result, Ok, Err, not}
-use Rattle.kc_found.proofs.Passed.{met-append, claimed_in-append}
+use Rattle.kc_laws.specs.Trials.{met-append, claimed_in-append}
 use Rattle.kc_found.specs.FiniteXarrays.{own, NodeHolds, IsLeaf, item_of}
 use Rattle.kc_found.specs.Nodes.{at_offset}
 use Rattle.kc_found.specs.Trials.{Trial, broken_if, claim, met, claimed_in, IsUnbroken}

@@ -20,14 +20,14 @@ use Rattle.kc_found.specs.declared.xarrays.XaNode.{XaNode}
 use Rattle.kc_found.specs.declared.xarrays.XaWords.{XaWords}
 use Rattle.kc_found.specs.FiniteXarrays.{holder_of}
 use Rattle.kc_found.specs.Nodes.{at_offset}
-use Rattle.kc_found.specs.Trials.{Trial, and_then, broken_if, claim}
+use Rattle.kc_found.specs.Trials.{Trial, and_then, broken_if, claim, ok_after}
 use Rattle.kc_found.specs.Violations.{Violation, breaks, missed}
 use Rattle.kc_found.specs.XaEntries.{kind, slot_fault, head_fault, fit}
 use Rattle.kc_found.specs.XaLayouts.{XaLayout}
 use Rattle.kc_found.specs.XaNodes.{breaks_in, found_by, behind_entry, first_words, xa_words, xa_rules, xa_claims, word_of, is_shift, shift_wanted, is_slot, slot_wanted, parent_wanted, byte_in, is_count, is_odd_count, filled, odd}
 use Rattle.kc_found.specs.XaSites.{entry_trials, Below, index_of, slot_trials, slots_trials, xa_node, node_site, below_words, words_behind, node_trials, head_trials, xa_trials, xa_course, xa_judged}
-use Rattle.kc_found.proofs.Known.{ok_after}
-use Rattle.kc_found.proofs.Shown.{AllShow, all_whole, judged_shows, show_whole}
+use Rattle.kc_found.specs.Showing.{AllShow}
+use Rattle.kc_laws.specs.Places.{all_whole, judged_shows, show_whole}
 use Rattle.kc_xa.specs.Steps.{below}
 use Rattle.kc_xa.proofs.Behind.{node_is}
 use Rattle.kc_xa.proofs.SlotWords.{reader}

@@ -1,7 +1,7 @@
 -- A walk has no violation exactly where there is a finite xarray.
 use Rattle.std.proofs.Common.{◌≡◌, ℕ, suc, ◌+◌, ◌-◌, ◌≤◌, nat_eq, List, [], ◌∷◌, ◌++◌, length, Option, None, Some, refl, sym, ◌∙◌, ap, arith, length-append, ◌⊎◌, inl, inr}
 use Rattle.std.specs.Prelude.{Result, Ok, Err, IfSome, IfOk}
-use Rattle.kc_found.proofs.Passed.{passed_is, passes}
+use Rattle.kc_laws.specs.Trials.{passed_is, passes}
 use Rattle.kc_found.specs.FiniteXarrays.{NoXArray, own, tree_words, Top, IsTop, top_words, top_items, XArray, Bare, Root}
 use Rattle.kc_found.specs.Nodes.{at_offset}
 use Rattle.kc_found.specs.Trials.{Trial, claim, and_then, passed, met, judged, claimed_in, IsUnbroken}
@@ -15,7 +15,7 @@ use Rattle.kc_found.specs.declared.asked.Asked.{Asked}
 use Rattle.kc_found.specs.declared.found.WalkStop.{WalkStop}
 use Rattle.kc_found.specs.declared.xarrays.XaEntry.TheVariants.{Node}
 use Rattle.kc_found.specs.declared.xarrays.XaItem.{XaItem}
-use Rattle.kc_memory.proofs.HeldLaws.{AllAmong, among_append, bounded}
+use Rattle.kc_memory.specs.Among.{AllAmong, among_append, bounded}
 use Rattle.kc_memory.specs.Held.{held, word_count}
 use Rattle.kc_memory.specs.Image.{Image}
 use Rattle.kc_memory.specs.Translation.{vword}

@@ -1,6 +1,6 @@
 use Rattle.std.proofs.Common.{map}
 use Rattle.std.specs.String.{string_bytes}
-use Rattle.kc_ends.proofs.Ending.{fails, parts, tells}
+use Rattle.kc_ends.specs.Ending.{fails, parts, tells}
 use Rattle.kc_app.specs.Commands.{command, usage_text}
 use Rattle.kc_app.specs.Shown.{shown_written}
 use Rattle.kc_app.proofs.Ends.{answer_ends, answer_true}

@@ -1,7 +1,8 @@
 use Rattle.std.proofs.Common.{List, ℕ, rules, arith, ◌∙◌, ◌∷◌, [], ap, length, length-append}
 use Rattle.kc_memory.specs.declared.words.VWord.{VWord}
-use Rattle.kc_memory.proofs.StaysLaws.{stays_on}
-use Rattle.kc_found.proofs.Told.{site_steps, next_steps, two_reads}
+use Rattle.kc_memory.specs.Stays.{stays_on}
+use Rattle.kc_laws.specs.Chains.{site_steps, next_steps, few_steps}
+use Rattle.kc_list.proofs.Spending.{near, one_spare, soon, two_more}
 use Rattle.kc_list.proofs.HashWalk.{hashes, hash_begins, hash_begins_broken, hash_goes, hash_goes_broken, hash_ends, hash_finite, hash_none}
 use Rattle.kc_list.proofs.hlist.hchain.Goals as goal
 
@@ -34,12 +35,12 @@ returns-in-Err-enter_node-clause-none g c = hash_none (λ (xs : List ℕ). xs) (
 pub returns-in-Err-enter_node-clause-bound : goal.returns-in-Err-enter_node-clause-bound
 returns-in-Err-enter_node-clause-bound g c =
     next_steps (hashes c.args.shape.now c.args.audit c.args.head) (g.S.Space.image c.args.space.now) c.loop-from.claims c.loop-from.walked c.loop-from.from (g.S.Space.most c.args.space.now) c.args.steps.now c.loop-from.steps _
-    c.loop-from.invariant.reaches c.loop-from.invariant.steps (rw c.loop-from.invariant.stays.same_most at c.in-Err-enter_node.ensures.steps)
+    c.loop-from.invariant.reaches (one_spare _ _ _ _ c.loop-from.invariant.steps) (rw c.loop-from.invariant.stays.same_most at c.in-Err-enter_node.ensures.steps)
 
 pub returns-in_err-push_node-clause-bound : goal.returns-in_err-push_node-clause-bound
 returns-in_err-push_node-clause-bound g c =
     next_steps (hashes c.args.shape.now c.args.audit c.args.head) (g.S.Space.image c.args.space.now) c.loop-from.claims c.loop-from.walked c.loop-from.from (g.S.Space.most c.args.space.now) c.args.steps.now c.loop-from.steps _
-    c.loop-from.invariant.reaches c.loop-from.invariant.steps (rw c.loop-from.invariant.stays.same_most at c.in-Ok-enter_node.ensures.steps)
+    c.loop-from.invariant.reaches (one_spare _ _ _ _ c.loop-from.invariant.steps) (rw c.loop-from.invariant.stays.same_most at c.in-Ok-enter_node.ensures.steps)
 
 pub loop-from-preserved : goal.loop-from-preserved
 loop-from-preserved g c = record {
@@ -49,7 +50,7 @@ loop-from-preserved g c = record {
   quiet = c.in-Ok-enter_node.ensures.cause ∙ c.loop-from.invariant.quiet;
   fits = search rules;
   steps = rw (ap length c.in_ok-push_node.ensures.added ∙ length-append c.loop-from.walked (c.loop-from.from.value ∷ []))
-      (two_reads (g.S.Space.most c.args.space.now) (length c.loop-from.walked) c.args.steps.now c.loop-from.steps _ c.loop-from.invariant.steps (rw c.loop-from.invariant.stays.same_most at c.in-Ok-enter_node.ensures.steps));
+      (two_more (g.S.Space.most c.args.space.now) (length c.loop-from.walked) c.args.steps.now c.loop-from.steps _ c.loop-from.invariant.steps (rw c.loop-from.invariant.stays.same_most at c.in-Ok-enter_node.ensures.steps));
 }
 
 pub returns-clause-walk : goal.returns-clause-walk
@@ -62,4 +63,12 @@ returns-clause-finite g c = hash_finite (λ (xs : List ℕ). xs) (g.S.Space.imag
 
 pub returns-clause-bound : goal.returns-clause-bound
 returns-clause-bound g c =
-    site_steps (hashes c.args.shape.now c.args.audit c.args.head) (g.S.Space.image c.args.space.now) c.loop-from.claims c.loop-from.walked c.loop-from.from (g.S.Space.most c.args.space.now) c.args.steps.now _ c.loop-from.invariant.reaches c.loop-from.invariant.steps
+    site_steps (hashes c.args.shape.now c.args.audit c.args.head) (g.S.Space.image c.args.space.now) c.loop-from.claims c.loop-from.walked c.loop-from.from (g.S.Space.most c.args.space.now) c.args.steps.now _ c.loop-from.invariant.reaches (one_spare _ _ _ _ c.loop-from.invariant.steps)
+
+pub returns-in-Err-clause-soon : goal.returns-in-Err-clause-soon
+returns-in-Err-clause-soon g c = soon (List ℕ) (hashes c.args.shape.now c.args.audit c.args.head) (g.S.Space.image c.args.space.now) c.in-Err.stop (g.S.Space.most c.args.space.now) c.args.steps.now _ (omega (arith, c.in-Err.ensures.steps))
+
+pub returns-in-Err-enter_node-clause-soon : goal.returns-in-Err-enter_node-clause-soon
+returns-in-Err-enter_node-clause-soon g c =
+    near (List ℕ) (hashes c.args.shape.now c.args.audit c.args.head) (g.S.Space.image c.args.space.now) c.in-Err-enter_node.stop c.loop-from.claims c.loop-from.walked c.loop-from.from (g.S.Space.most c.args.space.now) c.args.steps.now c.loop-from.steps _
+    c.loop-from.invariant.reaches (one_spare _ _ _ _ c.loop-from.invariant.steps) (rw c.loop-from.invariant.stays.same_most at c.in-Err-enter_node.ensures.steps)

@@ -1,7 +1,8 @@
 use Rattle.std.proofs.Common.{List, ℕ, rules, arith, ◌∙◌, ◌∷◌, [], ap, length, length-append}
 use Rattle.kc_memory.specs.declared.words.VWord.{VWord}
-use Rattle.kc_memory.proofs.StaysLaws.{stays_on}
-use Rattle.kc_found.proofs.Told.{site_steps, next_steps, two_reads}
+use Rattle.kc_memory.specs.Stays.{stays_on}
+use Rattle.kc_laws.specs.Chains.{site_steps, next_steps, two_reads}
+use Rattle.kc_list.proofs.Spending.{near, soon}
 use Rattle.kc_list.proofs.RingWalk.{rings, led_to, begins, begins_broken, goes, goes_broken, ends_well, ends_broken, finite, none}
 use Rattle.kc_list.proofs.list.ring.Goals as goal
 
@@ -75,3 +76,16 @@ returns-clause-finite g c = finite (λ (xs : List ℕ). xs) (g.S.Space.image c.a
 pub returns-clause-bound : goal.returns-clause-bound
 returns-clause-bound g c =
     site_steps (rings c.args.shape.now c.args.audit c.args.head) (g.S.Space.image c.args.space.now) c.loop-from.claims c.loop-from.walked (led_to c.loop-from.from c.loop-from.before c.in-Ok.links.1) (g.S.Space.most c.args.space.now) c.args.steps.now _ c.loop-from.invariant.reaches c.loop-from.invariant.steps
+
+pub returns-in-Err-clause-soon : goal.returns-in-Err-clause-soon
+returns-in-Err-clause-soon g c = soon (List ℕ) (rings c.args.shape.now c.args.audit c.args.head) (g.S.Space.image c.args.space.now) c.in-Err.stop (g.S.Space.most c.args.space.now) c.args.steps.now _ c.in-Err.ensures.steps
+
+pub returns-in-Err-enter_node-clause-soon : goal.returns-in-Err-enter_node-clause-soon
+returns-in-Err-enter_node-clause-soon g c =
+    near (List ℕ) (rings c.args.shape.now c.args.audit c.args.head) (g.S.Space.image c.args.space.now) c.in-Err-enter_node.stop c.loop-from.claims c.loop-from.walked (led_to c.loop-from.from c.loop-from.before c.in-Ok.links.1) (g.S.Space.most c.args.space.now) c.args.steps.now c.loop-from.steps _
+    c.loop-from.invariant.reaches c.loop-from.invariant.steps (rw c.loop-from.invariant.stays.same_most at c.in-Err-enter_node.ensures.steps)
+
+pub returns-then-last-before-clause-soon : goal.returns-then-last-before-clause-soon
+returns-then-last-before-clause-soon g c =
+    near (List ℕ) (rings c.args.shape.now c.args.audit c.args.head) (g.S.Space.image c.args.space.now) c.broken_at.result c.loop-from.claims c.loop-from.walked (led_to c.loop-from.from c.loop-from.before c.in-Ok.links.1) (g.S.Space.most c.args.space.now) c.args.steps.now c.loop-from.steps _
+    c.loop-from.invariant.reaches c.loop-from.invariant.steps (omega arith)

@@ -1,6 +1,6 @@
 use Rattle.std.proofs.Common.{◌≡◌, ◌+◌, ◌*◌, ◌^◌, ◌-◌, ◌<◌, ◌≤◌, length}
 use Rattle.kc_memory.specs.Stays.{SpaceStays}
-use Rattle.kc_found.proofs.Told.{Reaches}
+use Rattle.kc_found.specs.Going.{Reaches}
 use Rattle.kc_list.proofs.RingWalk.{rings, led_to}
 use Rattle.kc_list.proofs.list.ring.Given as goal
 

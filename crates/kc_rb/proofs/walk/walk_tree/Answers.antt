@@ -3,7 +3,7 @@ use Rattle.kc_found.specs.declared.trees.RbHead.{RbHead}
 use Rattle.kc_found.specs.declared.trees.RbKey.{RbKey}
 use Rattle.kc_found.specs.declared.trees.RbLinks.{RbLinks}
 use Rattle.kc_found.specs.RbTrees.{left_spot, right_spot}
-use Rattle.kc_found.proofs.Told.{few_steps}
+use Rattle.kc_laws.specs.Chains.{few_steps}
 use Rattle.kc_rb.specs.declared.walk.Task.TheVariants.{Visit, Give}
 use Rattle.kc_rb.proofs.Rise.{rise_starts, rise_stops, rise_gives, rise_skips, rise_differs, rise_enters, rise_breaks, rise_bound, most_first, most_on, deep_pop, deep_push, blacks_below}
 use Rattle.kc_rb.proofs.walk.walk_tree.Goals as goal

@@ -1,7 +1,7 @@
 use Rattle.std.proofs.Common.{◌≡◌, ◌∙◌, List, ℕ, Some, slice_get, map, option_map, ap, arith}
 use Rattle.std.proofs.lemmas.List.{length-map}
 use Rattle.std.proofs.lemmas.Option.{slice_get-map}
-use Rattle.kc_memory.proofs.StaysLaws.{stays_on}
+use Rattle.kc_memory.specs.Stays.{stays_on}
 use Rattle.kc_view.specs.Typed.{Typed}
 use Rattle.kc_plan.specs.declared.planned.Check.{Check}
 use Rattle.kc_plan.specs.Planned.{check_seen}

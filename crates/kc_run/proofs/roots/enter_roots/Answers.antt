@@ -1,5 +1,5 @@
 use Rattle.std.proofs.Common.{◌∙◌}
-use Rattle.kc_memory.proofs.StaysLaws.{stays_on}
+use Rattle.kc_memory.specs.Stays.{stays_on}
 use Rattle.kc_plan.specs.Seen.{world, all_seen}
 use Rattle.kc_plan.specs.Planned.{audit_seen}
 use Rattle.kc_plan.specs.Views.{plan_seen}

@@ -1,8 +1,9 @@
 use Rattle.std.proofs.Common.{List, ℕ, rules, ◌∙◌, ◌∷◌, [], ap, length, length-append}
 use Rattle.kc_memory.specs.Bits.{Number}
-use Rattle.kc_memory.proofs.StaysLaws.{stays_on}
+use Rattle.kc_memory.specs.Stays.{stays_on}
 use Rattle.kc_found.specs.FreeLists.{free_first}
-use Rattle.kc_found.proofs.Told.{site_steps, next_steps, two_reads}
+use Rattle.kc_laws.specs.Chains.{site_steps, next_steps}
+use Rattle.kc_slub.proofs.Spending.{two_more, two_spare}
 use Rattle.kc_slub.proofs.FreeWalk.{asked_at, frees, free_begins, free_goes, free_goes_broken, free_ends, free_finite, free_none}
 use Rattle.kc_slub.proofs.free.free_walk.Goals as goal
 
@@ -26,12 +27,12 @@ returns-in-Err-clause-none g c = free_none (λ (xs : List ℕ). xs) (g.S.Space.i
 pub returns-in-Err-clause-bound : goal.returns-in-Err-clause-bound
 returns-in-Err-clause-bound g c =
     next_steps (frees c.args.grid.now (asked_at c.args.audit c.args.start) (free_first c.args.first)) (g.S.Space.image c.args.space.now) c.loop-led.claims c.loop-led.walked c.loop-led.led (g.S.Space.most c.args.space.now) c.args.steps.now c.loop-led.steps _
-    c.loop-led.invariant.reaches c.loop-led.invariant.steps (rw c.loop-led.invariant.stays.same_most at c.in-Err.ensures.steps)
+    c.loop-led.invariant.reaches (two_spare _ _ _ _ c.loop-led.invariant.steps) (rw c.loop-led.invariant.stays.same_most at c.in-Err.ensures.steps)
 
 pub returns-in_err-push_object-clause-bound : goal.returns-in_err-push_object-clause-bound
 returns-in_err-push_object-clause-bound g c =
     next_steps (frees c.args.grid.now (asked_at c.args.audit c.args.start) (free_first c.args.first)) (g.S.Space.image c.args.space.now) c.loop-led.claims c.loop-led.walked c.loop-led.led (g.S.Space.most c.args.space.now) c.args.steps.now c.loop-led.steps _
-    c.loop-led.invariant.reaches c.loop-led.invariant.steps (rw c.loop-led.invariant.stays.same_most at c.in-Ok.ensures.steps)
+    c.loop-led.invariant.reaches (two_spare _ _ _ _ c.loop-led.invariant.steps) (rw c.loop-led.invariant.stays.same_most at c.in-Ok.ensures.steps)
 
 pub loop-led-preserved : goal.loop-led-preserved
 loop-led-preserved g c = record {
@@ -41,7 +42,7 @@ loop-led-preserved g c = record {
   quiet = c.in-Ok.ensures.cause ∙ c.loop-led.invariant.quiet;
   fits = search rules;
   steps = rw (ap length c.in_ok-push_object.ensures.added ∙ length-append c.loop-led.walked (c.loop-led.led.to ∷ []))
-      (two_reads (g.S.Space.most c.args.space.now) (length c.loop-led.walked) c.args.steps.now c.loop-led.steps _ c.loop-led.invariant.steps (rw c.loop-led.invariant.stays.same_most at c.in-Ok.ensures.steps));
+      (two_more (g.S.Space.most c.args.space.now) (length c.loop-led.walked) c.args.steps.now c.loop-led.steps _ c.loop-led.invariant.steps (rw c.loop-led.invariant.stays.same_most at c.in-Ok.ensures.steps));
 }
 
 pub returns-clause-walk : goal.returns-clause-walk
@@ -54,4 +55,4 @@ returns-clause-finite g c = free_finite (λ (xs : List ℕ). xs) (g.S.Space.imag
 
 pub returns-clause-bound : goal.returns-clause-bound
 returns-clause-bound g c =
-    site_steps (frees c.args.grid.now (asked_at c.args.audit c.args.start) (free_first c.args.first)) (g.S.Space.image c.args.space.now) c.loop-led.claims c.loop-led.walked c.loop-led.led (g.S.Space.most c.args.space.now) c.args.steps.now _ c.loop-led.invariant.reaches c.loop-led.invariant.steps
+    site_steps (frees c.args.grid.now (asked_at c.args.audit c.args.start) (free_first c.args.first)) (g.S.Space.image c.args.space.now) c.loop-led.claims c.loop-led.walked c.loop-led.led (g.S.Space.most c.args.space.now) c.args.steps.now _ c.loop-led.invariant.reaches (two_spare _ _ _ _ c.loop-led.invariant.steps)

@@ -1,5 +1,5 @@
 use Rattle.std.proofs.Common.{rules, arith, ◌∙◌}
-use Rattle.kc_memory.proofs.StaysLaws.{stays_on}
+use Rattle.kc_memory.specs.Stays.{stays_on}
 use Rattle.kc_slub.proofs.Steps.{slabs_stop, slabs_go, slabs_end}
 use Rattle.kc_slub.proofs.walk.check_slabs.Goals as goal
 

@@ -1,5 +1,5 @@
 use Rattle.std.proofs.Common.{List, ℕ, rules, arith, ◌∙◌}
-use Rattle.kc_memory.proofs.StaysLaws.{stays_on}
+use Rattle.kc_memory.specs.Stays.{stays_on}
 use Rattle.kc_slub.proofs.Steps.{nodes_stop, nodes_go, nodes_end}
 use Rattle.kc_slub.proofs.walk.walk_nodes.Goals as goal
 

@@ -1,6 +1,5 @@
 use Rattle.std.proofs.Common.{◌+◌, sym, ◌∙◌, arith, lit<}
-use Rattle.kc_word.proofs.HexLemmas.{digit_fits, power_fits}
-use Rattle.kc_syms.proofs.DigitLemmas.{bad_digit, lists, next_digit, no_digit}
+use Rattle.kc_syms.proofs.DigitLemmas.{bad_digit, digit_fits, lists, next_digit, no_digit, power_fits}
 use Rattle.kc_syms.proofs.row.listed_in.Goals as goal
 
 pub overflow_mul-listed : goal.overflow_mul-listed

@@ -1,5 +1,5 @@
 use Rattle.std.proofs.Common.{rules, arith, ◌∙◌}
-use Rattle.kc_memory.proofs.StaysLaws.{stays_on}
+use Rattle.kc_memory.specs.Stays.{stays_on}
 use Rattle.kc_view.specs.TaskLists.{thread_checked}
 use Rattle.kc_task.proofs.Passing.{pass_stop, pass_go, pass_end}
 use Rattle.kc_task.proofs.group.check_all.Goals as goal

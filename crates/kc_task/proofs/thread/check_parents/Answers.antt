@@ -1,5 +1,5 @@
 use Rattle.std.proofs.Common.{rules, arith, ◌∙◌}
-use Rattle.kc_memory.proofs.StaysLaws.{stays_on}
+use Rattle.kc_memory.specs.Stays.{stays_on}
 use Rattle.kc_memory.specs.declared.rule.Rule.TheVariants.{T5}
 use Rattle.kc_view.specs.Fields.{holds}
 use Rattle.kc_task.proofs.Passing.{pass_stop, pass_go, pass_end}

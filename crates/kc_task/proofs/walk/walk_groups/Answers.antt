@@ -1,5 +1,5 @@
 use Rattle.std.proofs.Common.{List, ℕ, rules, arith, ◌∙◌}
-use Rattle.kc_memory.proofs.StaysLaws.{stays_on}
+use Rattle.kc_memory.specs.Stays.{stays_on}
 use Rattle.kc_view.specs.TaskLists.{leader_checked}
 use Rattle.kc_task.proofs.Passing.{gather_stop, gather_go, gather_end}
 use Rattle.kc_task.proofs.walk.walk_groups.Goals as goal

@@ -24,9 +24,9 @@ pub returns-in_default-clause-spelled : goal.returns-in_default-clause-spelled
 returns-in_default-clause-spelled c =
     let so_far = rw c.in-Some.ensures.steps at c.loop-line.invariant in
     let bad = reads_bad _ c.loop-line.number c.in-Some.line.now c.next.new.self _ so_far.3 (sym c.in_default.ensures) in
-    answers_by_spelling (Err (S1 c.loop-line.number)) c.args.bytes.now bad
+    answers_by_spelling c.know_hex.ensures (Err (S1 c.loop-line.number)) c.args.bytes.now bad
 
 pub returns-clause-spelled : goal.returns-clause-spelled
 returns-clause-spelled c =
     let so_far = rw c.in-None.ensures.steps.0 at c.loop-line.invariant in
-    answers_by_spelling (Ok record { index = c.loop-line.index }) c.args.bytes.now (reads_all _ c.loop-line.number _ so_far.3)
+    answers_by_spelling c.know_hex.ensures (Ok record { index = c.loop-line.index }) c.args.bytes.now (reads_all _ c.loop-line.number _ so_far.3)

@@ -1,5 +1,5 @@
 -- What follows for a program from what its words come to and from how it ends.
-use Rattle.std.proofs.Common.{◌≡◌, ℕ, ◌-◌, ◌^◌, ◌<◌, Bool, true, false, nat_eq, List, Option, Some, None, option_map, IfSome, inl, inr, Result, Ok, Err, refl, ◌∙◌}
+use Rattle.std.proofs.Common.{◌≡◌, ℕ, ◌-◌, ◌^◌, ◌<◌, Bool, true, false, nat_eq, List, Option, Some, None, option_map, IfSome, inl, inr, Result, Ok, Err, refl, sym, ap, subst, ◌∙◌}
 use Rattle.std.specs.Bool.{OnTrue}
 use Rattle.kc_outside.specs.declared.store.Slot.{Slot}
 use Rattle.kc_outside.specs.Counts.{Rose}
@@ -12,7 +12,7 @@ use Rattle.kc_ends.specs.declared.status.Status.{Status}
 use Rattle.kc_ends.specs.declared.status.Status.TheVariants.{SinkFailed}
 use Rattle.kc_ends.specs.Answers.{OnStoreIn, Runs, ending}
 use Rattle.kc_ends.specs.Asked.{Asked, asked_files}
-use Rattle.kc_ends.specs.Ends.{ErrFailed, IsTold, IsWritten, TookLine, TookOut, TookPart}
+use Rattle.kc_ends.specs.Ends.{ErrFailed, IsTold, IsWritten, TookErr, TookLine, TookOut, TookPart}
 use Rattle.kc_ends.specs.Output.{Ends, ended, written, written_files}
 use Rattle.kc_ends.specs.Status.{At, is_answer, number}
 use Rattle.kc_ends.specs.Written.{Written}
@@ -32,9 +32,11 @@ ends_written usage write (Some r) = refl
 runs_output : {A : Type 0} (usage : List ℕ) (write : A → Written) (asks : Option (Asked A)) (files : Option Files) (outcome : Option (Result Answer Halt)) (old new : Slot → Option (List ℕ))
     → Runs write asks files outcome old new → IsOutputOf (written_files usage write asks) files (ending usage outcome)
 runs_output usage write asks None outcome old new runs = tt
-runs_output usage write asks (Some f) None old new runs = rw runs refl
-runs_output usage write asks (Some f) (Some (Ok answer)) old new runs = rw runs.is (ends_written usage write (runs.asked.made (asked_files runs.asked f)) ∙ runs.prints)
-runs_output usage write asks (Some f) (Some (Err (Refused refusal))) old new runs = rw runs.is (rw runs.prints refl)
+runs_output usage write asks (Some f) None old new runs = ap (λ a. written_files usage write a f) runs
+runs_output usage write asks (Some f) (Some (Ok answer)) old new runs =
+    ap (λ a. written_files usage write a f) runs.is ∙ ends_written usage write (runs.asked.made (asked_files runs.asked f)) ∙ runs.prints
+runs_output usage write asks (Some f) (Some (Err (Refused refusal))) old new runs =
+    ap (λ a. written_files usage write a f) runs.is ∙ ap (λ m. option_map (written usage write) (option_map Ends m)) runs.prints
 runs_output usage write asks (Some f) (Some (Err Store)) old new runs = tt
 runs_output usage write asks (Some f) (Some (Err Memory)) old new runs = tt
 
@@ -42,13 +44,14 @@ is_told : (output : Files → Option Written) (files : Option Files) (came : Opt
     → IsOutputOf output files came → IsWritten came status out_old out_new err_old err_new → IsTold output files status out_old out_new err_old err_new
 is_told output None came status out_old out_new err_old err_new is ends = tt
 is_told output (Some f) None status out_old out_new err_old err_new is ends = absurd ends
-is_told output (Some f) (Some w) status out_old out_new err_old err_new is ends = rw is ends
+is_told output (Some f) (Some w) status out_old out_new err_old err_new is ends =
+    subst (λ (o : Option Written). IsWritten o status out_old out_new err_old err_new) (sym is) ends
 
 took_part : (output : Files → Option Written) (files : Option Files) (came : Option Written) (old new : Option (List ℕ))
     → IsOutputOf output files came → TookOut came old new → TookPart output files old new
 took_part output None came old new is took = tt
 took_part output (Some f) None old new is took = absurd took
-took_part output (Some f) (Some w) old new is took = rw is took
+took_part output (Some f) (Some w) old new is took = subst (λ (o : Option Written). TookOut o old new) (sym is) took
 
 took_line : {P Q : Type 0} (output : Files → Option Written) (files : Option Files) (came : Option Written) (old new : Option (List ℕ))
     → IsOutputOf output files came → (P → Q) → TookLine came P old new → ErrFailed output files Q old new
@@ -56,12 +59,12 @@ took_line output None came old new is rose took = tt
 took_line output (Some f) None old new is rose (inl took) = absurd took
 took_line output (Some f) None old new is rose (inr (inl took)) = inr (inl took)
 took_line output (Some f) None old new is rose (inr (inr took)) = inr (inr (rose took.0, took.1))
-took_line output (Some f) (Some w) old new is rose (inl took) = inl (rw is took)
+took_line output (Some f) (Some w) old new is rose (inl took) = inl (subst (λ (o : Option Written). TookErr o old new) (sym is) took)
 took_line output (Some f) (Some w) old new is rose (inr (inl took)) = inr (inl took)
 took_line output (Some f) (Some w) old new is rose (inr (inr took)) = inr (inr (rose took.0, took.1))
 
 rose_where_failed : {P : Type 0} (outcome : Option (Result Answer Halt)) → OnStoreIn outcome P → outcome ≡ Some (Err Store) → P
-rose_where_failed outcome cause is = rw is at cause
+rose_where_failed {P} outcome cause is = subst (λ (o : Option (Result Answer Halt)). OnStoreIn o P) is cause
 
 -- an answer is the one that the files have
 pub tells : {A : Type 0} (usage : List ℕ) (write : A → Written) (asks : Option (Asked A)) (files : Option Files) (outcome : Option (Result Answer Halt)) (old new : Slot → Option (List ℕ)) (status : Status) (out_old out_new err_old err_new : Option (List ℕ))

@@ -1,6 +1,6 @@
--- Steps of a walk that come to something, and what their violations show.
-use Rattle.std.proofs.Common.{◌≡◌, ℕ, ◌/◌, nat_eq, Bool, true, false, [], ◌∷◌, Some, option_map, refl, ◌∙◌, ap, subst, eq-eqb}
-use Rattle.std.specs.Prelude.{Result, Ok, Err, not, ⊤}
+-- The laws of steps: when one comes to something, and that the places of its violation stand in the dump.
+use Rattle.std.proofs.Common.{◌≡◌, ℕ, ◌/◌, nat_eq, Bool, true, false, [], ◌∷◌, Option, Some, None, option_map, refl, ◌∙◌, sym, ap, subst, eq-eqb, true≢false}
+use Rattle.std.specs.Prelude.{Result, Ok, Err, not, ⊤, OnOk, OnSome}
 use Rattle.std.proofs.lemmas.Bool.{eqb-true}
 use Rattle.kc_memory.specs.declared.rule.Rule.{Rule}
 use Rattle.kc_memory.specs.declared.words.VWord.{VWord}
@@ -20,13 +20,25 @@ use Rattle.kc_view.specs.Pointers.{behind}
 use Rattle.kc_view.specs.Typed.{bytes_on}
 use Rattle.kc_found.specs.declared.asked.Asked.{Asked}
 use Rattle.kc_found.specs.Nodes.{readable}
-use Rattle.kc_found.specs.Trials.{and_then}
-use Rattle.kc_found.specs.Violations.{Violation}
-use Rattle.kc_found.proofs.Known.{ok_after}
+use Rattle.kc_found.specs.Trials.{and_then, ok_after}
+use Rattle.kc_found.specs.Violations.{Violation, missed}
+
+-- an error is no answer
+no_err : {A E : Type 0} (e : E) (x : A) → ◌≡◌ {A = Result A E} (Err e) (Ok x) → ⊥
+no_err {A} {E} e x is = subst (λ (r : Result A E). OnOk r ⊥) is tt
+
+-- the same answer beside other errors
+abbrev again : {A E F : Type 0} → A → Result A E → Result A F
+again a (Ok x) = Ok x
+again a (Err e) = Ok a
+
+abbrev else_ : {A : Type 0} → A → Option A → A
+else_ a (Some x) = x
+else_ a None = a
 
 -- a rule that isn't broken
 pub unless_ok : {A : Type 0} (b : Bool) (v : Violation) (r : Result A Violation) (x : A) → unless b v r ≡ Ok x → (b ≡ false) × (r ≡ Ok x)
-unless_ok true v r x e = absurd (cc)
+unless_ok {A} true v r x e = absurd (no_err {A = A} v x e)
 unless_ok false v r x e = (refl, e)
 
 pub unless_is : {A : Type 0} (b : Bool) (v : Violation) (r : Result A Violation) (x : A) → b ≡ false → r ≡ Ok x → unless b v r ≡ Ok x
@@ -37,17 +49,17 @@ pub then_is : {A B E : Type 0} (r : Result A E) (f : A → Result B E) (x : A) (
 then_is r f x y e is = ap (λ q. and_then q f) e ∙ is
 
 pub missed_ok : {A : Type 0} (asked : Asked) (r : Result A Stopped) (x : A) → or_missed asked r ≡ Ok x → r ≡ Ok x
-missed_ok asked (Ok a) x e = let same : a ≡ x = cc in ap Ok same
-missed_ok asked (Err s) x e = absurd (cc)
+missed_ok {A} asked (Ok a) x e = ap (λ (r : Result A Violation). again a r) e
+missed_ok {A} asked (Err s) x e = absurd (no_err {A = A} (missed asked None s) x e)
 
 pub started_ok : {A : Type 0} (start : ℕ) (r : Result A Violation) (x : A) → started_at start r ≡ Ok x → r ≡ Ok x
-started_ok start (Ok a) x e = let same : a ≡ x = cc in ap Ok same
-started_ok start (Err v) x e = absurd (cc)
+started_ok start (Ok a) x e = e
+started_ok {A} start (Err v) x e = absurd (no_err {A = A} (record v { start = start }) x e)
 
 -- what can be read
 pub some_of : {A B : Type 0} (f : A → B) (r : Result A Stopped) (v : B) → option_map f (readable r) ≡ Some v → (x : A) × (r ≡ Ok x) × (f x ≡ v)
-some_of f (Ok a) v e = (a, refl, cc)
-some_of f (Err s) v e = absurd (cc)
+some_of {A} {B} f (Ok a) v e = (a, refl, ap (λ (o : Option B). else_ (f a) o) e)
+some_of {A} {B} f (Err s) v e = absurd (subst (λ (o : Option B). OnSome o ⊥) e tt)
 
 pub is_some : {A B : Type 0} (f : A → B) (r : Result A Stopped) (x : A) → r ≡ Ok x → option_map f (readable r) ≡ Some (f x)
 is_some f r x e = ap (λ q. option_map f (readable q)) e
@@ -69,7 +81,7 @@ field_read image asked at f v e =
 -- two numbers that have to be equal
 clean_is : (b : Bool) → not b ≡ false → b ≡ true
 clean_is true e = refl
-clean_is false e = absurd (cc)
+clean_is false e = absurd (true≢false e)
 
 pub equal_of : (n m : ℕ) → not (nat_eq n m) ≡ false → n ≡ m
 equal_of n m e = eqb-true n m (clean_is (nat_eq n m) e)
@@ -112,8 +124,7 @@ shows_all image (Ok x) all = tt
 shows_all image (Err v) all = all v refl
 
 pub shown_by : {A : Type 0} (image : Image) (r : Result A Violation) (v : Violation) → Shows image r → r ≡ Err v → AllStandIn image v.places
-shown_by image (Ok x) v here is = absurd (cc)
-shown_by image (Err u) v here is = let same : u ≡ v = cc in subst (λ (w : Violation). AllStandIn image w.places) same here
+shown_by {A} image r v here is = subst (λ (q : Result A Violation). Shows image q) is here
 
 -- a word that is read
 word_by : (image : Image) (asked : Asked) (r : Result VWord Stopped) → AllStandIn image (places_of r) → Shows image (or_missed asked r)
@@ -142,7 +153,7 @@ numbered_behind (Err s) go byte = refl
 
 field_stands : ValuesStand → (image : Image) (at : ℕ) (f : Field) → AllStandIn image (number_places (field_places (field_of image at f)))
 field_stands values image at f =
-    rw (numbered_behind (behind image at (hop_list f.hops)) (λ end. bits image end f.bits.bit f.bits.width f.bits.signed) (f.bits.bit / 8))
+    subst (λ (r : Result Number Stopped). AllStandIn image (number_places r)) (sym (numbered_behind (behind image at (hop_list f.hops)) (λ end. bits image end f.bits.bit f.bits.width f.bits.signed) (f.bits.bit / 8)))
     (values image at (hop_list f.hops) (record { bit = f.bits.bit; width = f.bits.width; signed = f.bits.signed }))
 
 field_by : (image : Image) (asked : Asked) (r : Result FieldNumber Stopped) → AllStandIn image (number_places (field_places r)) → Shows image (or_missed asked r)

@@ -1,0 +1,95 @@
+-- Formats put together: what holds of the parts holds of the whole. And lines that are read one by one to the end of the bytes.
+use Rattle.std.specs.Prelude.{◌≡◌, ℕ, ◌+◌, ◌<◌, ◌≤◌, false, List, [], ◌∷◌, ◌++◌, length, Result, Ok, Err}
+use Rattle.kc_text.specs.Format.{Format, Begins, IsRead, IsFormat, IsWhole, IsPlace}
+use Rattle.kc_text.specs.Readers.{IsAmong, decimal_and, digit_from, hex16, is_digit, is_name_byte, literal, name_and, one_of, read_one_of}
+use Rattle.kc_text.specs.Compose.{Goes, after, both, either, followed, lines, mapped, nothing}
+use Rattle.kc_text.proofs.FormatLaws as made
+use Rattle.kc_text.proofs.LineLaws as lined
+use Rattle.kc_text.proofs.ReaderLaws as read
+
+-- an answer isn't an error
+pub ok_not_err : {A E : Type 0} (a : A) (e : E) → ◌≡◌ {A = Result A E} (Ok a) (Err e) → ⊥
+ok_not_err = made.ok_not_err
+
+-- a literal
+pub literal-law : (text : List ℕ) → IsFormat (literal text)
+literal-law = read.literal-law
+
+-- a name, up to a byte that stands in no name
+pub name-law : (end : ℕ) → is_name_byte end ≡ false → IsFormat (name_and end)
+name-law = read.name-law
+
+-- a decimal number, up to a byte that is no digit
+pub decimal-law : (end : ℕ) → is_digit end ≡ false → IsFormat (decimal_and end)
+decimal-law = read.decimal-law
+
+-- a number of 16 hex digits
+pub hex-law : IsFormat hex16
+hex-law = read.hex-law
+
+-- one digit
+pub digit-law : (low high : ℕ) → low ≤ high → IsFormat (digit_from low high)
+digit-law = read.digit-law
+
+-- one text after another, where each first value has a second
+pub both-law : {X Y : Type 0} (After : List ℕ → Type 0) (f : Format X) (g : X → Format Y) → IsFormat f → ((x : X) → f.Good x → IsRead After (g x))
+    → ((x : X) → f.Good x → (y : Y) × (g x).Good y) → IsRead After (both f g)
+both-law = made.both-law
+
+-- the same texts for other values
+pub mapped-law : {X Y : Type 0} (to : X → Y) (Good : Y → Type 0) (spell : Y → List ℕ) (After : List ℕ → Type 0) (f : Format X) → IsRead After f
+    → ((x : X) → f.Good x → Good (to x) × (spell (to x) ≡ f.spell x)) → ((y : Y) → Good y → (x : X) × f.Good x × (to x ≡ y)) → IsRead After (mapped to Good spell f)
+mapped-law = made.mapped-law
+
+-- nothing, for one value
+pub nothing-law : {X : Type 0} (x : X) → IsFormat (nothing x)
+nothing-law = made.nothing-law
+
+-- one of two formats, where no text of the first is read by the second
+pub either-law : {X Y : Type 0} (After : List ℕ → Type 0) (f : Format X) (g : Format Y) → IsRead After f → IsRead After g
+    → ((x : X) (more : List ℕ) → f.Good x → (t : Y × List ℕ) → g.read (f.spell x ++ more) ≡ Ok t → ⊥) → IsRead After (either f g)
+either-law = made.either-law
+
+-- a text that always stands before a value's
+pub after-law : {X : Type 0} (After : List ℕ → Type 0) (text : List ℕ) (f : Format X) → IsRead After f → (x : X) × f.Good x → IsRead After (after text f)
+after-law = lined.after-law
+
+-- and one that always stands after it
+pub followed-law : {X : Type 0} (f : Format X) (text : List ℕ) → IsFormat f → IsFormat (followed f text)
+followed-law = lined.followed-law
+
+-- one of these values, each of which is read back from its text
+pub one-law : {X : Type 0} (spell : X → List ℕ) (x : X) (xs : List X)
+    → ((y : X) (rest : List ℕ) → IsAmong y (x ∷ xs) → read_one_of spell (x ∷ xs) (spell y ++ rest) ≡ Ok (y, rest)) → IsFormat (one_of spell (x ∷ xs))
+one-law = lined.one-law
+
+-- lines to the end
+pub lines-law : {X : Type 0} (f : Format X) → IsFormat f → ((x : X) → f.Good x → 1 ≤ length (f.spell x)) → IsWhole (lines f)
+lines-law = lined.lines-law
+
+-- a loop over lines: one more is read, and fewer bytes are left
+pub goes-more : {X : Type 0} (f : Format X) → IsFormat f → ((x : X) → f.Good x → 1 ≤ length (f.spell x)) → (bytes : List ℕ) (done : List X) (rest next : List ℕ) (x : X)
+    → Goes f bytes done rest → 1 ≤ length rest → f.read rest ≡ Ok (x, next) → Goes f bytes (done ++ x ∷ []) next
+goes-more = lined.goes-more
+
+pub goes-smaller : {X : Type 0} (f : Format X) → IsFormat f → ((x : X) → f.Good x → 1 ≤ length (f.spell x)) → (rest next : List ℕ) (x : X)
+    → f.read rest ≡ Ok (x, next) → length next < length rest
+goes-smaller = lined.goes-smaller
+
+-- where it stops, reading the lines stops
+pub goes-stop : {X : Type 0} (f : Format X) → IsFormat f → ((x : X) → f.Good x → 1 ≤ length (f.spell x)) → (bytes : List ℕ) (done : List X) (rest stop : List ℕ)
+    → Goes f bytes done rest → 1 ≤ length rest → f.read rest ≡ Err stop → (lines f).read bytes ≡ Err stop
+goes-stop = lined.goes-stop
+
+-- where no byte is left, the lines are read
+pub goes-end : {X : Type 0} (f : Format X) → IsFormat f → ((x : X) → f.Good x → 1 ≤ length (f.spell x)) → (bytes : List ℕ) (done : List X) (rest : List ℕ)
+    → Goes f bytes done rest → length rest ≡ 0 → (lines f).read bytes ≡ Ok (done, [])
+goes-end = lined.goes-end
+
+-- where reading stops: the length of the bytes before it is that of the longest front that begins a text
+pub stop-place : {X : Type 0} (f : Format X) → IsWhole f → (bytes rest : List ℕ) → f.read bytes ≡ Err rest → (n : ℕ) → n + length rest ≡ length bytes → IsPlace (Begins f) bytes n
+stop-place = lined.stop-place
+
+-- and these bytes are no value's text
+pub stop-none : {X : Type 0} (f : Format X) → IsWhole f → (bytes rest : List ℕ) → f.read bytes ≡ Err rest → (x : X) → f.Good x → bytes ≡ f.spell x → ⊥
+stop-none = lined.stop-none

@@ -1,0 +1,7 @@
+pub mod Chains
+pub mod Formats
+pub mod Lists
+pub mod Pairs
+pub mod Places
+pub mod Trials
+pub mod Words

@@ -1,0 +1,3 @@
+//! Laws of the definitions of walks, for the crates whose proofs build on them. Each is stated in `specs/`, and proved in the
+//! crate of its definitions.
+#![tactic(auto)]
