@@ -1,7 +1,10 @@
 // The files of a case, before words and bytes of them are changed.
+ghost use Rattle.std.specs.Prelude.{◌≤◌};
+
 use crate::case::{hex, small};
 use crate::texts::Texts;
 use kc_fixture::{MAP, NOTE, Types, btf_file, core_with_note, lines_behind, push_line};
+use kc_gen::make;
 use kc_outside::MemStore;
 use kc_word::NoMemory;
 use std::alloc::{AllocError, Global};
@@ -87,6 +90,14 @@ fn map_text(alloc: Global, lines: &str) -> Result<Vec<u8>, AllocError> {
     Ok(text)
 }
 
+// A number of items, in hex, as near as there may be so many.
+fn count_of(text: &str) -> u32
+    ensures some { 1 ≤ result }
+    ensures few { result ≤ 100000 }
+{
+    hex(text).clamp(1, 100_000) as u32
+}
+
 // The plan: one by its name and `plan` lines after it, or so many zeros or spaces.
 fn plan_text(alloc: Global, lines: &str, texts: &Texts) -> Result<Vec<u8>, AllocError> {
     let mut text = Vec::new(alloc);
@@ -103,8 +114,14 @@ fn plan_text(alloc: Global, lines: &str, texts: &Texts) -> Result<Vec<u8>, Alloc
 }
 
 impl CaseFiles {
-    /// The files that the lines of a case tell. `without` a name, that file isn't there.
+    /// The files that the lines of a case tell: those of so many made items, or else the usual ones with what is changed of them.
+    /// `without` a name, that file isn't there.
     pub fn read(alloc: Global, lines: &str, texts: &Texts) -> Result<CaseFiles, AllocError> {
+        for line in lines.lines() {
+            if let Some(count) = line.strip_prefix("made ") {
+                return CaseFiles::made(alloc, count_of(count));
+            }
+        }
         let mut missing = Vec::new(alloc);
         for line in lines.lines() {
             if let Some(name) = line.strip_prefix("without ") {
@@ -117,6 +134,23 @@ impl CaseFiles {
             map: map_text(alloc, lines)?,
             plan: plan_text(alloc, lines, texts)?,
             missing,
+        })
+    }
+
+    // The files of so many made items.
+    fn made(alloc: Global, count: u32) -> Result<CaseFiles, AllocError>
+        requires some { 1 ≤ count }
+        requires few { count ≤ 100000 }
+    {
+        let Ok(files) = make(alloc, count, None) else {
+            return Err(AllocError);
+        };
+        Ok(CaseFiles {
+            dump: Vec::from_slice(alloc, files.dump.as_slice())?,
+            types: Vec::from_slice(alloc, files.btf.as_slice())?,
+            map: Vec::from_slice(alloc, files.map.as_slice())?,
+            plan: Vec::from_slice(alloc, files.plan.as_slice())?,
+            missing: Vec::new(alloc),
         })
     }
 

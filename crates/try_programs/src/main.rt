@@ -1,18 +1,25 @@
 //! Tries kaudit and kmatch on the cases of data/, over a store and sinks in memory, and prints how many cases each file has. A case
 //! that ends otherwise than its file says is printed with what came in its place.
 //!
-//! A case is a paragraph; one that begins with `#` is a comment. Its lines give the words (`words` several, `word` one that is empty or has
-//! spaces), what is changed of the usual files, which files aren't there, which call fails, how much a sink takes, and how the program is to
-//! end. Numbers are in hex. `put` is a word of the dump at a physical address, `bytes` and `types` bytes of the dump and of the
-//! types at a file offset, `length` and `types_length` where they are cut, `grown` how long the dump is then;
-//! `selves` words that name themselves, from one physical address to another; `call` a call of the store in its order; `note`, `stated` and `last` are lines of the kernel's note, `map` and
-//! `row` of the map, `type` of the types, `plan` of the plan, and `planned` is a plan by its name.
+//! A case is a paragraph; one that begins with `#` is a comment. Its lines give the words, what is changed of the usual files, and how the
+//! program is to end. Numbers are in hex.
+//!
+//! - `words` gives several words, and `word` one that is empty or has spaces.
+//! - `without` a name, that file isn't there; `fails` is the number of the call that fails; `out_limit` and `err_limit` are how many
+//!   bytes a sink takes.
+//! - `put` is a word of the dump at a physical address, `bytes` and `types` are bytes of the dump and of the types at a file offset;
+//!   `length` and `types_length` say where they are cut, and `grown` how long the dump is. `selves` are words that name themselves.
+//! - `note`, `stated` and `last` are lines of the kernel's note, `map` and `row` of the map, `type` of the types, `plan` of the plan, and
+//!   `planned` is a plan by its name. `types_size`, `map_size`, `plan_size` and `plan_spaces` are lengths of files of zeros or spaces.
+//! - `made` are the files of so many made items, and `spine` makes a spine of their tree.
+//! - `status`, `out`, `err` and `usage` are what is wanted, and `call` is a call of the store in its order.
 #![tactic(auto)]
 
 mod case;
 mod files;
 mod noting;
 mod running;
+mod spine;
 mod texts;
 mod trying;
 
@@ -22,7 +29,7 @@ use crate::trying::{try_calls, try_each, try_lengths};
 use std::io;
 
 // The files of cases of kaudit.
-const KAUDIT: [&str; 24] = [
+const KAUDIT: [&str; 25] = [
     "pages",
     "segments",
     "stops",
@@ -38,6 +45,7 @@ const KAUDIT: [&str; 24] = [
     "questions",
     "chains",
     "trees",
+    "spines",
     "xarrays",
     "nested",
     "ways",
