@@ -35,7 +35,8 @@ impl Names {
     ///
     /// # Errors
     ///
-    /// `NoMemory` where there is none for it: it takes 4 bytes for each struct, union and typedef, and 256 KiB.
+    /// `NoMemory` where there is none for it: it takes 24 bytes for each of 8192 buckets, and 4 to 8 for each struct, union
+    /// and typedef.
     pub fn new(alloc: Global, btf: &Btf) -> Result<Names, NoMemory>
         ensures { IfOk result (StandsFor btf.now) }
     {
@@ -52,7 +53,7 @@ impl Names {
 
     /// The number of the type with a name, as `find_type` has it: of the structs and unions the least, and where there
     /// are none, the least typedef that leads to one under at most 32 modifiers, itself among them. `None` for other
-    /// names and for the empty one.
+    /// names and for the empty one. The types are those that the index was made of.
     pub fn find(&self, btf: &Btf, name: &[u8]) -> Option<u32>
         requires { StandsFor btf.now self.now }
         ensures exact { result ≡ find btf.now name.now }
