@@ -1,6 +1,7 @@
 //! Tries the cases of walks that stand in `data/`, a file each subject: the words of a memory, and what is found in it.
 #![tactic(auto)]
 
+mod audits;
 mod frames;
 mod lists;
 mod numbers;
@@ -15,6 +16,7 @@ mod words;
 mod xarrays;
 
 use anyhow::Result;
+use audits::Audits;
 use kc_cases::try_file;
 use lists::{HashChains, Rings};
 use numbers::Numbers;
@@ -35,6 +37,7 @@ fn main(rt: HostRuntime) -> Result<()> {
     try_file(&rt, "slab_caches", &Walk(SlabCaches))?;
     try_file(&rt, "free_lists", &Walk(FreeLists))?;
     try_file(&rt, "tasks", &Walk(Tasks))?;
+    try_file(&rt, "audits", &Walk(Audits))?;
     try_file(&rt, "numbers", &Walk(Numbers))?;
     try_file(&rt, "views", &Walk(Views))?;
     try_file(&rt, "pages", &Walk(Pages))?;
