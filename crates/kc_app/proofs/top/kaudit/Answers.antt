@@ -3,6 +3,7 @@ use Rattle.std.specs.String.{string_bytes}
 use Rattle.kc_ends.specs.Ending.{fails, parts, tells}
 use Rattle.kc_app.specs.Commands.{command, usage_text}
 use Rattle.kc_app.specs.Shown.{shown_written}
+use Rattle.kc_app.proofs.Calls.{done_at, few}
 use Rattle.kc_app.proofs.Ends.{answer_ends, answer_true}
 use Rattle.kc_app.proofs.top.kaudit.Goals as goal
 
@@ -30,3 +31,11 @@ pub returns-clause-err_failed : goal.returns-clause-err_failed
 returns-clause-err_failed g c =
     fails usage_text shown_written (command (map string_bytes c.args.words.now)) (g.S.Store.files c.args.store.now) c.run-outcome.result _ _ c.finish.result (g.S.Store.faults c.args.store.now) (g.S.Store.faults c.run-outcome.new.store) (g.O.Sink.faults c.args.out.now) (g.O.Sink.faults c.finish.new.out) (g.E.Sink.taken c.args.err.now) (g.E.Sink.taken c.finish.new.err)
     c.run-outcome.ensures.output c.run-outcome.ensures.cause c.finish.ensures.err_failed
+
+pub returns-clause-layout : goal.returns-clause-layout
+returns-clause-layout g c = λ layout. few g.S.Store.faults g.S.Store.asked c.run-outcome.result c.args.store.now c.run-outcome.new.store (c.run-outcome.ensures.layout layout)
+
+pub returns-clause-layout_done : goal.returns-clause-layout_done
+returns-clause-layout_done g c = λ layout.
+    done_at g.S.Store.faults g.S.Store.asked usage_text c.run-outcome.result c.args.store.now c.run-outcome.new.store c.finish.result (g.O.Sink.taken c.args.out.now) (g.O.Sink.taken c.finish.new.out) (g.E.Sink.taken c.args.err.now) (g.E.Sink.taken c.finish.new.err)
+    (c.run-outcome.ensures.layout layout) c.finish.ensures.told
