@@ -1,3 +1,4 @@
+mod Calls
 mod Checked
 mod Counts
 mod Ends

@@ -6,6 +6,7 @@ ghost use Rattle.kc_outside.specs.declared.store.Slot.{Slot};
 ghost use Rattle.kc_outside.specs.Counts.{Rose};
 ghost use Rattle.kc_ends.specs.Answers.{OnNone, OnStoreIn, Runs, UnlessStoreIn};
 ghost use Rattle.kc_ends.specs.Asked.{word_in};
+ghost use Rattle.kc_app.specs.Calls.{IsLayout, LayoutCalls};
 ghost use Rattle.kc_app.specs.Commands.{command};
 ghost use Rattle.kc_app.specs.Selftest.{IsSelftest};
 ghost use Rattle.kc_app.specs.Shown.{shown_written};
@@ -29,6 +30,7 @@ pub fn run<S: Store>(alloc: Global, store: &mut S, words: &[String]) -> Option<R
     ensures unasked { OnNone result (S.asked store.new ≡ S.asked store.old) }
     ensures selftest_unasked { IsSelftest (map string_bytes words.now) → S.asked store.new ≡ S.asked store.old }
     ensures selftest_sure { IsSelftest (map string_bytes words.now) → OnStoreIn result ⊥ }
+    ensures layout { IsLayout (map string_bytes words.now) → LayoutCalls S.faults S.asked result store.old store.new }
     ensures files { S.files store.new ≡ S.files store.old }
     ensures later { S.faults store.old ≤ S.faults store.new }
     ensures quiet { UnlessStoreIn result (S.faults store.new ≡ S.faults store.old) }

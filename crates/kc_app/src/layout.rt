@@ -9,10 +9,12 @@ ghost use Rattle.kc_layout.specs.Bare.{compound_under};
 ghost use Rattle.kc_layout.specs.Listing.{AreNamed};
 ghost use Rattle.kc_outside.specs.declared.store.Slot.{Slot};
 ghost use Rattle.kc_outside.specs.Counts.{Rose};
+ghost use Rattle.kc_input.specs.Calls.{ReadsOnce, RefusesRead};
 ghost use Rattle.kc_input.specs.Halts.{NotStore, OnStore, UnlessStore};
 ghost use Rattle.kc_input.specs.Slots.{RefusesAbout};
 ghost use Rattle.kc_ends.specs.Answers.{OnNone, OnStoreIn, Prints, PrintsOf, Runs, StayBehind, UnlessStoreIn};
 ghost use Rattle.kc_ends.specs.Asked.{word_in};
+ghost use Rattle.kc_app.specs.Calls.{LayoutCalls};
 ghost use Rattle.kc_app.specs.Layout.{layout_asks, layout_made, layout_of, layout_view};
 ghost use Rattle.kc_app.specs.Shown.{compound_line, compound_word, member_line, member_lines, shown_written, width_text};
 
@@ -56,6 +58,7 @@ pub fn run<S: Store>(alloc: Global, store: &mut S, words: &[String]) -> Option<R
     ensures output { Runs shown_written (layout_asks (map string_bytes words.now)) (S.files store.old) result
         (S.opened store.old) (S.opened store.new) }
     ensures unasked { OnNone result (S.asked store.new ≡ S.asked store.old) }
+    ensures calls { LayoutCalls S.faults S.asked result store.old store.new }
     ensures files { S.files store.new ≡ S.files store.old }
     ensures later { S.faults store.old ≤ S.faults store.new }
     ensures quiet { UnlessStoreIn result (S.faults store.new ≡ S.faults store.old) }
@@ -74,6 +77,7 @@ fn layout<S: Store>(alloc: Global, store: &mut S, asks: Asks<'_>) -> Result<Answ
     ensures unopened { StayBehind (layout_view asks.entry).named result (S.opened store.old) (S.opened store.new) }
     ensures files { S.files store.new ≡ S.files store.old }
     ensures later { S.faults store.old ≤ S.faults store.new }
+    ensures calls { ReadsOnce S.faults S.asked result store.old store.new }
     ensures quiet { UnlessStore result (S.faults store.new ≡ S.faults store.old) }
     ensures cause { OnStore result (Rose (S.faults store.old) (S.faults store.new)) }
 {
@@ -95,6 +99,7 @@ fn lay_out(alloc: Global, types: &Btf, name: &[u8]) -> Result<Answer, Halt>
     ensures output { Prints shown_written (layout_of types.now name.now) result }
     ensures refused { RefusesAbout None result }
     ensures no_call { NotStore result }
+    ensures read { RefusesRead result }
 {
     let t = named_compound(types, name).ok_or(Refusal::NoType)?;
     let too_many = PathFault {

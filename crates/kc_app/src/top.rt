@@ -6,13 +6,15 @@ ghost use Rattle.std.specs.String.{string_bytes};
 ghost use Rattle.kc_outside.specs.declared.store.Slot.{Slot};
 ghost use Rattle.kc_outside.specs.Counts.{Rose};
 ghost use Rattle.kc_outside.specs.Texts.{with_piece};
-ghost use Rattle.kc_ends.specs.declared.status.Status.TheVariants.{NoCommand, OutOfMemory, Refused, SinkFailed, StoreFailed};
+ghost use Rattle.kc_ends.specs.declared.status.Status.TheVariants.{Done, NoCommand, OutOfMemory, Refused, SinkFailed, StoreFailed};
+ghost use Rattle.kc_input.specs.Calls.{called};
 ghost use Rattle.kc_ends.specs.Asked.{word_in};
 ghost use Rattle.kc_ends.specs.Ends.{ErrFailed, IsTold, TookPart, TookPrefix};
 ghost use Rattle.kc_ends.specs.Failures.{store_failed, memory_refused, sink_failed};
 ghost use Rattle.kc_ends.specs.Last.{StopsAtFailure};
 ghost use Rattle.kc_ends.specs.Status.{At, is_answer, is_silent, is_sink_quiet, is_store_quiet, number};
 ghost use Rattle.kc_ends.specs.Unopened.{AskedStay};
+ghost use Rattle.kc_app.specs.Calls.{FewCalls, IsLayout};
 ghost use Rattle.kc_app.specs.Commands.{command, usage_text};
 ghost use Rattle.kc_app.specs.Headline.{CheckEnds};
 ghost use Rattle.kc_app.specs.Selftest.{IsSelftest};
@@ -95,6 +97,11 @@ pub fn kaudit<S: Store, O: Sink, E: Sink>(
     ensures err_failed { At result SinkFailed (O.faults out.old < 2 ^ 64 - 1 → O.faults out.new ≡ O.faults out.old
         → ErrFailed (written_of (map string_bytes words.now)) (S.files store.old)
         (Rose (S.faults store.old) (S.faults store.new)) (E.taken err.old) (E.taken err.new)) }
+
+    // `layout` opens one file, asks its size and reads it once, and the store isn't called after it failed.
+    ensures layout { IsLayout (map string_bytes words.now) → FewCalls S.faults S.asked store.old store.new }
+    ensures layout_done { IsLayout (map string_bytes words.now)
+        → At result Done (S.asked store.new ≡ called 3 (S.asked store.old)) }
 
     // A sink isn't called again after it failed.
     ensures out_last { StopsAtFailure O.taken O.faults O.asked out.old out.new }

@@ -23,3 +23,9 @@ NotRefused (Ok answer) = ⊤
 NotRefused (Err (Refused refusal)) = ⊥
 NotRefused (Err Store) = ⊤
 NotRefused (Err Memory) = ⊤
+
+abbrev pub OnMemory : {A : Type 0} → Result A Halt → Type 0 → Type 0
+OnMemory (Ok answer) P = ⊤
+OnMemory (Err (Refused refusal)) P = ⊤
+OnMemory (Err Store) P = ⊤
+OnMemory (Err Memory) P = P

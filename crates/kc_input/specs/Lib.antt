@@ -1,3 +1,5 @@
+pub mod CallLaws
+pub mod Calls
 pub mod Halts
 pub mod Inputs
 pub mod Lines

@@ -1,8 +1,9 @@
 // The files of a command.
 ghost use Rattle.std.specs.Prelude.{◌≡◌, ℕ, ◌≤◌, ◌^◌, List, Some, IfOk, IfSome, OnOk, OnErr, IsSome};
-ghost use Rattle.kc_outside.specs.Counts.{Rose};
+ghost use Rattle.kc_outside.specs.Counts.{Rose, next_count};
 ghost use Rattle.kc_outside.specs.Files.{content, named, HasLength, HasPart, OthersStay};
-ghost use Rattle.kc_input.specs.Halts.{OnStore, NotRefused, UnlessStore};
+ghost use Rattle.kc_input.specs.Calls.{Opens, ReadsOnce};
+ghost use Rattle.kc_input.specs.Halts.{OnMemory, OnStore, NotRefused, UnlessStore};
 ghost use Rattle.kc_input.specs.Slots.{RefusesIn};
 ghost use Rattle.kc_input.specs.Made.{IsOf, limit, short_file};
 
@@ -36,6 +37,7 @@ pub fn open<S: Store>(store: &mut S, slot: Slot, name: &str) -> Result<u64, Fail
     ensures may { (s : Slot) (n : List ℕ) → S.may store.old s n → S.may store.new s n }
     ensures files { S.files store.new ≡ S.files store.old }
     ensures later { S.faults store.old ≤ S.faults store.new }
+    ensures calls { Opens S.faults S.asked result store.old store.new }
     ensures quiet { OnOk result (S.faults store.new ≡ S.faults store.old) }
     ensures cause { OnErr result (Rose (S.faults store.old) (S.faults store.new)) }
 {
@@ -61,6 +63,9 @@ fn read_opened<S: Store>(
     ensures may { (s : Slot) (n : List ℕ) → S.may store.old s n → S.may store.new s n }
     ensures files { S.files store.new ≡ S.files store.old }
     ensures later { S.faults store.old ≤ S.faults store.new }
+    ensures calls { IfOk result (λ _. S.asked store.new ≡ next_count (S.asked store.old)) }
+    ensures uncalled { OnMemory result (S.asked store.new ≡ S.asked store.old) }
+    ensures failed { OnStore result (S.asked store.new ≡ next_count (S.asked store.old)) }
     ensures quiet { UnlessStore result (S.faults store.new ≡ S.faults store.old) }
     ensures cause { OnStore result (Rose (S.faults store.old) (S.faults store.new)) }
 {
@@ -87,6 +92,7 @@ pub fn read_file<S: Store>(
     ensures may { (s : Slot) (n : List ℕ) → S.may store.old s n → S.may store.new s n }
     ensures files { S.files store.new ≡ S.files store.old }
     ensures later { S.faults store.old ≤ S.faults store.new }
+    ensures calls { ReadsOnce S.faults S.asked result store.old store.new }
     ensures quiet { UnlessStore result (S.faults store.new ≡ S.faults store.old) }
     ensures cause { OnStore result (Rose (S.faults store.old) (S.faults store.new)) }
 {

@@ -4,6 +4,7 @@ ghost use Rattle.kc_outside.specs.declared.store.Slot.{Slot};
 ghost use Rattle.kc_outside.specs.declared.store.Slot.TheVariants.{Map};
 ghost use Rattle.kc_outside.specs.Counts.{Rose};
 ghost use Rattle.kc_outside.specs.Files.{OthersStay};
+ghost use Rattle.kc_input.specs.Calls.{ReadsOnce};
 ghost use Rattle.kc_input.specs.Halts.{NotStore, OnStore, UnlessStore};
 ghost use Rattle.kc_input.specs.Inputs.{map_in, rows_in};
 ghost use Rattle.kc_input.specs.Slots.{RefusesIn};
@@ -32,6 +33,7 @@ pub fn read_map<S: Store>(alloc: Global, store: &mut S, name: &str) -> Result<Ve
     ensures may { (s : Slot) (n : List ℕ) → S.may store.old s n → S.may store.new s n }
     ensures files { S.files store.new ≡ S.files store.old }
     ensures later { S.faults store.old ≤ S.faults store.new }
+    ensures calls { ReadsOnce S.faults S.asked result store.old store.new }
     ensures quiet { UnlessStore result (S.faults store.new ≡ S.faults store.old) }
     ensures cause { OnStore result (Rose (S.faults store.old) (S.faults store.new)) }
 {

@@ -8,6 +8,7 @@ ghost use Rattle.kc_syms.specs.Rows.{RowText};
 ghost use Rattle.kc_syms.specs.Symbols.{symbol};
 ghost use Rattle.kc_plan.specs.Inside.{AreInside};
 ghost use Rattle.kc_plan.specs.Views.{plan_seen};
+ghost use Rattle.kc_input.specs.Calls.{ReadsOnce};
 ghost use Rattle.kc_input.specs.Halts.{NotStore, OnStore, UnlessStore};
 ghost use Rattle.kc_input.specs.Inputs.{audits_in, plan_in};
 ghost use Rattle.kc_input.specs.Slots.{RefusesIn};
@@ -38,6 +39,7 @@ pub fn read_plan_file<S: Store>(alloc: Global, store: &mut S, name: &str) -> Res
     ensures may { (s : Slot) (n : List ℕ) → S.may store.old s n → S.may store.new s n }
     ensures files { S.files store.new ≡ S.files store.old }
     ensures later { S.faults store.old ≤ S.faults store.new }
+    ensures calls { ReadsOnce S.faults S.asked result store.old store.new }
     ensures quiet { UnlessStore result (S.faults store.new ≡ S.faults store.old) }
     ensures cause { OnStore result (Rose (S.faults store.old) (S.faults store.new)) }
 {

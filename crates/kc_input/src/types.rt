@@ -5,6 +5,7 @@ ghost use Rattle.kc_outside.specs.declared.store.Slot.{Slot};
 ghost use Rattle.kc_outside.specs.Counts.{Rose};
 ghost use Rattle.kc_outside.specs.Files.{OthersStay};
 ghost use Rattle.kc_input.specs.declared.refusal.Refusal.TheVariants.{Types};
+ghost use Rattle.kc_input.specs.Calls.{ReadsOnce, RefusesRead};
 ghost use Rattle.kc_input.specs.Halts.{NotStore, OnStore, UnlessStore};
 ghost use Rattle.kc_input.specs.Slots.{RefusesIn};
 ghost use Rattle.kc_input.specs.Made.{checked, Is, IsOf};
@@ -21,6 +22,7 @@ fn take_types(alloc: Global, bytes: Vec<u8>) -> Result<Btf, Halt>
     ensures made { Is (λ types. types) (checked Types (btf bytes.items)) result }
     ensures refused { RefusesIn Slot.Btf result }
     ensures no_call { NotStore result }
+    ensures read { RefusesRead result }
 {
     Ok(Btf::read(alloc, bytes)?)
 }
@@ -41,6 +43,7 @@ pub fn read_types<S: Store>(alloc: Global, store: &mut S, name: &str) -> Result<
     ensures may { (s : Slot) (n : List ℕ) → S.may store.old s n → S.may store.new s n }
     ensures files { S.files store.new ≡ S.files store.old }
     ensures later { S.faults store.old ≤ S.faults store.new }
+    ensures calls { ReadsOnce S.faults S.asked result store.old store.new }
     ensures quiet { UnlessStore result (S.faults store.new ≡ S.faults store.old) }
     ensures cause { OnStore result (Rose (S.faults store.old) (S.faults store.new)) }
 {

@@ -3,6 +3,7 @@ use Rattle.std.specs.String.{string_bytes}
 use Rattle.kc_ends.specs.Ending.{fails, parts, tells}
 use Rattle.kc_app.specs.Commands.{command, usage_text}
 use Rattle.kc_app.specs.Shown.{shown_written}
+use Rattle.kc_app.proofs.Calls.{done_at, few}
 use Rattle.kc_app.proofs.Ends.{answer_ends, answer_true}
 use Rattle.kc_app.proofs.Selftests.{answers_or_memory}
 use Rattle.kc_app.proofs.top.kaudit.Goals as goal
@@ -35,3 +36,11 @@ returns-clause-err_failed g c =
 pub returns-clause-selftest_complete : goal.returns-clause-selftest_complete
 returns-clause-selftest_complete g c named out err =
     answers_or_memory c.finish.result c.run-outcome.result (c.run-outcome.ensures.selftest_sure named) c.finish.ensures.store_failed c.finish.ensures.sink_failed out err
+
+pub returns-clause-layout : goal.returns-clause-layout
+returns-clause-layout g c = λ layout. few g.S.Store.faults g.S.Store.asked c.run-outcome.result c.args.store.now c.run-outcome.new.store (c.run-outcome.ensures.layout layout)
+
+pub returns-clause-layout_done : goal.returns-clause-layout_done
+returns-clause-layout_done g c = λ layout.
+    done_at g.S.Store.faults g.S.Store.asked usage_text c.run-outcome.result c.args.store.now c.run-outcome.new.store c.finish.result (g.O.Sink.taken c.args.out.now) (g.O.Sink.taken c.finish.new.out) (g.E.Sink.taken c.args.err.now) (g.E.Sink.taken c.finish.new.err)
+    (c.run-outcome.ensures.layout layout) c.finish.ensures.told
