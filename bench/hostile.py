@@ -52,7 +52,7 @@ FOUND = re.compile(r"[0-9a-f]{16} [0-9a-f]{16} [0-9a-f]{16} [0-9a-f]{16}\n")
 SHOWN = re.compile(r"value -?(0|[1-9]\d*)\n(place [0-9a-f]{16} [0-9a-f]{16} [0-9a-f]{16} [0-9a-f]{16}\n){1,2}")
 LAYOUT = re.compile(r"(struct|union) \S* size (0|[1-9]\d*)\n(member \d+ (\d+|-) \S+\n)*")
 MATCHED = re.compile(r"(?s).*same (0|[1-9]\d*) differ (0|[1-9]\d*) unknown (0|[1-9]\d*)\n")
-FORMS = {"check": (CLEAN, BROKEN), "word": (FOUND, STOPPED), "show": (SHOWN, STOPPED), "layout": (LAYOUT, None), "kmatch": (MATCHED, MATCHED)}
+FORMS = {"check": (CLEAN, BROKEN), "word": (FOUND, STOPPED), "show": (SHOWN, STOPPED), "layout": (LAYOUT, None), "kmatch": (MATCHED, MATCHED), "selftest": (CLEAN, BROKEN)}
 
 
 # How files are damaged.
@@ -253,7 +253,7 @@ class Case:
     def some_words(self):
         rng, how = self.rng, self.rng.random()
         if how < 0.70:
-            return ["check", "z.core", "z.btf", "z.map", "z.toml"]
+            return ["check", *self.files]
         if how < 0.80:
             return ["word", "z.core", rng.choice(("1000", "1000", "-", "2000", "0", "ffffffffff000", "zz")), self.some_address()]
         if how < 0.90:
@@ -262,7 +262,7 @@ class Case:
             return ["layout", "z.btf", rng.choice(STRUCTS)]
         if how < 0.98:
             return ["kmatch", "z.core", "z.btf", "z.map"]
-        return [rng.choice(("check", "word", "", "help", "layout", "--")), *[rng.choice(("z.core", "z.btf", "", "x" * 300))] * rng.randrange(7)]
+        return [rng.choice(("check", "word", "", "help", "layout", "selftest", "--")), *[rng.choice(("z.core", "z.btf", "", "x" * 300))] * rng.randrange(7)]
 
     def some_address(self):
         rng = self.rng
