@@ -71,7 +71,7 @@ def own_calls(command, folder, log):
             continue
         name, rest = call.groups()
         counts[name] += 1
-        named = [w for w in command if os.path.isfile(os.path.join(folder, w)) and (f'"{w}"' in rest or f"/{w}>" in rest)]
+        named = [w for w in command if name != "execve" and os.path.isfile(os.path.join(folder, w)) and (f'"{w}"' in rest or f"/{w}>" in rest)]
         begun = begun or bool(named)
         stream = re.match(r"([12])<", rest) if name in ("write", "writev") else None
         if named or stream:
@@ -84,7 +84,7 @@ def fail_each(command, folder, whole, log):
     wrong, ends = 0, collections.Counter()
     for name, number, on in own_calls(command, folder, log):
         for error in ("EIO", "EINTR"):
-            told = run(["strace", "-qq", "-e", "trace=none", "-e", f"inject={name}:error={error}:when={number}", "-o", os.devnull] + command, folder)
+            told = run(["strace", "-qq", "-e", f"trace={name}", "-e", f"inject={name}:error={error}:when={number}", "-o", os.devnull] + command, folder)
             if on == "standard output":
                 fine = told[0] == 4 and whole[1].startswith(told[1]) and told[2] == "sink failed\n" or error == "EINTR" and told == whole
             elif on == "standard error":
