@@ -7,7 +7,7 @@ as `hostile.py crates/kaudit/out/kaudit crates/kmatch/out/kmatch --runs 200000 -
 at random (`made.py`), of which words, bits, headers, page tables, types, rows or the plan are changed, or files of bytes that follow no
 grammar. It runs under a limit of 512 MiB and of ten seconds, and has to end
 
-- with a status from 0 to 6, never by a signal, and never with 3, 4 or 5, which nothing here causes;
+- with a status from 0 to 6, never by a signal, and never with 4 or 5, nor 3 but for a name that no file has;
 - with one line or usage on standard error and nothing on standard output, or the other way round;
 - with a report in its one spelling, each of whose places stands in the dump: its word at its file offset, the offset that of its
   physical address, and the address led there by the page tables, each read by `second.py`, which shares no code with kaudit;
@@ -272,9 +272,10 @@ class Case:
 
 def spoken(case, status, out, err):
     """What is wrong with how a run ended, by its texts alone."""
-    if not 0 <= status <= 6 or status in (3, 4, 5):
-        return f"status {status}"
     name = case.words[0]
+    missing = status == 3 and not set(case.words[1:]) <= set(case.files) and err == "store failed\n" and not out
+    if not 0 <= status <= 6 or status in (3, 4, 5) and not missing:
+        return f"status {status}"
     if status in (0, 1):
         form = FORMS[name][status]
         if err or form is None or not form.fullmatch(out):
@@ -311,7 +312,7 @@ def compared(case, status, out, err):
         if int(words[2], 16) % 4096 or int(words[2], 16) >= 1 << 52:
             return None, False
         return (None if second.word(f["z.core"], int(words[2], 16), int(words[3], 16)) == (status, out, err) else "word"), True
-    if words[0] != "check" or status == 6:
+    if words != ["check", *case.files]:
         return None, False
     told = second.verdict(f["z.core"], f["z.btf"], f["z.map"], f["z.toml"])
     if err.startswith("refused plan") and (told[0] == 2 and told[2] == "refused plan\n" or not case.plan_kept or f["z.btf"] != BTF):

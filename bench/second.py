@@ -652,7 +652,7 @@ def xarray(memory, head, shape):
             raise Broken("X7", led[0], places=[led])
         if entry & 3 == 2:
             v = entry >> 2
-            if 4096 < v and entry < 0xFFFFFFFFFFFFC006 * 1 and v < 0xFFFFFFFFFFFFC006:
+            if 4096 < entry < 0xFFFFFFFFFFFFC006:
                 if slot is not None and shift == 0:
                     raise Broken("X9", led[0], places=[led])
                 return "node"
@@ -786,11 +786,10 @@ def started(start, act):
         raise
 
 
-def free_list(kernel, cache, slab, objects, base, size, offset, random):
+def free_list(kernel, slab, objects, base, size, offset, random):
     """The objects of a slab's free list."""
     memory, walk, found = kernel.memory, Walk(kernel.memory), []
-    pointer, where, places = kernel.field(slab, "slab", "freelist")
-    led, place_at = places, where
+    pointer, _, led = kernel.field(slab, "slab", "freelist")
     while pointer:
         distance = (pointer - base) % TOP
         if distance % size or distance // size >= objects:
@@ -798,8 +797,8 @@ def free_list(kernel, cache, slab, objects, base, size, offset, random):
         at = (pointer + offset) % TOP
         try:
             value, holding = memory.number(at, 0, 64)
-        except Broken as stop:
-            raise Broken(stop.rule, stop.at, None, stop.stop, list(led) + stop.places) from None
+        except Broken as stop:  # what led to the first object is a field of the slab
+            raise Broken(stop.rule, stop.at, None, stop.stop, (led if found else []) + stop.places) from None
         walk.claim(*holding)
         found.append(pointer)
         if random is not None:
@@ -863,10 +862,9 @@ def judge_slab(kernel, cache, slab, bases, size, offset, random, pad):
     if distance % page or distance // page >= 1 << 40:
         raise Broken("U4", slab, places=free_places)
     base = (bases[1] + 4096 * (distance // page) + pad) % TOP
-    free = free_list(kernel, cache, slab, objects, base, size, offset, random)
+    free = free_list(kernel, slab, objects, base, size, offset, random)
     if len(free) != objects - inuse:
-        raise Broken("U6", inuse_at, objects - inuse, places=inuse_places) if False else Broken(
-            "U6", inuse_at, objects - inuse, places=inuse_places)
+        raise Broken("U6", inuse_at, objects - inuse, places=inuse_places)
 
 
 def tasks(kernel, first):
@@ -910,6 +908,7 @@ def tasks(kernel, first):
 # The plan and its verdict.
 
 HEADS = {"ring": "list_head", "hlist": "hlist_head", "rbtree": "rb_root", "xarray": "xarray", "slub": "kmem_cache", "tasks": "task_struct"}
+LINKS = {"ring": "list_head", "hlist": "hlist_node", "rbtree": "rb_node"}
 ELEMENTS = {"slub": "slab", "tasks": "task_struct"}
 
 
@@ -924,14 +923,25 @@ class Audit:
             if self.symbol is None:
                 raise Refused("plan")
             above = kernel.struct(table["root_type"]) if "root_type" in table else None
-            self.head = types.located(above, table["root_path"])[:2] if above else ([], 0)
+            self.head = self.place(kernel, above, table["root_path"], self.head_struct(table)) if above else ([], 0)
         else:
-            self.head = types.located(element_above, table["from"])[:2]
+            self.head = self.place(kernel, element_above, table["from"], self.head_struct(table))
         element = table.get("element", ELEMENTS.get(self.kind))
         self.element = None if element is None else kernel.struct(element)
-        self.link = types.located(self.element, table["link"])[1] if "link" in table else 0
+        self.link = self.place(kernel, self.element, table["link"], LINKS[self.kind])[1] if "link" in table else 0
         self.checks = [self.look_up(types, text) for text in table.get("check", [])]
         self.shape = self.shape_of(kernel, table)
+
+    def head_struct(self, table):
+        return "rb_root_cached" if table.get("cached") else HEADS[self.kind]
+
+    @staticmethod
+    def place(kernel, number, path, struct):
+        """Where a path leads, if a struct of this name stands there."""
+        hops, byte, kind = kernel.types.located(number, path)
+        if kernel.types.bare(kind) != kernel.struct(struct):
+            raise Refused("plan")
+        return hops, byte
 
     def look_up(self, types, text):
         check = Check(text)
@@ -1005,9 +1015,9 @@ class Run:
         values, places = {}, []
         for path in check.paths:
             hops, bit, width, signed = fields[path]
-            end, null = self.kernel.follow(element, hops)
-            if null:
-                raise Broken("N", null[0], places=[null[1]])
+            end = element
+            for hop in hops:  # a null pointer is read like any other here
+                end = self.kernel.memory.number((end + hop) % TOP, 0, 64)[0]
             values[path], found = self.kernel.memory.number(end, bit, width, signed)
             places += found
         if check.value(values) == 0:
@@ -1058,6 +1068,8 @@ def verdict(core, btf, rows, plan):
         for number, table in enumerate(tables):
             if "root" in table:
                 run.take(number, audits[number].symbol)
+    except Refused as fault:  # a struct that is looked up when it is needed
+        return 2, "", f"refused {fault}\n"
     except Broken as found:
         return 1, stopped_text(found, f"audit {audits[run.blamed].name}\nstart {found.start:016x}\n"), ""
     lines = [f"audit {a.name} walks {w} elements {e}\n" for a, w, e in zip(audits, run.walks, run.elements)]
