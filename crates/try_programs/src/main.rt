@@ -1,4 +1,4 @@
-//! Tries kaudit and kmatch on the cases of data/, over a store and sinks in memory, and prints how many cases each file has. A case
+//! Tries kaudit and kmatch on the cases of data/, over a store and sinks in memory that write down each call, and prints how many cases each file has. A case
 //! that ends otherwise than its file says is printed with what came in its place.
 //!
 //! A case is a paragraph; one that begins with `#` is a comment. Its lines give the words, what is changed of the usual files, and how the
@@ -12,7 +12,7 @@
 //! - `note`, `stated` and `last` are lines of the kernel's note, `map` and `row` of the map, `type` of the types, `plan` of the plan, and
 //!   `planned` is a plan by its name. `types_size`, `map_size`, `plan_size` and `plan_spaces` are lengths of files of zeros or spaces.
 //! - `made` are the files of so many made items, and `spine` makes a spine of their tree.
-//! - `status`, `out`, `err` and `usage` are what is wanted, and `call` is a call of the store in its order.
+//! - `status`, `out`, `err` and `usage` are what is wanted, and `call` is a call of the store, and then of the sinks, in its order.
 #![tactic(auto)]
 
 mod case;

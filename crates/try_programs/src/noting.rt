@@ -1,7 +1,7 @@
-// A store that writes down which calls are made of it.
+// A store and a sink that write down which calls are made of them.
 ghost use Rattle.std.specs.Prelude.{◌≡◌};
 
-use kc_outside::{Failed, Slot, Store};
+use kc_outside::{Failed, Sink, Slot, Store};
 use std::alloc::{AllocError, Global};
 
 /// A store over a store, and a line for each call of it: what is asked, of which slot, and the name, or the file offset and the length.
@@ -90,5 +90,51 @@ impl<S: Store + Drop> Store for Noting<S> {
     fn read_at(&mut self, slot: Slot, off: u64, buf: &mut [u8]) -> Result<(), Failed> {
         self.note(read_line(self.alloc, slot, off, buf.len()));
         self.store.read_at(slot, off, buf)
+    }
+}
+
+/// A sink over a sink, and a line for each call of it: the sink's name, and how many bytes are put.
+#[derive(Drop)]
+pub struct NotingSink<O> {
+    alloc: Global,
+    name: &'static str,
+    sink: O,
+    /// The lines, short of those for which there was no memory.
+    pub lines: Vec<String>,
+}
+
+fn put_line(alloc: Global, name: &str, length: usize) -> Result<String, AllocError> {
+    format!(in alloc; "put {name} {length}")
+}
+
+impl<O: Sink + Drop> NotingSink<O> {
+    /// A sink over this one, of which no call was made.
+    pub fn new(alloc: Global, name: &'static str, sink: O) -> NotingSink<O> {
+        NotingSink {
+            alloc,
+            name,
+            sink,
+            lines: Vec::new(alloc),
+        }
+    }
+
+    /// The sink, and the lines.
+    pub fn parts(self) -> (O, Vec<String>) {
+        (self.sink, self.lines)
+    }
+}
+
+impl<O: Sink + Drop> Sink for NotingSink<O> {
+    ghost taken = { λ self. O.taken self.sink };
+
+    ghost faults = { λ self. O.faults self.sink };
+
+    ghost asked = { λ self. O.asked self.sink };
+
+    fn put(&mut self, piece: &[u8]) -> Result<usize, Failed> {
+        if let Ok(line) = put_line(self.alloc, self.name, piece.len()) {
+            let _ = self.lines.push(line);
+        }
+        self.sink.put(piece)
     }
 }

@@ -1,6 +1,6 @@
 // A case that is run, and what came of it.
 use crate::case::{Case, Ended};
-use crate::noting::Noting;
+use crate::noting::{Noting, NotingSink};
 use kc_app::kaudit;
 use kc_match::kmatch;
 use kc_outside::MemSink;
@@ -15,13 +15,15 @@ pub enum Program {
     Kmatch,
 }
 
-/// How a run ended, and the calls of the store that it made.
+/// How a run ended, and the calls that it made.
 #[derive(Drop)]
 pub struct Ran {
     /// How it ended.
     pub ended: Ended,
-    /// A line for each call.
+    /// A line for each call of the store.
     pub calls: Vec<String>,
+    /// A line for each call of standard output, and then of standard error.
+    pub puts: Vec<String>,
 }
 
 /// What is changed of a case before it runs.
@@ -49,8 +51,8 @@ impl Case {
     /// No memory was left for its files, or for what came of it.
     pub fn run(&self, alloc: Global, program: Program, limits: Limits) -> Result<Ran, NoMemory> {
         let mut store = Noting::new(alloc, self.files.store(alloc, limits.fails)?);
-        let mut out = MemSink::new(alloc, limits.out)?;
-        let mut err = MemSink::new(alloc, self.err_limit)?;
+        let mut out = NotingSink::new(alloc, "out", MemSink::new(alloc, limits.out)?);
+        let mut err = NotingSink::new(alloc, "err", MemSink::new(alloc, self.err_limit)?);
         let status = match program {
             Program::Kaudit => {
                 u8::from(kaudit(alloc, &self.words, &mut store, &mut out, &mut err))
@@ -59,6 +61,11 @@ impl Case {
                 u8::from(kmatch(alloc, &self.words, &mut store, &mut out, &mut err))
             }
         };
+        let (out, mut puts) = out.parts();
+        let (err, lines) = err.parts();
+        for line in lines {
+            puts.push(line)?;
+        }
         Ok(Ran {
             ended: Ended {
                 status,
@@ -66,6 +73,7 @@ impl Case {
                 err: err.bytes().to_vec(alloc)?,
             },
             calls: store.lines,
+            puts,
         })
     }
 
@@ -75,15 +83,15 @@ impl Case {
         ran.ended.status == wanted.status
             && &ran.ended.out[..] == front(&wanted.out, self.out_limit)
             && &ran.ended.err[..] == front(&wanted.err, self.err_limit)
-            && (self.calls.is_empty() || are_equal(&self.calls, &ran.calls))
+            && (self.calls.is_empty() || are_equal(&self.calls, &ran.calls, &ran.puts))
     }
 }
 
-fn are_equal(wanted: &[String], lines: &[String]) -> bool {
-    wanted.len() == lines.len()
+fn are_equal(wanted: &[String], calls: &[String], puts: &[String]) -> bool {
+    wanted.len() == calls.len().saturating_add(puts.len())
         && wanted
             .iter()
-            .zip(lines)
+            .zip(calls.iter().chain(puts))
             .all(|(one, other)| one.as_str() == other.as_str())
 }
 

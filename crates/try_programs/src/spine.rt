@@ -15,6 +15,7 @@ const ROOT: u64 = 0xb130;
 const DIRECT: u64 = 0xffff_8880_0000_0000;
 
 // What an item is in the spine.
+#[derive(Clone, Copy)]
 struct Knot {
     number: u64,
     of: u64,

@@ -32,7 +32,7 @@ fn print_other(
         "{name}: case {number} ends with {}\n{out}{err}",
         ran.ended.status
     )?;
-    for call in &ran.calls {
+    for call in ran.calls.iter().chain(&ran.puts) {
         println!(rt; "call {}", call.as_str())?;
     }
     println!(rt; "and not as\n{lines}")
