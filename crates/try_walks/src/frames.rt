@@ -36,9 +36,14 @@ impl Dump {
         if let Some(put) = line.strip_prefix("put ")
             && let Some((address, word)) = put.split_once(' ')
         {
-            set_word(&mut self.file, hex(address)?, hex(word)?);
+            self.put(hex(address)?, hex(word)?);
         }
         Ok(())
+    }
+
+    /// Puts a word at a physical address, if the file has it.
+    pub fn put(&mut self, address: u64, word: u64) {
+        set_word(&mut self.file, address, word);
     }
 }
 

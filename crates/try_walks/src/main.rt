@@ -4,6 +4,7 @@
 mod audits;
 mod frames;
 mod lists;
+mod loops;
 mod numbers;
 mod pages;
 mod slabs;
@@ -19,6 +20,7 @@ use anyhow::Result;
 use audits::Audits;
 use kc_cases::try_file;
 use lists::{HashChains, Rings};
+use loops::Loops;
 use numbers::Numbers;
 use pages::Pages;
 use slabs::{FreeLists, SlabCaches};
@@ -41,5 +43,6 @@ fn main(rt: HostRuntime) -> Result<()> {
     try_file(&rt, "numbers", &Walk(Numbers))?;
     try_file(&rt, "views", &Walk(Views))?;
     try_file(&rt, "pages", &Walk(Pages))?;
-    try_file(&rt, "words", &Walk(Words))
+    try_file(&rt, "words", &Walk(Words))?;
+    try_file(&rt, "loops", &Walk(Loops))
 }
