@@ -1,5 +1,5 @@
 // A tree as deep as it has nodes, in a dump of made items.
-ghost use Rattle.std.specs.Prelude.{◌≤◌, ◌<◌};
+ghost use Rattle.std.specs.Prelude.{◌≤◌, ◌<◌, ◌-◌, ◌^◌};
 
 use byteorder::{ByteOrder, LittleEndian};
 use kc_fixture::set_bytes;
@@ -14,13 +14,6 @@ const ROOT: u64 = 0xb130;
 
 const DIRECT: u64 = 0xffff_8880_0000_0000;
 
-// What an item is in the spine.
-#[derive(Clone, Copy)]
-struct Knot {
-    number: u64,
-    of: u64,
-}
-
 fn put_word(file: &mut Vec<u8>, pa: u64, word: u64)
     requires { pa ≤ 16777216 }
 {
@@ -32,16 +25,16 @@ fn put_word(file: &mut Vec<u8>, pa: u64, word: u64)
 // The address of an item's node in the direct map.
 fn node(number: u64) -> u64
     requires { number ≤ 100000 }
+    ensures { result < 2 ^ 64 - 1 }
 {
     DIRECT + ITEMS + 64 * number + 40
 }
 
-// The key, the parent, black as all are, and the right and the left child.
-fn put_knot(file: &mut Vec<u8>, knot: &Knot)
-    requires inside { knot.now.number < knot.now.of }
-    requires few { knot.now.of ≤ 100000 }
+// The key, the parent, black as all are, and the right and the left child, of one of so many items.
+fn put_knot(file: &mut Vec<u8>, number: u64, of: u64)
+    requires inside { number < of }
+    requires few { of ≤ 100000 }
 {
-    let (number, of) = (knot.number, knot.of);
     let item = ITEMS + 64 * number;
     let parent = if number == 0 { 0 } else { node(number - 1) };
     let left = if number + 1 == of {
@@ -60,7 +53,7 @@ pub fn put_spine(file: &mut Vec<u8>, of: u64)
     requires { of ≤ 100000 }
 {
     for number in 0..of {
-        put_knot(file, &Knot { number, of });
+        put_knot(file, number, of);
     }
     put_word(file, ROOT, node(0));
 }
