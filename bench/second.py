@@ -110,15 +110,15 @@ def vmcoreinfo(core):
 
 
 def hex_of(text):
-    return int(text, 16) if re.fullmatch(rb"[0-9a-f]{1,16}", text) else None
+    return int(text, 16) if re.fullmatch(rb"(0x)?[0-9a-fA-F]{1,16}", text) else None
 
 
 def dec_of(text):
-    """A decimal of 64 bits, signed or not, modulo 2^64."""
-    if not re.fullmatch(rb"-?[0-9]{1,20}", text):
+    """A signed decimal of 64 bits, modulo 2^64."""
+    if not re.fullmatch(rb"-?[0-9]{1,19}", text):
         return None
     number = int(text)
-    return number % TOP if -(1 << 63) <= number < TOP else None
+    return number % TOP if -(1 << 63) <= number < 1 << 63 else None
 
 
 class Info:
@@ -1048,7 +1048,10 @@ def plan_of(data, kernel):
             owner = above.get(table["name"])
             element = None if owner is None else kernel.struct(owner.get("element", ELEMENTS.get(owner["kind"])))
             audits.append(Audit(kernel, table, element))
-        return audits, {table["name"]: k for k, table in enumerate(tables)}, tables
+        numbers = {table["name"]: k for k, table in enumerate(tables)}
+        if not all(name in numbers for name in above):
+            raise Refused("plan")
+        return audits, numbers, tables
     except (KeyError, TypeError, AttributeError, ValueError):
         raise Refused("plan") from None
 
