@@ -42,11 +42,14 @@ PATHS = ("link", "hnode", "key", "small", "rb", "link.next->prev", "signal->thre
 CHECKS = ("key == 7", "key < 1000", "small != 3", "pid >= 0", "signal != 0", "size", "object_size <= size", "inuse <= objects", "0", "1",
           "signal->thread_head.next != 0", "real_parent->pid + 1 > 0", "key - small & 3 | 1", "!(key == 0 - 20)", "link.next->prev != 0")
 LINE = re.compile(r"refused [a-z]+( .*)?\n|store failed\n|sink failed\n|memory refused\n|(usage: .*\n)+")
-CLEAN = re.compile(r"clean\n(audit [\w-]{1,64} walks (0|[1-9]\d*) elements (0|[1-9]\d*)\n)*", re.A)
-WORDS = r"(place (-|[0-9a-f]{16}) [0-9a-f]{16} [0-9a-f]{16} [0-9a-f]{16}\n)*"
+WHOLE_TEXT = r"clean\n(audit [\w-]{1,64} walks (0|[1-9]\d*) elements (0|[1-9]\d*)\n)*"
+WORDS = r"(place (-|[0-9a-f]{16}) [0-9a-f]{16} ([0-9a-f]{16}|tail) [0-9a-f]{16}\n)*"
 RULE = r"rule ([A-Z][1-9]?)\nat [0-9a-f]{16}\n"
 STOP = r"(stop [0-5] [0-9a-f]{16}\n)?"
-BROKEN = re.compile(r"broken\naudit [\w-]{1,64}\nstart [0-9a-f]{16}\n" + RULE + r"expected (none|[0-9a-f]{16})\n" + STOP + WORDS, re.A)
+BROKEN_TEXT = r"broken\naudit [\w-]{1,64}\nstart [0-9a-f]{16}\n" + RULE + r"expected (none|[0-9a-f]{16})\n" + STOP + WORDS
+ROOTS = r"roots (0|[1-9]\d{0,2})\n"
+CLEAN = re.compile(f"{WHOLE_TEXT}|{ROOTS}(root [\\w-]{{1,64}} {WHOLE_TEXT})*", re.A)
+BROKEN = re.compile(f"{BROKEN_TEXT}|{ROOTS}(root [\\w-]{{1,64}} ({WHOLE_TEXT}|{BROKEN_TEXT}))*", re.A)
 STOPPED = re.compile(r"broken\n" + RULE + STOP + WORDS)
 FOUND = re.compile(r"[0-9a-f]{16} [0-9a-f]{16} [0-9a-f]{16} [0-9a-f]{16}\n")
 SHOWN = re.compile(r"value -?(0|[1-9]\d*)\n(place [0-9a-f]{16} [0-9a-f]{16} [0-9a-f]{16} [0-9a-f]{16}\n){1,2}")
@@ -179,7 +182,13 @@ def some_plan(rng):
     names = [f"a{k}" for k in range(count)]
     above = {k: rng.randrange(k) for k in range(1, count) if rng.random() < 0.3}
     parts = [some_audit(rng, names[k], k in above, [names[j] for j, owner in above.items() if owner == k]) for k in range(count)]
-    return ("version = 1\n" + "".join(parts)).encode()
+    return (some_head(rng) + "".join(parts)).encode()
+
+
+def some_head(rng):
+    """A version, and mostly no word on the tails of segments."""
+    tail = rng.choice(("", "", "", 'tail = "absent"\n', 'tail = "zero"\n', 'tail = "zero"\n'))
+    return f"version = {rng.choice((1, 1, 2))}\n" + tail
 
 
 WHOLE = b"".join(
@@ -201,6 +210,7 @@ WHOLE = b"".join(
 def shuffled(rng, plan):
     """The plan with its audits in another order, so that each kind is the first to be looked at."""
     head, *audits = plan.split(b"[[audit]]\n")
+    head = some_head(rng).encode()
     nested = [k for k, text in enumerate(audits) if b"from" in text]
     if not nested:
         rng.shuffle(audits)
@@ -289,6 +299,7 @@ def spoken(case, status, out, err):
 def placed(case, out):
     """What is wrong with the places that are printed."""
     core = second.Core(bytes(case.files["z.core"]))
+    core.zero = is_zero(case)
     if case.words[0] == "word" and case.words[2] != "-":
         memory = second.Memory(core, int(case.words[2], 16), 4, 0)
     else:
@@ -297,12 +308,17 @@ def placed(case, out):
     for line in out.splitlines():
         if line.startswith("place "):
             va, pa, offset, word = line.split()[1:]
-            pa, offset, word = int(pa, 16), int(offset, 16), int(word, 16)
-            if core.offset(pa) != offset or core.word(pa) != word:
+            pa, word, origin = int(pa, 16), int(word, 16), "tail" if offset == "tail" else int(offset, 16)
+            if core.origin(pa) != origin or core.word(pa) != word:
                 return "a place isn't in the dump"
-            if va != "-" and memory.place(int(va, 16)) != (int(va, 16), pa, offset, word):
+            if va != "-" and memory.place(int(va, 16)) != (int(va, 16), pa, origin, word):
                 return "an address doesn't lead to its place"
     return None
+
+
+def is_zero(case):
+    """Whether the plan says that tails read as zero."""
+    return case.words[0] == "check" and b'tail = "zero"' in bytes(case.files["z.toml"])
 
 
 def compared(case, status, out, err):

@@ -195,7 +195,7 @@ class Made:
             self.ring(va + 40, children[va], 56)
 
     def core(self, damaged=()):
-        """The file: one segment, or a second one that holds some pages again."""
+        """The file: one segment, or a second one that holds some pages again. Now and then a segment has a tail that the file leaves out."""
         twice = self.rng.random() < 0.3
         count = 3 if twice else 2
         head = bytearray(0x2000)
@@ -211,5 +211,9 @@ class Made:
             rows.append((1, start + 0x9000, 0x9000, 0x30000))
             rows[1:] = self.rng.sample(rows[1:], 2)
         for k, (kind, offset, pa, size) in enumerate(rows):
-            struct.pack_into("<IIQQQQQQ", head, 64 + 56 * k, kind, 0, offset, 0, pa, size, size, 0)
+            kept, whole = size, size
+            if kind == 1 and self.rng.random() < 0.2:
+                kept = max(0, size - self.rng.choice((4, 8, 0x1000, 0x8000, self.rng.randrange(size))))
+                whole = self.rng.choice((size, size, size + 0x10000, kept + 4, 0))
+            struct.pack_into("<IIQQQQQQ", head, 64 + 56 * k, kind, 0, offset, 0, pa, kept, whole, 0)
         return bytes(head) + bytes(start - 0x2000) + bytes(self.memory)

@@ -3,7 +3,7 @@
 
 usage: order.py FOLDER word|check|kmatch WORDS..
 
-as `order.py crates/kaudit/data check z.core z.btf z.map z.toml`. A file is opened, its size asked, and its bytes are read: of the dump the
+as `order.py crates/kaudit/data check z.core z.btf z.map z.toml`, with a module's types or without. A file is opened, its size asked, and its bytes are read: of the dump the
 file header, the table of program headers and each note's bytes, of the others all at once. Then, word by word in the order of the walks, the
 blocks of 4096 bytes of the dump that have the words, each once while it is kept in one of 64 places; the last ends with the segments. The
 page tables are read once for each page.
@@ -67,10 +67,12 @@ def main():
     if command == "word":
         second.word(core, int(words[1], 16), int(words[2], 16))
     else:
-        calls += whole("btf", words[1], folder) + whole("map", words[2], folder)
+        calls += whole("btf", words[1], folder)
+        calls += whole("module", words[4], folder) if len(words) > 4 else []
+        calls += whole("map", words[2], folder)
     if command == "check":
         calls += whole("plan", words[3], folder)
-        second.verdict(core, data(words[1]), data(words[2]), data(words[3]))
+        second.verdict(core, *map(data, words[1:]))
     for call in calls + noted.calls:
         print("call", call)
 

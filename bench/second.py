@@ -2,7 +2,7 @@
 the verdict of a plan. It is written from the guide's rules, plainly and slowly, so that answers can be compared.
 
 `verdict(core, btf, map, plan)` takes four byte strings (the core may be mapped) and gives what `check` answers: its status, its standard
-output and its standard error; of a refused plan only that it is refused. `word(core, table, va)` gives what `word` answers.
+output and its standard error; of a refused plan only that it is refused. A fifth byte string is a module's section `.BTF`. `word(core, table, va)` gives what `word` answers.
 """
 import re
 import struct
@@ -67,7 +67,7 @@ class Core:
             raise Refused("dump E8")
         if table + 56 * count > size:
             raise Refused("dump E7")
-        self.loads, self.notes = [], []
+        self.loads, self.notes, self.tails, self.zero = [], [], [], False
         for index in range(count):
             at = table + 56 * index
             kind, offset, pa, filesz, memsz = u32(data, at), *(u64(data, at + k) for k in (8, 24, 32, 40))
@@ -76,6 +76,8 @@ class Core:
             if offset + filesz > size or kind == 1 and pa + max(filesz, memsz) > TOP:
                 raise Refused(f"dump E9 index {index}")
             (self.loads if kind == 1 else self.notes).append((offset, pa, filesz))
+            if kind == 1:
+                self.tails.append((pa + filesz, pa + memsz))
         if sum(part[2] for part in self.notes) > 16 << 20:
             raise Refused("dump E10")
 
@@ -86,9 +88,16 @@ class Core:
                 return offset + pa - start
         return None
 
-    def word(self, pa):
+    def origin(self, pa):
+        """Where an aligned word of physical memory comes from: its file offset, or a tail that reads as zero."""
         at = self.offset(pa)
-        return None if at is None else u64(self.data, at)
+        if at is None and self.zero and any(start <= pa and pa + 8 <= end for start, end in self.tails):
+            return "tail"
+        return at
+
+    def word(self, pa):
+        at = self.origin(pa)
+        return 0 if at == "tail" else None if at is None else u64(self.data, at)
 
 
 def vmcoreinfo(core):
@@ -163,7 +172,7 @@ class Memory:
         self.pages = {}
 
     def entry_place(self, pa):
-        return ("-", pa, self.core.offset(pa), self.core.word(pa))
+        return ("-", pa, self.core.origin(pa), self.core.word(pa))
 
     def walk(self, va):
         """The physical address of a virtual one."""
@@ -191,14 +200,14 @@ class Memory:
         return table + va % 4096
 
     def place(self, va):
-        """The place of the word at an address: the address, its physical address, its file offset, the word."""
+        """The place of the word at an address: the address, its physical address, where it comes from, the word."""
         if va % 8:
             raise Broken("M1", va)
         pa = self.walk(va)
-        offset = self.core.offset(pa)
-        if offset is None:
+        origin = self.core.origin(pa)
+        if origin is None:
             raise Broken("M6", va, stop=(0, pa))
-        return (va, pa, offset, u64(self.core.data, offset))
+        return (va, pa, origin, self.core.word(pa))
 
     def places(self, at, bit, width):
         """The one or two words that hold a number."""
@@ -238,42 +247,56 @@ EACH = {4: 12, 5: 12, 6: 8, 13: 8, 15: 12, 19: 12}
 
 
 class Types:
+    slot = "btf"
+
     def __init__(self, data):
-        self.check_head(data)
         self.records = [None]
+        self.reach = self.check_head(data)
+        self.read(data)
+
+    def fault(self, rule, at):
+        return Refused(f"{self.slot} {rule} at {at}")
+
+    def read(self, data):
+        """The records behind those that are there."""
         at, end = self.types
+        first = len(self.records)
         while at < end:
             if at + 12 > end:
-                raise Refused(f"btf B7 at {at}")
+                raise self.fault("B7", at)
             name, info, size = struct.unpack_from("<III", data, at)
             kind, vlen = info >> 24 & 31, info & 0xFFFF
             if not 0 < kind <= 19:
-                raise Refused(f"btf B6 at {at}")
+                raise self.fault("B6", at)
             extra = KNOWN.get(kind, EACH.get(kind, 0) * vlen if kind in EACH else 0)
             if at + 12 + extra > end:
-                raise Refused(f"btf B7 at {at}")
+                raise self.fault("B7", at)
             words = struct.unpack_from(f"<{extra // 4}I", data, at + 12)
             self.records.append((kind, name, info >> 31, size, words, at))
             at += 12 + extra
-        for record in self.records[1:]:
+        for record in self.records[first:]:
             self.check_record(record)
         self.data = data
 
     def check_head(self, data):
+        """Where the two sections lie. How long the strings are."""
         if len(data) < 24:
-            raise Refused(f"btf B1 at {len(data)}")
+            raise self.fault("B1", len(data))
         magic, version, _, head, type_off, type_len, str_off, str_len = struct.unpack_from("<HBBIIIII", data, 0)
         if magic != 0xEB9F:
-            raise Refused("btf B2 at 0")
+            raise self.fault("B2", 0)
         if version != 1:
-            raise Refused("btf B3 at 2")
+            raise self.fault("B3", 2)
         if head < 24 or max(head + type_off + type_len, head + str_off + str_len) > len(data):
-            raise Refused("btf B4 at 4")
-        self.names = head + str_off, str_len
-        text = data[head + str_off : head + str_off + str_len]
-        if not text or text[0] or text[-1]:
-            raise Refused(f"btf B5 at {head + str_off}")
+            raise self.fault("B4", 4)
+        self.text_at = head + str_off
+        if not self.is_text(data[self.text_at : self.text_at + str_len]):
+            raise self.fault("B5", self.text_at)
         self.types = head + type_off, head + type_off + type_len
+        return str_len
+
+    def is_text(self, text):
+        return text and not text[0] and not text[-1]
 
     def check_record(self, record):
         kind, name, _, size, words, at = record
@@ -291,11 +314,11 @@ class Types:
             names += words[:: 2 if kind == 6 else 3]
         if kind == 15:
             types += words[::3]
-        if any(n >= self.names[1] for n in names) or any(t >= len(self.records) for t in types):
-            raise Refused(f"btf B8 at {at}")
+        if any(n >= self.reach for n in names) or any(t >= len(self.records) for t in types):
+            raise self.fault("B8", at)
 
     def name(self, offset):
-        start = self.names[0] + offset
+        start = self.text_at + offset
         return self.data[start : self.data.index(b"\0", start)]
 
     def bare(self, number):
@@ -413,6 +436,24 @@ class Types:
         if hops or width and (found != width or bit % (64 if width == 64 else 8)):
             raise Refused("plan")
         return bit, found, signed
+
+
+class Joined(Types):
+    """The types of a kernel, and behind them those of a module: its numbers and its strings go on from the kernel's."""
+
+    slot = "module"
+
+    def __init__(self, base, data):
+        self.base = base
+        self.records = list(base.records)
+        self.reach = base.reach + self.check_head(data)
+        self.read(data)
+
+    def is_text(self, text):
+        return not text or not text[-1]
+
+    def name(self, offset):
+        return self.base.name(offset) if offset < self.base.reach else super().name(offset - self.base.reach)
 
 
 def symbols(data):
@@ -1026,7 +1067,8 @@ class Run:
 
 def place_line(place):
     va = "-" if place[0] == "-" else f"{place[0]:016x}"
-    return f"place {va} {place[1]:016x} {place[2]:016x} {place[3]:016x}\n"
+    origin = place[2] if place[2] == "tail" else f"{place[2]:016x}"
+    return f"place {va} {place[1]:016x} {origin} {place[3]:016x}\n"
 
 
 def stopped_text(found, heads=""):
@@ -1039,9 +1081,12 @@ def stopped_text(found, heads=""):
 
 
 def plan_of(data, kernel):
-    """The audits of a plan in order, each looked up, with their numbers by name."""
+    """The audits of a plan in order, each looked up, with their numbers by name, and its version. The core gets its tail's meaning."""
     try:
-        tables = tomllib.loads(data.decode())["audit"]
+        document = tomllib.loads(data.decode())
+        version, tail, tables = document["version"], document.get("tail", "absent"), document["audit"]
+        if version is True or version not in (1, 2) or isinstance(version, float) or tail not in ("absent", "zero"):
+            raise Refused("plan")
         above = {name: table for table in tables for name in table.get("each", [])}
         audits = []
         for table in tables:
@@ -1051,29 +1096,50 @@ def plan_of(data, kernel):
         numbers = {table["name"]: k for k, table in enumerate(tables)}
         if not all(name in numbers for name in above):
             raise Refused("plan")
-        return audits, numbers, tables
+        kernel.memory.core.zero = tail == "zero"
+        return audits, numbers, tables, version
     except (KeyError, TypeError, AttributeError, ValueError):
         raise Refused("plan") from None
 
 
-def verdict(core, btf, rows, plan):
-    """What `check` answers: its status and its two texts."""
+def verdict(core, btf, rows, plan, module=None):
+    """What `check` answers, with a module's types or without: its status and its two texts."""
     try:
         core = Core(core)
         info = Info(core)
-        types, rows = Types(btf), symbols(rows)
+        types = Types(btf) if module is None else Joined(Types(btf), module)
+        rows = symbols(rows)
         kernel = Kernel(Memory(core, info.table, info.levels, info.mask), types, rows, info)
-        audits, numbers, tables = plan_of(plan, kernel)
-    except Refused as fault:
+        audits, numbers, tables, version = plan_of(plan, kernel)
+        roots = [number for number, table in enumerate(tables) if "root" in table]
+        if version == 1:
+            status, text = told(kernel, audits, numbers, roots, range(len(audits)))
+            return status, text, ""
+        status, texts = 0, f"roots {len(roots)}\n"
+        for root in roots:
+            one, text = told(kernel, audits, numbers, [root], reached(audits, numbers, root))
+            status, texts = max(status, one), texts + f"root {audits[root].name} {text}"
+        return status, texts, ""
+    except Refused as fault:  # of a file, or of a struct that is looked up when it is needed
         return 2, "", f"refused {fault}\n"
+
+
+def reached(audits, numbers, root):
+    """The numbers of the audits that a root reaches, in order."""
+    found, more = set(), [root]
+    while more:
+        found.add(more[-1])
+        more += [numbers[name] for name in audits[more.pop()].each]
+    return sorted(found)
+
+
+def told(kernel, audits, numbers, roots, counted):
+    """The verdict on these roots: its status, and its text with the counts of these audits."""
     run = Run(kernel, audits, numbers)
     try:
-        for number, table in enumerate(tables):
-            if "root" in table:
-                run.take(number, audits[number].symbol)
-    except Refused as fault:  # a struct that is looked up when it is needed
-        return 2, "", f"refused {fault}\n"
+        for root in roots:
+            run.take(root, audits[root].symbol)
     except Broken as found:
-        return 1, stopped_text(found, f"audit {audits[run.blamed].name}\nstart {found.start:016x}\n"), ""
-    lines = [f"audit {a.name} walks {w} elements {e}\n" for a, w, e in zip(audits, run.walks, run.elements)]
-    return 0, "clean\n" + "".join(lines), ""
+        return 1, stopped_text(found, f"audit {audits[run.blamed].name}\nstart {found.start:016x}\n")
+    lines = [f"audit {audits[k].name} walks {run.walks[k]} elements {run.elements[k]}\n" for k in counted]
+    return 0, "clean\n" + "".join(lines)

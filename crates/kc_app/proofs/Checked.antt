@@ -1,5 +1,6 @@
 -- The answer of `check`, step by step.
-use Rattle.std.proofs.Common.{◌≡◌, ℕ, List, Option, Some, None, IfSome, Result, Ok, Err, inl, inr, sym, ap}
+use Rattle.std.proofs.Common.{◌≡◌, ℕ, nat_eq, Bool, true, false, if◌then◌else◌, List, map, Option, Some, None, IfSome, Result, Ok, Err, inl, inr, refl, sym, ap, subst}
+use Rattle.std.proofs.lemmas.Bool.{eqb-true}
 use Rattle.kc_word.specs.declared.plain.PageCfg.{PageCfg}
 use Rattle.kc_word.specs.declared.plain.Segment.{Segment}
 use Rattle.kc_outside.specs.declared.store.Slot.{Slot}
@@ -9,8 +10,11 @@ use Rattle.kc_elf.specs.Parts.{Parts}
 use Rattle.kc_btf.specs.Btf.{Types}
 use Rattle.kc_notes.specs.declared.info.Info.{Info}
 use Rattle.kc_notes.specs.Info.{info}
+use Rattle.kc_memory.specs.Image.{Image}
+use Rattle.kc_found.specs.declared.verdict.RootVerdict.{RootVerdict}
 use Rattle.kc_found.specs.declared.verdict.Verdict.{Verdict}
-use Rattle.kc_plan.specs.Planned.{AuditAt}
+use Rattle.kc_plan.specs.Planned.{AuditAt, PlanAt}
+use Rattle.kc_plan.specs.Roots.{root_verdicts}
 use Rattle.kc_plan.specs.Verdicts.{verdict, verdict_places}
 use Rattle.kc_input.specs.declared.halt.Halt.{Halt}
 use Rattle.kc_input.specs.declared.halt.Halt.TheVariants.{Refused, Store, Memory}
@@ -20,9 +24,9 @@ use Rattle.kc_input.specs.Made.{IsOf, checked, gives}
 use Rattle.kc_input.specs.Paging.{by_info}
 use Rattle.kc_ends.specs.declared.answer.Answer.{Answer}
 use Rattle.kc_ends.specs.Answers.{Prints, PrintsOf, PrintsOfBytes, StayBehind}
-use Rattle.kc_app.specs.Answer.{Writes}
-use Rattle.kc_app.specs.Check.{Files, RefusesLate, check_asked, check_made, names_of, planned_in, verdict_said, verdict_shown}
-use Rattle.kc_app.specs.Shown.{shown_written}
+use Rattle.kc_app.specs.Answer.{Writes, WritesRoots, WritesText}
+use Rattle.kc_app.specs.Check.{Audited, Files, RefusesLate, audited_by, audited_shown, check_asked, check_made, names_of, planned_in, root_seen, roots_shown, verdict_said, verdict_shown}
+use Rattle.kc_app.specs.Shown.{Shown, shown_status, shown_text, shown_written}
 use Rattle.kc_app.specs.Word.{image_of}
 
 -- a late refusal leaves the files after it unopened
@@ -33,39 +37,66 @@ late_stays A B f (Refused refusal) r old before new is kept (inr late) = rw (is,
 late_stays A B f Store r old before new is kept late = rw is tt
 late_stays A B f Memory r old before new is kept late = rw is tt
 
--- what is written of a verdict is what it prints
-abbrev judged : List Segment → PageCfg → List AuditAt → List ℕ → Verdict
-judged segments paging audits bytes = verdict (image_of bytes segments paging) audits
+-- what is written of what is shown is what it prints
+prints_shown : (shown : Shown) (r : Result Answer Halt) → WritesText (shown_text shown) (shown_status shown) r → Prints shown_written (gives shown) r
+prints_shown shown (Ok answer) writes = ap (λ w. Some w) (sym writes)
+prints_shown shown (Err (Refused refusal)) writes = absurd writes
+prints_shown shown (Err Store) writes = absurd writes
+prints_shown shown (Err Memory) writes = tt
 
-prints_verdict : (bytes : List ℕ) (segments : List Segment) (paging : PageCfg) (audits : List AuditAt) (found : Verdict) (r : Result Answer Halt)
-    → judged segments paging audits bytes ≡ found → Writes (verdict_said (names_of audits) found) (verdict_places found) r
-    → Prints shown_written (gives (verdict_shown (image_of bytes segments paging) (names_of audits) (judged segments paging audits bytes))) r
-prints_verdict bytes segments paging audits found (Ok answer) is writes = rw is (ap (λ w. Some w) (sym writes))
-prints_verdict bytes segments paging audits found (Err (Refused refusal)) is writes = absurd writes
-prints_verdict bytes segments paging audits found (Err Store) is writes = absurd writes
-prints_verdict bytes segments paging audits found (Err Memory) is writes = tt
+-- of a plan with one verdict on all its audits
+pub all_prints : (content : Option (List ℕ)) (image : List ℕ → Image) (audits : List AuditAt) (names : List (List ℕ)) (found : Verdict) (r : Result Answer Halt)
+    → names ≡ names_of audits → IfSome content (λ bytes. verdict (image bytes) audits ≡ found) → Writes (verdict_said names found) (verdict_places found) r
+    → PrintsOfBytes shown_written (λ bytes. gives (verdict_shown (image bytes) (names_of audits) (verdict (image bytes) audits))) content r
+all_prints None image audits names found r named is writes = tt
+all_prints (Some bytes) image audits names found r named is writes = rw is (prints_shown (verdict_shown (image bytes) (names_of audits) found) r (rw named at writes))
 
-pub judged_prints : (content : Option (List ℕ)) (segments : List Segment) (paging : PageCfg) (audits : List AuditAt) (names : List (List ℕ)) (found : Verdict) (r : Result Answer Halt)
-    → names ≡ names_of audits → IfSome content (λ bytes. judged segments paging audits bytes ≡ found) → Writes (verdict_said names found) (verdict_places found) r
-    → PrintsOfBytes shown_written (λ bytes. gives (verdict_shown (image_of bytes segments paging) (names_of audits) (judged segments paging audits bytes))) content r
-judged_prints None segments paging audits names found r named is writes = tt
-judged_prints (Some bytes) segments paging audits names found r named is writes = prints_verdict bytes segments paging audits found r is (rw named at writes)
+-- and of one with a verdict on each root audit
+pub each_prints : (content : Option (List ℕ)) (image : List ℕ → Image) (audits : List AuditAt) (names : List (List ℕ)) (found : List RootVerdict) (r : Result Answer Halt)
+    → names ≡ names_of audits → IfSome content (λ bytes. root_verdicts (image bytes) audits ≡ found) → WritesRoots (map (root_seen names) found) r
+    → PrintsOfBytes shown_written (λ bytes. gives (roots_shown (image bytes) (names_of audits) (root_verdicts (image bytes) audits))) content r
+each_prints None image audits names found r named is writes = tt
+each_prints (Some bytes) image audits names found r named is writes = rw is (prints_shown (roots_shown (image bytes) (names_of audits) found) r (rw named at writes))
+
+-- what is shown of a plan on a dump with these bytes and segments
+abbrev pub shown_on : List Segment → PageCfg → PlanAt → List ℕ → Shown
+shown_on segments paging plan bytes = audited_shown (audited_by segments paging plan bytes)
+
+abbrev shown_by : Bool → List Segment → PageCfg → PlanAt → List ℕ → Shown
+shown_by each segments paging plan bytes =
+    let image = image_of bytes segments plan.tail paging in
+    if each then roots_shown image (names_of plan.audits) (root_verdicts image plan.audits)
+    else verdict_shown image (names_of plan.audits) (verdict image plan.audits)
+
+pub by_version : (content : Option (List ℕ)) (segments : List Segment) (paging : PageCfg) (plan : PlanAt) (each : Bool) (r : Result Answer Halt)
+    → nat_eq plan.version 2 ≡ each → PrintsOfBytes shown_written (λ bytes. gives (shown_by each segments paging plan bytes)) content r
+    → PrintsOfBytes shown_written (λ bytes. gives (shown_on segments paging plan bytes)) content r
+by_version content segments paging plan each r is prints =
+    subst (λ (b : Bool). PrintsOfBytes shown_written (λ bytes. gives (shown_by b segments paging plan bytes)) content r) (sym is) prints
+
+-- another version than 2
+pub not_two : (version : ℕ) → (version ≡ 2 → ⊥) → nat_eq version 2 ≡ false
+not_two version other = by_test (nat_eq version 2) refl
+  where
+    by_test : (b : Bool) → nat_eq version 2 ≡ b → nat_eq version 2 ≡ false
+    by_test true is = absurd (other (eqb-true version 2 is))
+    by_test false is = is
 
 -- the steps of `check` on a file that is there
-prints_made : (file btf map plan : Option (List ℕ)) (parts : Parts) (told : Info) (types : Types) (audits : List AuditAt) (r : Result Answer Halt)
-    → dump_parts file ≡ gives parts → checked Notes (info parts.notes) ≡ gives told → types_in btf ≡ gives types → planned_in types told map plan ≡ gives audits
-    → PrintsOfBytes shown_written (λ bytes. gives (verdict_shown (image_of bytes parts.segments (by_info told)) (names_of audits) (judged parts.segments (by_info told) audits bytes))) file r
+prints_made : (file btf map plan : Option (List ℕ)) (parts : Parts) (told : Info) (types : Types) (planned : PlanAt) (r : Result Answer Halt)
+    → dump_parts file ≡ gives parts → checked Notes (info parts.notes) ≡ gives told → types_in btf ≡ gives types → planned_in types told map plan ≡ gives planned
+    → PrintsOfBytes shown_written (λ bytes. gives (shown_on parts.segments (by_info told) planned bytes)) file r
     → Prints shown_written (check_made file btf map plan) r
-prints_made None btf map plan parts told types audits r is noted typed planned prints = absurd (let none : ⊥ = cc in none)
-prints_made (Some bytes) btf map plan parts told types audits r is noted typed planned prints = rw (is, noted, typed, planned) prints
+prints_made None btf map plan parts told types planned r is noted typed found prints = absurd (let none : ⊥ = cc in none)
+prints_made (Some bytes) btf map plan parts told types planned r is noted typed found prints = rw (is, noted, typed, found) prints
 
 -- and where the files are told
-pub check_prints : {X Y Z : Type 0} (files : Option Told) (f : Files) (core : X → Parts) (types : Y → Types) (audits : Z → List AuditAt) (x : X) (told : Info) (y : Y) (z : Z) (r : Result Answer Halt)
+pub check_prints : {X Y Z : Type 0} (files : Option Told) (f : Files) (core : X → Parts) (types : Y → Types) (plan : Z → PlanAt) (x : X) (told : Info) (y : Y) (z : Z) (r : Result Answer Halt)
     → IsOf core (λ files. dump_parts (files slot.Dump f.dump)) files (Ok x) → checked Notes (info (core x).notes) ≡ gives told
     → IsOf types (λ files. types_in (files slot.Btf f.btf)) files (Ok y)
-    → IsOf audits (λ files. planned_in (types y) told (files slot.Map f.map) (files slot.Plan f.plan)) files (Ok z)
-    → PrintsOfBytes shown_written (λ bytes. gives (verdict_shown (image_of bytes (core x).segments (by_info told)) (names_of (audits z)) (judged (core x).segments (by_info told) (audits z) bytes))) (named files slot.Dump f.dump) r
+    → IsOf plan (λ files. planned_in (types y) told (files slot.Map f.map) (files slot.Plan f.plan)) files (Ok z)
+    → PrintsOfBytes shown_written (λ bytes. gives (shown_on (core x).segments (by_info told) (plan z) bytes)) (named files slot.Dump f.dump) r
     → PrintsOf shown_written (λ files. check_made (files slot.Dump f.dump) (files slot.Btf f.btf) (files slot.Map f.map) (files slot.Plan f.plan)) files r
-check_prints None f core types audits x told y z r is noted typed planned prints = tt
-check_prints (Some files) f core types audits x told y z r is noted typed planned prints =
-    prints_made (files slot.Dump f.dump) (files slot.Btf f.btf) (files slot.Map f.map) (files slot.Plan f.plan) (core x) told (types y) (audits z) r is noted typed planned prints
+check_prints None f core types plan x told y z r is noted typed planned prints = tt
+check_prints (Some files) f core types plan x told y z r is noted typed planned prints =
+    prints_made (files slot.Dump f.dump) (files slot.Btf f.btf) (files slot.Map f.map) (files slot.Plan f.plan) (core x) told (types y) (plan z) r is noted typed planned prints

@@ -1,6 +1,10 @@
 mod Calls
 mod Checked
+mod CheckedModule
 mod Counts
 mod Ends
+mod ModuleEnds
 mod Planned
+mod Rooted
 mod Selftests
+mod Stands

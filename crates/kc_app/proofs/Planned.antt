@@ -7,9 +7,9 @@ use Rattle.kc_notes.specs.declared.info.Info.{Info}
 use Rattle.kc_syms.specs.Rows.{RowText}
 use Rattle.kc_plan.specs.declared.plan.Plan.{Plan}
 use Rattle.kc_plan.specs.Planned.{AuditAt}
-use Rattle.kc_plan.specs.Views.{plan_seen}
+use Rattle.kc_plan.specs.Views.{plan_whole}
 use Rattle.kc_input.specs.declared.halt.Halt.{Halt}
-use Rattle.kc_input.specs.Inputs.{audits_in, map_in, plan_in, rows_in}
+use Rattle.kc_input.specs.Inputs.{map_in, plan_in, plan_over, rows_in}
 use Rattle.kc_input.specs.Made.{Is, IsOf, gives}
 use Rattle.kc_app.specs.Check.{names_of, planned_in}
 
@@ -25,7 +25,7 @@ name_more audits i a is = rw add-one (one_more audits i a is)
 -- a plan over the rows of a map, where the files are told
 pub planned_told : {X Y : Type 0} (told : Option Files) (map plan : List ℕ) (types : Types) (info : Info) (seen : X → List ℕ) (read : Y → List ℕ) (listed : X) (bytes : Y) (rows : List RowText)
     (result : Result Plan Halt) → IsOf seen (λ files. map_in (files Map map)) told (Ok listed) → rows_in (seen listed) ≡ gives rows
-    → IsOf read (λ files. plan_in (files PlanSlot plan)) told (Ok bytes) → Is plan_seen (audits_in types rows info (read bytes)) result
-    → IsOf plan_seen (λ files. planned_in types info (files Map map) (files PlanSlot plan)) told result
+    → IsOf read (λ files. plan_in (files PlanSlot plan)) told (Ok bytes) → Is plan_whole (plan_over types rows info (read bytes)) result
+    → IsOf plan_whole (λ files. planned_in types info (files Map map) (files PlanSlot plan)) told result
 planned_told None map plan types info seen read listed bytes rows result mapped rowed planned is = tt
 planned_told (Some files) map plan types info seen read listed bytes rows result mapped rowed planned is = rw (mapped, rowed, planned) is

@@ -1,5 +1,5 @@
 -- What the code's answers are.
-use Rattle.std.specs.Prelude.{◌≡◌, ⊤, [], List, Result, Ok, Err}
+use Rattle.std.specs.Prelude.{◌≡◌, ⊤, ℕ, [], List, Result, Ok, Err}
 use Rattle.kc_memory.specs.declared.space.Stop.{Stop}
 use Rattle.kc_memory.specs.declared.space.Stop.TheVariants.{Miss, Fault}
 use Rattle.kc_memory.specs.declared.words.Place.{Place}
@@ -7,15 +7,24 @@ use Rattle.kc_memory.specs.Places.{entry_places}
 use Rattle.kc_input.specs.declared.halt.Halt.{Halt}
 use Rattle.kc_input.specs.declared.halt.Halt.TheVariants.{Refused, Store, Memory}
 use Rattle.kc_ends.specs.declared.answer.Answer.{Answer}
+use Rattle.kc_ends.specs.declared.status.Status.{Status}
 use Rattle.kc_ends.specs.Answers.{written_by}
-use Rattle.kc_app.specs.Shown.{Said, Stop as StopSaid, said_status, seen_text}
+use Rattle.kc_app.specs.Shown.{RootSeen, Said, Stop as StopSaid, rooted_text, roots_status, said_status, seen_text}
 
--- what is said of words of a dump is written, unless no memory was left
+-- a text is written, with a status, unless no memory was left
+abbrev pub WritesText : List ℕ → Status → Result Answer Halt → Type 0
+WritesText text status (Ok answer) = written_by answer ≡ record { out = text; err = []; status = status }
+WritesText text status (Err (Refused refusal)) = ⊥
+WritesText text status (Err Store) = ⊥
+WritesText text status (Err Memory) = ⊤
+
+-- so is what is said of words of a dump
 abbrev pub Writes : Said → List Place → Result Answer Halt → Type 0
-Writes said places (Ok answer) = written_by answer ≡ record { out = seen_text said places; err = []; status = said_status said }
-Writes said places (Err (Refused refusal)) = ⊥
-Writes said places (Err Store) = ⊥
-Writes said places (Err Memory) = ⊤
+Writes said places r = WritesText (seen_text said places) (said_status said) r
+
+-- and what is said of root audits
+abbrev pub WritesRoots : List RootSeen → Result Answer Halt → Type 0
+WritesRoots roots r = WritesText (rooted_text roots) (roots_status roots) r
 
 -- a miss is shown, and a failure of the space is one of the store
 abbrev pub IsStopped : Stop → Result Answer Halt → Type 0

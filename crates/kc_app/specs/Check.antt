@@ -1,30 +1,36 @@
 -- `check`: the structures of a kernel, by a plan.
-use Rattle.std.specs.Prelude.{◌≡◌, ◌↔◌, ⊤, ◌⊎◌, ℕ, List, [], ◌∷◌, codes, map, slice_get, Option, Some, None, unwrap_or, Result, Ok, Err}
+use Rattle.std.specs.Prelude.{◌≡◌, ◌↔◌, ⊤, ◌⊎◌, ℕ, nat_eq, if◌then◌else◌, List, [], ◌∷◌, map, slice_get, Option, Some, None, unwrap_or, Result, Ok, Err}
+use Rattle.std.specs.List.{AllZip}
+use Rattle.kc_word.specs.declared.plain.PageCfg.{PageCfg}
+use Rattle.kc_word.specs.declared.plain.Segment.{Segment}
 use Rattle.kc_outside.specs.declared.store.Slot.{Slot}
 use Rattle.kc_outside.specs.declared.store.Slot.TheVariants as slot
 use Rattle.kc_memory.specs.Image.{Image}
 use Rattle.kc_btf.specs.Btf.{Types}
 use Rattle.kc_notes.specs.declared.info.Info.{Info}
 use Rattle.kc_notes.specs.Info.{info}
+use Rattle.kc_found.specs.declared.verdict.RootVerdict.{RootVerdict}
 use Rattle.kc_found.specs.declared.verdict.Verdict.{Verdict}
 use Rattle.kc_found.specs.declared.verdict.Verdict.TheVariants.{Clean, Broken}
-use Rattle.kc_plan.specs.Planned.{AuditAt}
-use Rattle.kc_plan.specs.Stands.{PlanStands}
+use Rattle.kc_plan.specs.Planned.{AuditAt, PlanAt}
+use Rattle.kc_plan.specs.Stands.{PlanStands, RootStands}
+use Rattle.kc_plan.specs.Roots.{root_verdicts}
+use Rattle.kc_plan.specs.Seen.{roots}
 use Rattle.kc_plan.specs.Verdicts.{verdict, verdict_places}
-use Rattle.kc_report.specs.Copies.{counted, told_stop}
+use Rattle.kc_report.specs.Copies.{counted, name_of, told_stop}
+use Rattle.kc_report.specs.Copies.{names_of as reached_names}
 use Rattle.kc_input.specs.declared.halt.Halt.{Halt}
 use Rattle.kc_input.specs.declared.halt.Halt.TheVariants.{Refused, Store, Memory}
 use Rattle.kc_input.specs.declared.refusal.Refusal.TheVariants.{Notes}
-use Rattle.kc_input.specs.Inputs.{audits_in, dump_parts, map_in, plan_in, rows_in, types_in}
+use Rattle.kc_input.specs.Inputs.{dump_parts, map_in, plan_in, plan_over, rows_in, types_in}
 use Rattle.kc_input.specs.Made.{◌>>=◌, Made, checked, gives}
 use Rattle.kc_input.specs.Paging.{by_info}
 use Rattle.kc_input.specs.Slots.{refused_slot}
 use Rattle.kc_ends.specs.Asked.{Asked}
 use Rattle.kc_app.specs.declared.check.Asks.{Asks}
-use Rattle.kc_app.specs.Form.{Form}
 use Rattle.kc_ends.specs.declared.status.Status.{Status}
 use Rattle.kc_ends.specs.declared.status.Status.TheVariants as status
-use Rattle.kc_app.specs.Shown.{Said, Sound, Unsound, Shown, Seen, shown_status}
+use Rattle.kc_app.specs.Shown.{Said, Sound, Unsound, RootSeen, Shown, Seen, Rooted, Listed, said_status, shown_status}
 use Rattle.kc_app.specs.Word.{bytes_of, image_of}
 
 -- what `check` asks: four files by their names
@@ -34,18 +40,23 @@ pub record Files : Type 0 where
   pub map : List ℕ
   pub plan : List ℕ
 
--- the audits of a plan over the rows of a map: the map's faults come first
-abbrev pub planned_in : Types → Info → Option (List ℕ) → Option (List ℕ) → Made (List AuditAt)
+-- a plan over the rows of a map: the map's faults come first
+abbrev pub planned_in : Types → Info → Option (List ℕ) → Option (List ℕ) → Made PlanAt
 planned_in types told map plan = do
   listed ← map_in map
   rows ← rows_in listed
   bytes ← plan_in plan
-  audits_in types rows told bytes
+  plan_over types rows told bytes
 
--- the memory that is audited, and the audits
+-- the memory that is audited, the version of the plan, and its audits
 pub record Audited : Type 0 where
   pub image : Image
+  pub version : ℕ
   pub audits : List AuditAt
+
+-- those of a plan on a dump with these bytes and segments: what the dump leaves out reads as the plan says
+abbrev pub audited_by : List Segment → PageCfg → PlanAt → List ℕ → Audited
+audited_by segments paging plan bytes = record { image = image_of bytes segments plan.tail paging; version = plan.version; audits = plan.audits }
 
 -- the faults come in the order dump, types, map and plan
 abbrev pub audited : Option (List ℕ) → Option (List ℕ) → Option (List ℕ) → Option (List ℕ) → Made Audited
@@ -53,8 +64,8 @@ audited dump btf map plan = do
   parts ← dump_parts dump
   told ← checked Notes (info parts.notes)
   types ← types_in btf
-  audits ← planned_in types told map plan
-  gives (record { image = image_of (bytes_of dump) parts.segments (by_info told); audits = audits })
+  planned ← planned_in types told map plan
+  gives (audited_by parts.segments (by_info told) planned (bytes_of dump))
 
 -- the audits' names
 abbrev pub names_of : List AuditAt → List (List ℕ)
@@ -70,9 +81,29 @@ verdict_said names (Broken v) =
 abbrev pub verdict_shown : Image → List (List ℕ) → Verdict → Shown
 verdict_shown image names found = Seen (verdict_said names found) image (verdict_places found)
 
--- the verdict on the memory, with its words
+-- what is said of the verdict on a root audit, which reaches these audits
+abbrev pub root_said : List (List ℕ) → List ℕ → Verdict → Said
+root_said names audits (Clean counts) = verdict_said (reached_names names audits) (Clean counts)
+root_said names audits (Broken v) = verdict_said names (Broken v)
+
+-- a verdict on a root audit, with its words
+abbrev pub root_seen : List (List ℕ) → RootVerdict → RootSeen
+root_seen names found = record {
+  name = name_of names found.root;
+  said = root_said names found.audits found.verdict;
+  places = verdict_places found.verdict;
+}
+
+-- the verdicts on the root audits, each with its words
+abbrev pub roots_shown : Image → List (List ℕ) → List RootVerdict → Shown
+roots_shown image names found = Rooted image (map (root_seen names) found)
+
+-- The verdict on the memory, with its words: with version 1 the one on all audits, and with version 2 that on each root
+-- audit.
 abbrev pub audited_shown : Audited → Shown
-audited_shown all = verdict_shown all.image (names_of all.audits) (verdict all.image all.audits)
+audited_shown all =
+    if nat_eq all.version 2 then roots_shown all.image (names_of all.audits) (root_verdicts all.image all.audits)
+    else verdict_shown all.image (names_of all.audits) (verdict all.image all.audits)
 
 -- what `check` makes of its files
 abbrev pub check_made : Option (List ℕ) → Option (List ℕ) → Option (List ℕ) → Option (List ℕ) → Made Shown
@@ -91,9 +122,6 @@ abbrev pub check_asks : List (List ℕ) → Option (Asked Shown)
 check_asks (dump ∷ btf ∷ map ∷ plan ∷ []) = Some (check_asked (record { dump = dump; btf = btf; map = map; plan = plan }))
 check_asks _ = None
 
-abbrev pub check_form : Form
-check_form = record { name = codes "check"; words = codes "DUMP BTF MAP PLAN"; asks = check_asks }
-
 -- as the code keeps them
 abbrev pub files_view : Asks → Files
 files_view a = record { dump = a.dump.now; btf = a.btf.now; map = a.map.now; plan = a.plan.now }
@@ -109,6 +137,22 @@ TellsStanding all told =
 -- what `check` shows has such a status
 abbrev pub ChecksStand : Type 0
 ChecksStand = (all : Audited) → TellsStanding all (shown_status (audited_shown all))
+
+-- what is said of a root audit is that its structures are clean exactly where each that it reaches stands in the memory, and
+-- that one is broken exactly where one doesn't
+abbrev pub TellsRoot : Audited → ℕ × ℕ → RootSeen → Type 0
+TellsRoot all root seen =
+    ((said_status seen.said ≡ status.Done) ↔ RootStands all.image all.audits root)
+    × ((said_status seen.said ≡ status.Broken) ↔ ¬ RootStands all.image all.audits root)
+
+-- so it is said of each root audit, in the order of the plan
+abbrev pub TellsRoots : Audited → Shown → Type 0
+TellsRoots all (Seen said image places) = ⊤
+TellsRoots all (Rooted image seen) = AllZip (TellsRoot all) (roots 0 all.audits) seen
+TellsRoots all (Listed strings t name lines) = ⊤
+
+abbrev pub RootsTold : Type 0
+RootsTold = (all : Audited) → TellsRoots all (audited_shown all)
 
 -- a refusal is about the map, and the plan's slot is then as before, or it is about the plan
 abbrev pub RefusesLate : {A : Type 0} → Result A Halt → (Slot → Option (List ℕ)) → (Slot → Option (List ℕ)) → Type 0

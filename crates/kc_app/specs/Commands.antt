@@ -2,7 +2,7 @@
 use Rattle.std.specs.Prelude.{ℕ, List, [], ◌∷◌, ◌++◌, codes, find, Option, None, option_and_then}
 use Rattle.std.specs.Str.{bytes_eq}
 use Rattle.kc_ends.specs.Asked.{Asked}
-use Rattle.kc_app.specs.Check.{check_form}
+use Rattle.kc_app.specs.CheckModule.{check_form}
 use Rattle.kc_app.specs.Form.{Form}
 use Rattle.kc_app.specs.Layout.{layout_form}
 use Rattle.kc_app.specs.Selftest.{selftest_form}
@@ -19,10 +19,14 @@ abbrev pub command : List (List ℕ) → Option (Asked Shown)
 command [] = None
 command (name ∷ words) = option_and_then (λ form. form.asks words) (find (λ form. bytes_eq name form.name) forms)
 
--- a line for each command
+-- a line for each way to write a command
+abbrev pub usage_of : List ℕ → List (List ℕ) → List ℕ
+usage_of name [] = []
+usage_of name (words ∷ ways) = codes "usage: kaudit " ++ name ++ codes " " ++ words ++ codes "\n" ++ usage_of name ways
+
 abbrev pub usage_lines : List Form → List ℕ
 usage_lines [] = []
-usage_lines (form ∷ forms) = codes "usage: kaudit " ++ form.name ++ codes " " ++ form.words ++ codes "\n" ++ usage_lines forms
+usage_lines (form ∷ forms) = usage_of form.name form.words ++ usage_lines forms
 
 abbrev pub usage_text : List ℕ
 usage_text = usage_lines forms

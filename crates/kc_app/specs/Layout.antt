@@ -36,7 +36,7 @@ layout_asks (btf ∷ ty ∷ []) = Some (layout_asked btf ty)
 layout_asks _ = None
 
 abbrev pub layout_form : Form
-layout_form = record { name = codes "layout"; words = codes "BTF TYPE"; asks = layout_asks }
+layout_form = record { name = codes "layout"; words = codes "BTF TYPE" ∷ []; asks = layout_asks }
 
 -- as the code keeps it
 abbrev pub layout_view : Asks → Asked Shown

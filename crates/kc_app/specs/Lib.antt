@@ -1,10 +1,12 @@
 pub mod Answer
 pub mod Calls
 pub mod Check
+pub mod CheckModule
 pub mod Commands
 pub mod Form
 pub mod Headline
 pub mod Layout
+pub mod ModuleHeadline
 pub mod Output
 pub mod Said
 pub mod Selftest

@@ -31,7 +31,7 @@ selftest_asks (n ∷ []) = option_map selftest_asked (count_in n)
 selftest_asks _ = None
 
 abbrev pub selftest_form : Form
-selftest_form = record { name = codes "selftest"; words = codes "N"; asks = selftest_asks }
+selftest_form = record { name = codes "selftest"; words = codes "N" ∷ []; asks = selftest_asks }
 
 -- the first word names it
 abbrev pub IsSelftest : List (List ℕ) → Type 0

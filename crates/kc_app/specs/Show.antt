@@ -1,5 +1,6 @@
 -- `show`: a number in memory, by symbol, type and path.
 use Rattle.std.specs.Prelude.{ℕ, List, [], ◌∷◌, codes, Option, Some, None, Result, Ok, Err}
+use Rattle.kc_word.specs.declared.plain.Tail.TheVariants.{Absent}
 use Rattle.kc_outside.specs.declared.store.Slot.TheVariants.{Dump, Btf, Map}
 use Rattle.kc_memory.specs.Bits.{Number, number_places}
 use Rattle.kc_memory.specs.Image.{Image}
@@ -55,7 +56,7 @@ target_in question types kaslr file = do
   number ← number_in types question.name question.path
   gives (record { at = at; number = number })
 
--- the memory that is read, and where in it
+-- the memory that is read, and where in it: what its dump leaves out is absent
 pub record Sought : Type 0 where
   pub image : Image
   pub target : Target
@@ -67,7 +68,7 @@ show_sought question dump btf map = do
   told ← checked Notes (info parts.notes)
   types ← types_in btf
   target ← target_in question types told.kaslr map
-  gives (record { image = image_of (bytes_of dump) parts.segments (by_info told); target = target })
+  gives (record { image = image_of (bytes_of dump) parts.segments Absent (by_info told); target = target })
 
 -- the number in memory
 abbrev pub number_read : Image → Target → Result Number Stopped
@@ -95,7 +96,7 @@ show_asks (dump ∷ btf ∷ map ∷ symbol ∷ ty ∷ path ∷ []) =
 show_asks _ = None
 
 abbrev pub show_form : Form
-show_form = record { name = codes "show"; words = codes "DUMP BTF MAP SYMBOL TYPE PATH"; asks = show_asks }
+show_form = record { name = codes "show"; words = codes "DUMP BTF MAP SYMBOL TYPE PATH" ∷ []; asks = show_asks }
 
 -- as the code keeps them
 abbrev pub worded : Asks → Question

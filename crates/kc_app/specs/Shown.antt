@@ -1,6 +1,7 @@
 -- What a command shows, as data, and its text.
-use Rattle.std.specs.Prelude.{ℕ, ℤ, List, [], ◌∷◌, ◌++◌, codes, decimal, map, Option, Some, None}
+use Rattle.std.specs.Prelude.{ℕ, ℤ, List, [], ◌∷◌, ◌++◌, codes, decimal, length, map, Option, Some, None}
 use Rattle.std.specs.Fmt.{signed_decimal}
+use Rattle.std.specs.List.{AllByRecursion}
 use Rattle.kc_memory.specs.declared.rule.Rule.{Rule}
 use Rattle.kc_memory.specs.declared.words.Place.{Place}
 use Rattle.kc_memory.specs.Image.{Image}
@@ -11,8 +12,9 @@ use Rattle.kc_btf.specs.declared.kind.Kind.TheVariants.{Struct}
 use Rattle.kc_btf.specs.declared.types.TypeRef.{TypeRef}
 use Rattle.kc_btf.specs.Readers.{name_at}
 use Rattle.kc_layout.specs.declared.listing.Line.{Line}
+use Rattle.kc_text.specs.Compose.{texts}
 use Rattle.kc_text.specs.Text.{hex, name_text, visible}
-use Rattle.kc_report.specs.Lines.{address_text, place_lines, rule_lines, stop_line}
+use Rattle.kc_report.specs.Lines.{address_text, origin_text, place_lines, rule_lines, stop_line}
 use Rattle.kc_report.specs.Report.{AuditLine}
 use Rattle.kc_report.specs.ReportText.{broken_lines, clean_text}
 use Rattle.kc_ends.specs.declared.status.Status.{Status}
@@ -30,19 +32,26 @@ pub data Said : Type 0 where
   Sound : List AuditLine → Said
   Unsound : List ℕ → ℕ → Rule → ℕ → Option ℕ → Option (ℕ × ℕ) → Said
 
--- What a command shows: what is said of words of a memory, and these words; or the members of a struct or union,
--- which no dump has: the strings, the type, the name that was asked, and the lines.
+-- a root audit of a plan: its name, what is said of it, and the words that show it
+pub record RootSeen : Type 0 where
+  pub name : List ℕ
+  pub said : Said
+  pub places : List Place
+
+-- What a command shows: what is said of words of a memory, and these words; the same of each root audit of a plan; or the
+-- members of a struct or union, which no dump has: the strings, the type, the name that was asked, and the lines.
 pub data Shown : Type 0 where
   Seen : Said → Image → List Place → Shown
+  Rooted : Image → List RootSeen → Shown
   Listed : List ℕ → TypeRef → List ℕ → List Line → Shown
 
 -- where reading stops
 abbrev pub broken : Image → Stopped → Shown
 broken image s = Seen (Stop s.rule s.va s.level s.pa) image (entry_places s.pa s.entry)
 
--- words alone, each by its four numbers: its virtual address, its physical address, its file offset and its value
+-- words alone, each by its virtual address, its physical address, its file offset and its value
 abbrev pub bare_line : Place → List ℕ
-bare_line p = address_text p.va ++ codes " " ++ hex p.pa ++ codes " " ++ hex p.off ++ codes " " ++ hex p.value ++ codes "\n"
+bare_line p = address_text p.va ++ codes " " ++ hex p.pa ++ codes " " ++ origin_text p.off ++ codes " " ++ hex p.value ++ codes "\n"
 
 abbrev pub bare_lines : List Place → List ℕ
 bare_lines [] = []
@@ -60,6 +69,14 @@ seen_text (Value v) places = codes "value " ++ signed_decimal v ++ codes "\n" ++
 seen_text (Stop rule va level pa) places = rule_lines rule va ++ stop_line rule level pa ++ place_lines places
 seen_text (Sound lines) places = clean_text lines ++ place_lines places
 seen_text (Unsound audit start rule at expected stop) places = unsound_lines audit start rule at expected stop places
+
+-- the text of a root audit, which begins with its name
+abbrev pub root_text : RootSeen → List ℕ
+root_text r = codes "root " ++ r.name ++ codes " " ++ seen_text r.said r.places
+
+-- those of all, after how many there are
+abbrev pub rooted_text : List RootSeen → List ℕ
+rooted_text roots = codes "roots " ++ decimal (length roots) ++ codes "\n" ++ texts root_text roots
 
 -- a width in bits, or a dash where it isn't known
 abbrev pub width_text : Option ℕ → List ℕ
@@ -86,6 +103,7 @@ compound_line t name = compound_word t.kind ++ map visible name ++ codes " size 
 -- the text of what is shown
 abbrev pub shown_text : Shown → List ℕ
 shown_text (Seen said image places) = seen_text said places
+shown_text (Rooted image roots) = rooted_text roots
 shown_text (Listed strings t name lines) = compound_line t name ++ member_lines strings lines
 
 -- and the status
@@ -96,13 +114,24 @@ said_status (Stop rule va level pa) = Broken
 said_status (Sound lines) = Done
 said_status (Unsound audit start rule at expected stop) = Broken
 
+-- broken, where one of two is
+abbrev pub either_broken : Status → Status → Status
+either_broken Broken status = Broken
+either_broken _ status = status
+
+abbrev pub roots_status : List RootSeen → Status
+roots_status [] = Done
+roots_status (r ∷ rs) = either_broken (said_status r.said) (roots_status rs)
+
 abbrev pub shown_status : Shown → Status
 shown_status (Seen said image places) = said_status said
+shown_status (Rooted image roots) = roots_status roots
 shown_status (Listed strings t name lines) = Done
 
 -- every word that is shown stands in its memory, at the places that are shown
 abbrev pub IsTrueOfDump : Shown → Type 0
 IsTrueOfDump (Seen said image places) = AllStandIn image places
+IsTrueOfDump (Rooted image roots) = AllByRecursion (λ (r : RootSeen). AllStandIn image r.places) roots
 IsTrueOfDump (Listed strings t name lines) = Unit {0}
 
 -- and so what is written of it

@@ -3,6 +3,8 @@ use Rattle.std.specs.Prelude.{ℕ, ◌%◌, ◌^◌, ◌&&◌, false, if◌then�
 use Rattle.std.specs.Str.{bytes_eq}
 use Rattle.kc_word.specs.declared.plain.Segment.{Segment}
 use Rattle.kc_word.specs.declared.plain.PageCfg.{PageCfg}
+use Rattle.kc_word.specs.declared.plain.Tail.{Tail}
+use Rattle.kc_word.specs.declared.plain.Tail.TheVariants.{Absent}
 use Rattle.kc_word.specs.Hex.{hex_number}
 use Rattle.kc_outside.specs.declared.store.Slot.TheVariants.{Dump}
 use Rattle.kc_memory.specs.declared.words.VWord.{VWord}
@@ -30,9 +32,9 @@ table_word text =
     if bytes_eq text (codes "-") then Some None
     else option_map (λ (t : ℕ). Some t) (option_and_then as_table (hex_number text))
 
--- the memory of a dump with these bytes and segments
-abbrev pub image_of : List ℕ → List Segment → PageCfg → Image
-image_of bytes segments paging = record { physical = record { bytes = bytes; segments = segments }; paging = paging }
+-- the memory of a dump with these bytes and segments, whose tails read so
+abbrev pub image_of : List ℕ → List Segment → Tail → PageCfg → Image
+image_of bytes segments tail paging = record { physical = record { bytes = bytes; segments = segments; tail = tail }; paging = paging }
 
 -- the bytes of a file, where it is there
 abbrev pub bytes_of : Option (List ℕ) → List ℕ
@@ -50,12 +52,12 @@ paging_of None notes = do
   told ← checked Notes (info notes)
   gives (by_info told)
 
--- the memory that is read
+-- the memory that is read: what its dump leaves out is absent
 abbrev pub word_image : Option ℕ → Option (List ℕ) → Made Image
 word_image table dump = do
   parts ← dump_parts dump
   paging ← paging_of table parts.notes
-  gives (image_of (bytes_of dump) parts.segments paging)
+  gives (image_of (bytes_of dump) parts.segments Absent paging)
 
 -- the answer on a word
 abbrev pub word_shown : Image → Result VWord Stopped → Shown
@@ -88,7 +90,7 @@ word_asks (dump ∷ table ∷ address ∷ []) = numbers_asked dump (table_word t
 word_asks _ = None
 
 abbrev pub word_form : Form
-word_form = record { name = codes "word"; words = codes "DUMP TABLE ADDRESS"; asks = word_asks }
+word_form = record { name = codes "word"; words = codes "DUMP TABLE ADDRESS" ∷ []; asks = word_asks }
 
 -- as the code keeps it
 abbrev pub word_view : Asks → Asked Shown

@@ -16,9 +16,9 @@ use kc_input::Halt;
 use kc_outside::Store;
 use std::alloc::Global;
 
-/// A line for each command.
+/// A line for each way to write a command.
 pub const USAGE: &[u8] =
-    b"usage: kaudit word DUMP TABLE ADDRESS\nusage: kaudit layout BTF TYPE\nusage: kaudit show DUMP BTF MAP SYMBOL TYPE PATH\nusage: kaudit check DUMP BTF MAP PLAN\nusage: kaudit selftest N\n";
+    b"usage: kaudit word DUMP TABLE ADDRESS\nusage: kaudit layout BTF TYPE\nusage: kaudit show DUMP BTF MAP SYMBOL TYPE PATH\nusage: kaudit check DUMP BTF MAP PLAN\nusage: kaudit check DUMP BTF MAP PLAN MODULE\nusage: kaudit selftest N\n";
 
 /// Runs the command that the words behind the program's name are: the first one names it. `None` exactly where
 /// they aren't a command; the store isn't asked then.
@@ -43,7 +43,7 @@ pub fn run<S: Store>(alloc: Global, store: &mut S, words: &[String]) -> Option<R
         "word" => crate::word::run(alloc, store, words),
         "layout" => crate::layout::run(alloc, store, words),
         "show" => crate::show::run(alloc, store, words),
-        "check" => crate::check::run(alloc, store, words),
+        "check" => crate::check_module::run(alloc, store, words),
         "selftest" => crate::selftest::run(alloc, store, words),
         _ => None,
     }

@@ -4,6 +4,7 @@
 mod answer;
 mod asking;
 mod check;
+mod check_module;
 mod command;
 mod laws;
 mod layout;

@@ -8,11 +8,11 @@ use kc_elf::read_core;
 use kc_fixture::{MAP, btf_file, core_file};
 use kc_gen::make;
 use kc_mem::Memory;
-use kc_memory::{Space, VWord};
+use kc_memory::{Origin, Space, VWord};
 use kc_outside::{MemSink, MemStore, Slot, Store, SureStore};
 use kc_phys::Phys;
 use kc_report::{read_report, text};
-use kc_word::{NoMemory, PageCfg, Segment, Steps};
+use kc_word::{NoMemory, PageCfg, Segment, Steps, Tail};
 use std::alloc::{AllocError, Global};
 use std::marker::Brand;
 use std::process::Abort;
@@ -56,9 +56,9 @@ show z.core z.btf z.map an_item item small : 0 : value -1|place ffff888000011020
 check z.core z.btf z.map z.plan : 0 : clean|audit tasks walks 1 elements 3|audit caches walks 1 elements 1|audit slabs walks 1 elements 1|audit ids walks 1 elements 1|
 show z.core z.btf z.map an_item item smell : 2 : refused path Q2 step 1|
 check z.core z.btf z.map x.plan : 3 : store failed|
-check a b c : 6 : usage: kaudit word DUMP TABLE ADDRESS|usage: kaudit layout BTF TYPE|usage: kaudit show DUMP BTF MAP SYMBOL TYPE PATH|usage: kaudit check DUMP BTF MAP PLAN|usage: kaudit selftest N|
+check a b c : 6 : usage: kaudit word DUMP TABLE ADDRESS|usage: kaudit layout BTF TYPE|usage: kaudit show DUMP BTF MAP SYMBOL TYPE PATH|usage: kaudit check DUMP BTF MAP PLAN|usage: kaudit check DUMP BTF MAP PLAN MODULE|usage: kaudit selftest N|
 selftest 5 : 0 : clean|audit ring walks 1 elements 5|audit tree walks 1 elements 5|audit array walks 1 elements 5|
-selftest 0 : 6 : usage: kaudit word DUMP TABLE ADDRESS|usage: kaudit layout BTF TYPE|usage: kaudit show DUMP BTF MAP SYMBOL TYPE PATH|usage: kaudit check DUMP BTF MAP PLAN|usage: kaudit selftest N|";
+selftest 0 : 6 : usage: kaudit word DUMP TABLE ADDRESS|usage: kaudit layout BTF TYPE|usage: kaudit show DUMP BTF MAP SYMBOL TYPE PATH|usage: kaudit check DUMP BTF MAP PLAN|usage: kaudit check DUMP BTF MAP PLAN MODULE|usage: kaudit selftest N|";
 
 fn words_of(alloc: Global, line: &str) -> Result<Vec<String>, AllocError> {
     let mut words = Vec::new(alloc);
@@ -167,7 +167,7 @@ fn read_counted<S: Store, L: Ledger>(
         five: false,
         sme: 0,
     };
-    let frames = Phys::new(alloc, store, segments)?;
+    let frames = Phys::new(alloc, store, segments, Tail::Absent)?;
     let mut memory = Memory::new(alloc, frames, paging, 4096)?;
     let mut steps = Steps::<L>::new(blank);
     let first = memory.word(asked.va, &mut steps).ok();
@@ -217,7 +217,7 @@ fn memory_is_made_from_a_core(rt: HostRuntime) -> Result<(), Fail> {
     let word = VWord {
         va: 0xffff_ffff_8000_b120,
         pa: 0xb120,
-        off: 0xd120,
+        off: Origin::File(0xd120),
         value: 0xffff_8880_0001_1000,
     };
     let (once, calls) = read_made(rt.alloc(), word.va, false)?;

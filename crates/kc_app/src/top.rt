@@ -16,7 +16,8 @@ ghost use Rattle.kc_ends.specs.Status.{At, is_answer, is_silent, is_sink_quiet, 
 ghost use Rattle.kc_ends.specs.Unopened.{AskedStay};
 ghost use Rattle.kc_app.specs.Calls.{FewCalls, IsLayout};
 ghost use Rattle.kc_app.specs.Commands.{command, usage_text};
-ghost use Rattle.kc_app.specs.Headline.{CheckEnds};
+ghost use Rattle.kc_app.specs.Headline.{CheckEnds, CheckPrints};
+ghost use Rattle.kc_app.specs.ModuleHeadline.{ModuleCheckEnds, ModuleCheckPrints};
 ghost use Rattle.kc_app.specs.Selftest.{IsSelftest};
 ghost use Rattle.kc_app.specs.Output.{TookTrue, out_of, written_of};
 
@@ -42,10 +43,17 @@ pub fn kaudit<S: Store, O: Sink, E: Sink>(
         (E.taken err.old) (E.taken err.new)) }
 
     // And `check` then ends with 0 exactly where every root audit stands in the dump, and with 1 exactly where one doesn't, by
-    // what its files hold; or with 2, where one of them is refused. The words that are printed stand in the dump at their
-    // printed places.
+    // what its files hold; or with 2, where one of them is refused. Of a plan of version 2 it prints of each root audit that it
+    // is clean exactly where this one stands. The same holds of a check with a module, of five files. The words that are
+    // printed stand in the dump, or in its zero tail, at their printed places.
     ensures stands { OnTrue (is_answer result)
         (IfSome (S.files store.old) (λ files. CheckEnds (map string_bytes words.now) files result)) }
+    ensures stands_with_module { OnTrue (is_answer result)
+        (IfSome (S.files store.old) (λ files. ModuleCheckEnds (map string_bytes words.now) files result)) }
+    ensures roots { OnTrue (is_answer result) (IfSome (S.files store.old)
+        (λ files. CheckPrints (map string_bytes words.now) files (O.taken out.old) (O.taken out.new))) }
+    ensures roots_with_module { OnTrue (is_answer result) (IfSome (S.files store.old)
+        (λ files. ModuleCheckPrints (map string_bytes words.now) files (O.taken out.old) (O.taken out.new))) }
     ensures shown { OnTrue (is_answer result) (IfSome (S.files store.old)
         (λ files. TookTrue (out_of (map string_bytes words.now) files) (O.taken out.old) (O.taken out.new))) }
 

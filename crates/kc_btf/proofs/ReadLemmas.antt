@@ -1,7 +1,7 @@
 -- From the parts of a reading to the types of the file.
-use Rattle.std.proofs.Common.{Result, ◌≡◌, ℕ, zero, suc, ◌+◌, ◌-◌, ◌<◌, Bool, true, false, not, List, [], ◌∷◌, length, map, get_or, drop, slice_range, subst, Option, Some, None, option_map, cond, Ok, ap, ◌∙◌, sym, refl, arith}
+use Rattle.std.proofs.Common.{Result, ◌≡◌, ℕ, zero, suc, ◌+◌, ◌-◌, ◌<◌, ◌≤◌, Bool, true, false, not, List, [], ◌∷◌, length, map, get_or, drop, slice_range, subst, Option, Some, None, option_map, cond, Ok, ap, ◌∙◌, sym, refl, arith}
 use Rattle.std.specs.List.{find, flat_map}
-use Rattle.std.proofs.lemmas.List.{length-map, length-take-le, length-drop}
+use Rattle.std.proofs.lemmas.List.{length-map, length-take, length-take-le, length-drop}
 use Rattle.std.proofs.lemmas.Simd.{map-map}
 use Rattle.kc_btf.specs.declared.header.Header.{Header}
 use Rattle.kc_btf.specs.declared.stop.BtfFault.{BtfFault}
@@ -39,6 +39,10 @@ section bytes header is =
 pub length-strings : (bytes : List ℕ) (header : Header) → IsInside bytes header → length (slice_range bytes header.strings header.strings_end) ≡ header.strings_end - header.strings
 length-strings bytes header is = length-take-le (header.strings_end - header.strings) (drop header.strings bytes) (simp length-drop (omega arith))
 
+-- a part of a file is no longer than the file
+pub part_short : (at end : ℕ) (bytes : List ℕ) → length (slice_range bytes at end) ≤ length bytes
+part_short at end bytes = omega (arith, length-take (end - at) (drop at bytes), length-drop at bytes)
+
 -- the records of a table
 pub btf-table : (bytes : List ℕ) (header : Header) (table : List ℕ) → IsTabled bytes header table →
     btf bytes ≡ unless (outside_fault bytes (header.strings_end - header.strings) (length table) (map (λ place. header.types + place) table)) (Ok (kept bytes header table))
@@ -73,14 +77,24 @@ none-outside bytes strings count types (x ∷ xs) none (suc k) d more =
     (find (λ place. not (refers_inside strings count (record_at bytes place))) (map (λ place. types + place) xs)) (λ place. record { rule = B8; at = place }) none in
     none-outside bytes strings count types xs rest.1 k d (omega arith)
 
+-- the records of a table, written out
+pub spelled-table : (bytes : List ℕ) (types end : ℕ) (table : List ℕ) → IsBytes bytes → types ≤ end → end ≤ length bytes → places (length bytes) bytes types end ≡ Ok (map (λ place. types + place) table) →
+    flat_map spelled (map (λ place. record_at bytes (types + place)) table) ≡ slice_range bytes types end
+spelled-table bytes types end table fit order within found =
+    let shift : ℕ → ℕ = λ place. types + place in
+    flat_map-map spelled (λ place. record_at bytes (types + place)) table
+    ∙ sym (flat_map-map (λ place. spelled (record_at bytes place)) shift table)
+    ∙ spelled-places (length bytes) types end bytes (map shift table) fit within order (omega arith) found
+
+-- and each has a form
+pub form-table : (bytes : List ℕ) (types : ℕ) (table : List ℕ) → IsBytes bytes → All (λ place. IsRecord bytes (types + place)) table → All HasForm (map (λ place. record_at bytes (types + place)) table)
+form-table bytes types table fit found =
+    All-map HasForm (λ place. record_at bytes (types + place)) table (λ k d more. form-record_at bytes (types + get_or table k d) fit (found k d more))
+
 -- the types that are kept, written out
 pub spelled-kept : (bytes : List ℕ) (header : Header) (table : List ℕ) → IsBytes bytes → IsTabled bytes header table → flat_map spelled (kept bytes header table).records ≡ type_section bytes
 spelled-kept bytes header table fit is =
-    let shift : ℕ → ℕ = λ place. header.types + place in
-    let inside = is.inside in
-    flat_map-map spelled (λ place. record_at bytes (header.types + place)) table
-    ∙ sym (flat_map-map (λ place. spelled (record_at bytes place)) shift table)
-    ∙ spelled-places (length bytes) header.types header.types_end bytes (map shift table) fit inside.types_end inside.types (omega (arith, inside.types_end)) is.places
+    spelled-table bytes header.types header.types_end table fit is.inside.types is.inside.types_end is.places
     ∙ ap (λ at. slice_range bytes at header.types_end) is.read.types
     ∙ ap (λ end. slice_range bytes (types_at bytes) end) is.read.types_end
 
@@ -94,8 +108,7 @@ ReferInside bytes header table =
     All (λ place. IsTrue (refers_inside (length (slice_range bytes header.strings header.strings_end)) (length table) (record_at bytes (header.types + place)))) table
 
 pub form-kept : (bytes : List ℕ) (header : Header) (table : List ℕ) → IsBytes bytes → AreRecords bytes header table → All HasForm (kept bytes header table).records
-form-kept bytes header table fit found =
-    All-map HasForm (λ place. record_at bytes (header.types + place)) table (λ k d more. form-record_at bytes (header.types + get_or table k d) fit (found k d more))
+form-kept bytes header table fit found = form-table bytes header.types table fit found
 
 pub inside-kept : (bytes : List ℕ) (header : Header) (table : List ℕ) → ReferInside bytes header table → All (RefersInside (kept bytes header table)) (kept bytes header table).records
 inside-kept bytes header table refer =

@@ -18,3 +18,8 @@ told NoMemory = None
 abbrev pub unless : {X : Type 0} → Option BtfFault → Result X BtfFault → Result X BtfFault
 unless None next = next
 unless (Some fault) next = Err fault
+
+-- the first of two faults
+abbrev pub first_of : Option BtfFault → Option BtfFault → Option BtfFault
+first_of None next = next
+first_of (Some fault) next = Some fault

@@ -7,6 +7,7 @@ use Rattle.byteorder.specs.Endian.{little_number}
 use Rattle.kc_btf.specs.declared.header.Header.{Header}
 use Rattle.kc_btf.specs.declared.stop.BtfFault.{BtfFault}
 use Rattle.kc_btf.specs.declared.stop.BRule.TheVariants.{B1, B2, B3, B4, B5}
+use Rattle.kc_btf.specs.Answers.{first_of}
 use Rattle.kc_btf.specs.Numbers.{word}
 
 -- where the types begin, and where they end
@@ -39,15 +40,22 @@ abbrev pub are_sections_inside : List ℕ → Bool
 are_sections_inside bytes =
     nat_le 24 (word bytes 4) && nat_le (types_end bytes) (length bytes) && nat_le (strings_end bytes) (length bytes)
 
--- the first rule that a header breaks
-unfoldable pub header_fault : List ℕ → Option BtfFault
-header_fault bytes =
+-- the first of the rules on a header's numbers that it breaks
+unfoldable pub sections_fault : List ℕ → Option BtfFault
+sections_fault bytes =
     if nat_lt (length bytes) 24 then Some (record { rule = B1; at = length bytes })
     else (if not (little_number 2 bytes == 0xeb9f) then Some (record { rule = B2; at = 0 })
     else (if not (slice_index bytes 2 == 1) then Some (record { rule = B3; at = 2 })
     else (if not (are_sections_inside bytes) then Some (record { rule = B4; at = 4 })
-    else (if not (are_strings (string_section bytes)) then Some (record { rule = B5; at = strings_at bytes })
-    else None))))
+    else None)))
+
+-- the rule on the strings, where they don't pass a test
+abbrev pub strings_fault : (List ℕ → Bool) → List ℕ → Option BtfFault
+strings_fault test bytes = if test (string_section bytes) then None else Some (record { rule = B5; at = strings_at bytes })
+
+-- the first rule that a header breaks
+unfoldable pub header_fault : List ℕ → Option BtfFault
+header_fault bytes = first_of (sections_fault bytes) (strings_fault are_strings bytes)
 
 -- the code's header says where the sections lie
 pub record IsHeader (bytes : List ℕ) (header : Header) : Type 0 where
@@ -55,6 +63,14 @@ pub record IsHeader (bytes : List ℕ) (header : Header) : Type 0 where
   pub types_end : header.types_end ≡ types_end bytes
   pub strings : header.strings ≡ strings_at bytes
   pub strings_end : header.strings_end ≡ strings_end bytes
+
+-- the sections lie inside a file
+pub record AreInside (bytes : List ℕ) (header : Header) : Type 0 where
+  pub types : header.types ≤ header.types_end
+  pub types_end : header.types_end ≤ length bytes
+  pub short : header.types_end - header.types < 2 ^ 32
+  pub strings : header.strings ≤ header.strings_end
+  pub strings_end : header.strings_end ≤ length bytes
 
 -- the sections lie inside a file, and there are strings
 pub record IsInside (bytes : List ℕ) (header : Header) : Type 0 where

@@ -1,9 +1,9 @@
 // The types of a file, and their readers.
 use crate::header::Header;
-use crate::inside::check_inside;
+use crate::inside::{Limits, check_inside};
 use crate::kind::Kind;
 use crate::members::Members;
-use crate::places::places;
+use crate::places::record_places;
 use crate::record::{RECORD, array_at, int_at, type_at};
 use crate::stop::BtfStop;
 use crate::types::{ArrayOf, IntOf, TypeRef};
@@ -36,7 +36,7 @@ impl Btf {
     ghost use Rattle.kc_word.specs.Answers.{GivesTold};
     ghost use Rattle.kc_btf.specs.Answers.{told};
     ghost use Rattle.kc_btf.specs.Btf.{btf, RefersInside};
-    ghost use Rattle.kc_btf.specs.Header.{type_section};
+    ghost use Rattle.kc_btf.specs.Header.{type_section, are_strings};
     ghost use Rattle.kc_btf.specs.Spelling.{spelled, HasForm};
     ghost use Rattle.kc_btf.specs.Whole.{AreOfAFile};
     ghost use Rattle.kc_btf.specs.Kind.{is_compound};
@@ -57,11 +57,17 @@ impl Btf {
         ensures form { IfOk result (λ types. All HasForm types.records) }
         // Each name and type that a record refers to is there.
         ensures inside { IfOk result (λ types. All (RefersInside types) types.records) }
+        // Neither section is longer than the file.
+        ensures types_short { IfOk result (λ types. length (flat_map spelled types.records) ≤ length bytes.items) }
+        ensures strings_short { IfOk result (λ types. length types.strings ≤ length bytes.items) }
     {
         let header = Header::read(&bytes)?;
-        let table = places(alloc, &bytes, header.types, header.types_end)?;
-        let strings = header.strings_end - header.strings;
-        check_inside(&bytes, header.types, &table, strings)?;
+        let table = record_places(alloc, &bytes, header.types, header.types_end)?;
+        let limits = Limits {
+            strings: header.strings_end - header.strings,
+            types: table.len(),
+        };
+        check_inside(&bytes, header.types, &table, limits)?;
         Ok(Btf {
             bytes,
             header,
@@ -93,6 +99,22 @@ impl Btf {
         ensures target { LiesInside (length self.now.strings) (length self.now.records) (rest_role result.kind) result.rest }
     {
         type_at(&self.bytes, place(&self.table, self.header.types, id), id)
+    }
+
+    /// The bytes of the section of types: the records, written out one after the other.
+    pub fn types(&self) -> &[u8]
+        ensures { result.now ≡ flat_map spelled self.now.records }
+    {
+        &self.bytes[self.header.types..self.header.types_end]
+    }
+
+    /// The bytes of the strings, in which the names lie.
+    pub fn strings(&self) -> &[u8]
+        ensures exact { result.now ≡ self.now.strings }
+        // They begin and end with a NUL.
+        ensures form { IsTrue (are_strings self.now.strings) }
+    {
+        &self.bytes[self.header.strings..self.header.strings_end]
     }
 
     /// The bytes of a name, without the NUL that ends it.

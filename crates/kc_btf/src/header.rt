@@ -12,13 +12,17 @@ const HEADER: usize = 24;
 /// The first two bytes of a file as a number.
 const MAGIC: u16 = 0xeb9f;
 
-// Where the sections lie: the places in the file of their first bytes, and of the bytes behind them.
+/// Where the two sections of a file lie, as its header says.
 #[derive(Clone, Copy, Debug)]
-pub(crate) struct Header {
-    pub(crate) types: usize,
-    pub(crate) types_end: usize,
-    pub(crate) strings: usize,
-    pub(crate) strings_end: usize,
+pub struct Header {
+    /// The place in the file of the types' first byte.
+    pub types: usize,
+    /// The place behind the types.
+    pub types_end: usize,
+    /// The place in the file of the strings' first byte.
+    pub strings: usize,
+    /// The place behind the strings.
+    pub strings_end: usize,
 }
 
 // The number of 32 bits at a place.
@@ -31,15 +35,19 @@ pub(crate) fn word(bytes: &[u8], at: usize) -> u32
 }
 
 impl Header {
-    ghost use Rattle.kc_btf.specs.Header.{header_fault, are_sections_inside, IsHeader, IsInside};
+    ghost use Rattle.kc_btf.specs.Header.{sections_fault, header_fault, are_sections_inside, IsHeader, AreInside, IsInside};
     ghost use Rattle.kc_btf.specs.Answers.{FaultIs};
 
-    // The header of a file, or the first rule that it breaks.
-    #[tactic(auto, unfolding(crate::specs::Header::header_fault))]
-    pub(crate) fn read(bytes: &[u8]) -> Result<Header, BtfFault>
-        ensures fault { FaultIs result (header_fault bytes.now) }
+    /// Where the sections of a file lie, whatever its strings are.
+    ///
+    /// # Errors
+    ///
+    /// The first of the rules on the header's numbers that the file breaks, B1 to B4.
+    #[tactic(auto, unfolding(crate::specs::Header::sections_fault))]
+    pub fn locate(bytes: &[u8]) -> Result<Header, BtfFault>
+        ensures fault { FaultIs result (sections_fault bytes.now) }
         ensures header { IfOk result (IsHeader bytes.now) }
-        ensures inside { IfOk result (IsInside bytes.now) }
+        ensures inside { IfOk result (AreInside bytes.now) }
     {
         if bytes.len() < HEADER {
             return Err(BRule::B1.at(bytes.len()));
@@ -54,6 +62,17 @@ impl Header {
         if !header.is_inside(bytes) {
             return Err(BRule::B4.at(4));
         }
+        Ok(header)
+    }
+
+    // The header of a file, or the first rule that it breaks.
+    #[tactic(auto, unfolding(crate::specs::Header::header_fault))]
+    pub(crate) fn read(bytes: &[u8]) -> Result<Header, BtfFault>
+        ensures fault { FaultIs result (header_fault bytes.now) }
+        ensures header { IfOk result (IsHeader bytes.now) }
+        ensures inside { IfOk result (IsInside bytes.now) }
+    {
+        let header = Header::locate(bytes)?;
         if !are_strings(&bytes[header.strings..header.strings_end]) {
             return Err(BRule::B5.at(header.strings));
         }

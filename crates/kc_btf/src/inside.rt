@@ -1,5 +1,5 @@
 // Whether the names and types of the records lie inside.
-ghost use Rattle.std.specs.Prelude.{◌≡◌, ◌+◌, ◌*◌, ◌<◌, ◌≤◌, length, map, All};
+ghost use Rattle.std.specs.Prelude.{◌≡◌, ◌+◌, ◌*◌, ◌<◌, ◌≤◌, length, map, All, IsTrue, OnOk};
 ghost use Rattle.kc_btf.specs.Numbers.{words};
 ghost use Rattle.kc_btf.specs.Records.{record_at, words_inside, refers_inside, IsRecord};
 ghost use Rattle.kc_btf.specs.Btf.{outside_fault};
@@ -10,11 +10,13 @@ use crate::kind::{Kind, Role};
 use crate::record::{RECORD, known_kind, vlen_at};
 use crate::stop::{BRule, BtfFault};
 
-// How far names and types reach: the strings' length in bytes, and the count of types.
+/// How far names and types reach.
 #[derive(Clone, Copy, Debug)]
-pub(crate) struct Limits {
-    pub(crate) strings: usize,
-    pub(crate) types: usize,
+pub struct Limits {
+    /// The length of the strings in bytes.
+    pub strings: usize,
+    /// The count of types, without void.
+    pub types: usize,
 }
 
 impl Limits {
@@ -59,20 +61,22 @@ fn refers_inside(bytes: &[u8], at: usize, limits: &Limits) -> bool
         && words_inside(bytes, at + RECORD, kind, count, limits)
 }
 
-// Finds the first record whose names and types don't lie inside.
-pub(crate) fn check_inside(
+/// Looks at the records that stand at these places behind a first one, and at the names and types that they
+/// refer to.
+///
+/// # Errors
+///
+/// B8 at the first record whose names and types don't lie inside.
+pub fn check_inside(
     bytes: &[u8],
     types: usize,
     table: &[u32],
-    strings: usize,
+    limits: Limits,
 ) -> Result<(), BtfFault>
     requires { All (λ place. IsRecord bytes.now (types + place)) table.now }
-    ensures { FaultIs result (outside_fault bytes.now strings (length table.now) (map (λ place. types + place) table.now)) }
+    ensures exact { FaultIs result (outside_fault bytes.now limits.strings limits.types (map (λ place. types + place) table.now)) }
+    ensures inside { OnOk result (All (λ place. IsTrue (refers_inside limits.strings limits.types (record_at bytes.now (types + place)))) table.now) }
 {
-    let limits = Limits {
-        strings,
-        types: table.len(),
-    };
     for place in table {
         let at = types + *place as usize;
         if !refers_inside(bytes, at, &limits) {

@@ -45,14 +45,14 @@ pub enum Kind {
     Enum64,
 }
 
-// What a number of a record refers to.
+/// What a number of a record refers to.
 #[derive(Clone, Copy, Debug, PartialEq, Eq)]
-pub(crate) enum Role {
-    // A name, by its offset in the strings.
+pub enum Role {
+    /// A name, by its offset in the strings.
     ToName,
-    // A type, by its number.
+    /// A type, by its number.
     ToType,
-    // Nothing: a size, a place or a value.
+    /// Nothing: a size, a place or a value.
     Plain,
 }
 

@@ -15,7 +15,10 @@ mod tests;
 mod types;
 
 pub use btf::Btf;
-pub use kind::Kind;
+pub use header::Header;
+pub use inside::{Limits, check_inside};
+pub use kind::{Kind, Role};
 pub use members::Members;
+pub use places::record_places;
 pub use stop::{BRule, BtfFault, BtfStop};
 pub use types::{ArrayOf, IntOf, Member, TypeRef};

@@ -1,6 +1,8 @@
 // The table of the records' places.
-ghost use Rattle.std.specs.Prelude.{◌≡◌, ◌+◌, ◌-◌, ◌*◌, ◌^◌, ◌<◌, ◌≤◌, length, map, All, IfOk};
-ghost use Rattle.kc_btf.specs.Records.{places, IsRecord};
+ghost use Rattle.std.specs.Prelude.{◌≡◌, ◌+◌, ◌-◌, ◌*◌, ◌^◌, ◌<◌, ◌≤◌, length, map, All, IfOk, slice_range};
+ghost use Rattle.std.specs.List.{flat_map};
+ghost use Rattle.kc_btf.specs.Records.{places, record_at, IsRecord};
+ghost use Rattle.kc_btf.specs.Spelling.{spelled, HasForm};
 ghost use Rattle.kc_word.specs.Answers.{GivesTold};
 ghost use Rattle.kc_btf.specs.Answers.{told};
 
@@ -8,9 +10,14 @@ use crate::record::record_size;
 use crate::stop::BtfStop;
 use std::alloc::Global;
 
-// The places of the records, counted from the types' first byte, or the first rule that one breaks. The
-// types' section has fewer bytes than 32 bits count.
-pub(crate) fn places(
+/// The places of the records of a section of types, which has fewer bytes than 32 bits count: they are counted
+/// from its first byte.
+///
+/// # Errors
+///
+/// `Fault` with the first rule that a record breaks, B6 or B7, and where; `NoMemory` where there is none for
+/// the table.
+pub fn record_places(
     alloc: Global,
     bytes: &[u8],
     types: usize,
@@ -22,6 +29,9 @@ pub(crate) fn places(
     ensures exact { GivesTold told (λ table. map (λ place. types + place) table.items) result
         (places (length bytes.now) bytes.now types end) }
     ensures found { IfOk result (λ table. All (λ place. IsRecord bytes.now (types + place)) table.items) }
+    // The records, written out again, are the bytes of the section.
+    ensures spelled { IfOk result (λ table. flat_map spelled (map (λ place. record_at bytes.now (types + place)) table.items) ≡ slice_range bytes.now types end) }
+    ensures form { IfOk result (λ table. All HasForm (map (λ place. record_at bytes.now (types + place)) table.items)) }
     ensures few { IfOk result (λ table. 12 * length table.items ≤ end - types) }
 {
     let mut table = Vec::new(alloc);

@@ -27,8 +27,8 @@ pub enum BRule {
 impl BRule {
     ghost use Rattle.std.specs.Prelude.{◌≡◌};
 
-    // That a file breaks the rule at a place.
-    pub(crate) fn at(self, place: usize) -> BtfFault
+    /// That a file breaks the rule at a place.
+    pub fn at(self, place: usize) -> BtfFault
         ensures { result ≡ record { rule = self; at = place } }
     {
         BtfFault {

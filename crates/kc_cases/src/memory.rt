@@ -1,7 +1,7 @@
 // A memory of the words that texts have.
 use crate::fault::CaseFault;
 use crate::names::value_of;
-use kc_found::{ListSpace, VWord};
+use kc_found::{ListSpace, Origin, VWord};
 use std::alloc::{AllocError, Global};
 
 // Both maps of memory lead to the address without its upper bits: the kernel's image, and the direct map.
@@ -111,7 +111,7 @@ impl Made {
             va
         };
         let pa = shown % MOST;
-        let off = pa.wrapping_add(0x2000);
+        let off = Origin::File(pa.wrapping_add(0x2000));
         self.words.push(VWord { va, pa, off, value })?;
         Ok(())
     }

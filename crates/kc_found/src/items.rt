@@ -1,7 +1,7 @@
 // Lists that contracts see as lists.
 ghost use Rattle.std.specs.Prelude.{◌≡◌, ◌<◌, ◌^◌, [], ◌∷◌, ◌++◌, length, OnOk, OnErr, Some, slice_get, slice_set};
 
-use crate::verdict::AuditCount;
+use crate::verdict::{AuditCount, RootVerdict};
 use kc_memory::Place;
 use kc_word::NoMemory;
 use std::alloc::Global;
@@ -21,6 +21,12 @@ pub type Walked = Items<u64>;
 
 /// The counts of a plan's audits, in the order of the plan.
 pub type Counts = Items<AuditCount>;
+
+/// The numbers of audits in their plan.
+pub type Audits = Items<u32>;
+
+/// The verdicts on a plan's root audits, in the order of the plan.
+pub type Verdicts = Items<RootVerdict>;
 
 /// The bytes of an audit's name.
 pub type Name = Items<u8>;

@@ -20,9 +20,9 @@ pub use claims::Claims;
 pub use counted::Counted;
 pub use found::{Found, WalkStop, broken_at, broken_field, stopped, stopped_behind};
 pub use free::{FreeLed, Grid, low_word};
-pub use items::{Counts, Items, Name, Places, Walked};
+pub use items::{Audits, Counts, Items, Name, Places, Verdicts, Walked};
 pub use kc_memory::{
-    FrameStop, Frames, Miss, PWord, Place, Rule, Scalar, Space, Stop, VWord, entry_place,
+    FrameStop, Frames, Miss, Origin, PWord, Place, Rule, Scalar, Space, Stop, VWord, entry_place,
     know_numbers, know_pages, know_places, know_words, place_of, read_bits,
 };
 pub use laws::know_steps;
@@ -30,5 +30,5 @@ pub use list_space::ListSpace;
 pub use shapes::{HShape, ListShape, RbShape};
 pub use take::take_word;
 pub use trees::{RbHead, RbKey, RbLinks, RbSpot};
-pub use verdict::{AuditCount, Verdict};
+pub use verdict::{AuditCount, RootVerdict, Verdict};
 pub use xarrays::{XaEntry, XaHolder, XaItem, XaNode, XaShape, XaWalked, XaWords};

@@ -1,11 +1,10 @@
 -- The calls that read a file.
-use Rattle.std.proofs.Common.{◌≡◌, ℕ, ◌<◌, lit<, ap, refl, ◌∙◌, inl, arith}
-use Rattle.std.specs.Prelude.{Result, Ok, Err, IfOk, OnErr}
+use Rattle.std.proofs.Common.{◌≡◌, ℕ, lit<, ap, ◌∙◌, inl}
+use Rattle.std.specs.Prelude.{Result, Ok, Err, IfOk}
 use Rattle.kc_outside.specs.Counts.{Rose, next_count}
-use Rattle.kc_outside.specs.declared.store.Failed.{Failed}
 use Rattle.kc_input.specs.declared.halt.Halt.{Halt}
 use Rattle.kc_input.specs.declared.halt.Halt.TheVariants.{Refused, Store, Memory}
-use Rattle.kc_input.specs.Calls.{FailedLast, Opens, ReadsOnce, called}
+use Rattle.kc_input.specs.Calls.{ReadsOnce, called}
 use Rattle.kc_input.specs.Halts.{NotRefused, OnMemory, OnStore}
 
 -- a file that was opened and sized is read, or that call fails, or no memory is left for its bytes

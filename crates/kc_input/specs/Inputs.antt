@@ -1,19 +1,23 @@
 -- What the files of a command hold, and what is looked up in them.
-use Rattle.std.specs.Prelude.{ℕ, List, Option}
+use Rattle.std.specs.Prelude.{ℕ, ◌≤◌, ◌^◌, List, length, Option}
+use Rattle.std.specs.List.{flat_map}
 use Rattle.kc_outside.specs.declared.store.Slot.TheVariants as slot
 use Rattle.kc_elf.specs.Parts.{Parts}
 use Rattle.kc_elf.specs.CoreFile.{core}
 use Rattle.kc_btf.specs.Btf.{Types, btf}
+use Rattle.kc_btf.specs.Spelling.{spelled}
+use Rattle.kc_split.specs.Join.{with_module}
+use Rattle.kc_split.specs.Split.{split}
 use Rattle.kc_layout.specs.Find.{find}
 use Rattle.kc_layout.specs.Ends.{NumberAt, field}
 use Rattle.kc_notes.specs.declared.info.Info.{Info}
 use Rattle.kc_syms.specs.Addresses.{common_of}
 use Rattle.kc_syms.specs.Rows.{RowText, addresses, rows}
-use Rattle.kc_plan.specs.Planned.{AuditAt}
+use Rattle.kc_plan.specs.Planned.{PlanAt}
 use Rattle.kc_plan.specs.Kernels.{Kernel}
 use Rattle.kc_plan.specs.Plans.{plan}
 use Rattle.kc_input.specs.declared.refusal.Refusal.TheVariants as refusal
-use Rattle.kc_input.specs.Made.{◌>>=◌, Made, bytes_in, checked, short_file, wanted}
+use Rattle.kc_input.specs.Made.{◌>>=◌, Made, bytes_in, checked, gives, short_file, wanted}
 
 -- the segments and notes of a dump, or its first fault
 abbrev pub dump_parts : Option (List ℕ) → Made Parts
@@ -26,6 +30,22 @@ abbrev pub types_in : Option (List ℕ) → Made Types
 types_in file = do
   bytes ← short_file slot.Btf file
   checked refusal.Types (btf bytes)
+
+-- types that a file of no more than 64 MiB has
+pub record AreShort (t : Types) : Type 0 where
+  pub types : length (flat_map spelled t.records) ≤ 2 ^ 26
+  pub strings : length t.strings ≤ 2 ^ 26
+
+-- a kernel's types with those of a module of it, or the first fault of the module's file: the limit comes first
+abbrev pub joined_in : Types → List ℕ → Made Types
+joined_in base bytes = do
+  records ← checked refusal.Module (split base bytes)
+  gives (with_module base bytes records)
+
+abbrev pub module_in : Types → Option (List ℕ) → Made Types
+module_in base file = do
+  bytes ← short_file slot.Module file
+  joined_in base bytes
 
 -- the bytes of a map, unless it is above the limit
 abbrev pub map_in : Option (List ℕ) → Made (List ℕ)
@@ -55,6 +75,6 @@ plan_in file = short_file slot.Plan file
 abbrev pub kernel_by : Types → List RowText → Info → Kernel
 kernel_by types rows told = record { types = types; symbols = λ name. addresses name rows; kaslr = told.kaslr; five = told.five }
 
--- the audits of a plan, or its first fault
-abbrev pub audits_in : Types → List RowText → Info → List ℕ → Made (List AuditAt)
-audits_in types rows told bytes = checked refusal.Plan (plan (kernel_by types rows told) bytes)
+-- a plan over these, or its first fault
+abbrev pub plan_over : Types → List RowText → Info → List ℕ → Made PlanAt
+plan_over types rows told bytes = checked refusal.Plan (plan (kernel_by types rows told) bytes)

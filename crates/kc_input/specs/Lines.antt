@@ -8,6 +8,7 @@ use Rattle.kc_notes.specs.declared.fault.NoteFault.{NoteFault}
 use Rattle.kc_notes.specs.declared.fault.NoteFault.TheVariants.{V1, V2, V3, V4, V5, V6, V7}
 use Rattle.kc_notes.specs.declared.fault.NoteKey.{NoteKey}
 use Rattle.kc_notes.specs.declared.fault.NoteKey.TheVariants.{L5, Offset, Sme}
+use Rattle.kc_btf.specs.declared.stop.BtfFault.{BtfFault}
 use Rattle.kc_btf.specs.declared.stop.BRule.{BRule}
 use Rattle.kc_btf.specs.declared.stop.BRule.TheVariants.{B1, B2, B3, B4, B5, B6, B7, B8}
 use Rattle.kc_layout.specs.declared.fault.QRule.{QRule}
@@ -21,7 +22,7 @@ use Rattle.kc_plan.specs.declared.fault.PRule.TheVariants.{P1, P2, P3, P4, P5, P
 use Rattle.kc_plan.specs.Keys.{spelled}
 use Rattle.kc_text.specs.Text.{hex}
 use Rattle.kc_input.specs.declared.refusal.Refusal.{Refusal}
-use Rattle.kc_input.specs.declared.refusal.Refusal.TheVariants.{Core, Notes, TooLong, Types, MapLine, Symbol, NoType, Path, Plan as of_plan}
+use Rattle.kc_input.specs.declared.refusal.Refusal.TheVariants.{Core, Notes, TooLong, Types, Module as of_module, MapLine, Symbol, NoType, Path, Plan as of_plan}
 
 -- the code of a core file's fault, with the index of a program header
 abbrev pub core_code : CoreFault → List ℕ
@@ -62,6 +63,10 @@ btf_code B5 = codes "B5"
 btf_code B6 = codes "B6"
 btf_code B7 = codes "B7"
 btf_code B8 = codes "B8"
+
+-- the code with the place in the file
+abbrev pub btf_text : BtfFault → List ℕ
+btf_text fault = btf_code fault.rule ++ codes " at " ++ decimal fault.at
 
 -- the code of a rule of paths
 abbrev pub path_code : QRule → List ℕ
@@ -119,7 +124,8 @@ abbrev pub refusal_text : Refusal → List ℕ
 refusal_text (Core fault) = codes "dump " ++ core_code fault
 refusal_text (Notes fault) = codes "dump " ++ note_code fault
 refusal_text (TooLong slot) = slot_name slot ++ codes " F1"
-refusal_text (Types fault) = codes "btf " ++ btf_code fault.rule ++ codes " at " ++ decimal fault.at
+refusal_text (Types fault) = codes "btf " ++ btf_text fault
+refusal_text (of_module fault) = codes "module " ++ btf_text fault
 refusal_text (MapLine line) = codes "map S1 line " ++ decimal line
 refusal_text (Symbol fault) = codes "symbol " ++ symbol_code fault
 refusal_text NoType = codes "path Q1 step 0"

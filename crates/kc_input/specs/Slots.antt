@@ -1,9 +1,9 @@
 -- Which file a refusal is about.
 use Rattle.std.specs.Prelude.{◌≡◌, ⊤, Option, Some, None, Result, Ok, Err}
 use Rattle.kc_outside.specs.declared.store.Slot.{Slot}
-use Rattle.kc_outside.specs.declared.store.Slot.TheVariants.{Dump, Btf, Map, Plan as plan_slot}
+use Rattle.kc_outside.specs.declared.store.Slot.TheVariants.{Dump, Btf, Map, Plan as plan_slot, Module as module_slot}
 use Rattle.kc_input.specs.declared.refusal.Refusal.{Refusal}
-use Rattle.kc_input.specs.declared.refusal.Refusal.TheVariants.{Core, Notes, TooLong, Types, MapLine, Symbol, NoType, Path, Plan}
+use Rattle.kc_input.specs.declared.refusal.Refusal.TheVariants.{Core, Notes, TooLong, Types, Module, MapLine, Symbol, NoType, Path, Plan}
 use Rattle.kc_input.specs.declared.halt.Halt.{Halt}
 use Rattle.kc_input.specs.declared.halt.Halt.TheVariants.{Refused, Store, Memory}
 
@@ -13,6 +13,7 @@ refused_slot (Core fault) = Some Dump
 refused_slot (Notes fault) = Some Dump
 refused_slot (TooLong slot) = Some slot
 refused_slot (Types fault) = Some Btf
+refused_slot (Module fault) = Some module_slot
 refused_slot (MapLine line) = Some Map
 refused_slot (Symbol fault) = None
 refused_slot NoType = None

@@ -1,5 +1,5 @@
 // The files of a command.
-ghost use Rattle.std.specs.Prelude.{◌≡◌, ℕ, ◌≤◌, ◌^◌, List, Some, IfOk, IfSome, OnOk, OnErr, IsSome};
+ghost use Rattle.std.specs.Prelude.{◌≡◌, ℕ, ◌≤◌, ◌^◌, List, length, Some, IfOk, IfSome, OnOk, OnErr, IsSome};
 ghost use Rattle.kc_outside.specs.Counts.{Rose, next_count};
 ghost use Rattle.kc_outside.specs.Files.{content, named, HasLength, HasPart, OthersStay};
 ghost use Rattle.kc_input.specs.Calls.{Opens, ReadsOnce};
@@ -56,6 +56,7 @@ fn read_opened<S: Store>(
     requires short { size ≤ 2 ^ 26 }
 
     ensures part { IfOk result (λ bytes. HasPart (content (S.files store.old) slot (S.opened store.old slot)) 0 size bytes.items) }
+    ensures length { IfOk result (λ bytes. length bytes.items ≡ size) }
     ensures not_refused { NotRefused result }
 
     ensures opened { S.opened store.new ≡ S.opened store.old }
@@ -85,6 +86,7 @@ pub fn read_file<S: Store>(
     requires may { S.may store.old slot name.now }
 
     ensures told { IsOf (λ bytes. bytes.items) (λ files. short_file slot (files slot name.now)) (S.files store.old) result }
+    ensures short { IfOk result (λ bytes. length bytes.items ≤ 2 ^ 26) }
     ensures refused { RefusesIn slot result }
 
     ensures others_opened { OthersStay slot (S.opened store.old) (S.opened store.new) }

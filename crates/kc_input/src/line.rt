@@ -1,7 +1,7 @@
 // The line of a refusal.
 ghost use Rattle.std.specs.Prelude.{◌≡◌, ◌++◌, Some, codes, decimal, IfOk, OnOk};
 ghost use Rattle.kc_text.specs.Text.{hex};
-ghost use Rattle.kc_input.specs.Lines.{audit_part, btf_code, core_code, key_part, key_text, note_code, path_code, plan_code, plan_rule, refusal_line, refusal_text, slot_name, symbol_code};
+ghost use Rattle.kc_input.specs.Lines.{audit_part, btf_code, btf_text, core_code, key_part, key_text, note_code, path_code, plan_code, plan_rule, refusal_line, refusal_text, slot_name, symbol_code};
 
 use crate::refusal::Refusal;
 use kc_btf::{BRule, BtfFault};
@@ -151,10 +151,10 @@ fn push_too_long(text: &mut Vec<u8>, slot: Slot) -> Result<(), NoMemory>
     push(text, b" F1")
 }
 
-fn push_types(text: &mut Vec<u8>, fault: BtfFault) -> Result<(), NoMemory>
-    ensures { OnOk result (text.new.items ≡ text.old.items ++ (codes "btf " ++ btf_code fault.rule ++ codes " at " ++ decimal fault.at)) }
+fn push_btf(text: &mut Vec<u8>, name: &[u8], fault: BtfFault) -> Result<(), NoMemory>
+    ensures { OnOk result (text.new.items ≡ text.old.items ++ (name.now ++ btf_text fault)) }
 {
-    push(text, b"btf ")?;
+    push(text, name)?;
     push(text, btf_code(fault.rule))?;
     push_numbered(text, b" at ", fault.at)
 }
@@ -234,7 +234,8 @@ fn push_refusal(text: &mut Vec<u8>, refusal: Refusal) -> Result<(), NoMemory>
         Refusal::Core(fault) => push_core(text, fault),
         Refusal::Notes(fault) => push_notes(text, fault),
         Refusal::TooLong(slot) => push_too_long(text, slot),
-        Refusal::Types(fault) => push_types(text, fault),
+        Refusal::Types(fault) => push_btf(text, b"btf ", fault),
+        Refusal::Module(fault) => push_btf(text, b"module ", fault),
         Refusal::MapLine(line) => push_numbered(text, b"map S1 line ", line),
         Refusal::Symbol(fault) => push_symbol(text, fault),
         Refusal::NoType => push(text, b"path Q1 step 0"),

@@ -7,10 +7,10 @@ ghost use Rattle.kc_syms.specs.Answers.{Stands};
 ghost use Rattle.kc_syms.specs.Rows.{RowText};
 ghost use Rattle.kc_syms.specs.Symbols.{symbol};
 ghost use Rattle.kc_plan.specs.Inside.{AreInside};
-ghost use Rattle.kc_plan.specs.Views.{plan_seen};
+ghost use Rattle.kc_plan.specs.Views.{plan_whole};
 ghost use Rattle.kc_input.specs.Calls.{ReadsOnce};
 ghost use Rattle.kc_input.specs.Halts.{NotStore, OnStore, UnlessStore};
-ghost use Rattle.kc_input.specs.Inputs.{audits_in, plan_in};
+ghost use Rattle.kc_input.specs.Inputs.{plan_in, plan_over};
 ghost use Rattle.kc_input.specs.Slots.{RefusesIn};
 ghost use Rattle.kc_input.specs.Made.{Is, IsOf};
 
@@ -46,7 +46,7 @@ pub fn read_plan_file<S: Store>(alloc: Global, store: &mut S, name: &str) -> Res
     read_file(alloc, store, Slot::Plan, name)
 }
 
-/// The audits of a plan with these bytes, over a kernel's types and symbols.
+/// The plan with these bytes, over a kernel's types and symbols.
 ///
 /// # Errors
 ///
@@ -58,7 +58,7 @@ pub fn read_audits(
     symbols: &Symbols<'_>,
     info: &Info,
 ) -> Result<Plan, Halt>
-    ensures made { (rows : List RowText) → Stands (symbol symbols.now) rows → Is plan_seen (audits_in types.now rows info.now bytes.now) result }
+    ensures made { (rows : List RowText) → Stands (symbol symbols.now) rows → Is plan_whole (plan_over types.now rows info.now bytes.now) result }
     ensures refused { RefusesIn Slot.Plan result }
     ensures no_call { NotStore result }
     ensures inside { IfOk result (λ plan. AreInside (length types.now.records) plan.audits) }

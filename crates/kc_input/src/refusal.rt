@@ -21,6 +21,8 @@ pub enum Refusal {
     TooLong(Slot),
     /// The file of types breaks a rule.
     Types(BtfFault),
+    /// The file of a module's types breaks a rule.
+    Module(BtfFault),
     /// The map's line with this number, from 1, is no row. It is the first such line.
     MapLine(u64),
     /// The symbol has no address.

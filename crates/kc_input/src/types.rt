@@ -1,5 +1,5 @@
 // The types of a kernel.
-ghost use Rattle.std.specs.Prelude.{◌≡◌, ℕ, ◌≤◌, List};
+ghost use Rattle.std.specs.Prelude.{◌≡◌, ℕ, ◌≤◌, ◌^◌, List, length, IfOk};
 ghost use Rattle.kc_btf.specs.Btf.{btf};
 ghost use Rattle.kc_outside.specs.declared.store.Slot.{Slot};
 ghost use Rattle.kc_outside.specs.Counts.{Rose};
@@ -9,7 +9,7 @@ ghost use Rattle.kc_input.specs.Calls.{ReadsOnce, RefusesRead};
 ghost use Rattle.kc_input.specs.Halts.{NotStore, OnStore, UnlessStore};
 ghost use Rattle.kc_input.specs.Slots.{RefusesIn};
 ghost use Rattle.kc_input.specs.Made.{checked, Is, IsOf};
-ghost use Rattle.kc_input.specs.Inputs.{types_in};
+ghost use Rattle.kc_input.specs.Inputs.{AreShort, types_in};
 
 use crate::file::read_file;
 use crate::halt::Halt;
@@ -19,7 +19,9 @@ use std::alloc::Global;
 
 // The types of a file with these bytes.
 fn take_types(alloc: Global, bytes: Vec<u8>) -> Result<Btf, Halt>
+    requires { length bytes.items ≤ 2 ^ 26 }
     ensures made { Is (λ types. types) (checked Types (btf bytes.items)) result }
+    ensures short { IfOk result AreShort }
     ensures refused { RefusesIn Slot.Btf result }
     ensures no_call { NotStore result }
     ensures read { RefusesRead result }
@@ -36,6 +38,7 @@ pub fn read_types<S: Store>(alloc: Global, store: &mut S, name: &str) -> Result<
     requires may { S.may store.old Slot.Btf name.now }
 
     ensures told { IsOf (λ types. types) (λ files. types_in (files Slot.Btf name.now)) (S.files store.old) result }
+    ensures short { IfOk result AreShort }
     ensures refused { RefusesIn Slot.Btf result }
 
     ensures others_opened { OthersStay Slot.Btf (S.opened store.old) (S.opened store.new) }

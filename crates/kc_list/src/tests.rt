@@ -2,7 +2,7 @@
 ghost use Rattle.std.specs.Prelude.{◌≡◌, ◌<◌};
 
 use crate::{hchain, ring};
-use kc_found::{HShape, ListShape, ListSpace, VWord, WalkStop, Walked};
+use kc_found::{HShape, ListShape, ListSpace, Origin, VWord, WalkStop, Walked};
 use kc_word::Steps;
 use std::alloc::{AllocError, Global};
 use std::marker::Brand;
@@ -45,7 +45,7 @@ fn space_of(alloc: Global, changed: (u64, u64)) -> Result<ListSpace, AllocError>
         words.push(VWord {
             va: *va,
             pa: *va,
-            off: *va,
+            off: Origin::File(*va),
             value: *value,
         })?;
     }

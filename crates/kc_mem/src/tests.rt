@@ -2,7 +2,7 @@
 ghost use Rattle.std.specs.Prelude.{◌≡◌, ◌<◌, None, []};
 
 use crate::Memory;
-use kc_memory::{FrameStop, Frames, PWord, Rule, Space, Stop};
+use kc_memory::{FrameStop, Frames, Origin, PWord, Rule, Space, Stop};
 use kc_word::{PageCfg, Steps};
 use std::marker::Brand;
 use std::sync::ledger::{Blank, Ledger};
@@ -34,7 +34,10 @@ impl Frames for Dump {
             0x4000 => 0x5003,
             _ => 0,
         };
-        Ok(PWord { value, off: pa })
+        Ok(PWord {
+            value,
+            off: Origin::File(pa),
+        })
     }
 }
 

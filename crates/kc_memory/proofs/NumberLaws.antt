@@ -1,5 +1,5 @@
 -- What a number shows, and its bits.
-use Rattle.std.proofs.Common.{◌≡◌, ℕ, zero, suc, ◌+◌, ◌-◌, ◌*◌, ◌/◌, ◌%◌, ◌^◌, ◌<◌, ◌≤◌, pos, ◌+ℤ◌, ◌-ℤ◌, ◌≤ℤ◌, ◌<ℤ◌, Bool, true, false, ◌&&◌, if◌then◌else◌, nat_le, nat_lt, List, [], ◌∷◌, drop, get_or, length, Result, Ok, Err, arith, lit<, mod-eq_of_lt, refl, sym, ap, ◌∙◌, subst}
+use Rattle.std.proofs.Common.{◌≡◌, ℕ, zero, suc, ◌+◌, ◌-◌, ◌*◌, ◌/◌, ◌%◌, ◌^◌, ◌<◌, ◌≤◌, pos, ◌+ℤ◌, ◌-ℤ◌, ◌≤ℤ◌, ◌<ℤ◌, Bool, true, false, ◌&&◌, if◌then◌else◌, nat_le, nat_lt, List, [], ◌∷◌, drop, get_or, length, Option, Some, Result, Ok, Err, arith, lit<, mod-eq_of_lt, refl, sym, ap, ◌∙◌, subst}
 use Rattle.std.specs.Int.{bit_at}
 use Rattle.std.specs.List.{All}
 use Rattle.byteorder.specs.Endian.{little_number}
@@ -11,15 +11,17 @@ use Rattle.std.proofs.lemmas.Nat.Bits.{bit_at_cat_low, bit_at_cat_high}
 use Rattle.std.proofs.lemmas.List.{get_or_past}
 use Rattle.std.proofs.lemmas.List.Elements.{All-get_or, All-drop}
 use Rattle.std.proofs.lemmas.Bool.Decides.{nat_tests}
+use Rattle.kc_memory.specs.declared.words.Origin.{Origin}
+use Rattle.kc_memory.specs.declared.words.Origin.TheVariants.{File, Tail}
 use Rattle.kc_memory.specs.declared.words.VWord.{VWord}
 use Rattle.kc_memory.specs.Stopped.{Stopped}
-use Rattle.kc_memory.specs.Image.{Image}
+use Rattle.kc_memory.specs.Image.{Image, Physical, pword}
 use Rattle.kc_memory.specs.Translation.{and_then, vword}
 use Rattle.kc_memory.specs.Places.{AllStandIn, places_of, place_of}
 use Rattle.kc_memory.specs.Bits.{Number, bits_from, first_bit, in_one, in_two, next_word, number_of, number_places, with_word, word_of, InBits}
 use Rattle.kc_memory.specs.Laws.{NumbersStand, NumbersFit, BitsAreOfMemory, pattern}
 use Rattle.kc_memory.proofs.PlaceLaws.{places_stand, word_stands}
-use Rattle.kc_memory.proofs.WordLaws.{words_stand_first}
+use Rattle.kc_memory.proofs.WordLaws.{words_stand_first, tails_are_zero}
 
 -- what the higher word shows
 with_high : (image : Image) (n width : ℕ) (signed : Bool) (low : VWord) (r : Result VWord Stopped) → AllStandIn image (place_of low ∷ []) → AllStandIn image (places_of r) → AllStandIn image (number_places (and_then r (λ high. Ok (in_two (n % 64) width signed low high))))
@@ -103,12 +105,15 @@ byte_small xs all i = by_cases (nat_lt i (length xs)) refl
     by_cases true within = All-get_or (λ b. b < 256) xs i 0 (grind (arith, nat_tests)) all
     by_cases false past = let behind : length xs ≤ i = grind (arith, nat_tests) in rw (get_or_past xs i 0 behind) (lit< tt)
 
+number_small : (physical : Physical) (pa value : ℕ) (off : Origin) → All (λ b. b < 256) physical.bytes → pword physical pa ≡ Some (record { value = value; off = off }) → value < 2 ^ 64
+number_small physical pa value (File offset) bytes is =
+    let first = words_stand_first physical pa value offset is in
+    let rest = drop offset physical.bytes in
+    subst (λ (v : ℕ). v < 2 ^ 64) (sym first.4) (little_small rest (byte_small rest (All-drop (λ b. b < 256) offset physical.bytes bytes)))
+number_small physical pa value Tail bytes is = subst (λ (v : ℕ). v < 2 ^ 64) (sym (tails_are_zero physical pa value is).0) (lit< tt)
+
 word_small : (image : Image) (va : ℕ) (w : VWord) → All (λ b. b < 256) image.physical.bytes → vword image va ≡ Ok w → w.value < 2 ^ 64
-word_small image va w bytes is =
-    let there = word_stands image va w is in
-    let first = words_stand_first image.physical w.pa (record { value = w.value; off = w.off }) there.stands in
-    let rest = drop w.off image.physical.bytes in
-    subst (λ (v : ℕ). v < 2 ^ 64) (sym first.4) (little_small rest (byte_small rest (All-drop (λ b. b < 256) w.off image.physical.bytes bytes)))
+word_small image va w bytes is = number_small image.physical w.pa w.value w.off bytes (word_stands image va w is).stands
 
 -- the number in one word
 made_of_one : (from width : ℕ) (signed : Bool) (low : VWord) (i : ℕ) → i < width → bit_at (pattern width (in_one from width signed low).value) i ≡ bit_at low.value (from + i)

@@ -6,6 +6,8 @@ use Rattle.std.specs.List.{All}
 use Rattle.std.specs.Set.{is_member}
 use Rattle.byteorder.specs.Endian.{little_number}
 use Rattle.kc_word.specs.declared.plain.Segment.{Segment}
+use Rattle.kc_word.specs.declared.plain.Tail.TheVariants.{Zero}
+use Rattle.kc_memory.specs.declared.words.Origin.TheVariants.{File, Tail}
 use Rattle.kc_memory.specs.declared.words.PWord.{PWord}
 use Rattle.kc_memory.specs.declared.words.VWord.{VWord}
 use Rattle.kc_memory.specs.Image.{Physical, Image, pword}
@@ -25,18 +27,34 @@ pub record HoldsFirst (segments : List Segment) (pa i : ℕ) (s : Segment) : Typ
   pub here : HoldsAt segments pa i s
   pub none_before : (j : ℕ) (t : Segment) → j < i → HoldsAt segments pa j t → ⊥
 
--- a word of the dump is the eight file bytes at its offset, which the first segment that holds them has
+-- a word that comes from the file is the eight file bytes at its offset, which the first segment that holds them has
 abbrev pub WordsStandFirst : Type 0
 WordsStandFirst =
-    (physical : Physical) (pa : ℕ) (w : PWord) → pword physical pa ≡ Some w
+    (physical : Physical) (pa value offset : ℕ) → pword physical pa ≡ Some (record { value = value; off = File offset })
     → (i : ℕ) × (s : Segment) × HoldsFirst physical.segments pa i s
-    × (w.off ≡ s.offset + (pa - s.paddr)) × (w.value ≡ little_number 8 (drop w.off physical.bytes))
+    × (offset ≡ s.offset + (pa - s.paddr)) × (value ≡ little_number 8 (drop offset physical.bytes))
 
--- where a word is absent, no segment holds its eight bytes
+-- the tail of the segment at this place of the table has the eight bytes from pa on: its memory does, after its file
+-- bytes
+pub record TailAt (segments : List Segment) (pa i : ℕ) (s : Segment) : Type 0 where
+  pub stands : slice_get segments i ≡ Some s
+  pub begins : s.paddr + s.filesz ≤ pa
+  pub ends : pa + 8 ≤ s.paddr + s.memsz
+
+-- a word that comes from a tail is 0, where tails read as zero: some segment's tail has it, and no segment's file bytes
+-- hold it
+abbrev pub TailsAreZero : Type 0
+TailsAreZero =
+    (physical : Physical) (pa value : ℕ) → pword physical pa ≡ Some (record { value = value; off = Tail })
+    → (value ≡ 0) × (physical.tail ≡ Zero) × ((i : ℕ) (s : Segment) → HoldsAt physical.segments pa i s → ⊥)
+    × (i : ℕ) × (s : Segment) × TailAt physical.segments pa i s
+
+-- where a word is absent, no segment holds its eight bytes, and where tails read as zero, none has them in its tail
 abbrev pub AbsentWhereNone : Type 0
 AbsentWhereNone =
     (physical : Physical) (pa : ℕ) → pword physical pa ≡ None
-    → (i : ℕ) (s : Segment) → HoldsAt physical.segments pa i s → ⊥
+    → ((i : ℕ) (s : Segment) → HoldsAt physical.segments pa i s → ⊥)
+    × (physical.tail ≡ Zero → (i : ℕ) (s : Segment) → TailAt physical.segments pa i s → ⊥)
 
 -- a word that is found at a virtual address is one that the dump holds
 abbrev pub FoundIsHeld : Type 0

@@ -20,7 +20,7 @@ pub enum FrameStop {
 
 /// The physical memory of a dump.
 pub trait Frames {
-    /// The dump's bytes and segments, or `None` where they aren't told.
+    /// The dump's bytes, its segments and how their tails read, or `None` where they aren't told.
     ghost image: { Self → Option Physical };
 
     /// The files of the store that words are read from, or `None` where they aren't told.

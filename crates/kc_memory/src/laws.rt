@@ -1,12 +1,13 @@
 // What the definitions of words say, for a reader to believe and a caller to learn. These functions do
 // nothing: each carries a law.
-ghost use Rattle.kc_memory.specs.Laws.{WordsStandFirst, AbsentWhereNone, FoundIsHeld, PagesMoveWhole, PlacesStand, NumbersStand, NumbersFit, BitsAreOfMemory};
+ghost use Rattle.kc_memory.specs.Laws.{WordsStandFirst, TailsAreZero, AbsentWhereNone, FoundIsHeld, PagesMoveWhole, PlacesStand, NumbersStand, NumbersFit, BitsAreOfMemory};
 
-/// A word of the dump is the eight bytes at its file offset, and no earlier segment holds them. It is
-/// absent only where no segment does. A word that is found at a virtual address is one of those that the dump
-/// holds.
+/// A word that comes from the file is the eight bytes at its file offset, and no earlier segment holds them. One that
+/// comes from a tail is 0, and no segment's file bytes hold it. A word is absent only where neither is there. A word that
+/// is found at a virtual address is one of those that the dump holds.
 pub fn know_words()
     ensures first { WordsStandFirst }
+    ensures tail { TailsAreZero }
     ensures absent { AbsentWhereNone }
     ensures held { FoundIsHeld }
 {}

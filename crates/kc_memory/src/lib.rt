@@ -21,7 +21,7 @@ pub use read::read_bits;
 pub use rule::Rule;
 pub use scalar::Scalar;
 pub use space::{Space, Stop};
-pub use words::{PWord, Place, VWord};
+pub use words::{Origin, PWord, Place, VWord};
 
 #[cfg(test)]
 mod tests;

@@ -2,7 +2,7 @@
 ghost use Rattle.std.specs.Prelude.{◌≡◌, ◌<◌, None, []};
 ghost use Rattle.std.proofs.Common.{lit≤};
 
-use crate::{Miss, Rule, Space, Stop, VWord, read_bits};
+use crate::{Miss, Origin, Rule, Space, Stop, VWord, read_bits};
 use kc_word::{Bits, Steps};
 use std::marker::Brand;
 use std::sync::ledger::{Blank, Ledger};
@@ -44,7 +44,7 @@ impl Space for Words {
         Ok(VWord {
             va,
             pa: 0x1000,
-            off: 0x2000,
+            off: Origin::File(0x2000),
             value,
         })
     }

@@ -1,12 +1,21 @@
 // Words of memory, 64 bits each, with their places.
 
+/// Where a word of the dump comes from.
+#[derive(Clone, Copy, Debug, PartialEq, Eq)]
+pub enum Origin {
+    /// The file: its first byte stands at this file offset, in bytes.
+    File(u64),
+    /// The tail of a segment: memory that the file leaves out and that reads as zero.
+    Tail,
+}
+
 /// A physical word.
 #[derive(Clone, Copy, Debug, PartialEq, Eq)]
 pub struct PWord {
     /// The word, read little-endian.
     pub value: u64,
-    /// Where its first byte stands, as a file offset in bytes.
-    pub off: u64,
+    /// Where it comes from.
+    pub off: Origin,
 }
 
 /// A word at a virtual address.
@@ -16,8 +25,8 @@ pub struct VWord {
     pub va: u64,
     /// The physical address of its first byte.
     pub pa: u64,
-    /// Where its first byte stands, as a file offset in bytes.
-    pub off: u64,
+    /// Where it comes from.
+    pub off: Origin,
     /// The word, read little-endian.
     pub value: u64,
 }
@@ -29,8 +38,8 @@ pub struct Place {
     pub va: Option<u64>,
     /// The physical address of its first byte.
     pub pa: u64,
-    /// Where its first byte stands, as a file offset in bytes.
-    pub off: u64,
+    /// Where it comes from.
+    pub off: Origin,
     /// The word, read little-endian.
     pub value: u64,
 }

@@ -10,7 +10,7 @@ use Rattle.std.proofs.lemmas.Cmp.{nat_eq_equiv}
 use Rattle.std.proofs.lemmas.List.Folds.{list_any-append}
 use Rattle.std.proofs.lemmas.Map.Made.{length-le_from_is_member}
 use Rattle.kc_word.specs.declared.plain.Segment.{Segment}
-use Rattle.kc_memory.specs.Image.{holds}
+use Rattle.kc_phys.specs.declared.runs.Part.{Part}
 use Rattle.kc_phys.specs.declared.runs.Run.{Run}
 use Rattle.kc_phys.specs.Runs.{GoUp, HasEdges, StandApart, edges, has, segment_at, words_of}
 
@@ -27,9 +27,9 @@ position_append test place (x ∷ xs) ys =
     ap (λ o. cond (test x) (Some place) o) (position_append test (place + 1) xs ys ∙ ap (λ n. option_or (position_from test (place + 1) xs) (position_from test n ys)) next)
     ∙ position_cons (test x) place (position_from test (place + 1) xs) (position_from test (place + suc (length xs)) ys)
 
-edges_append : (xs ys : List Segment) → edges (xs ++ ys) ≡ edges xs ++ edges ys
-edges_append [] ys = refl
-edges_append (x ∷ xs) ys = ap (λ l. (words_of 0 x).first ∷ (words_of 0 x).end ∷ l) (edges_append xs ys)
+edges_append : (part : Part) (xs ys : List Segment) → edges part (xs ++ ys) ≡ edges part xs ++ edges part ys
+edges_append part [] ys = refl
+edges_append part (x ∷ xs) ys = ap (λ l. (words_of part 0 x).first ∷ (words_of part 0 x).end ∷ l) (edges_append part xs ys)
 
 in_first : (n : ℕ) (xs ys : List ℕ) → IsTrue (is_member nat_eq xs n) → IsTrue (is_member nat_eq (xs ++ ys) n)
 in_first n xs ys is = list_any-append (nat_eq n) xs ys ∙ ap (λ b. b || list_any (nat_eq n) ys) is
@@ -45,31 +45,32 @@ more_edges : (some all : List ℕ) (rs : List Run) → ((n : ℕ) → IsTrue (is
 more_edges some all [] more has = tt
 more_edges some all (r ∷ rs) more has = ((more r.first has.0.0, more r.end has.0.1), more_edges some all rs more has.1)
 
-pub both_edges : (segments first second : List Segment) (over under runs : List Run) → first ++ second ≡ segments → AllByRecursion (HasEdges (edges first)) over → AllByRecursion (HasEdges (edges second)) under
+pub both_edges : (part : Part) (segments first second : List Segment) (over under runs : List Run) → first ++ second ≡ segments
+    → AllByRecursion (HasEdges (edges part first)) over → AllByRecursion (HasEdges (edges part second)) under
     → ((all : List ℕ) → AllByRecursion (HasEdges all) over → AllByRecursion (HasEdges all) under → AllByRecursion (HasEdges all) runs)
-    → AllByRecursion (HasEdges (edges segments)) runs
-both_edges segments first second over under runs whole these those has =
-    let same : edges first ++ edges second ≡ edges segments = sym (edges_append first second) ∙ ap edges whole in
-    has (edges segments)
-    (more_edges (edges first) (edges segments) over (λ n is. subst (λ (l : List ℕ). IsTrue (is_member nat_eq l n)) same (in_first n (edges first) (edges second) is)) these)
-    (more_edges (edges second) (edges segments) under (λ n is. subst (λ (l : List ℕ). IsTrue (is_member nat_eq l n)) same (in_second n (edges first) (edges second) is)) those)
+    → AllByRecursion (HasEdges (edges part segments)) runs
+both_edges part segments first second over under runs whole these those has =
+    let same : edges part first ++ edges part second ≡ edges part segments = sym (edges_append part first second) ∙ ap (edges part) whole in
+    has (edges part segments)
+    (more_edges (edges part first) (edges part segments) over (λ n is. subst (λ (l : List ℕ). IsTrue (is_member nat_eq l n)) same (in_first n (edges part first) (edges part second) is)) these)
+    (more_edges (edges part second) (edges part segments) under (λ n is. subst (λ (l : List ℕ). IsTrue (is_member nat_eq l n)) same (in_second n (edges part first) (edges part second) is)) those)
 
-pub both_law : (place word : ℕ) (segments first second : List Segment) (over under runs : List Run) → first ++ second ≡ segments
-    → segment_at word over ≡ position_from (holds (8 * word)) place first → segment_at word under ≡ position_from (holds (8 * word)) (place + length first) second
+pub both_law : (test : Segment → Bool) (place word : ℕ) (segments first second : List Segment) (over under runs : List Run) → first ++ second ≡ segments
+    → segment_at word over ≡ position_from test place first → segment_at word under ≡ position_from test (place + length first) second
     → segment_at word runs ≡ option_or (segment_at word over) (segment_at word under)
-    → segment_at word runs ≡ position_from (holds (8 * word)) place segments
-both_law place word segments first second over under runs whole these those law =
+    → segment_at word runs ≡ position_from test place segments
+both_law test place word segments first second over under runs whole these those law =
     law
     ∙ ap (λ o. option_or o (segment_at word under)) these
-    ∙ ap (λ o. option_or (position_from (holds (8 * word)) place first) o) those
-    ∙ sym (position_append (holds (8 * word)) place first second)
-    ∙ ap (position_from (holds (8 * word)) place) whole
+    ∙ ap (λ o. option_or (position_from test place first) o) those
+    ∙ sym (position_append test place first second)
+    ∙ ap (position_from test place) whole
 
 -- ---- how many runs there are
 
-edges_length : (segments : List Segment) → length (edges segments) ≡ 2 * length segments
-edges_length [] = refl
-edges_length (s ∷ ss) = let rest = edges_length ss in omega arith
+edges_length : (part : Part) (segments : List Segment) → length (edges part segments) ≡ 2 * length segments
+edges_length part [] = refl
+edges_length part (s ∷ ss) = let rest = edges_length part ss in omega arith
 
 apart_numbers : (n m : ℕ) → n < m → nat_eq n m ≡ false
 apart_numbers n m lt = grind (arith, nat_tests)
@@ -102,9 +103,9 @@ firsts_length [] = refl
 firsts_length (r ∷ rs) = ap (λ (n : ℕ). suc n) (firsts_length rs)
 
 -- each begins at an edge of its own
-pub few_runs : (segments : List Segment) (runs : List Run) → StandApart runs → AllByRecursion (HasEdges (edges segments)) runs → length runs ≤ 2 * length segments
-few_runs segments runs apart has =
-    let few = length-le_from_is_member nat_eq_equiv (firsts runs) (edges segments) (firsts_distinct 0 (2 ^ 62) runs apart) (λ q is. first_is_edge (edges segments) runs q has is) in
+pub few_runs : (part : Part) (segments : List Segment) (runs : List Run) → StandApart runs → AllByRecursion (HasEdges (edges part segments)) runs → length runs ≤ 2 * length segments
+few_runs part segments runs apart has =
+    let few = length-le_from_is_member nat_eq_equiv (firsts runs) (edges part segments) (firsts_distinct 0 (2 ^ 62) runs apart) (λ q is. first_is_edge (edges part segments) runs q has is) in
     let same = firsts_length runs in
-    let twice = edges_length segments in
+    let twice = edges_length part segments in
     omega (arith, few, same, twice)

@@ -5,9 +5,9 @@ ghost use Rattle.kc_outside.specs.MemStore.{size_in};
 ghost use Rattle.kc_phys.specs.Stored.{AreInside};
 
 use crate::{Phys, Room};
-use kc_memory::{FrameStop, Frames, PWord};
+use kc_memory::{FrameStop, Frames, Origin, PWord};
 use kc_outside::{MemStore, Slot, Store};
-use kc_word::{Segment, Steps, read_hex};
+use kc_word::{Segment, Steps, Tail, read_hex};
 use std::alloc::{AllocError, Global};
 use std::marker::Brand;
 use std::string::String;
@@ -38,15 +38,15 @@ fn opened(alloc: Global, fails: u64) -> Result<(MemStore, u64), Fail>
     Ok((store, size))
 }
 
-// The segment that a word `PADDR+FILESZ@OFFSET` gives.
+// The segment that a word `PADDR+FILESZ@OFFSET` gives, or `PADDR+FILESZ+MEMSZ@OFFSET` where it has a tail.
 fn segment_of(word: &str) -> Option<Segment> {
     let (paddr, rest) = word.split_once('+')?;
-    let (filesz, offset) = rest.split_once('@')?;
-    let filesz = read_hex(filesz.as_bytes())?;
+    let (sizes, offset) = rest.split_once('@')?;
+    let (filesz, memsz) = sizes.split_once('+').unwrap_or((sizes, sizes));
     Some(Segment {
         paddr: read_hex(paddr.as_bytes())?,
-        filesz,
-        memsz: filesz,
+        filesz: read_hex(filesz.as_bytes())?,
+        memsz: read_hex(memsz.as_bytes())?,
         offset: read_hex(offset.as_bytes())?,
     })
 }
@@ -70,14 +70,17 @@ fn fit(store: &MemStore, segments: &[Segment], size: u64) -> bool
         .all(|s| s.offset <= size && s.filesz <= size - s.offset)
 }
 
-// An answer, and how many reads there were so far: `OFFSET=VALUE/READS`.
+// An answer, and how many reads there were so far: `OFFSET=VALUE/READS`, or `tail=VALUE/READS`.
 fn answer(
     alloc: Global,
     found: Result<PWord, FrameStop>,
     reads: u64,
 ) -> Result<String, AllocError> {
     match found {
-        Ok(PWord { value, off }) => format!(in alloc; "{off:x}={value:x}/{reads}"),
+        Ok(PWord { value, off }) => match off {
+            Origin::File(at) => format!(in alloc; "{at:x}={value:x}/{reads}"),
+            Origin::Tail => format!(in alloc; "tail={value:x}/{reads}"),
+        },
         Err(FrameStop::Absent) => format!(in alloc; "absent/{reads}"),
         Err(FrameStop::Fault) => format!(in alloc; "fault/{reads}"),
     }
@@ -121,10 +124,15 @@ fn ask<L: Ledger>(
     Ok(text)
 }
 
-// The answers for words of a dump with these segments, of which the read of this number is to fail.
+// The answers for words of a dump with these segments, of which the read of this number is to fail. Tails are zero where
+// the word `zero` comes first, and else absent.
 fn told(alloc: Global, segments: &str, fails: u64, words: &str) -> Result<String, Fail> {
     let (mut store, size) = opened(alloc, fails)?;
-    let room = Room::new(alloc, &segments_of(alloc, segments)?)?;
+    let (tail, segments) = match segments.strip_prefix("zero ") {
+        Some(rest) => (Tail::Zero, rest),
+        None => (Tail::Absent, segments),
+    };
+    let room = Room::new(alloc, &segments_of(alloc, segments)?, tail)?;
     if !fit(&store, &room.segments, size) {
         return Err("a segment past the end".into());
     }
@@ -170,7 +178,9 @@ fn blocks_are_read_once(rt: HostRuntime) -> Result<(), Fail> {
 }
 
 // The segments, the words, and the answers: one segment inside another, across its end, equal to it, touching it,
-// and over it by less than a word; at odd addresses and file offsets; at 2^64; without a word.
+// and over it by less than a word; at odd addresses and file offsets; at 2^64; without a word. Then tails: absent; none,
+// since the memory is as long as the bytes or shorter; across their ends; over a later segment's bytes, and one another;
+// side by side within a word; up to 2^64, and past it; of 2^52 bytes.
 const OVERLAPS: &str =
     "1000+100@200 1040+20@800 : 1038 1040 1058 1060 : 238=238/1 240=240/1 258=258/1 260=260/1
 1040+20@800 1000+100@200 : 1038 1040 1058 1060 : 238=238/1 800=800/1 818=818/1 260=260/1
@@ -193,7 +203,17 @@ fffffffffffffff0+20@200 : fffffffffffffff8 0 : 208=208/1 absent/1
 1020+10@800 1050+10@900 1000+80@200 : 1018 1020 1030 1048 1050 1060 1078 1080 : 218=218/1 800=800/1 230=230/1 248=248/1 900=900/1 260=260/1 278=278/1 absent/1
 1010+8@900 1008+18@800 1000+28@200 : 1000 1008 1010 1018 1020 1028 : 200=200/1 800=800/1 900=900/1 810=810/1 220=220/1 absent/1
 1000+28@200 1008+18@800 1010+8@900 : 1000 1008 1010 1020 : 200=200/1 208=208/1 210=210/1 220=220/1
-1040+10@800 1000+20@200 1020+40@900 1000+80@a00 : 1018 1020 1038 1040 1050 1058 1060 1078 : 218=218/1 900=900/1 918=918/1 800=800/1 930=930/1 938=938/1 a60=a60/1 a78=a78/1";
+1040+10@800 1000+20@200 1020+40@900 1000+80@a00 : 1018 1020 1038 1040 1050 1058 1060 1078 : 218=218/1 900=900/1 918=918/1 800=800/1 930=930/1 938=938/1 a60=a60/1 a78=a78/1
+1000+10+20@200 : 1008 1010 : 208=208/1 absent/1
+zero 1000+10+10@200 1020+10+8@200 : 1008 1010 1028 1030 : 208=208/1 absent/1 208=208/1 absent/1
+zero 1000+10+20@200 : 1010 1008 1018 1020 : tail=0/0 208=208/1 tail=0/1 absent/1
+zero 1004+10+20@200 : 1008 1010 1018 1020 : 204=20800000000/1 absent/1 tail=0/1 absent/1
+zero 1000+8+28@200 1010+8@1800 : 1000 1008 1010 1018 1000 : 200=200/1 tail=0/1 1800=1800/2 tail=0/2 200=200/2
+zero 1000+8+18@200 1008+8+18@800 : 1008 1010 1018 1020 : 800=800/1 tail=0/1 tail=0/1 absent/1
+zero 1000+8+14@200 1014+0+c@200 : 1008 1010 1018 : tail=0/0 absent/0 tail=0/0
+zero fffffffffffffff0+8+10@200 : fffffffffffffff0 fffffffffffffff8 0 : 200=200/1 tail=0/1 absent/1
+zero fffffffffffffff0+8+ffffffffffffffff@200 : fffffffffffffff8 0 : tail=0/0 absent/0
+zero 1000+8+10000000000000@200 : 1000 10000000000ff8 10000000001000 : 200=200/1 tail=0/1 absent/1";
 
 #[test]
 fn the_first_segment_counts(rt: HostRuntime) -> Result<(), Fail> {
@@ -205,7 +225,7 @@ fn the_first_segment_counts(rt: HostRuntime) -> Result<(), Fail> {
         assert_eq!(rt; answers.trim_end(), wanted, "{row}");
         count = count.saturating_add(1);
     }
-    assert_eq!(rt; count, 22);
+    assert_eq!(rt; count, 32);
     Ok(())
 }
 

@@ -1,5 +1,5 @@
 -- What holds of the audits of a plan.
-use Rattle.std.proofs.Common.{◌≡◌, ℕ, zero, suc, ◌+◌, ◌<◌, ◌≤◌, Bool, true, false, not, ◌&&◌, List, [], ◌∷◌, ◌++◌, length, Option, Some, None, Result, Ok, refl, ap, sym, subst, ◌∙◌, arith, append_assoc, map, option_map, slice_get}
+use Rattle.std.proofs.Common.{◌≡◌, ℕ, zero, suc, ◌+◌, ◌<◌, ◌≤◌, Bool, true, false, not, ◌&&◌, List, [], ◌∷◌, ◌++◌, length, Option, Some, None, Result, Ok, refl, ap, sym, subst, ◌∙◌, arith, append_assoc, option_map, slice_get}
 use Rattle.std.proofs.lemmas.List.{length-map}
 use Rattle.std.proofs.lemmas.List.Sums.{sum_by-cons}
 use Rattle.std.proofs.lemmas.Option.{slice_get-map}
@@ -14,7 +14,7 @@ use Rattle.toml.specs.Data.{Members}
 use Rattle.kc_plan.specs.declared.fault.PRule.TheVariants.{P9, P11}
 use Rattle.kc_plan.specs.declared.fault.PlanFault.{PlanFault}
 use Rattle.kc_plan.specs.declared.fault.PlanKey.TheVariants as key
-use Rattle.kc_plan.specs.declared.item.AuditWords.{AuditWords}
+use Rattle.kc_plan.specs.declared.item.PlanWords.{PlanWords}
 use Rattle.kc_plan.specs.declared.item.Link.{Link}
 use Rattle.kc_plan.specs.declared.kind.Kind.{Kind}
 use Rattle.kc_plan.specs.declared.planned.Audit.{Audit}
@@ -29,7 +29,7 @@ use Rattle.kc_plan.specs.Planned.StartAt.{RootAt, FromAt}
 use Rattle.kc_plan.specs.Plans.{addressed, all_planned, begun, children, element_above, element_at, first_byte, from_at, key_for, kind_in, link_for, needs_in, plan_of, planned, root_at, root_for, struct_at, type_named}
 use Rattle.kc_plan.specs.Steps.{written_for}
 use Rattle.kc_plan.specs.Values.{◌>>=◌, at, refuse_if}
-use Rattle.kc_plan.specs.Views.{audit_text}
+use Rattle.kc_plan.specs.Views.{audit_text, audit_texts, plan_text}
 use Rattle.kc_plan.proofs.LinkLaws.{AllLead, AreAllLinks, Leads, from_within, has_from, links_are, one_if, same_truth, times_linked}
 use Rattle.kc_plan.proofs.StepLemmas.{bound, same_ok}
 use Rattle.kc_plan.proofs.WrittenLaws.{AreWritten, are_written}
@@ -265,13 +265,13 @@ kept texts links audits written all made =
       once = named_kept audits texts links 0 texts audits times from written made;
     }
 
-pub plan_kept : (kernel : Kernel) (table : Members) (texts : List AuditText) (audits : List AuditAt) → written_for table ≡ Ok texts → plan_of kernel texts ≡ Ok audits → IsKept texts audits
+pub plan_kept : (kernel : Kernel) (texts : List AuditText) (audits : List AuditAt) → AreWritten texts → plan_of kernel texts ≡ Ok audits → IsKept texts audits
 unfolding plan_of
-plan_kept kernel table texts audits written e =
+plan_kept kernel texts audits written e =
     let links = bound (links_for texts) (λ links. all_planned kernel links [] texts) audits e in
     let behind : Follow links.0 [] texts audits = follow kernel links.0 [] texts audits links.2 in
     let made : ArePlanned links.0 0 texts audits = subst (ArePlanned links.0 0 texts) (sym behind.whole) behind.planned in
-    kept texts links.0 audits (are_written table texts written) (links_are texts links.0 links.1) made
+    kept texts links.0 audits written (links_are texts links.0 links.1) made
 
 -- and what a plan of the code keeps
 pub record KeepsAll (audits : List Audit) : Type 0 where
@@ -280,13 +280,14 @@ pub record KeepsAll (audits : List Audit) : Type 0 where
   pub later : are_later 0 (length audits) (audits_seen audits) ≡ true
   pub once : named_once (audits_seen audits) 0 (audits_seen audits) ≡ true
 
-pub keeps_all : (kernel : Kernel) (table : Members) (written : List AuditWords) (audits : List Audit) → length written ≤ 256 → written_for table ≡ Ok (map audit_text written)
-    → plan_of kernel (map audit_text written) ≡ Ok (audits_seen audits) → KeepsAll audits
-keeps_all kernel table written audits few texts plan =
-    let is : IsKept (map audit_text written) (audits_seen audits) = plan_kept kernel table (map audit_text written) (audits_seen audits) texts plan in
+pub keeps_all : (kernel : Kernel) (table : Members) (written : PlanWords) (audits : List Audit) → written_for table ≡ Ok (plan_text written)
+    → plan_of kernel (audit_texts written.audits) ≡ Ok (audits_seen audits) → KeepsAll audits
+keeps_all kernel table written audits texts plan =
+    let is : IsKept (audit_texts written.audits) (audits_seen audits) = plan_kept kernel (audit_texts written.audits) (audits_seen audits) (are_written table (plan_text written) texts) plan in
     let size : length (audits_seen audits) ≡ length audits = length-map audits audit_seen in
-    let number : length (map audit_text written) ≡ length written = length-map written audit_text in
-    let same : length (map audit_text written) ≡ length (audits_seen audits) = is.size in
+    let number : length (audit_texts written.audits) ≡ length written.audits.items = length-map written.audits.items audit_text in
+    let same : length (audit_texts written.audits) ≡ length (audits_seen audits) = is.size in
+    let few : length written.audits.items ≤ 256 = written.few in
     record {
       few = omega arith;
       names = is.names;

@@ -1,19 +1,20 @@
 -- What holds of each audit of a document.
-use Rattle.std.proofs.Common.{◌≡◌, ℕ, Bool, true, false, not, ◌&&◌, ◌||◌, List, [], ◌∷◌, ◌++◌, length, Option, Some, Result, Ok, refl, ap, sym, subst, ◌∙◌}
+use Rattle.std.proofs.Common.{◌≡◌, ℕ, Bool, true, false, not, ◌&&◌, ◌||◌, List, [], ◌∷◌, ◌++◌, length, Option, Some, None, Result, Ok, refl, ap, sym, subst, ◌∙◌}
 use Rattle.std.specs.Prelude.{is_some, ⊤}
 use Rattle.std.specs.Option.{option_map_or}
 use Rattle.std.proofs.lemmas.Bool.{not-false}
 use Rattle.toml.specs.Data.{Members, as_str}
+use Rattle.kc_word.specs.declared.plain.Tail.{Tail}
 use Rattle.kc_text.specs.Readers.{is_name}
 use Rattle.kc_plan.specs.declared.fault.PRule.TheVariants.{P3, P4, P5}
 use Rattle.kc_plan.specs.declared.fault.PlanFault.{PlanFault}
 use Rattle.kc_plan.specs.declared.fault.PlanKey.TheVariants as key
 use Rattle.kc_plan.specs.declared.keys.Need.TheVariants.{Allowed}
 use Rattle.kc_plan.specs.declared.kinds.Sort.{Sort}
-use Rattle.kc_plan.specs.Audits.{AuditText, PartText, StartText, all_keys, audit_for, audits_for, is_among, kind_for, name_for, parts_for, start_for}
-use Rattle.kc_plan.specs.Keys.{audit_keys, is_one_of}
+use Rattle.kc_plan.specs.Audits.{AuditText, PartText, PlanText, StartText, all_keys, audit_for, audits_for, is_among, kind_for, name_for, parts_for, start_for}
+use Rattle.kc_plan.specs.Keys.{audit_keys, is_one_of, top_keys}
 use Rattle.kc_plan.specs.Kinds.{needs_of}
-use Rattle.kc_plan.specs.Steps.{tables_for, version_for, written_for}
+use Rattle.kc_plan.specs.Steps.{tables_for, tail_for, version_for, written_for}
 use Rattle.kc_plan.specs.Values.{◌>>=◌, asked, at, flag_for, has, refuse_if, required, text_for, value_at}
 use Rattle.kc_plan.proofs.StepLemmas.{allowed_is, at_ok, bound, same_ok, tested}
 
@@ -118,9 +119,16 @@ all_written earlier (table ∷ tables) out all e =
     let one = bound (audit_for earlier (Some (length earlier)) table) (λ audit. audits_for (earlier ++ audit ∷ []) tables) out e in
     all_written (earlier ++ one.0 ∷ []) tables out (written_push earlier one.0 all (audit_written earlier (Some (length earlier)) table one.0 one.1)) one.2
 
-pub are_written : (table : Members) (audits : List AuditText) → written_for table ≡ Ok audits → AreWritten audits
+pub are_written : (table : Members) (plan : PlanText) → written_for table ≡ Ok plan → AreWritten plan.audits
 unfolding written_for
-are_written table audits e =
-    let versioned = bound (version_for table) (λ versioned. tables_for table >>= λ these. audits_for [] these) audits e in
-    let these = bound (tables_for table) (λ these. audits_for [] these) audits versioned.2 in
-    all_written [] these.0 audits tt these.2
+are_written table plan e =
+    let read : ℕ → Tail → List Members → Result PlanText PlanFault = λ version tail these. audits_for [] these >>= λ audits. Ok (record { version = version; tail = tail; audits = audits }) in
+    let by_tail : ℕ → Tail → Result PlanText PlanFault = λ version tail. tables_for table >>= λ these. read version tail these in
+    let known : Result ⊤ PlanFault = at None key.Other (refuse_if (not (all_keys (is_one_of top_keys) table)) P3) in
+    let version = bound (version_for table) (λ version. known >>= λ known. tail_for table >>= λ tail. by_tail version tail) plan e in
+    let keys = bound known (λ known. tail_for table >>= λ tail. by_tail version.0 tail) plan version.2 in
+    let tail = bound (tail_for table) (by_tail version.0) plan keys.2 in
+    let these = bound (tables_for table) (read version.0 tail.0) plan tail.2 in
+    let audits = bound (audits_for [] these.0) (λ audits. Ok (record { version = version.0; tail = tail.0; audits = audits })) plan these.2 in
+    let made : PlanText = record { version = version.0; tail = tail.0; audits = audits.0 } in
+    subst (λ (plan : PlanText). AreWritten plan.audits) (same_ok made plan audits.2) (all_written [] these.0 audits.0 tt audits.1)

@@ -3,6 +3,7 @@ use Rattle.std.specs.Prelude.{ℕ, nat_lt, List, [], ◌∷◌, ◌++◌, Bool, 
 use Rattle.std.specs.Option.{option_map_or}
 use Rattle.std.specs.Str.{bytes_eq}
 use Rattle.toml.specs.Data.{Data, Members, no_members, member, as_str, as_array}
+use Rattle.kc_word.specs.declared.plain.Tail.{Tail}
 use Rattle.kc_text.specs.Readers.{is_name}
 use Rattle.kc_plan.specs.declared.fault.PRule.{PRule}
 use Rattle.kc_plan.specs.declared.fault.PRule.TheVariants.{P3, P4, P5}
@@ -45,6 +46,12 @@ pub record AuditText : Type 0 where
   pub sort : Sort
   pub start : StartText
   pub parts : PartText
+
+-- a plan, as it is written: its version, how the tail of a segment is read, and its audits
+pub record PlanText : Type 0 where
+  pub version : ℕ
+  pub tail : Tail
+  pub audits : List AuditText
 
 -- each key of a table is one of these
 abbrev pub all_keys : (List ℕ → Bool) → Members → Bool

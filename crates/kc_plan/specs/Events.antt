@@ -32,10 +32,14 @@ elements_of k (Wrong v ∷ es) = elements_of k es
 abbrev pub capped : ℕ → ℕ
 capped n = min n (2 ^ 64 - 1)
 
+-- the count of an audit
+abbrev pub count_of : ℕ → List Event → AuditCount
+count_of k es = record { walks = capped (walks_of k es); elements = capped (elements_of k es) }
+
 -- the counts of so many audits, from number k on
 abbrev pub counts_of : ℕ → ℕ → List Event → List AuditCount
 counts_of zero k es = []
-counts_of (suc left) k es = record { walks = capped (walks_of k es); elements = capped (elements_of k es) } ∷ counts_of left (suc k) es
+counts_of (suc left) k es = count_of k es ∷ counts_of left (suc k) es
 
 -- the first violation, or else the counts of so many audits
 abbrev pub verdict_of : ℕ → List Event → Option Violation → Verdict

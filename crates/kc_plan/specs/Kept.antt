@@ -1,8 +1,12 @@
 -- What every plan keeps, whatever bytes it was read from.
-use Rattle.std.specs.Prelude.{ℕ, suc, Bool, true, ◌&&◌, ◌==◌, nat_lt, List, [], ◌∷◌, if◌then◌else◌}
+use Rattle.std.specs.Prelude.{ℕ, suc, Bool, true, ◌&&◌, ◌||◌, ◌==◌, nat_lt, List, [], ◌∷◌, if◌then◌else◌}
 use Rattle.std.specs.List.{count_by, list_all, sum_by}
 use Rattle.kc_text.specs.Readers.{is_name}
 use Rattle.kc_plan.specs.Planned.{AuditAt, is_from}
+
+-- a plan of this version asks for one verdict on all audits, or for one on each root audit
+abbrev pub is_version : ℕ → Bool
+is_version version = (version == 1) || (version == 2)
 
 -- each audit's name has the form of a name
 abbrev pub have_names : List AuditAt → Bool

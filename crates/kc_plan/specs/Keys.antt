@@ -9,6 +9,7 @@ use Rattle.kc_plan.specs.declared.fault.PlanKey.TheVariants as key
 -- asked for as that.
 abbrev pub spelled : PlanKey → List ℕ
 spelled key.Version = codes "version"
+spelled key.Tail = codes "tail"
 spelled key.Audit = codes "audit"
 spelled key.Name = codes "name"
 spelled key.Kind = codes "kind"
@@ -32,7 +33,7 @@ is_one_of keys text = list_any (λ one. bytes_eq text (spelled one)) keys
 
 -- the keys of a plan
 abbrev pub top_keys : List PlanKey
-top_keys = key.Version ∷ key.Audit ∷ []
+top_keys = key.Version ∷ key.Tail ∷ key.Audit ∷ []
 
 -- the keys of an audit
 abbrev pub audit_keys : List PlanKey

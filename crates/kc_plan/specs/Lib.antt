@@ -12,6 +12,7 @@ pub mod Laws
 pub mod Links
 pub mod Planned
 pub mod Plans
+pub mod Roots
 pub mod Seen
 pub mod Shapes
 pub mod Slabs

@@ -1,5 +1,6 @@
 -- An audit of a plan, and what contracts see as one.
 use Rattle.std.specs.Prelude.{ℕ, List, map, Bool, true, false, Option}
+use Rattle.kc_word.specs.declared.plain.Tail.{Tail}
 use Rattle.kc_expr.specs.Exprs.{tree_of}
 use Rattle.kc_expr.specs.Tree.{Tree}
 use Rattle.kc_layout.specs.Ends.{ByteAt, NumberAt}
@@ -31,6 +32,13 @@ pub record AuditAt : Type 0 where
   pub link : ℕ
   pub checks : List CheckAt
   pub each : List ℕ
+
+-- A plan: its version, how the tail of a segment is read, and the audits. Version 1 asks for one verdict on all audits, and
+-- version 2 for one on each root audit.
+pub record PlanAt : Type 0 where
+  pub version : ℕ
+  pub tail : Tail
+  pub audits : List AuditAt
 
 -- begins at a path from the element of the audit above
 abbrev pub is_from : StartAt → Bool

@@ -18,7 +18,7 @@ use Rattle.kc_plan.specs.CheckTexts.{checks_for}
 use Rattle.kc_plan.specs.Kernels.{Kernel, address_in}
 use Rattle.kc_plan.specs.Kinds.{row, shape}
 use Rattle.kc_plan.specs.Links.{above_of, links_for}
-use Rattle.kc_plan.specs.Planned.{AuditAt, StartAt}
+use Rattle.kc_plan.specs.Planned.{AuditAt, PlanAt, StartAt}
 use Rattle.kc_plan.specs.Planned.StartAt.{RootAt, FromAt}
 use Rattle.kc_plan.specs.Shapes.{is_struct}
 use Rattle.kc_plan.specs.Steps.{document, parsed, written_for}
@@ -149,17 +149,18 @@ all_planned kernel links before (audit ∷ audits) = do
   one ← planned kernel links before (length before) audit
   all_planned kernel links (before ++ one ∷ []) audits
 
--- the plan of audits as they are written
+-- the audits of a plan, as they are written
 unfoldable pub plan_of : Kernel → List AuditText → Result (List AuditAt) PlanFault
 plan_of kernel audits = do
   links ← links_for audits
   all_planned kernel links [] audits
 
--- The plan of a file's bytes, or its first fault: of the document, then of its audits one by one as they are
+-- The plan of a file's bytes, or its first fault: of the document and its keys, then of its audits one by one as they are
 -- written, then of the names by which they name each other, then of what they need in the kernel's types and
 -- symbols, audit by audit.
-unfoldable pub plan : Kernel → List ℕ → Result (List AuditAt) PlanFault
+unfoldable pub plan : Kernel → List ℕ → Result PlanAt PlanFault
 plan kernel bytes = do
   table ← parsed (document bytes)
-  audits ← written_for table
-  plan_of kernel audits
+  written ← written_for table
+  audits ← plan_of kernel written.audits
+  Ok (record { version = written.version; tail = written.tail; audits = audits })

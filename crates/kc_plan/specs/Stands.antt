@@ -62,6 +62,10 @@ Stands image (a ∷ later) k m base =
     (EnterStands image a (λ n element. Stands image later (suc k) n element) (path_end image base (path_of a.start).hops (path_of a.start).byte))
     (Stands image later (suc k) m base)
 
+-- a root audit stands, by its number and its symbol's address
+abbrev pub RootStands : Image → List AuditAt → ℕ × ℕ → Type 0
+RootStands image audits r = Stands image audits 0 r.0 r.1
+
 -- every root audit stands
 abbrev pub PlanStands : Image → List AuditAt → Type 0
-PlanStands image audits = AllByRecursion (λ r. Stands image audits 0 r.0 r.1) (roots 0 audits)
+PlanStands image audits = AllByRecursion (RootStands image audits) (roots 0 audits)

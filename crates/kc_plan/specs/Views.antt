@@ -1,4 +1,4 @@
--- What contracts see of an audit as it is written.
+-- What contracts see of a plan and its audits, and of both as they are written.
 use Rattle.std.specs.Prelude.{ℕ, List, map, option_map, String}
 use Rattle.std.specs.BTreeMap.{BTreeMap}
 use Rattle.std.specs.Option.{option_copied}
@@ -14,16 +14,17 @@ use Rattle.kc_btf.specs.Btf.{Types}
 use Rattle.kc_notes.specs.declared.info.Info.{Info}
 use Rattle.kc_syms.specs.declared.symbols.Symbols.{Symbols}
 use Rattle.kc_plan.specs.declared.plan.Plan.{Plan}
-use Rattle.kc_plan.specs.Planned.{AuditAt, audits_seen}
+use Rattle.kc_plan.specs.Planned.{AuditAt, PlanAt, audits_seen}
 use Rattle.kc_plan.specs.Kernels.{Kernel}
 use Rattle.kc_plan.specs.declared.item.AuditWords.{AuditWords}
 use Rattle.kc_plan.specs.declared.item.Link.{Link}
 use Rattle.kc_plan.specs.declared.item.PartWords.{PartWords}
+use Rattle.kc_plan.specs.declared.item.PlanWords.{PlanWords}
 use Rattle.kc_plan.specs.declared.item.StartWords.{StartWords}
 use Rattle.kc_plan.specs.declared.item.TreeWords.{TreeWords}
 use Rattle.kc_plan.specs.declared.shape.Own.{Own}
 use Rattle.kc_plan.specs.Shapes.{OwnAt}
-use Rattle.kc_plan.specs.Audits.{AuditText, PartText, StartText, TreeText}
+use Rattle.kc_plan.specs.Audits.{AuditText, PartText, PlanText, StartText, TreeText}
 
 abbrev pub text : Bor (List ℕ) → List ℕ
 text word = word.now
@@ -61,6 +62,9 @@ audit_text audit = record { name = audit.name.now; sort = audit.sort; start = st
 abbrev pub audit_texts : Vec AuditWords → List AuditText
 audit_texts audits = map audit_text audits.items
 
+abbrev pub plan_text : PlanWords → PlanText
+plan_text plan = record { version = plan.version; tail = plan.tail; audits = audit_texts plan.audits }
+
 abbrev pub links_in : Vec Link → List Link
 links_in links = links.items
 
@@ -72,6 +76,9 @@ own_seen own = record { link = own.link; key = option_map bits_view own.key; uni
 
 abbrev pub plan_seen : Plan → List AuditAt
 plan_seen plan = audits_seen plan.audits
+
+abbrev pub plan_whole : Plan → PlanAt
+plan_whole plan = record { version = plan.version; tail = plan.tail; audits = plan_seen plan }
 
 abbrev pub kernel_of : Types → Symbols → Info → Kernel
 kernel_of types symbols info = record { types = types; symbols = symbol symbols; kaslr = info.kaslr; five = info.five }

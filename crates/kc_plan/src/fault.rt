@@ -10,7 +10,7 @@ use thiserror::Error;
 pub enum PRule {
     /// The bytes aren't UTF-8, or aren't a TOML document.
     P1,
-    /// The version is another than 1.
+    /// The version is neither 1 nor 2.
     P2,
     /// A key is missing that must be there, or is there and isn't for this table.
     P3,
@@ -41,6 +41,8 @@ pub enum PRule {
 pub enum PlanKey {
     /// `version`, of the plan.
     Version,
+    /// `tail`, of the plan: how the memory that a segment has and the file leaves out is read.
+    Tail,
     /// `audit`, of the plan: its audits.
     Audit,
     /// `name`
@@ -71,8 +73,8 @@ pub enum PlanKey {
     Check,
     /// `each`
     Each,
-    /// A key that isn't for the table in which it stands: at the top one beside `version` and `audit`, in an audit
-    /// one that no kind of audit has.
+    /// A key that isn't for the table in which it stands: at the top one beside `version`, `tail` and `audit`, in
+    /// an audit one that no kind of audit has.
     Other,
 }
 

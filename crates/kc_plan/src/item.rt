@@ -1,7 +1,9 @@
-// An audit as a plan writes it, in words of the plan's document.
-ghost use Rattle.std.specs.Prelude.{◌≤◌, length};
+// A plan and its audits as they are written, in words of the plan's document.
+ghost use Rattle.std.specs.Prelude.{◌≤◌, length, IsTrue};
+ghost use Rattle.kc_plan.specs.Kept.{is_version};
 
 use crate::kinds::Sort;
+use kc_word::Tail;
 
 // Where an audit begins.
 #[derive(Clone, Copy)]
@@ -39,6 +41,16 @@ pub(crate) struct AuditWords<'t> {
     pub sort: Sort,
     pub start: StartWords<'t>,
     pub parts: PartWords<'t>,
+}
+
+// A plan.
+#[derive(Drop)]
+pub(crate) struct PlanWords<'t> {
+    pub version: u8,
+    pub tail: Tail,
+    pub audits: Vec<AuditWords<'t>>,
+    ghost known: { IsTrue (is_version version) },
+    ghost few: { length audits.items ≤ 256 },
 }
 
 // An audit that names another in `each`, both by their numbers in the plan.

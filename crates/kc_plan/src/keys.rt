@@ -31,6 +31,7 @@ pub fn spelling(key: PlanKey) -> &'static str
 {
     match key {
         PlanKey::Version => "version",
+        PlanKey::Tail => "tail",
         PlanKey::Audit => "audit",
         PlanKey::Name => "name",
         PlanKey::Kind => "kind",
@@ -51,7 +52,7 @@ pub fn spelling(key: PlanKey) -> &'static str
 }
 
 // The keys of a plan.
-pub(crate) const TOP_KEYS: [PlanKey; 2] = [PlanKey::Version, PlanKey::Audit];
+pub(crate) const TOP_KEYS: [PlanKey; 3] = [PlanKey::Version, PlanKey::Tail, PlanKey::Audit];
 
 // The keys of an audit.
 pub(crate) const AUDIT_KEYS: [PlanKey; 14] = [

@@ -1,17 +1,23 @@
 // A plan, and what it keeps.
 ghost use Rattle.std.specs.Prelude.{◌≤◌, length, IsTrue};
-ghost use Rattle.kc_plan.specs.Kept.{have_names, are_later, named_once};
+ghost use Rattle.kc_plan.specs.Kept.{have_names, are_later, is_version, named_once};
 ghost use Rattle.kc_plan.specs.Planned.{audits_seen};
 
 use crate::planned::{Audit, AuditList};
+use kc_word::Tail;
 
 /// What a kernel's memory is audited for: at most 256 audits. Each has a name of 1 to 64 letters, digits, `_` and
 /// `-`, and names audits behind it only. An audit that begins at a `from` is named once in the plan, and any other
 /// never.
 #[derive(Drop)]
 pub struct Plan {
+    /// 1 for one verdict on all audits, or 2 for one on each root audit.
+    pub version: u8,
+    /// How the memory that a segment has and the file leaves out is read.
+    pub tail: Tail,
     /// The audits, in the order of the plan.
     pub audits: AuditList,
+    pub ghost known: { IsTrue (is_version version) },
     pub ghost few: { length audits ≤ 256 },
     pub ghost names: { IsTrue (have_names (audits_seen audits)) },
     pub ghost later: { IsTrue (are_later 0 (length audits) (audits_seen audits)) },

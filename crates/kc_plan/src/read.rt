@@ -5,11 +5,11 @@ ghost use Rattle.kc_plan.specs.Kinds.{AreRows};
 ghost use Rattle.kc_plan.specs.Inside.{IsInside, AreInside};
 ghost use Rattle.kc_plan.specs.Plans.{children, element_of, element_above, planned, all_planned, plan_of, plan};
 ghost use Rattle.kc_plan.specs.Planned.{audit_seen, audits_seen};
-ghost use Rattle.kc_plan.specs.Views.{kernel, kernel_of, audit_text, plan_seen};
+ghost use Rattle.kc_plan.specs.Views.{kernel, kernel_of, audit_text, plan_whole};
 
 use crate::begin::{begun, element_at, key_at, link_at, root_of};
 use crate::checks::checks_of;
-use crate::document::{audits_in, document_of};
+use crate::document::{document_of, plan_in};
 use crate::fault::{PRule, PlanKey, PlanStop};
 use crate::item::{AuditWords, Link};
 use crate::kinds::{Rows, row_of, rows_of, shape_of};
@@ -142,7 +142,7 @@ fn all_planned(
     Ok(planned_so_far)
 }
 
-// The plan of audits as they are written.
+// The audits of a plan, as they are written.
 #[tactic(auto, unfolding(crate::specs::Plans::plan_of))]
 fn plan_of(
     alloc: Global,
@@ -161,7 +161,8 @@ fn plan_of(
 /// The plan that a file's bytes are, in TOML, over the types and symbols of a kernel. `info.kaslr` is how far
 /// the kernel was moved, and `info.five` says where it keeps what no symbol tells; no other part of `info` bears on a plan.
 ///
-/// The plan has `version = 1` and `audit`, an array of tables. Each has a `name` and a `kind` (`ring`,
+/// The plan has `version`, 1 for one verdict on all audits or 2 for one on each root audit, and `audit`, an array of tables, and may have `tail`, which is `absent` or `zero`: how the
+/// memory that a segment has and the file leaves out is read. It is absent without the key. Each audit has a `name` and a `kind` (`ring`,
 /// `hlist`, `rbtree`, `xarray`, `slub` or `tasks`), and begins at the symbol `root`, with a `root_type` and a `root_path` where the symbol isn't the
 /// head itself, or at a path `from` the element of the one audit that names it in `each`, passed over at a
 /// null pointer where it is `optional`. `element` is the type of the elements, and `link` the path in them to
@@ -182,11 +183,11 @@ pub fn read_plan(
     syms: &Symbols<'_>,
     info: &Info,
 ) -> Result<Plan, PlanStop>
-    ensures exact { Gives plan_seen result (plan (kernel_of btf.now syms.now info.now) bytes.now) }
+    ensures exact { Gives plan_whole result (plan (kernel_of btf.now syms.now info.now) bytes.now) }
     ensures inside { IfOk result (λ plan. AreInside (length btf.now.records) plan.audits) }
 {
     let table = document_of(alloc, bytes)?;
-    let written = audits_in(alloc, &table)?;
+    let written = plan_in(alloc, &table)?;
     let names = Names::new(alloc, btf)?;
     let known = Known {
         btf,
@@ -195,6 +196,10 @@ pub fn read_plan(
         kaslr: info.kaslr,
         five: info.five,
     };
-    let audits = plan_of(alloc, &known, &written)?;
-    Ok(Plan { audits })
+    let audits = plan_of(alloc, &known, &written.audits)?;
+    Ok(Plan {
+        version: written.version,
+        tail: written.tail,
+        audits,
+    })
 }

@@ -1,7 +1,8 @@
 // Plans over the made dump's types and symbols. The files beside this one have the cases, and an empty line ends a
 // case. Its first line is what is wanted: the rule, the audit and the key of the first fault, or the audits with their
-// numbers; after a bar a word that stands in the types for another one; and after a second one, rows of the map, with a
-// `;` between two, and `five` for five levels of page tables. The other lines are the plan.
+// numbers, after the version where it isn't 1 and `zero` where the tail is zero; after a bar a word that stands in the types for another one; and after a
+// second one, rows of the map, with a `;` between two, and `five` for five levels of page tables. The other lines are the
+// plan.
 mod checks;
 mod faults;
 mod plans;
@@ -14,6 +15,7 @@ use kc_layout::{Field, Located};
 use kc_notes::Info;
 use kc_syms::Symbols;
 use kc_view::{Base, SlubShape, TaskShape};
+use kc_word::Tail;
 use std::alloc::{AllocError, Global};
 use std::process::Abort;
 use std::test::Fail;
@@ -217,6 +219,13 @@ fn push_audit(text: &mut String, audit: &Audit) -> Result<(), AllocError> {
 
 fn plan_text(alloc: Global, plan: &Plan) -> Result<String, AllocError> {
     let mut text = String::from_str(alloc, "plan")?;
+    if plan.version != 1 {
+        write!(&mut text, " {}", plan.version)?;
+    }
+    match plan.tail {
+        Tail::Absent => {}
+        Tail::Zero => text.push_str(" zero")?,
+    }
     for i in 0..plan.audits.len() {
         text.push(' ')?;
         push_audit(&mut text, plan.audits.get(i))?;
@@ -279,7 +288,7 @@ fn run_cases(rt: &(impl Abort + AllocGlobal), text: &str) -> Result<usize, Fail>
 
 #[test]
 fn the_first_fault_is_told(rt: HostRuntime) -> Result<(), Fail> {
-    assert_eq!(rt; run_cases(&rt, faults::FAULTS)?, 42);
+    assert_eq!(rt; run_cases(&rt, faults::FAULTS)?, 54);
     assert_eq!(rt; run_cases(&rt, faults::KEYS)?, 32);
     assert_eq!(rt; run_cases(&rt, faults::PLACES)?, 15);
     let answer = told(rt.alloc(), b"# \xff", USUAL)?;
@@ -289,7 +298,7 @@ fn the_first_fault_is_told(rt: HostRuntime) -> Result<(), Fail> {
 
 #[test]
 fn plans_have_numbers(rt: HostRuntime) -> Result<(), Fail> {
-    assert_eq!(rt; run_cases(&rt, plans::PLANS)?, 34);
+    assert_eq!(rt; run_cases(&rt, plans::PLANS)?, 38);
     assert_eq!(rt; run_cases(&rt, slabs::SLABS)?, 81);
     assert_eq!(rt; run_cases(&rt, checks::CHECKS)?, 47);
     Ok(())

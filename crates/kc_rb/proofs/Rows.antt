@@ -2,6 +2,7 @@
 use Rattle.std.proofs.Common.{◌≡◌, ℕ, ◌+◌, ◌%◌, nat_eq, List, [], ◌∷◌, Option, None, Some, refl, arith}
 use Rattle.std.specs.Prelude.{Result, Ok, Err, false, true, if◌then◌else◌, nat_le, Bool}
 use Rattle.kc_word.specs.declared.bits.Bits.{Bits}
+use Rattle.kc_memory.specs.declared.words.Origin.TheVariants.{File}
 use Rattle.kc_memory.specs.declared.words.VWord.{VWord}
 use Rattle.kc_memory.specs.declared.rule.Rule.TheVariants.{M6, A, R1, R2, R3, R4, R5, R6}
 use Rattle.kc_memory.specs.Bits.{Number, first_bit, in_one, in_two, next_word, word_of}
@@ -33,7 +34,7 @@ memory ws = record {
 
 -- a word, whose physical address is its virtual one without the upper bits
 abbrev word : ℕ → ℕ → VWord
-word va value = record { va = va; pa = va % 0x100000; off = va % 0x100000 + 0x2000; value = value }
+word va value = record { va = va; pa = va % 0x100000; off = File (va % 0x100000 + 0x2000); value = value }
 
 -- two maps of memory
 abbrev image_at : ℕ → ℕ
@@ -119,7 +120,7 @@ unique_keys : unique (word (direct 0x11060) 7 ∷ words) ≡ Err (record {
   at = direct 0x11020;
   expected = Some 7;
   stop = None;
-  places = record { va = Some (direct 0x11020); pa = 0x11020; off = 0x13020; value = 0x700000007 } ∷ [];
+  places = record { va = Some (direct 0x11020); pa = 0x11020; off = File 0x13020; value = 0x700000007 } ∷ [];
 })
 unfolding tree_trials nulls
 unique_keys = refl
@@ -134,7 +135,7 @@ far_bound : plain (word (direct 0x11060) 0xfffffff9 ∷ word (direct 0x11020) 0x
       at = direct 0x110e0;
       expected = Some 0xfffffffffffffff9;
       stop = None;
-      places = record { va = Some (direct 0x110e0); pa = 0x110e0; off = 0x130e0; value = 0xfffffffa } ∷ [];
+      places = record { va = Some (direct 0x110e0); pa = 0x110e0; off = File 0x130e0; value = 0xfffffffa } ∷ [];
     })
 unfolding tree_trials nulls
 far_bound = refl

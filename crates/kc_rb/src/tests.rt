@@ -2,7 +2,7 @@
 ghost use Rattle.std.specs.Prelude.{◌≡◌, ◌<◌};
 
 use crate::rb_walk;
-use kc_found::{ListSpace, RbShape, VWord, WalkStop, Walked};
+use kc_found::{ListSpace, Origin, RbShape, VWord, WalkStop, Walked};
 use kc_word::{Bits, Steps};
 use std::alloc::{AllocError, Global};
 use std::marker::Brand;
@@ -50,7 +50,7 @@ fn space_of(alloc: Global, changed: (u64, u64)) -> Result<ListSpace, AllocError>
         words.push(VWord {
             va: *va,
             pa: *va,
-            off: *va,
+            off: Origin::File(*va),
             value: *value,
         })?;
     }

@@ -1,16 +1,17 @@
 -- One item more of a list.
-use Rattle.std.proofs.Common.{◌≡◌, ℕ, zero, suc, ◌+◌, List, [], ◌∷◌, ◌++◌, take, drop, slice_get, All, IsTrue, ◌<◌, ◌^◌, Some, Result, Ok, Err, OnOk, OnErr, sym, ap, ◌∙◌, subst, true, add-one, append_assoc}
+use Rattle.std.proofs.Common.{◌≡◌, ℕ, zero, suc, ◌+◌, List, [], ◌∷◌, ◌++◌, map, take, drop, slice_get, All, IsTrue, ◌<◌, ◌^◌, Some, unwrap_or, Result, Ok, Err, OnOk, OnErr, sym, ap, ◌∙◌, subst, true, add-one, append_assoc}
 use Rattle.kc_word.specs.declared.memory.NoMemory.{NoMemory}
 use Rattle.kc_memory.specs.declared.words.Place.{Place}
 use Rattle.kc_text.specs.Compose.{texts}
 use Rattle.kc_text.specs.Readers.{is_name}
 use Rattle.kc_found.specs.declared.verdict.AuditCount.{AuditCount}
-use Rattle.kc_report.specs.Copies.{IsCounted, counted}
+use Rattle.kc_report.specs.Copies.{IsCounted, counted, name_of}
 use Rattle.kc_report.specs.Lines.{place_line, place_lines}
 use Rattle.kc_report.specs.Names.{are_names}
 use Rattle.kc_report.specs.Report.{AuditLine, BrokenLines, IsBroken, IsNumber, IsShown, IsStopNumber, is_stop_at, stop_levels}
 use Rattle.std.proofs.lemmas.Bool.{and_from, and_parts}
-use Rattle.std.proofs.lemmas.List.Elements.{All-push}
+use Rattle.std.proofs.lemmas.List.{map-append}
+use Rattle.std.proofs.lemmas.List.Elements.{All-head, All-push, All-tail}
 
 drop_next : {X : Type 0} (xs : List X) (i : ℕ) (x : X) → slice_get xs i ≡ Some x → drop i xs ≡ x ∷ drop (suc i) xs
 drop_next [] i x is = absurd (let none : ⊥ = cc in none)
@@ -85,3 +86,19 @@ pub keeps_all : (r : Result (Unit {0}) NoMemory) (b : BrokenLines) → IsTrue (i
 keeps_all (Err e) b name start at expected stop number places = tt
 keeps_all (Ok u) b name start at expected stop number places =
     record { audit = name; start = start; at = at; expected = expected; stop = stop; stop_number = number; places = places }
+
+-- one item more of a list that a function was applied to
+pub mapped_item : {X Y : Type 0} (f : X → Y) (xs : List X) (i : ℕ) (x : X) (y : Y) (done grown : List Y) → slice_get xs i ≡ Some x → y ≡ f x → grown ≡ done ++ y ∷ []
+    → done ≡ map f (take i xs) → grown ≡ map f (take (i + 1) xs)
+mapped_item f xs i x y done grown is same grows before =
+    grows ∙ ap (λ l. l ++ y ∷ []) before ∙ ap (λ z. map f (take i xs) ++ z ∷ []) same
+    ∙ sym (ap (map f) (take_item xs i x is) ∙ map-append f (take i xs) (x ∷ []))
+
+-- what holds of all items holds of one
+pub all_get : {X : Type 0} (P : X → Type 0) (xs : List X) (i : ℕ) (x : X) → slice_get xs i ≡ Some x → All P xs → P x
+all_get P [] i x is good = absurd (let none : ⊥ = cc in none)
+all_get P (y ∷ ys) zero x is good = let same : y ≡ x = cc in subst P same (All-head P y ys good)
+all_get P (y ∷ ys) (suc i) x is good = all_get P ys i x is (All-tail P y ys good)
+
+pub named : (names : List (List ℕ)) (audit : ℕ) (name : List ℕ) → slice_get names audit ≡ Some name → name ≡ name_of names audit
+named names audit name is = sym (ap (λ o. unwrap_or o []) is)

@@ -1,17 +1,26 @@
 -- The formats of a report's lines.
-use Rattle.std.specs.Prelude.{ℕ, ◌⊎◌, List, [], ◌∷◌, codes, Option, Some, None, Result, Ok, IsTrue}
+use Rattle.std.specs.Prelude.{◌≡◌, ℕ, zero, suc, ◌⊎◌, Bool, true, false, nat_lt, List, [], ◌∷◌, length, codes, All, Option, Some, None, Result, Ok, Err, IsTrue}
 use Rattle.std.proofs.Common.{inl, inr}
 use Rattle.kc_memory.specs.declared.rule.Rule.{Rule}
 use Rattle.kc_memory.specs.declared.rule.Rule.TheVariants.{M1, M2, M3, M4, M5, M6, N, K, A, L1, H1, R1, R2, R3, R4, R5, R6, X1, X2, X3, X4, X5, X6, X7, X8, X9, U1, U2, U3, U4, U5, U6, U7, T1, T2, T3, T4, T5, T6, T7, C}
+use Rattle.kc_memory.specs.declared.words.Origin.{Origin}
+use Rattle.kc_memory.specs.declared.words.Origin.TheVariants.{File, Tail}
 use Rattle.kc_memory.specs.declared.words.Place.{Place}
 use Rattle.kc_report.specs.declared.read.Coded.{Coded}
+use Rattle.kc_report.specs.declared.report.Report.{Report}
+use Rattle.kc_report.specs.declared.report.Report.TheVariants as report
+use Rattle.kc_report.specs.declared.report.RootResult.{RootResult}
+use Rattle.kc_report.specs.declared.report.RootResult.TheVariants as root
 use Rattle.kc_text.specs.Format.{Format}
+use Rattle.kc_text.specs.Text.{hex}
 use Rattle.kc_text.specs.Reading.{and_then}
-use Rattle.kc_text.specs.Readers.{literal, name_and, decimal_and, hex16, digit_from, one_of}
-use Rattle.kc_text.specs.Compose.{both, mapped, nothing, either, after, followed, lines}
-use Rattle.kc_report.specs.Lines.{rule_code, address_text, place_line}
-use Rattle.kc_report.specs.Report.{AuditLine, BrokenLines, IsNumber, IsStopNumber, IsLine, IsShown, IsBroken, stop_levels, is_stop_at}
+use Rattle.kc_text.specs.Readers.{literal, name_and, decimal_and, decimal_below, hex16, digit_from, one_of}
+use Rattle.kc_text.specs.Compose.{both, mapped, nothing, either, after, followed, lines, texts}
+use Rattle.kc_report.specs.IsReport.{Keeps, report_text}
+use Rattle.kc_report.specs.Lines.{rule_code, address_text, origin_text, place_line}
+use Rattle.kc_report.specs.Report.{AuditLine, BrokenLines, IsNumber, IsOrigin, IsStopNumber, IsLine, IsShown, IsBroken, stop_levels, is_stop_at}
 use Rattle.kc_report.specs.ReportText.{audit_line, expected_text, stop_lines, broken_lines}
+use Rattle.kc_report.specs.Roots.{RootLines, KeepsResult, IsRoot, IsEach, result_text, root_text, each_text}
 
 abbrev pub line_of : List ℕ × (ℕ × ℕ) → AuditLine
 line_of p = record { name = p.0; walks = p.1.0; elements = p.1.1 }
@@ -36,13 +45,28 @@ address_format = mapped number_or_none IsNumber address_text (either (literal (c
 abbrev pub expected_format : Format (Option ℕ)
 expected_format = mapped number_or_none IsNumber expected_text (either (literal (codes "none")) hex16)
 
-abbrev pub place_of : Option ℕ × (ℕ × (ℕ × ℕ)) → Place
+-- a file offset, or that there is none
+abbrev pub offset_text : Option ℕ → List ℕ
+offset_text None = codes "tail"
+offset_text (Some off) = hex off
+
+abbrev pub offset_format : Format (Option ℕ)
+offset_format = mapped number_or_none IsNumber offset_text (either (literal (codes "tail")) hex16)
+
+abbrev pub origin_of : Option ℕ → Origin
+origin_of None = Tail
+origin_of (Some off) = File off
+
+abbrev pub origin_format : Format Origin
+origin_format = mapped origin_of IsOrigin origin_text offset_format
+
+abbrev pub place_of : Option ℕ × (ℕ × (Origin × ℕ)) → Place
 place_of p = record { va = p.0; pa = p.1.0; off = p.1.1.0; value = p.1.1.1 }
 
-abbrev pub place_parts : Format (Option ℕ × (ℕ × (ℕ × ℕ)))
+abbrev pub place_parts : Format (Option ℕ × (ℕ × (Origin × ℕ)))
 place_parts =
     after (codes "place ") (both address_format (λ _.
-    after (codes " ") (both hex16 (λ _. after (codes " ") (both hex16 (λ _. after (codes " ") (followed hex16 (codes "\n"))))))))
+    after (codes " ") (both hex16 (λ _. after (codes " ") (both origin_format (λ _. after (codes " ") (followed hex16 (codes "\n"))))))))
 
 abbrev pub place_format : Format Place
 place_format = mapped place_of IsShown place_line place_parts
@@ -71,6 +95,11 @@ abbrev pub stop_format : Option (ℕ × ℕ) → Format (Option (ℕ × ℕ))
 stop_format None = nothing None
 stop_format (Some levels) = mapped (λ stop. Some stop) (λ stop. IsTrue (is_stop_at (Some levels) stop) × IsStopNumber stop) stop_lines (stop_parts levels)
 
+-- Lines end where the bytes do or, where another root follows, before its line. No other line begins with this byte.
+abbrev pub end_of : Bool → Option ℕ
+end_of false = None
+end_of true = Some 114
+
 abbrev pub Parts : Type 0
 Parts = List ℕ × (ℕ × (Rule × (ℕ × (Option ℕ × (Option (ℕ × ℕ) × List Place)))))
 
@@ -85,17 +114,60 @@ broken_of p = record {
   places = p.1.1.1.1.1.1;
 }
 
-abbrev pub broken_parts : Format Parts
-broken_parts =
+abbrev pub broken_parts : Bool → Format Parts
+broken_parts more =
     after (codes "broken\naudit ") (both (name_and 10) (λ _.
     after (codes "start ") (both (followed hex16 (codes "\n")) (λ _.
     after (codes "rule ") (both (followed rule_format (codes "\n")) (λ rule.
     after (codes "at ") (both (followed hex16 (codes "\n")) (λ _.
     after (codes "expected ") (both (followed expected_format (codes "\n")) (λ _.
-    both (stop_format (stop_levels rule)) (λ _. lines place_format)))))))))))
+    both (stop_format (stop_levels rule)) (λ _. lines (end_of more) place_format)))))))))))
 
-abbrev pub broken_format : Format BrokenLines
-broken_format = mapped broken_of IsBroken broken_lines broken_parts
+abbrev pub broken_format : Bool → Format BrokenLines
+broken_format more = mapped broken_of IsBroken broken_lines (broken_parts more)
 
-abbrev pub clean_format : Format (List AuditLine)
-clean_format = after (codes "clean\n") (lines line_format)
+abbrev pub clean_format : Bool → Format (List AuditLine)
+clean_format more = after (codes "clean\n") (lines (end_of more) line_format)
+
+-- what the audits came to, either way
+abbrev pub result_of : List AuditLine ⊎ BrokenLines → RootResult
+result_of (inl lines) = root.Clean lines
+result_of (inr broken) = root.Broken broken
+
+abbrev pub result_format : Bool → Format RootResult
+result_format more = mapped result_of KeepsResult result_text (either (clean_format more) (broken_format more))
+
+abbrev pub root_of : List ℕ × RootResult → RootLines
+root_of p = record { name = p.0; verdict = p.1 }
+
+abbrev pub root_format : Bool → Format RootLines
+root_format more = mapped root_of IsRoot root_text (after (codes "root ") (both (name_and 32) (λ _. result_format more)))
+
+-- so many roots, to the end of the bytes
+abbrev pub read_end : List ℕ → Result (List RootLines × List ℕ) (List ℕ)
+read_end [] = Ok ([], [])
+read_end (c ∷ cs) = Err (c ∷ cs)
+
+unfoldable pub read_roots : ℕ → List ℕ → Result (List RootLines × List ℕ) (List ℕ)
+read_roots zero bytes = read_end bytes
+read_roots (suc left) bytes =
+    and_then ((root_format (nat_lt 0 left)).read bytes) (λ r. and_then (read_roots left r.1) (λ s. Ok (r.0 ∷ s.0, s.1)))
+
+abbrev pub roots_format : ℕ → Format (List RootLines)
+roots_format many = record {
+  Good = λ roots. (length roots ≡ many) × All IsRoot roots;
+  spell = texts root_text;
+  read = read_roots many;
+}
+
+abbrev pub each_format : Format (List RootLines)
+each_format = mapped (λ p. p.1) IsEach each_text (after (codes "roots ") (both (decimal_below 257 10) roots_format))
+
+-- a report of each of its forms
+abbrev pub report_from : RootResult ⊎ List RootLines → Report
+report_from (inl (root.Clean lines)) = report.Clean lines
+report_from (inl (root.Broken broken)) = report.Broken broken
+report_from (inr roots) = report.Each roots
+
+abbrev pub report_format : Format Report
+report_format = mapped report_from Keeps report_text (either (result_format false) each_format)

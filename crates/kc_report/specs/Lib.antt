@@ -8,3 +8,4 @@ pub mod Names
 pub mod Reads
 pub mod Report
 pub mod ReportText
+pub mod Roots

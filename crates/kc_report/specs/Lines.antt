@@ -2,6 +2,8 @@
 use Rattle.std.specs.Prelude.{ℕ, ◌+◌, Bool, true, false, if◌then◌else◌, List, [], ◌∷◌, ◌++◌, codes, Option, Some, None}
 use Rattle.kc_memory.specs.declared.rule.Rule.{Rule}
 use Rattle.kc_memory.specs.declared.rule.Rule.TheVariants.{M1, M2, M3, M4, M5, M6, N, K, A, L1, H1, R1, R2, R3, R4, R5, R6, X1, X2, X3, X4, X5, X6, X7, X8, X9, U1, U2, U3, U4, U5, U6, U7, T1, T2, T3, T4, T5, T6, T7, C}
+use Rattle.kc_memory.specs.declared.words.Origin.{Origin}
+use Rattle.kc_memory.specs.declared.words.Origin.TheVariants.{File, Tail}
 use Rattle.kc_memory.specs.declared.words.Place.{Place}
 use Rattle.kc_memory.specs.Stopped.{Stopped}
 use Rattle.kc_memory.specs.Places.{entry_places}
@@ -75,13 +77,17 @@ abbrev pub stop_line : Rule → ℕ → ℕ → List ℕ
 stop_line rule level pa = if tells_stop rule then stop_text level pa else []
 
 -- a word that shows something: its virtual address, or `-` for a paging entry, its physical address, its file
--- offset and its value
+-- offset, or `tail` where it stands in a segment's tail, and its value
 abbrev pub address_text : Option ℕ → List ℕ
 address_text None = codes "-"
 address_text (Some va) = hex va
 
+abbrev pub origin_text : Origin → List ℕ
+origin_text (File off) = hex off
+origin_text Tail = codes "tail"
+
 abbrev pub place_line : Place → List ℕ
-place_line p = codes "place " ++ address_text p.va ++ codes " " ++ hex p.pa ++ codes " " ++ hex p.off ++ codes " " ++ hex p.value ++ codes "\n"
+place_line p = codes "place " ++ address_text p.va ++ codes " " ++ hex p.pa ++ codes " " ++ origin_text p.off ++ codes " " ++ hex p.value ++ codes "\n"
 
 abbrev pub place_lines : List Place → List ℕ
 place_lines [] = []

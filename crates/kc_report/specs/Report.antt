@@ -2,6 +2,8 @@
 use Rattle.std.specs.Prelude.{ℕ, ◌<◌, ◌^◌, Bool, true, false, ◌&&◌, nat_le, IsTrue, List, All, Option, Some, None}
 use Rattle.kc_memory.specs.declared.rule.Rule.{Rule}
 use Rattle.kc_memory.specs.declared.rule.Rule.TheVariants.{M3, M4, M5, M6}
+use Rattle.kc_memory.specs.declared.words.Origin.{Origin}
+use Rattle.kc_memory.specs.declared.words.Origin.TheVariants.{File, Tail}
 use Rattle.kc_memory.specs.declared.words.Place.{Place}
 use Rattle.kc_text.specs.Readers.{is_name}
 
@@ -53,6 +55,10 @@ abbrev pub IsStopNumber : Option (ℕ × ℕ) → Type 0
 IsStopNumber None = Unit {0}
 IsStopNumber (Some stop) = stop.1 < 2 ^ 64
 
+abbrev pub IsOrigin : Origin → Type 0
+IsOrigin (File off) = off < 2 ^ 64
+IsOrigin Tail = Unit {0}
+
 pub record IsLine (line : AuditLine) : Type 0 where
   pub name : IsTrue (is_name line.name)
   pub walks : line.walks < 2 ^ 64
@@ -61,7 +67,7 @@ pub record IsLine (line : AuditLine) : Type 0 where
 pub record IsShown (place : Place) : Type 0 where
   pub va : IsNumber place.va
   pub pa : place.pa < 2 ^ 64
-  pub off : place.off < 2 ^ 64
+  pub off : IsOrigin place.off
   pub value : place.value < 2 ^ 64
 
 pub record IsBroken (broken : BrokenLines) : Type 0 where

@@ -12,10 +12,12 @@ mod stops;
 mod write;
 
 pub use back::read_report;
-pub use line::{broken_text, push_place, push_places, push_rule, push_stop, rule_code};
-pub use make::report_of;
+pub use line::{
+    broken_text, push_origin, push_place, push_places, push_rule, push_stop, rule_code,
+};
+pub use make::{report_each, report_of};
 pub use names::PlanNames;
-pub use report::{BrokenText, CleanLine, CleanLines, Report};
+pub use report::{BrokenText, CleanLine, CleanLines, Report, RootResult, RootText, RootTexts};
 pub use stops::ReportStop;
 pub use write::text;
 

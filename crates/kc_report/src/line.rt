@@ -1,9 +1,9 @@
 // The lines of a broken rule, of a stop, and of a place.
 ghost use Rattle.std.specs.Prelude.{◌≡◌, ◌+◌, ◌≤◌, ◌++◌, ◌∷◌, [], codes, IfOk, OnOk};
 ghost use Rattle.kc_memory.specs.Places.{entry_places};
-ghost use Rattle.kc_report.specs.Lines.{address_text, broken_text, place_line, place_lines, rule_at, rule_code, rule_lines, stop_line, stop_text, tells_stop};
+ghost use Rattle.kc_report.specs.Lines.{address_text, broken_text, origin_text, place_line, place_lines, rule_at, rule_code, rule_lines, stop_line, stop_text, tells_stop};
 
-use kc_memory::{Miss, PWord, Place, Rule};
+use kc_memory::{Miss, Origin, PWord, Place, Rule};
 use kc_text::{push, push_hex};
 use kc_word::NoMemory;
 use std::alloc::Global;
@@ -110,6 +110,16 @@ pub(crate) fn push_stop_text(text: &mut Vec<u8>, level: u8, pa: u64) -> Result<(
     push(text, b"\n")
 }
 
+/// Adds where a word comes from: its file offset, or `tail` where it stands in a segment's tail.
+pub fn push_origin(text: &mut Vec<u8>, origin: Origin) -> Result<(), NoMemory>
+    ensures { OnOk result (text.new.items ≡ text.old.items ++ origin_text origin) }
+{
+    match origin {
+        Origin::File(off) => push_hex(text, off),
+        Origin::Tail => push(text, b"tail"),
+    }
+}
+
 fn push_entry(text: &mut Vec<u8>, pa: u64, entry: Option<PWord>) -> Result<(), NoMemory>
     ensures { OnOk result (text.new.items ≡ text.old.items ++ place_lines (entry_places pa entry)) }
 {
@@ -117,7 +127,7 @@ fn push_entry(text: &mut Vec<u8>, pa: u64, entry: Option<PWord>) -> Result<(), N
     push(text, b"place - ")?;
     push_hex(text, pa)?;
     push(text, b" ")?;
-    push_hex(text, word.off)?;
+    push_origin(text, word.off)?;
     push(text, b" ")?;
     push_hex(text, word.value)?;
     push(text, b"\n")
@@ -145,7 +155,7 @@ fn push_address(text: &mut Vec<u8>, va: Option<u64>) -> Result<(), NoMemory>
 }
 
 /// Adds the line of a word that shows something: its virtual address, or a dash for a paging entry, its physical
-/// address, its file offset and its value.
+/// address, its file offset, or `tail` where it stands in a segment's tail, and its value.
 pub fn push_place(text: &mut Vec<u8>, place: Place) -> Result<(), NoMemory>
     ensures { OnOk result (text.new.items ≡ text.old.items ++ place_line place) }
 {
@@ -154,7 +164,7 @@ pub fn push_place(text: &mut Vec<u8>, place: Place) -> Result<(), NoMemory>
     push(text, b" ")?;
     push_hex(text, place.pa)?;
     push(text, b" ")?;
-    push_hex(text, place.off)?;
+    push_origin(text, place.off)?;
     push(text, b" ")?;
     push_hex(text, place.value)?;
     push(text, b"\n")

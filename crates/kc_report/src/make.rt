@@ -1,12 +1,12 @@
 // The report of a verdict.
-ghost use Rattle.std.specs.Prelude.{◌≡◌, ◌<◌, length, IfOk, IsTrue};
-ghost use Rattle.kc_report.specs.Copies.{IsCounted, IsOfPlan, broken_report, counted, report_of, told_stop};
+ghost use Rattle.std.specs.Prelude.{◌≡◌, ◌<◌, length, All, IfOk, IsTrue};
+ghost use Rattle.kc_report.specs.Copies.{AreOfPlan, IsCounted, IsOfAudits, IsOfPlan, IsOfRoot, broken_report, counted, names_of, report_each, report_of, root_lines, root_result, told_stop};
 ghost use Rattle.kc_report.specs.Report.{is_stop_at, stop_levels};
 
 use crate::line::tells_stop;
 use crate::names::PlanNames;
-use crate::report::{BrokenText, CleanLine, CleanLines, Report};
-use kc_found::{Counts, Found, Items, Verdict};
+use crate::report::{BrokenText, CleanLine, CleanLines, Report, RootResult, RootText, RootTexts};
+use kc_found::{Audits, Counts, Found, Items, RootVerdict, Verdict, Verdicts};
 use kc_word::NoMemory;
 use std::alloc::Global;
 
@@ -27,6 +27,75 @@ pub fn report_of(
         Verdict::Clean(counts) => Ok(Report::Clean(counted(alloc, plan_names, counts)?)),
         Verdict::Broken(found) => Ok(Report::Broken(broken_report(alloc, plan_names, found)?)),
     }
+}
+
+/// The report of the verdicts on the root audits of a plan with these names, at most 256.
+///
+/// # Errors
+///
+/// Out of memory.
+pub fn report_each(
+    alloc: Global,
+    plan_names: &PlanNames,
+    verdicts: &Verdicts,
+) -> Result<Report, NoMemory>
+    requires { AreOfPlan plan_names.now verdicts.now }
+    ensures { IfOk result (λ report. report ≡ report_each plan_names.now verdicts.now) }
+{
+    let mut roots = RootTexts::new(alloc);
+    for i in 0..verdicts.len() {
+        let root = root_text(alloc, plan_names, verdicts.get(i))?;
+        roots.push(root)?;
+    }
+    Ok(Report::Each(roots))
+}
+
+// A root audit with what the audits under it came to.
+fn root_text(
+    alloc: Global,
+    plan_names: &PlanNames,
+    root: &RootVerdict,
+) -> Result<RootText, NoMemory>
+    requires { IsOfRoot plan_names.now root.now }
+    ensures { IfOk result (λ text. text ≡ root_lines plan_names.now root.now) }
+{
+    let name = copied(alloc, plan_names.get(root.root as usize))?;
+    let verdict = root_result(alloc, plan_names, &root.audits, &root.verdict)?;
+    Ok(RootText { name, verdict })
+}
+
+// What these audits came to.
+fn root_result(
+    alloc: Global,
+    plan_names: &PlanNames,
+    audits: &Audits,
+    verdict: &Verdict,
+) -> Result<RootResult, NoMemory>
+    requires audits { All (λ audit. audit < length plan_names.now) audits.now }
+    requires verdict { IsOfAudits plan_names.now audits.now verdict.now }
+    ensures { IfOk result (λ told. told ≡ root_result plan_names.now audits.now verdict.now) }
+{
+    match verdict {
+        Verdict::Clean(counts) => {
+            let names = names_of(alloc, plan_names, audits)?;
+            Ok(RootResult::Clean(counted(alloc, &names, counts)?))
+        }
+        Verdict::Broken(found) => {
+            Ok(RootResult::Broken(broken_report(alloc, plan_names, found)?))
+        }
+    }
+}
+
+// The names of these audits.
+fn names_of(alloc: Global, plan_names: &PlanNames, audits: &Audits) -> Result<PlanNames, NoMemory>
+    requires { All (λ audit. audit < length plan_names.now) audits.now }
+    ensures { IfOk result (λ names. names ≡ names_of plan_names.now audits.now) }
+{
+    let mut names = PlanNames::new(alloc);
+    for i in 0..audits.len() {
+        names.push_copy(alloc, plan_names.get(*audits.get(i) as usize))?;
+    }
+    Ok(names)
 }
 
 // Copies a list.

@@ -1,12 +1,12 @@
 // The lines of reports, read back.
-ghost use Rattle.std.specs.Prelude.{◌≡◌, ◌≤◌, Some, None};
+ghost use Rattle.std.specs.Prelude.{◌≡◌, ◌≤◌, Bool, Some, None};
 ghost use Rattle.kc_text.specs.Answers.{Gives};
-ghost use Rattle.kc_report.specs.Formats.{line_format, place_format, read_number, stop_format};
+ghost use Rattle.kc_report.specs.Formats.{line_format, origin_format, place_format, read_number, stop_format};
 ghost use Rattle.kc_report.specs.Heads.{HeadGives};
 ghost use Rattle.kc_report.specs.Report.{stop_levels};
 
 use crate::line::rule_code;
-use kc_memory::{Place, Rule};
+use kc_memory::{Origin, Place, Rule};
 use kc_text::{
     Written, read_decimal, read_digit, read_hex16, read_literal, read_name, read_one_of, shorter,
 };
@@ -110,6 +110,17 @@ fn read_or_none<'a>(bytes: &'a [u8], none: &[u8]) -> Result<(Option<u64>, &'a [u
     }
 }
 
+// Reads where a word comes from: its file offset, or that it stands in a segment's tail.
+fn read_origin(bytes: &[u8]) -> Result<(Origin, &[u8]), &[u8]>
+    ensures { Gives (λ r. (r.0, r.1.now)) result (origin_format.read bytes.now) }
+{
+    let (off, rest) = read_or_none(bytes, b"tail")?;
+    match off {
+        Some(off) => Ok((Origin::File(off), rest)),
+        None => Ok((Origin::Tail, rest)),
+    }
+}
+
 // Reads the line of a word that shows something.
 pub fn read_place(bytes: &[u8]) -> Result<(Place, &[u8]), &[u8]>
     ensures { Gives (λ r. (r.0, r.1.now)) result (place_format.read bytes.now) }
@@ -119,7 +130,7 @@ pub fn read_place(bytes: &[u8]) -> Result<(Place, &[u8]), &[u8]>
     let rest = read_literal(rest, b" ")?;
     let (pa, rest) = read_hex16(rest)?;
     let rest = read_literal(rest, b" ")?;
-    let (off, rest) = read_hex16(rest)?;
+    let (off, rest) = read_origin(rest)?;
     let rest = read_literal(rest, b" ")?;
     let (value, rest) = read_hex16(rest)?;
     let rest = read_literal(rest, b"\n")?;
@@ -153,7 +164,7 @@ fn read_stop(bytes: &[u8], rule: Rule) -> Result<(Option<(u8, u64)>, &[u8]), &[u
 
 // Reads a report of a violation up to its places.
 pub fn read_head(bytes: &[u8]) -> Result<(Head<'_>, &[u8]), &[u8]>
-    ensures { HeadGives result bytes.now }
+    ensures { (more : Bool) → HeadGives more result bytes.now }
 {
     let rest = read_literal(bytes, b"broken\naudit ")?;
     let (audit, rest) = read_name(rest, b'\n')?;

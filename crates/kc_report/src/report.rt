@@ -1,5 +1,9 @@
 // What a report tells.
+ghost use Rattle.std.specs.Prelude.{◌≡◌, ◌<◌, ◌≤◌, [], ◌∷◌, ◌++◌, length, OnOk, OnErr, Some, slice_get};
+
 use kc_found::{Items, Name, Places, Rule};
+use kc_word::NoMemory;
+use std::alloc::Global;
 use std::marker::Model;
 
 /// An audit of a clean report. Its name has the form that a plan asks for.
@@ -61,6 +65,93 @@ impl Model for BrokenText {
     ghost invariant = { λ b. IsTrue (is_name b.audit) × IsTrue (is_stop_at (stop_levels b.rule) b.stop) };
 }
 
+/// What the audits under one root came to.
+#[derive(Drop)]
+pub enum RootResult {
+    /// No audit found a violation.
+    Clean(CleanLines),
+    /// The first violation.
+    Broken(BrokenText),
+}
+
+/// A root audit of a report that has one verdict for each. Its name has the form that a plan asks for.
+#[derive(Drop)]
+pub struct RootText {
+    /// The root audit's name.
+    pub name: Name,
+    /// What the audits under it came to.
+    pub verdict: RootResult,
+}
+
+impl Model for RootText {
+    ghost use Rattle.std.specs.Prelude.{IsTrue};
+    ghost use Rattle.kc_text.specs.Readers.{is_name};
+    ghost use Rattle.kc_report.specs.Roots.{RootLines};
+
+    ghost Value = { RootLines };
+
+    ghost view = { λ r. record { name = r.name; verdict = r.verdict } };
+
+    ghost invariant = { λ r. IsTrue (is_name r.name) };
+}
+
+/// The root audits of a report, in the order of the plan. There are at most 256.
+#[derive(Drop)]
+pub struct RootTexts {
+    roots: Items<RootText>,
+}
+
+impl Model for RootTexts {
+    ghost use Rattle.std.specs.Prelude.{◌≤◌, List, length};
+    ghost use Rattle.kc_report.specs.Roots.{RootLines};
+
+    ghost Value = { List RootLines };
+
+    ghost view = { λ r. r.roots };
+
+    ghost invariant = { λ r. length r.roots ≤ 256 };
+}
+
+impl RootTexts {
+    /// No roots. It takes no memory.
+    pub fn new(alloc: Global) -> Self
+        ensures { result ≡ [] }
+    {
+        RootTexts {
+            roots: Items::new(alloc),
+        }
+    }
+
+    /// Adds the next root, of which there are at most 256.
+    ///
+    /// # Errors
+    ///
+    /// Out of memory, where the roots stay as they were.
+    pub fn push(&mut self, root: RootText) -> Result<(), NoMemory>
+        requires { length self.old < 256 }
+        ensures added { OnOk result (self.new ≡ self.old ++ root ∷ []) }
+        ensures kept { OnErr result (self.new ≡ self.old) }
+    {
+        self.roots.push(root)
+    }
+
+    /// The number of roots.
+    pub fn len(&self) -> usize
+        ensures number { result ≡ length self.now }
+        ensures few { length self.now ≤ 256 }
+    {
+        self.roots.len()
+    }
+
+    /// The root with a number, counted from 0.
+    pub fn get(&self, i: usize) -> &RootText
+        requires { i < length self.now }
+        ensures { slice_get self.now i ≡ Some result.now }
+    {
+        self.roots.get(i)
+    }
+}
+
 /// What the audits of a plan came to, as an operator reads it.
 #[derive(Drop)]
 pub enum Report {
@@ -68,4 +159,6 @@ pub enum Report {
     Clean(CleanLines),
     /// The first violation.
     Broken(BrokenText),
+    /// What each root audit came to.
+    Each(RootTexts),
 }

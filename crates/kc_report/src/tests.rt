@@ -7,9 +7,12 @@ mod rules;
 ghost use Rattle.std.specs.Prelude.{◌≡◌, length, true, IfOk};
 ghost use Rattle.kc_found.specs.Violations.{is_of_reading};
 
-use crate::{PlanNames, ReportStop, read_report, report_of, text};
-use kc_found::{AuditCount, Counts, Found, Name, Places, Rule, Verdict};
-use kc_memory::{Miss, PWord, Place};
+use crate::{PlanNames, ReportStop, read_report, report_each, report_of, text};
+use kc_found::{
+    AuditCount, Audits, Counts, Found, Name, Places, RootVerdict, Rule, Verdict, Verdicts,
+};
+use kc_memory::{Miss, Origin, PWord, Place};
+use kc_text::push_decimal;
 use kc_word::NoMemory;
 use std::alloc::Global;
 use std::process::Abort;
@@ -92,8 +95,8 @@ fn run_rules(rt: &(impl Abort + AllocGlobal), rules: &str) -> Result<usize, Fail
 
 #[test]
 fn reports_are_read_back_or_refused(rt: HostRuntime) -> Result<(), Fail> {
-    assert_eq!(rt; run_cases(&rt, reports::REPORTS)?, 22);
-    assert_eq!(rt; run_cases(&rt, reports::REFUSALS)?, 33);
+    assert_eq!(rt; run_cases(&rt, reports::REPORTS)?, 27);
+    assert_eq!(rt; run_cases(&rt, reports::REFUSALS)?, 54);
     assert_eq!(rt; run_rules(&rt, rules::RULES)?, 54);
     Ok(())
 }
@@ -162,6 +165,49 @@ fn a_clean_verdict_is_told(rt: HostRuntime) -> Result<(), Fail> {
     Ok(())
 }
 
+// The text of a report with this number of roots, each of them clean.
+fn clean_roots(alloc: Global, count: u64) -> Result<Vec<u8>, Fail> {
+    let mut bytes = b"roots ".to_vec(alloc)?;
+    push_decimal(&mut bytes, count)?;
+    bytes.extend_from_slice(b"\n")?;
+    for _ in 0..count {
+        bytes.extend_from_slice(b"root r clean\n")?;
+    }
+    Ok(bytes)
+}
+
+#[test]
+fn at_most_256_roots_are_read(rt: HostRuntime) -> Result<(), Fail> {
+    let most = clean_roots(rt.alloc(), 256)?;
+    assert_eq!(rt; refused_at(rt.alloc(), most.as_slice())?, None);
+    let more = clean_roots(rt.alloc(), 257)?;
+    assert_eq!(rt; refused_at(rt.alloc(), more.as_slice())?, Some(8));
+    Ok(())
+}
+
+#[test]
+fn a_root_is_told(rt: HostRuntime) -> Result<(), Fail> {
+    let names = one_audit(rt.alloc())?;
+    let mut audits = Audits::new(rt.alloc());
+    audits.push(0)?;
+    let mut counts = Counts::new(rt.alloc());
+    counts.push(AuditCount {
+        walks: 1,
+        elements: 3,
+    })?;
+    let mut verdicts = Verdicts::new(rt.alloc());
+    verdicts.push(RootVerdict {
+        root: 0,
+        audits,
+        verdict: Verdict::Clean(counts),
+    })?;
+    let report = report_each(rt.alloc(), &names, &verdicts)?;
+    let told = text(rt.alloc(), &report)?;
+    let wanted = b"roots 1\nroot g clean\naudit g walks 1 elements 3\n";
+    assert_eq!(rt; told.as_slice(), wanted.as_slice());
+    Ok(())
+}
+
 // The text of a violation of that plan: a stop, and the words that show it.
 fn told(alloc: Global, stop: Miss, places: Places) -> Result<Vec<u8>, NoMemory>
     requires { is_of_reading stop.rule ≡ true }
@@ -184,7 +230,7 @@ fn told(alloc: Global, stop: Miss, places: Places) -> Result<Vec<u8>, NoMemory>
 fn a_stop_is_told_for_m5_and_not_for_m1(rt: HostRuntime) -> Result<(), Fail> {
     let word = PWord {
         value: 0x9083,
-        off: 0x3888,
+        off: Origin::File(0x3888),
     };
     let mut places = Places::new(rt.alloc());
     places.push(Place {

@@ -7,9 +7,10 @@ ghost use Rattle.kc_report.specs.IsReport.{IsReport};
 ghost use Rattle.kc_report.specs.Report.{IsBroken, IsLine, IsNumber, IsShown, IsStopNumber, is_stop_at, stop_levels};
 ghost use Rattle.kc_report.specs.Lines.{place_line, place_lines, rule_at};
 ghost use Rattle.kc_report.specs.ReportText.{audit_line, broken_lines, clean_text, end_lines, expected_text, start_lines, stop_lines};
+ghost use Rattle.kc_report.specs.Roots.{IsEach, IsRoot, KeepsResult, each_text, result_text, root_text};
 
 use crate::line::{push_place, push_rule_at, push_stop_text};
-use crate::report::{BrokenText, CleanLine, CleanLines, Report};
+use crate::report::{BrokenText, CleanLine, CleanLines, Report, RootResult, RootText, RootTexts};
 use kc_found::{Name, Places};
 use kc_memory::Place;
 use kc_text::{push, push_decimal, push_hex};
@@ -28,6 +29,7 @@ pub fn text(alloc: Global, report: &Report) -> Result<Vec<u8>, NoMemory>
     match report {
         Report::Clean(lines) => push_clean(&mut text, lines)?,
         Report::Broken(broken) => push_broken(&mut text, broken)?,
+        Report::Each(roots) => push_each(&mut text, roots)?,
     }
     Ok(text)
 }
@@ -169,4 +171,48 @@ fn push_broken(text: &mut Vec<u8>, broken: &BrokenText) -> Result<(), NoMemory>
     push_start(text, broken)?;
     push_rule_of(text, broken)?;
     push_end(text, broken)
+}
+
+// Adds what the audits under a root came to.
+fn push_result(text: &mut Vec<u8>, verdict: &RootResult) -> Result<(), NoMemory>
+    ensures added { OnOk result (text.new.items ≡ text.old.items ++ result_text verdict.now) }
+    ensures keeps { OnOk result (KeepsResult verdict.now) }
+{
+    match verdict {
+        RootResult::Clean(lines) => push_clean(text, lines),
+        RootResult::Broken(broken) => push_broken(text, broken),
+    }
+}
+
+// Adds a root.
+fn push_root(text: &mut Vec<u8>, root: &RootText) -> Result<(), NoMemory>
+    ensures added { OnOk result (text.new.items ≡ text.old.items ++ root_text root.now) }
+    ensures keeps { OnOk result (IsRoot root.now) }
+{
+    push(text, b"root ")?;
+    push_bytes(text, &root.name)?;
+    push(text, b" ")?;
+    push_result(text, &root.verdict)
+}
+
+// Adds these roots.
+fn push_roots(text: &mut Vec<u8>, roots: &RootTexts) -> Result<(), NoMemory>
+    ensures added { OnOk result (text.new.items ≡ text.old.items ++ texts root_text roots.now) }
+    ensures keeps { OnOk result (All IsRoot roots.now) }
+{
+    for i in 0..roots.len() {
+        push_root(text, roots.get(i))?;
+    }
+    Ok(())
+}
+
+// Adds a report with one verdict for each root.
+fn push_each(text: &mut Vec<u8>, roots: &RootTexts) -> Result<(), NoMemory>
+    ensures added { OnOk result (text.new.items ≡ text.old.items ++ each_text roots.now) }
+    ensures keeps { OnOk result (IsEach roots.now) }
+{
+    push(text, b"roots ")?;
+    push_decimal(text, roots.len() as u64)?;
+    push(text, b"\n")?;
+    push_roots(text, roots)
 }

@@ -85,7 +85,7 @@ counted_added k (c ∷ cs) (suc n) size es =
     let differs : nat_eq (suc k + n) k ≡ false = ne_eqb (suc k + n) k (λ e. omega (arith, e)) in
     rw (number, differs, nothing (walks_of k es), nothing (elements_of k es), counted_added (suc k) cs n size es) refl
 
-abbrev outcome : Option Violation → List AuditCount → Result (List AuditCount) Violation
+abbrev pub outcome : Option Violation → List AuditCount → Result (List AuditCount) Violation
 outcome (Some v) cs = Err v
 outcome None cs = Ok cs
 
@@ -106,7 +106,7 @@ unfolding counted plus
 counted_zeros k [] es = refl
 counted_zeros k (a ∷ audits) es = rw (nothing (walks_of k es), nothing (elements_of k es), counted_zeros (suc k) audits es) refl
 
-tally_from_zeros : (audits : List AuditAt) (es : List Event) → tally (zeros audits) es ≡ outcome (first_wrong es) (counts_of (length audits) 0 es)
+pub tally_from_zeros : (audits : List AuditAt) (es : List Event) → tally (zeros audits) es ≡ outcome (first_wrong es) (counts_of (length audits) 0 es)
 tally_from_zeros audits es = tally_is (zeros audits) es (small_zeros audits) ∙ ap (λ cs. outcome (first_wrong es) cs) (counted_zeros 0 audits es)
 
 -- no walk yet, from an audit on

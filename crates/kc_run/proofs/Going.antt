@@ -191,7 +191,7 @@ turn_append see (x ∷ xs) ys = ap (λ es. see x ++ es) (turn_append see xs ys) 
 abbrev pub from_root : List AuditAt → Image → ℕ × ℕ → List Event
 from_root audits = λ i r. seen (world i) audits 0 r.0 r.1
 
-roots_at : (audits : List AuditAt) (a : AuditAt) (i : ℕ) → slice_get audits i ≡ Some a → roots i (drop i audits) ≡ root_of i a.start ++ roots (i + 1) (drop (i + 1) audits)
+pub roots_at : (audits : List AuditAt) (a : AuditAt) (i : ℕ) → slice_get audits i ≡ Some a → roots i (drop i audits) ≡ root_of i a.start ++ roots (i + 1) (drop (i + 1) audits)
 roots_at audits a i is = ap (roots i) (drop_at audits i a is) ∙ ap (λ n. root_of i a.start ++ roots n (drop (i + 1) audits)) (next i)
 
 pub roots_go : {A : Type 0} (image : Option Image) (before now after : List AuditCount) (whole : Image → List Event) (audits : List AuditAt) (a : AuditAt) (i : ℕ) (u : A) → slice_get audits i ≡ Some a →

@@ -2,6 +2,7 @@ mod Arrays
 mod Checking
 mod Counting
 mod Going
+mod RootLaws
 mod Rows
 mod Showing
 mod Standing

@@ -2,6 +2,7 @@
 use Rattle.std.proofs.Common.{◌≡◌, ℕ, ◌+◌, ◌*◌, ◌/◌, nat_eq, Bool, true, false, if◌then◌else◌, List, [], ◌∷◌, None, Some, Result, Ok, Err, refl}
 use Rattle.std.specs.Prelude.{pos, codes}
 use Rattle.kc_memory.specs.declared.rule.Rule.TheVariants.{M6, L1}
+use Rattle.kc_memory.specs.declared.words.Origin.TheVariants.{File}
 use Rattle.kc_memory.specs.declared.words.VWord.{VWord}
 use Rattle.kc_memory.specs.Bits.{Number}
 use Rattle.kc_memory.specs.Places.{place_of}
@@ -29,7 +30,7 @@ look [] va = Err (no_word va)
 look (w ∷ ws) va = if nat_eq w.va va then Ok w else look ws va
 
 abbrev word : ℕ → ℕ → VWord
-word va value = record { va = va; pa = va; off = va + 0x2000; value = value }
+word va value = record { va = va; pa = va; off = File (va + 0x2000); value = value }
 
 -- on from a pointer at an address
 abbrev on_from : ℕ → Result VWord Stopped → (ℕ → Result PathEnd Stopped) → Result PathEnd Stopped

@@ -21,13 +21,14 @@ use Rattle.kc_plan.specs.Checks.{checked, numbers_of, value_of, words_of}
 use Rattle.kc_plan.specs.Events.{Event, Walk, Wrong, first_wrong, verdict_of}
 use Rattle.kc_plan.specs.Planned.{AuditAt, CheckAt}
 use Rattle.kc_plan.specs.Seen.{PathEnd, EndsAt, NullAt, world, nodes_of, path_end, path_of, is_optional, unless_null, container_of, in_turn, below, checks_seen, number_at, at_element, walked, entered, seen, roots, all_seen}
+use Rattle.kc_plan.specs.Roots.{reached_from, root_seen, verdict_among}
 use Rattle.kc_plan.specs.Verdicts.{verdict_places}
 use Rattle.kc_list.specs.Laws.{HashPlacesStand, RingPlacesStand}
 use Rattle.kc_rb.specs.Laws.{TreePlacesStand}
 use Rattle.kc_slub.specs.Laws.{CachePlacesStand}
 use Rattle.kc_task.specs.Laws.{TaskPlacesStand}
 use Rattle.kc_xa.specs.Laws.{XarrayPlacesStand}
-use Rattle.kc_run.specs.Laws.{VerdictsStand}
+use Rattle.kc_run.specs.Laws.{RootVerdictsStand, VerdictsStand}
 use Rattle.kc_run.proofs.Arrays.{array_shows}
 
 -- the violations that are seen do
@@ -160,3 +161,14 @@ pub verdicts_stand : PlaceLaws → VerdictsStand
 verdicts_stand laws image audits =
     first_shows image (length audits) (all_seen (world image) audits) (all_seen (world image) audits)
     (turn_shows image (λ r. seen (world image) audits 0 r.0 r.1) (roots 0 audits) (λ r. seen_shows laws image audits 0 r.0 r.1))
+
+root_shows : (image : Image) (numbers : List ℕ) (all es : List Event) → AllSeen image es → AllStandIn image (verdict_places (verdict_among numbers all (first_wrong es)))
+unfolding AllSeen
+root_shows image numbers all [] a = tt
+root_shows image numbers all (Walk m size ∷ es) a = root_shows image numbers all es a
+root_shows image numbers all (Wrong v ∷ es) a = a.0
+
+pub root_verdicts_stand : PlaceLaws → RootVerdictsStand
+root_verdicts_stand laws image audits r =
+    let es = root_seen (world image) audits r in
+    root_shows image (reached_from r.0 audits) es es (seen_shows laws image audits 0 r.0 r.1)

@@ -17,12 +17,13 @@ use Rattle.kc_plan.specs.Events.{Event, Walk, Wrong, first_wrong, verdict_of}
 use Rattle.kc_plan.specs.Planned.{AuditAt, CheckAt}
 use Rattle.kc_plan.specs.Seen.{PathEnd, EndsAt, NullAt, world, nodes_of, path_end, path_of, is_optional, container_of, in_turn, below, checks_seen, number_at, at_element, walked, entered, seen, roots, all_seen}
 use Rattle.kc_plan.specs.Stands.{Holds, ElementStands, WalkStands, EnterStands, PlanStands, Stands}
+use Rattle.kc_plan.specs.Roots.{reached_from, root_seen, verdict_among}
 use Rattle.kc_plan.specs.Verdicts.{IsClean, verdict}
 use Rattle.kc_rb.specs.Laws.{TreesAreWalked}
 use Rattle.kc_slub.specs.Laws.{CachesAreWalked}
 use Rattle.kc_task.specs.Laws.{TasksAreWalked}
 use Rattle.kc_xa.specs.Laws.{XarraysAreWalked}
-use Rattle.kc_run.specs.Laws.{CleanWhereStanding}
+use Rattle.kc_run.specs.Laws.{CleanRootsStand, CleanWhereStanding}
 use Rattle.kc_run.proofs.Arrays.{array_complete, array_sound}
 
 -- no violation is seen
@@ -170,6 +171,18 @@ is_none n all [] c = tt
 is_none n all (Walk m size ∷ es) c = is_none n all es c
 is_none n all (Wrong v ∷ es) c = absurd c
 
+among_is : (numbers : List ℕ) (all es : List Event) → IsClean (verdict_among numbers all (first_wrong es)) → NoneWrong es
+unfolding NoneWrong
+among_is numbers all [] c = tt
+among_is numbers all (Walk m size ∷ es) c = among_is numbers all es c
+among_is numbers all (Wrong v ∷ es) c = absurd c
+
+is_among_none : (numbers : List ℕ) (all es : List Event) → NoneWrong es → IsClean (verdict_among numbers all (first_wrong es))
+unfolding NoneWrong
+is_among_none numbers all [] c = tt
+is_among_none numbers all (Walk m size ∷ es) c = is_among_none numbers all es c
+is_among_none numbers all (Wrong v ∷ es) c = absurd c
+
 -- the law of each kind
 pub record WalkLaws : Type 0 where
   pub rings : RingsAreWalked
@@ -206,6 +219,14 @@ clean_where_standing laws image plan =
     let Stand = λ (r : ℕ × ℕ). Stands image plan 0 r.0 r.1 in (
       λ c. turn_stands see Stand (roots 0 plan) (λ r d. clean_stands image plan 0 r.0 r.1 kinds d) (none_is (length plan) (all_seen (world image) plan) (all_seen (world image) plan) c),
       λ s. is_none (length plan) (all_seen (world image) plan) (all_seen (world image) plan) (turn_clean see Stand (roots 0 plan) (λ r d. stands_clean image plan 0 r.0 r.1 kinds d) s),
+    )
+
+pub clean_roots_stand : WalkLaws → CleanRootsStand
+clean_roots_stand laws image audits r =
+    let kinds = kinds_of laws image in
+    let es = root_seen (world image) audits r in (
+      λ c. clean_stands image audits 0 r.0 r.1 kinds (among_is (reached_from r.0 audits) es es c),
+      λ s. is_among_none (reached_from r.0 audits) es es (stands_clean image audits 0 r.0 r.1 kinds s),
     )
 
 -- and so is the verdict that a dump has, where it is told

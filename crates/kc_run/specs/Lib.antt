@@ -1,3 +1,4 @@
 pub mod Answers
+pub mod Each
 pub mod Laws
 pub mod Tally

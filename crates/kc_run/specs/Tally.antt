@@ -1,5 +1,5 @@
 -- The counts that a run keeps, event by event.
-use Rattle.std.specs.Prelude.{ℕ, zero, suc, ◌+◌, ◌<◌, List, [], ◌∷◌, map, Option, Result, Ok, Err, ⊤}
+use Rattle.std.specs.Prelude.{ℕ, zero, suc, ◌+◌, ◌<◌, List, [], ◌∷◌, map, slice_get, unwrap_or, Option, Result, Ok, Err, ⊤}
 use Rattle.kc_found.specs.declared.found.WalkStop.{WalkStop}
 use Rattle.kc_found.specs.declared.found.WalkStop.TheVariants as ends
 use Rattle.kc_found.specs.declared.verdict.AuditCount.{AuditCount}
@@ -14,6 +14,13 @@ no_walk = record { walks = 0; elements = 0 }
 
 abbrev pub zeros : List AuditAt → List AuditCount
 zeros audits = map (λ a. no_walk) audits
+
+-- the counts of the audits with these numbers
+abbrev pub count_at : List AuditCount → ℕ → AuditCount
+count_at counts n = unwrap_or (slice_get counts n) no_walk
+
+abbrev pub counts_at : List AuditCount → List ℕ → List AuditCount
+counts_at counts numbers = map (count_at counts) numbers
 
 -- a walk more, with so many elements
 abbrev pub more : AuditCount → ℕ → AuditCount

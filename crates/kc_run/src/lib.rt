@@ -4,12 +4,14 @@
 mod begin;
 mod checks;
 mod counts;
+mod each;
 mod entries;
 mod laws;
 mod nest;
 mod roots;
 mod walk;
 
+pub use each::run_each;
 pub use laws::know_verdicts;
 pub use roots::{RunStop, run};
 

@@ -2,10 +2,10 @@
 ghost use Rattle.std.specs.Prelude.{◌≡◌, ◌<◌, length};
 ghost use Rattle.kc_plan.specs.Inside.{AreInside};
 
-use crate::{RunStop, run};
+use crate::{RunStop, run, run_each};
 use kc_btf::Btf;
 use kc_fixture::{MAP, btf_file};
-use kc_found::{Counts, ListSpace, VWord, Verdict};
+use kc_found::{Counts, ListSpace, Origin, VWord, Verdict};
 use kc_notes::Info;
 use kc_plan::{Plan, PlanStop, read_plan};
 use kc_syms::Symbols;
@@ -72,10 +72,49 @@ const INFO: Info = Info {
     phys_base: 0,
 };
 
+// A chain of one item, and its audit beside the nested ones.
+const CHAIN: [(u64, u64); 3] = [
+    (0xb140, DIRECT + 0x11010),
+    (0x11010, 0),
+    (0x11018, IMAGE + 0xb140),
+];
+
+const THIRD: &str = "
+[[audit]]
+name = 'h'
+kind = 'hlist'
+root = 'my_hl'
+element = 'item'
+link = 'hnode'
+";
+
+// A word that is changed, if it has an address of these; the verdict, and those on the root audits 0 and 2.
+const ROOTS: [(u64, u64, &str, &str); 4] = [
+    (0, 0, "clean 1 1 1 2 1 1", "0 clean 1 1 1 2; 2 clean 1 1; "),
+    (
+        0xd060,
+        0,
+        "1 L1 ffff88800000d060",
+        "0 1 L1 ffff88800000d060; 2 clean 1 1; ",
+    ),
+    (
+        0x11018,
+        0,
+        "2 H1 ffff888000011018",
+        "0 clean 1 1 1 2; 2 2 H1 ffff888000011018; ",
+    ),
+    (
+        0xb010,
+        0,
+        "0 L1 ffffffff8000b010",
+        "0 0 L1 ffffffff8000b010; 2 clean 1 1; ",
+    ),
+];
+
 // Each word by its two addresses. Of two words with one address the first counts.
 fn space_of(alloc: Global, changed: (u64, u64)) -> Result<ListSpace, AllocError> {
     let mut words = Vec::new(alloc);
-    for (pa, value) in [[changed].as_slice(), WORDS.as_slice()]
+    for (pa, value) in [[changed].as_slice(), WORDS.as_slice(), CHAIN.as_slice()]
         .iter()
         .copied()
         .flatten()
@@ -84,7 +123,7 @@ fn space_of(alloc: Global, changed: (u64, u64)) -> Result<ListSpace, AllocError>
             words.push(VWord {
                 va: map.wrapping_add(*pa),
                 pa: *pa,
-                off: *pa,
+                off: Origin::File(*pa),
                 value: *value,
             })?;
         }
@@ -98,6 +137,22 @@ fn clean_text(alloc: Global, counts: &Counts) -> Result<String, AllocError> {
         write!(&mut text, " {} {}", count.walks, count.elements)?;
     }
     Ok(text)
+}
+
+fn told(alloc: Global, verdict: &Verdict) -> Result<String, AllocError> {
+    match verdict {
+        Verdict::Clean(counts) => clean_text(alloc, counts),
+        Verdict::Broken(found) => {
+            format!(in alloc; "{} {:?} {:x}", found.audit, found.rule, found.at)
+        }
+    }
+}
+
+fn stop_text(alloc: Global, stop: RunStop) -> Result<String, AllocError> {
+    match stop {
+        RunStop::Fault => String::from_str(alloc, "failed"),
+        RunStop::NoMemory => String::from_str(alloc, "out of memory"),
+    }
 }
 
 fn verdict<L: Ledger>(
@@ -114,13 +169,35 @@ fn verdict<L: Ledger>(
 {
     let mut steps = Steps::<L>::new(blank);
     match run(alloc, plan, btf, space, &mut steps) {
-        Ok(Verdict::Clean(counts)) => clean_text(alloc, &counts),
-        Ok(Verdict::Broken(found)) => {
-            format!(in alloc; "{} {:?} {:x}", found.audit, found.rule, found.at)
-        }
-        Err(RunStop::Fault) => String::from_str(alloc, "failed"),
-        Err(RunStop::NoMemory) => String::from_str(alloc, "out of memory"),
+        Ok(verdict) => told(alloc, &verdict),
+        Err(stop) => stop_text(alloc, stop),
     }
+}
+
+// The root audits with their verdicts.
+fn verdicts<L: Ledger>(
+    alloc: Global,
+    plan: &Plan,
+    btf: &Btf,
+    space: &mut ListSpace,
+    blank: Blank,
+) -> Result<String, AllocError>
+    requires name { blank.name ≡ L.name }
+    requires parts { blank.parts ≡ L.parts }
+    requires some { 0 < L.parts }
+    requires types { AreInside (length btf.now.records) plan.now.audits }
+{
+    let mut steps = Steps::<L>::new(blank);
+    let found = match run_each(alloc, plan, btf, space, &mut steps) {
+        Ok(found) => found,
+        Err(stop) => return stop_text(alloc, stop),
+    };
+    let mut text = String::new(alloc);
+    for root in found.as_slice() {
+        let verdict = told(alloc, &root.verdict)?;
+        write!(&mut text, "{} {verdict}; ", root.root)?;
+    }
+    Ok(text)
 }
 
 #[test]
@@ -133,11 +210,31 @@ fn each_audit_is_made_where_it_begins(rt: HostRuntime) -> Result<(), Fail> {
         match read_plan(alloc, text.as_bytes(), &btf, &symbols, &INFO) {
             Ok(plan) => {
                 let mut space = space_of(alloc, (at, value))?;
-                let told = verdict::<Brand>(alloc, &plan, &btf, &mut space, Blank::new(1))?;
-                assert_eq!(rt; told.as_str(), wanted, "{more} {at:x}={value:x}");
+                let found = verdict::<Brand>(alloc, &plan, &btf, &mut space, Blank::new(1))?;
+                assert_eq!(rt; found.as_str(), wanted, "{more} {at:x}={value:x}");
             }
             Err(PlanStop::Fault(_) | PlanStop::NoMemory) => assert!(rt; false, "{more}"),
         }
+    }
+    Ok(())
+}
+
+#[test]
+fn each_root_audit_has_its_verdict(rt: HostRuntime) -> Result<(), Fail> {
+    let alloc = rt.alloc();
+    let btf = Btf::read(alloc, btf_file(alloc)?)?;
+    let symbols = Symbols::read(alloc, MAP.as_bytes())?;
+    let text = format!(in alloc; "{NEST}{THIRD}")?;
+    let Ok(plan) = read_plan(alloc, text.as_bytes(), &btf, &symbols, &INFO) else {
+        assert!(rt; false, "refused");
+        return Ok(());
+    };
+    for (at, value, all, each) in ROOTS {
+        let mut space = space_of(alloc, (at, value))?;
+        let found = verdict::<Brand>(alloc, &plan, &btf, &mut space, Blank::new(1))?;
+        assert_eq!(rt; found.as_str(), all, "{at:x}={value:x}");
+        let found = verdicts::<Brand>(alloc, &plan, &btf, &mut space, Blank::new(1))?;
+        assert_eq!(rt; found.as_str(), each, "{at:x}={value:x}");
     }
     Ok(())
 }

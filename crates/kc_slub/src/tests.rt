@@ -3,7 +3,7 @@ ghost use Rattle.std.specs.Prelude.{◌≡◌, ◌<◌, ◌≤◌};
 
 use crate::{cache_walk, decode, free_walk};
 use kc_btf::Btf;
-use kc_found::{Grid, ListShape, ListSpace, Place, Scalar, VWord, WalkStop, Walked};
+use kc_found::{Grid, ListShape, ListSpace, Origin, Place, Scalar, VWord, WalkStop, Walked};
 use kc_layout::{Field, Hops};
 use kc_view::{Base, SlubShape};
 use kc_word::{Bits, Steps};
@@ -53,7 +53,7 @@ fn space_of(alloc: Global, changed: (u64, u64)) -> Result<ListSpace, AllocError>
         words.push(VWord {
             va: *va,
             pa: *va,
-            off: *va,
+            off: Origin::File(*va),
             value: *value,
         })?;
     }
@@ -133,7 +133,7 @@ const GRID: Grid = Grid {
 const FIRST: Place = Place {
     va: Some(6432),
     pa: 6432,
-    off: 6432,
+    off: Origin::File(6432),
     value: 409600,
 };
 

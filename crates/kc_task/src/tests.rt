@@ -3,7 +3,7 @@ ghost use Rattle.std.specs.Prelude.{◌≡◌, ◌<◌, ◌≤◌};
 
 use crate::tasks_walk;
 use kc_btf::Btf;
-use kc_found::{ListShape, ListSpace, VWord, WalkStop, Walked};
+use kc_found::{ListShape, ListSpace, Origin, VWord, WalkStop, Walked};
 use kc_layout::{Field, Hops};
 use kc_view::TaskShape;
 use kc_word::{Bits, Steps};
@@ -61,7 +61,7 @@ fn space_of(alloc: Global, changed: (u64, u64)) -> Result<ListSpace, AllocError>
         words.push(VWord {
             va: *va,
             pa: *va,
-            off: *va,
+            off: Origin::File(*va),
             value: *value,
         })?;
     }

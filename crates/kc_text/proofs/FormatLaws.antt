@@ -58,11 +58,13 @@ shorter_first rest other near = grind (arith, nat_tests)
 pub shorter_other : (rest other : List ℕ) → length other < length rest → shorter rest other ≡ other
 shorter_other rest other near = grind (arith, nat_tests)
 
--- one text after another
-module _ {X Y : Type 0} (After : List ℕ → Type 0) (f : Format X) (g : X → Format Y) (F : IsFormat f) (G : (x : X) → f.Good x → IsRead After (g x)) where
+-- One text after another, where the first shows its own end or the second's first byte shows it.
+module _ {X Y : Type 0} (Between After : List ℕ → Type 0) (f : Format X) (g : X → Format Y) (F : IsRead Between f) (G : (x : X) → f.Good x → IsRead After (g x))
+    (opens : (x : X) (y : Y) (more : List ℕ) → f.Good x → (g x).Good y → After more → Between ((g x).spell y ++ more))
+    (by-first : (c : ℕ) (cs ds : List ℕ) → Between (c ∷ cs) → Between (c ∷ ds)) where
   both-again : (p : X × Y) (rest : List ℕ) → (both f g).Good p → After rest → (both f g).read ((both f g).spell p ++ rest) ≡ Ok (p, rest)
   both-again p rest good after =
-      let first = F.again p.0 ((g p.0).spell p.1 ++ rest) good.0 tt in
+      let first = F.again p.0 ((g p.0).spell p.1 ++ rest) good.0 (opens p.0 p.1 rest good.0 good.1 after) in
       let second = (G p.0 good.0).again p.1 rest good.1 after in
       rw (append_assoc, first, second)
 
@@ -83,24 +85,29 @@ module _ {X Y : Type 0} (After : List ℕ → Type 0) (f : Format X) (g : X → 
   first-takes bytes q (Err e) at is = absurd (let none : ⊥ = cc in none)
   first-takes bytes q (Ok t) at is = second-takes bytes t.1 t.0 q ((g t.0).read t.1) at refl is
 
-  first-none : (front rest : List ℕ) → NoMore Anything f front rest → NoMore After (both f g) front rest
+  first-none : (front rest : List ℕ) → NoMore Between f front rest → NoMore After (both f g) front rest
   first-none front [] none = tt
-  first-none front (c ∷ cs) none = λ p tail more good after is. none p.0 tail ((g p.0).spell p.1 ++ more) good.0 tt (is ∙ append_assoc (f.spell p.0) ((g p.0).spell p.1) more)
+  first-none front (c ∷ cs) none = λ p tail more good after is. none p.0 tail ((g p.0).spell p.1 ++ more) good.0 (opens p.0 p.1 more good.0 good.1 after) (is ∙ append_assoc (f.spell p.0) ((g p.0).spell p.1) more)
 
   -- the second's value, where the first's text stands before it
-  second-is : (x : X) (rest : List ℕ) (p : X × Y) (more : List ℕ) → f.Good x → (both f g).Good p → f.spell x ++ rest ≡ (both f g).spell p ++ more
+  second-is : (x : X) (rest : List ℕ) (p : X × Y) (more : List ℕ) → f.Good x → Between rest → (both f g).Good p → After more → f.spell x ++ rest ≡ (both f g).spell p ++ more
       → (x ≡ p.0) × (rest ≡ (g p.0).spell p.1 ++ more)
-  second-is x rest p more good goods is =
-      let one = F.again x rest good tt in
-      let other = F.again p.0 ((g p.0).spell p.1 ++ more) goods.0 tt in
+  second-is x rest p more good between goods after is =
+      let one = F.again x rest good between in
+      let other = F.again p.0 ((g p.0).spell p.1 ++ more) goods.0 (opens p.0 p.1 more goods.0 goods.1 after) in
       let same : f.read (f.spell x ++ rest) ≡ f.read (f.spell p.0 ++ ((g p.0).spell p.1 ++ more)) = ap f.read (is ∙ append_assoc (f.spell p.0) ((g p.0).spell p.1) more) in
       let pair = ok_is (x, rest) (p.0, (g p.0).spell p.1 ++ more) (sym one ∙ same ∙ other) in
       (ap (λ (q : X × List ℕ). q.0) pair, ap (λ (q : X × List ℕ). q.1) pair)
 
-  second-none : (x : X) (front rest : List ℕ) → f.Good x → NoMore After (g x) front rest → NoMore After (both f g) (f.spell x ++ front) rest
-  second-none x front [] good none = tt
-  second-none x front (c ∷ cs) good none = λ p tail more goods after is.
-      let parts = second-is x (front ++ c ∷ tail) p more good goods (sym (append_assoc (f.spell x) front (c ∷ tail)) ∙ is) in
+  -- what may stand there shows in its first byte
+  by-front : (front cs ds : List ℕ) (c : ℕ) → Between (front ++ c ∷ cs) → Between (front ++ c ∷ ds)
+  by-front [] cs ds c between = by-first c cs ds between
+  by-front (d ∷ front) cs ds c between = by-first d (front ++ c ∷ cs) (front ++ c ∷ ds) between
+
+  second-none : (x : X) (front rest : List ℕ) → f.Good x → Between (front ++ rest) → NoMore After (g x) front rest → NoMore After (both f g) (f.spell x ++ front) rest
+  second-none x front [] good between none = tt
+  second-none x front (c ∷ cs) good between none = λ p tail more goods after is.
+      let parts = second-is x (front ++ c ∷ tail) p more good (by-front front cs tail c between) goods after (sym (append_assoc (f.spell x) front (c ∷ tail)) ∙ is) in
       let NoneAt : X → Type 0 = λ y. (g y).Good p.1 → front ++ c ∷ tail ≡ (g y).spell p.1 ++ more → ⊥ in
       subst NoneAt parts.0 (λ fits. none p.1 tail more fits after) goods.1 parts.1
 
@@ -125,7 +132,7 @@ module _ {X Y : Type 0} (After : List ℕ → Type 0) (f : Format X) (g : X → 
           front = f.spell x ++ s.front;
           parts = rw append_assoc (first.2 ∙ ap (λ l. f.spell x ++ l) s.parts);
           begins = ((x, s.begins.0), s.begins.1, (first.0, s.begins.2), append_assoc (f.spell x) s.front s.begins.1 ∙ ap (λ l. f.spell x ++ l) s.begins.3);
-          none = second-none x s.front rest first.0 s.none;
+          none = second-none x s.front rest first.0 (subst Between s.parts first.1) s.none;
         }
 
     second-stops-at : (bytes mid rest : List ℕ) (x : X) (s : Result (Y × List ℕ) (List ℕ)) → f.read bytes ≡ Ok (x, mid) → (g x).read mid ≡ s
@@ -138,12 +145,17 @@ module _ {X Y : Type 0} (After : List ℕ → Type 0) (f : Format X) (g : X → 
     first-stops-at bytes rest (Err e) at is = first-stops bytes rest (at ∙ ap (λ l. Err l) (err_is e rest is))
     first-stops-at bytes rest (Ok t) at is = second-stops-at bytes t.1 rest t.0 ((g t.0).read t.1) at refl is
 
-    pub both-law : IsRead After (both f g)
-    both-law = record {
+    pub joined-law : IsRead After (both f g)
+    joined-law = record {
       again = both-again;
       takes = λ bytes rest x is. first-takes bytes (x, rest) (f.read bytes) refl is;
       stops = λ bytes rest is. first-stops-at bytes rest (f.read bytes) refl is;
     }
+
+-- one text after another, where the first shows its own end
+pub both-law : {X Y : Type 0} (After : List ℕ → Type 0) (f : Format X) (g : X → Format Y) → IsFormat f → ((x : X) → f.Good x → IsRead After (g x))
+    → ((x : X) → f.Good x → (y : Y) × (g x).Good y) → IsRead After (both f g)
+both-law After f g F G some = joined-law Anything After f g F G (λ x y more good fits after. tt) (λ c cs ds between. tt) some
 
 -- the same texts for other values
 module _ {X Y : Type 0} (to : X → Y) (Good : Y → Type 0) (spell : Y → List ℕ) (After : List ℕ → Type 0) (f : Format X) (F : IsRead After f)

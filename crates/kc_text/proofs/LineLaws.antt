@@ -1,19 +1,19 @@
 -- The laws of texts that stand before or after others, of tables of texts, and of lines to the end.
-use Rattle.std.proofs.Common.{◌≡◌, ℕ, zero, suc, ◌+◌, ◌-◌, ◌<◌, ◌≤◌, ◌⊎◌, List, [], ◌∷◌, ◌++◌, length, take, Result, Ok, Err, All, refl, sym, ap, ◌∙◌, subst, inl, inr, ⊎_elim, arith, append_assoc}
+use Rattle.std.proofs.Common.{◌≡◌, ℕ, zero, suc, ◌+◌, ◌-◌, ◌<◌, ◌≤◌, ◌⊎◌, true, false, List, [], ◌∷◌, ◌++◌, length, take, Option, Some, None, Result, Ok, Err, All, refl, sym, ap, ◌∙◌, subst, inl, inr, ⊎_elim, arith, append_assoc}
 use Rattle.std.proofs.Math.Seq.{take-append-add, take-append_seam}
 use Rattle.std.proofs.lemmas.List.{append-nil, length-append}
 use Rattle.std.proofs.lemmas.List.Elements.{All-nil, All-cons, All-head, All-tail}
-use Rattle.std.proofs.lemmas.Bool.{cases_lt}
+use Rattle.std.proofs.lemmas.Bool.{cases_lt, cond_both, true≢false}
 use Rattle.kc_text.specs.Format.{Format, Anything, Nothing, Begins, NoMore, Stops, IsRead, IsFormat, IsWhole, IsPlace}
 use Rattle.kc_text.specs.Reading.{and_then, shorter, or_else}
 use Rattle.kc_text.specs.Readers.{read_literal, literal, read_one_of, IsAmong, one_of}
-use Rattle.kc_text.specs.Compose.{Goes, both, mapped, after, followed, texts, read_lines, lines}
+use Rattle.kc_text.specs.Compose.{EndsAt, Goes, both, mapped, after, ends, followed, texts, read_lines, lines}
 use Rattle.kc_text.proofs.FormatLaws.{ok_is, err_is, ok_not_err, cut, none_further, shorter_first, shorter_other, both-law, mapped-law}
 use Rattle.kc_text.proofs.ReaderLaws.{literal-law, literal-takes}
 
 -- a format may be read in another way that finds the same
 module _ {X : Type 0} (After : List ℕ → Type 0) (f : Format X) (read : List ℕ → Result (X × List ℕ) (List ℕ)) (same : (bytes : List ℕ) → read bytes ≡ f.read bytes) (F : IsRead After f) where
-  abbrev reread : Format X
+  abbrev pub reread : Format X
   reread = record { Good = f.Good; spell = f.spell; read = read }
 
   reread-none : (front rest : List ℕ) → NoMore After f front rest → NoMore After reread front rest
@@ -25,7 +25,7 @@ module _ {X : Type 0} (After : List ℕ → Type 0) (f : Format X) (read : List 
       let s = F.stops bytes rest (sym (same bytes) ∙ is) in
       record { front = s.front; parts = s.parts; begins = s.begins; none = reread-none s.front rest s.none }
 
-  reread-law : IsRead After reread
+  pub reread-law : IsRead After reread
   reread-law = record {
     again = λ x rest good after. same (f.spell x ++ rest) ∙ F.again x rest good after;
     takes = λ bytes rest x is. F.takes bytes rest x (sym (same bytes) ∙ is);
@@ -91,78 +91,86 @@ module _ {X : Type 0} (f : Format X) (text : List ℕ) (F : IsFormat f) where
   unfolding followed-mapped followed-pair
   followed-law = reread-law Anything followed-mapped (λ bytes. and_then (f.read bytes) (λ r. and_then (read_literal text r.1) (λ s. Ok (r.0, s.1)))) (λ bytes. value-same (f.read bytes)) followed-mapped-law
 
--- lines to the end
-module _ {X : Type 0} (f : Format X) (F : IsFormat f) (some : (x : X) → f.Good x → 1 ≤ length (f.spell x)) where
-  lines-step : (most : ℕ) (bytes : List ℕ) → 1 ≤ length bytes
-      → read_lines f.read (suc most) bytes ≡ and_then (f.read bytes) (λ r. and_then (read_lines f.read most r.1) (λ xs. Ok (r.0 ∷ xs)))
-  unfolding read_lines
-  lines-step most [] long = absurd (omega arith)
-  lines-step most (c ∷ cs) long = refl
+-- what may stand after lines shows in its first byte
+pub ends-by-first : (end : Option ℕ) (c : ℕ) (cs ds : List ℕ) → ends end (c ∷ cs) ≡ ends end (c ∷ ds)
+ends-by-first None c cs ds = refl
+ends-by-first (Some e) c cs ds = refl
 
-  lines-none : (most : ℕ) → read_lines f.read most [] ≡ Ok []
-  unfolding read_lines
-  lines-none zero = refl
-  lines-none (suc most) = refl
+ends-by-front : (end : Option ℕ) (front cs ds : List ℕ) (c : ℕ) → ends end (front ++ c ∷ cs) ≡ ends end (front ++ c ∷ ds)
+ends-by-front end [] cs ds c = ends-by-first end c cs ds
+ends-by-front end (d ∷ front) cs ds c = ends-by-first end d (front ++ c ∷ cs) (front ++ c ∷ ds)
 
-  texts-again : (most : ℕ) (xs : List X) → All f.Good xs → length (texts f.spell xs) ≤ most → read_lines f.read most (texts f.spell xs) ≡ Ok xs
-  texts-again most [] good fits = lines-none most
-  texts-again zero (x ∷ xs) good fits =
-      absurd (let long = some x (All-head f.Good x xs good) in omega (arith, length-append (f.spell x) (texts f.spell xs)))
-  texts-again (suc most) (x ∷ xs) good fits =
+-- lines up to their end
+module _ {X : Type 0} (end : Option ℕ) (f : Format X) (F : IsFormat f) (some : (x : X) → f.Good x → 1 ≤ length (f.spell x))
+    (goes_on : (x : X) (more : List ℕ) → f.Good x → ends end (f.spell x ++ more) ≡ false) where
+  lines-step : (most : ℕ) (bytes : List ℕ) → ends end bytes ≡ false
+      → read_lines end f.read (suc most) bytes ≡ and_then (f.read bytes) (λ r. and_then (read_lines end f.read most r.1) (λ s. Ok (r.0 ∷ s.0, s.1)))
+  unfolding read_lines
+  lines-step most bytes on = rw on refl
+
+  lines-none : (most : ℕ) (bytes : List ℕ) → ends end bytes ≡ true → read_lines end f.read (suc most) bytes ≡ Ok ([], bytes)
+  unfolding read_lines
+  lines-none most bytes at = rw at refl
+
+  texts-again : (most : ℕ) (xs : List X) (rest : List ℕ) → All f.Good xs → ends end rest ≡ true → length (texts f.spell xs) < most
+      → read_lines end f.read most (texts f.spell xs ++ rest) ≡ Ok (xs, rest)
+  texts-again zero xs rest good at fits = absurd (omega arith)
+  texts-again (suc most) [] rest good at fits = lines-none most rest at
+  texts-again (suc most) (x ∷ xs) rest good at fits =
       let first = All-head f.Good x xs good in
       let long = some x first in
       let sum = length-append (f.spell x) (texts f.spell xs) in
-      let read = F.again x (texts f.spell xs) first tt in
-      let more = texts-again most xs (All-tail f.Good x xs good) (omega arith) in
-      lines-step most (f.spell x ++ texts f.spell xs) (omega arith) ∙ (rw (read, more) refl)
+      let read = F.again x (texts f.spell xs ++ rest) first tt in
+      let more = texts-again most xs rest (All-tail f.Good x xs good) at (omega arith) in
+      ap (read_lines end f.read (suc most)) (append_assoc (f.spell x) (texts f.spell xs) rest)
+      ∙ lines-step most (f.spell x ++ (texts f.spell xs ++ rest)) (goes_on x (texts f.spell xs ++ rest) first) ∙ (rw (read, more) refl)
 
-  TextsTaken : List ℕ → List X → Type 0
-  TextsTaken bytes xs = All f.Good xs × (bytes ≡ texts f.spell xs)
+  TextsTaken : List ℕ → List X × List ℕ → Type 0
+  TextsTaken bytes q = All f.Good q.0 × (ends end q.1 ≡ true) × (bytes ≡ texts f.spell q.0 ++ q.1)
 
-  taken-more : (bytes mid : List ℕ) (x : X) (xs : List X) (s : Result (List X) (List ℕ)) → f.read bytes ≡ Ok (x, mid) → ((ys : List X) → s ≡ Ok ys → TextsTaken mid ys)
-      → and_then {E = List ℕ} s (λ ys. Ok (x ∷ ys)) ≡ Ok xs → TextsTaken bytes xs
+  taken-here : (bytes : List ℕ) (q : List X × List ℕ) → ends end bytes ≡ true → ◌≡◌ {A = Result (List X × List ℕ) (List ℕ)} (Ok ([], bytes)) (Ok q) → TextsTaken bytes q
   unfolding TextsTaken
-  taken-more bytes mid x xs (Err e) at next is = absurd (let none : ⊥ = cc in none)
-  taken-more bytes mid x xs (Ok ys) at next is =
+  taken-here bytes q at is = subst (TextsTaken bytes) (ok_is ([], bytes) q is) (All-nil f.Good, at, refl)
+
+  taken-more : (bytes mid : List ℕ) (x : X) (q : List X × List ℕ) (s : Result (List X × List ℕ) (List ℕ)) → f.read bytes ≡ Ok (x, mid)
+      → ((t : List X × List ℕ) → s ≡ Ok t → TextsTaken mid t) → and_then {E = List ℕ} s (λ s. Ok (x ∷ s.0, s.1)) ≡ Ok q → TextsTaken bytes q
+  unfolding TextsTaken
+  taken-more bytes mid x q (Err e) at next is = absurd (let none : ⊥ = cc in none)
+  taken-more bytes mid x q (Ok t) at next is =
       let first = F.takes bytes mid x at in
-      let rest = next ys refl in
-      subst (TextsTaken bytes) (ok_is (x ∷ ys) xs is) (All-cons f.Good x ys first.0 rest.0, first.2 ∙ ap (λ l. f.spell x ++ l) rest.1)
+      let rest = next t refl in
+      subst (TextsTaken bytes) (ok_is (x ∷ t.0, t.1) q is)
+      (All-cons f.Good x t.0 first.0 rest.0, rest.1, first.2 ∙ ap (λ l. f.spell x ++ l) rest.2 ∙ sym (append_assoc (f.spell x) (texts f.spell t.0) t.1))
 
-  taken-first : (most : ℕ) (bytes : List ℕ) (xs : List X) (r : Result (X × List ℕ) (List ℕ)) → f.read bytes ≡ r
-      → ((mid : List ℕ) (ys : List X) → read_lines f.read most mid ≡ Ok ys → TextsTaken mid ys)
-      → and_then r (λ r. and_then (read_lines f.read most r.1) (λ xs. Ok (r.0 ∷ xs))) ≡ Ok xs → TextsTaken bytes xs
-  taken-first most bytes xs (Err e) at next is = absurd (let none : ⊥ = cc in none)
-  taken-first most bytes xs (Ok t) at next is = taken-more bytes t.1 t.0 xs (read_lines f.read most t.1) at (next t.1) is
+  taken-first : (most : ℕ) (bytes : List ℕ) (q : List X × List ℕ) (r : Result (X × List ℕ) (List ℕ)) → f.read bytes ≡ r
+      → ((mid : List ℕ) (t : List X × List ℕ) → read_lines end f.read most mid ≡ Ok t → TextsTaken mid t)
+      → and_then r (λ r. and_then (read_lines end f.read most r.1) (λ s. Ok (r.0 ∷ s.0, s.1))) ≡ Ok q → TextsTaken bytes q
+  taken-first most bytes q (Err e) at next is = absurd (let none : ⊥ = cc in none)
+  taken-first most bytes q (Ok t) at next is = taken-more bytes t.1 t.0 q (read_lines end f.read most t.1) at (next t.1) is
 
-  texts-taken : (most : ℕ) (bytes : List ℕ) (xs : List X) → read_lines f.read most bytes ≡ Ok xs → TextsTaken bytes xs
-  unfolding read_lines TextsTaken
-  texts-taken most [] xs is = subst (TextsTaken []) (ok_is [] xs (sym (lines-none most) ∙ is)) (All-nil f.Good, refl)
-  texts-taken zero (c ∷ cs) xs is = absurd (let none : ⊥ = cc in none)
-  texts-taken (suc most) (c ∷ cs) xs is = taken-first most (c ∷ cs) xs (f.read (c ∷ cs)) refl (λ mid ys. texts-taken most mid ys) is
-
-  lines-takes : (bytes rest : List ℕ) (xs : List X) (r : Result (List X) (List ℕ)) → read_lines f.read (length bytes) bytes ≡ r
-      → and_then {B = List X × List ℕ} r (λ xs. Ok (xs, [])) ≡ Ok (xs, rest) → All f.Good xs × Nothing rest × (bytes ≡ texts f.spell xs ++ rest)
-  unfolding TextsTaken
-  lines-takes bytes rest xs (Err e) at is = absurd (let none : ⊥ = cc in none)
-  lines-takes bytes rest xs (Ok ys) at is =
-      let t = texts-taken (length bytes) bytes ys at in
-      let Taken : List X × List ℕ → Type 0 = λ q. All f.Good q.0 × Nothing q.1 × (bytes ≡ texts f.spell q.0 ++ q.1) in
-      subst Taken (ok_is (ys, []) (xs, rest) is) (t.0, refl, t.1 ∙ sym (append-nil (texts f.spell ys)))
+  texts-taken : (most : ℕ) (bytes : List ℕ) (q : List X × List ℕ) → read_lines end f.read most bytes ≡ Ok q → TextsTaken bytes q
+  unfolding read_lines
+  texts-taken zero bytes q is = absurd (let none : ⊥ = cc in none)
+  texts-taken (suc most) bytes q is =
+      let P : Result (List X × List ℕ) (List ℕ) → Type 0 = λ r. r ≡ Ok q → TextsTaken bytes q in
+      cond_both (ends end bytes) (Ok ([], bytes)) (and_then (f.read bytes) (λ r. and_then (read_lines end f.read most r.1) (λ s. Ok (r.0 ∷ s.0, s.1)))) P
+      (λ h at. taken-here bytes q h at)
+      (λ h at. taken-first most bytes q (f.read bytes) refl (λ mid t. texts-taken most mid t) at) is
 
   -- no text of lines goes on so
-  first-lines-none : (front rest : List ℕ) → NoMore Anything f front rest → NoMore Nothing (lines f) front rest
-  first-lines-none front [] none = tt
-  first-lines-none front (c ∷ cs) none = λ xs tail more good after is.
+  first-lines-none : (front rest : List ℕ) → ends end (front ++ rest) ≡ false → NoMore Anything f front rest → NoMore (EndsAt end) (lines end f) front rest
+  first-lines-none front [] on none = tt
+  first-lines-none front (c ∷ cs) on none = λ xs tail more good after is.
       elim xs as (λ xs. All f.Good xs → front ++ c ∷ tail ≡ texts f.spell xs ++ more → ⊥) [
-        | [] ↦ λ good is. (let long = ap length is in let none_left = ap length after in omega (arith, length-append front (c ∷ tail)))
+        | [] ↦ λ good is. true≢false (sym after ∙ ap (ends end) (sym is) ∙ sym (ends-by-front end front cs tail c) ∙ on)
         | y ∷ ys ↦ λ good is. none y tail (texts f.spell ys ++ more) (All-head f.Good y ys good) tt (is ∙ append_assoc (f.spell y) (texts f.spell ys) more)
       ] good is
 
-  later-lines-none : (x : X) (front rest : List ℕ) → f.Good x → NoMore Nothing (lines f) front rest → NoMore Nothing (lines f) (f.spell x ++ front) rest
+  later-lines-none : (x : X) (front rest : List ℕ) → f.Good x → NoMore (EndsAt end) (lines end f) front rest → NoMore (EndsAt end) (lines end f) (f.spell x ++ front) rest
   later-lines-none x front [] fits none = tt
   later-lines-none x front (c ∷ cs) fits none = λ xs tail more good after is.
       elim xs as (λ xs. All f.Good xs → (f.spell x ++ front) ++ c ∷ tail ≡ texts f.spell xs ++ more → ⊥) [
-        | [] ↦ λ good is. (let long = ap length is in let none_left = ap length after in omega (arith, length-append (f.spell x ++ front) (c ∷ tail)))
+        | [] ↦ λ good is. true≢false (sym after ∙ ap (ends end) (sym is ∙ append_assoc (f.spell x) front (c ∷ tail)) ∙ goes_on x (front ++ c ∷ tail) fits)
         | y ∷ ys ↦ λ good is.
             let one = F.again x (front ++ c ∷ tail) fits tt in
             let other = F.again y (texts f.spell ys ++ more) (All-head f.Good y ys good) tt in
@@ -172,17 +180,17 @@ module _ {X : Type 0} (f : Format X) (F : IsFormat f) (some : (x : X) → f.Good
             none ys tail more (All-tail f.Good y ys good) after (ap (λ (q : X × List ℕ). q.1) pair)
       ] good is
 
-  lines-stop-here : (bytes rest : List ℕ) → f.read bytes ≡ Err rest → Stops Nothing (lines f) bytes rest
-  lines-stop-here bytes rest at =
+  lines-stop-here : (bytes rest : List ℕ) → ends end bytes ≡ false → f.read bytes ≡ Err rest → Stops (EndsAt end) (lines end f) bytes rest
+  lines-stop-here bytes rest on at =
       let s = F.stops bytes rest at in
       record {
         front = s.front;
         parts = s.parts;
         begins = (s.begins.0 ∷ [], s.begins.1, All-cons f.Good s.begins.0 [] s.begins.2 (All-nil f.Good), s.begins.3 ∙ sym (append-nil (f.spell s.begins.0)));
-        none = first-lines-none s.front rest s.none;
+        none = first-lines-none s.front rest (ap (ends end) (sym s.parts) ∙ on) s.none;
       }
 
-  lines-stop-later : (bytes mid rest : List ℕ) (x : X) → f.read bytes ≡ Ok (x, mid) → Stops Nothing (lines f) mid rest → Stops Nothing (lines f) bytes rest
+  lines-stop-later : (bytes mid rest : List ℕ) (x : X) → f.read bytes ≡ Ok (x, mid) → Stops (EndsAt end) (lines end f) mid rest → Stops (EndsAt end) (lines end f) bytes rest
   lines-stop-later bytes mid rest x at s =
       let first = F.takes bytes mid x at in
       record {
@@ -192,73 +200,67 @@ module _ {X : Type 0} (f : Format X) (F : IsFormat f) (some : (x : X) → f.Good
         none = later-lines-none x s.front rest first.0 s.none;
       }
 
-  stop-more : (bytes mid rest : List ℕ) (x : X) (s : Result (List X) (List ℕ)) → f.read bytes ≡ Ok (x, mid) → (s ≡ Err rest → Stops Nothing (lines f) mid rest)
-      → and_then {B = List X} s (λ ys. Ok (x ∷ ys)) ≡ Err rest → Stops Nothing (lines f) bytes rest
-  stop-more bytes mid rest x (Ok ys) at next is = absurd (let none : ⊥ = cc in none)
+  stop-more : (bytes mid rest : List ℕ) (x : X) (s : Result (List X × List ℕ) (List ℕ)) → f.read bytes ≡ Ok (x, mid) → (s ≡ Err rest → Stops (EndsAt end) (lines end f) mid rest)
+      → and_then {B = List X × List ℕ} s (λ s. Ok (x ∷ s.0, s.1)) ≡ Err rest → Stops (EndsAt end) (lines end f) bytes rest
+  stop-more bytes mid rest x (Ok t) at next is = absurd (let none : ⊥ = cc in none)
   stop-more bytes mid rest x (Err e) at next is = lines-stop-later bytes mid rest x at (next (ap (λ l. Err l) (err_is e rest is)))
 
-  stop-first : (most : ℕ) (bytes rest : List ℕ) (r : Result (X × List ℕ) (List ℕ)) → f.read bytes ≡ r → length bytes ≤ suc most
-      → ((mid : List ℕ) → length mid ≤ most → read_lines f.read most mid ≡ Err rest → Stops Nothing (lines f) mid rest)
-      → and_then {B = List X} r (λ r. and_then (read_lines f.read most r.1) (λ xs. Ok (r.0 ∷ xs))) ≡ Err rest → Stops Nothing (lines f) bytes rest
-  stop-first most bytes rest (Err e) at fits next is = lines-stop-here bytes rest (at ∙ ap (λ l. Err l) (err_is e rest is))
-  stop-first most bytes rest (Ok t) at fits next is =
+  stop-first : (most : ℕ) (bytes rest : List ℕ) (r : Result (X × List ℕ) (List ℕ)) → f.read bytes ≡ r → ends end bytes ≡ false → length bytes < suc most
+      → ((mid : List ℕ) → length mid < most → read_lines end f.read most mid ≡ Err rest → Stops (EndsAt end) (lines end f) mid rest)
+      → and_then {B = List X × List ℕ} r (λ r. and_then (read_lines end f.read most r.1) (λ s. Ok (r.0 ∷ s.0, s.1))) ≡ Err rest → Stops (EndsAt end) (lines end f) bytes rest
+  stop-first most bytes rest (Err e) at on fits next is = lines-stop-here bytes rest on (at ∙ ap (λ l. Err l) (err_is e rest is))
+  stop-first most bytes rest (Ok t) at on fits next is =
       let first = F.takes bytes t.1 t.0 at in
       let long = some t.0 first.0 in
       let sum = ap length first.2 ∙ length-append (f.spell t.0) t.1 in
-      stop-more bytes t.1 rest t.0 (read_lines f.read most t.1) at (next t.1 (omega arith)) is
+      stop-more bytes t.1 rest t.0 (read_lines end f.read most t.1) at (next t.1 (omega arith)) is
 
-  texts-stop : (most : ℕ) (bytes rest : List ℕ) → length bytes ≤ most → read_lines f.read most bytes ≡ Err rest → Stops Nothing (lines f) bytes rest
+  texts-stop : (most : ℕ) (bytes rest : List ℕ) → length bytes < most → read_lines end f.read most bytes ≡ Err rest → Stops (EndsAt end) (lines end f) bytes rest
   unfolding read_lines
-  texts-stop most [] rest fits is = absurd (ok_not_err [] rest (sym (lines-none most) ∙ is))
-  texts-stop zero (c ∷ cs) rest fits is = absurd (omega arith)
-  texts-stop (suc most) (c ∷ cs) rest fits is = stop-first most (c ∷ cs) rest (f.read (c ∷ cs)) refl fits (λ mid. texts-stop most mid rest) is
+  texts-stop zero bytes rest fits is = absurd (omega arith)
+  texts-stop (suc most) bytes rest fits is =
+      let P : Result (List X × List ℕ) (List ℕ) → Type 0 = λ r. r ≡ Err rest → Stops (EndsAt end) (lines end f) bytes rest in
+      cond_both (ends end bytes) (Ok ([], bytes)) (and_then (f.read bytes) (λ r. and_then (read_lines end f.read most r.1) (λ s. Ok (r.0 ∷ s.0, s.1)))) P
+      (λ h at. absurd (ok_not_err ([], bytes) rest at))
+      (λ h at. stop-first most bytes rest (f.read bytes) refl h fits (λ mid. texts-stop most mid rest) at) is
 
-  lines-stop : (bytes rest : List ℕ) (r : Result (List X) (List ℕ)) → read_lines f.read (length bytes) bytes ≡ r → and_then {B = List X × List ℕ} r (λ xs. Ok (xs, [])) ≡ Err rest
-      → Stops Nothing (lines f) bytes rest
-  lines-stop bytes rest (Ok xs) at is = absurd (let none : ⊥ = cc in none)
-  lines-stop bytes rest (Err e) at is = texts-stop (length bytes) bytes rest (omega arith) (at ∙ ap (λ l. Err l) (err_is e rest is))
-
-  lines-again : (xs : List X) (rest : List ℕ) → All f.Good xs → Nothing rest → (lines f).read (texts f.spell xs ++ rest) ≡ Ok (xs, rest)
-  lines-again xs rest good after =
-      let whole : texts f.spell xs ++ rest ≡ texts f.spell xs = ap (λ l. texts f.spell xs ++ l) after ∙ append-nil (texts f.spell xs) in
-      let read = texts-again (length (texts f.spell xs)) xs good (omega arith) in
-      ap (lines f).read whole ∙ (rw read (ap (λ l. Ok (xs, l)) (sym after)))
-
-  pub lines-law : IsWhole (lines f)
+  pub lines-law : IsRead (EndsAt end) (lines end f)
+  unfolding TextsTaken
   lines-law = record {
-    again = lines-again;
-    takes = λ bytes rest xs is. lines-takes bytes rest xs (read_lines f.read (length bytes) bytes) refl is;
-    stops = λ bytes rest is. lines-stop bytes rest (read_lines f.read (length bytes) bytes) refl is;
+    again = λ xs rest good after. texts-again (suc (length (texts f.spell xs ++ rest))) xs rest good after (omega (arith, length-append (texts f.spell xs) rest));
+    takes = λ bytes rest xs is. texts-taken (suc (length bytes)) bytes (xs, rest) is;
+    stops = λ bytes rest is. texts-stop (suc (length bytes)) bytes rest (omega arith) is;
   }
 
-  none-before : (r : Result (List X) (List ℕ)) → and_then {B = List X} r (λ xs. Ok ([] ++ xs)) ≡ r
-  none-before (Ok xs) = refl
+  none-before : (r : Result (List X × List ℕ) (List ℕ)) → and_then {B = List X × List ℕ} r (λ s. Ok ([] ++ s.0, s.1)) ≡ r
+  none-before (Ok t) = refl
   none-before (Err e) = refl
 
-  pub goes-first : (bytes : List ℕ) → Goes f bytes [] bytes
-  goes-first bytes = record { most = length bytes; fits = omega arith; same = none-before (read_lines f.read (length bytes) bytes) }
+  pub goes-first : (bytes : List ℕ) → Goes end f bytes [] bytes
+  goes-first bytes = record { most = suc (length bytes); fits = omega arith; same = none-before (read_lines end f.read (suc (length bytes)) bytes) }
 
-  one-before : (done : List X) (x : X) (r : Result (List X) (List ℕ))
-      → and_then {B = List X} r (λ xs. Ok ((done ++ x ∷ []) ++ xs)) ≡ and_then {B = List X} (and_then {B = List X} r (λ xs. Ok (x ∷ xs))) (λ xs. Ok (done ++ xs))
-  one-before done x (Ok xs) = ap (λ l. Ok l) (append_assoc done (x ∷ []) xs)
+  one-before : (done : List X) (x : X) (r : Result (List X × List ℕ) (List ℕ))
+      → and_then {B = List X × List ℕ} r (λ s. Ok ((done ++ x ∷ []) ++ s.0, s.1))
+      ≡ and_then {B = List X × List ℕ} (and_then {B = List X × List ℕ} r (λ s. Ok (x ∷ s.0, s.1))) (λ s. Ok (done ++ s.0, s.1))
+  one-before done x (Ok t) = ap (λ l. Ok (l, t.1)) (append_assoc done (x ∷ []) t.0)
   one-before done x (Err e) = refl
 
-  goes-more-at : (most : ℕ) (bytes : List ℕ) (done : List X) (rest next : List ℕ) (x : X) → 1 ≤ length rest → f.read rest ≡ Ok (x, next) → length rest ≤ most
-      → and_then {B = List X} (read_lines f.read most rest) (λ xs. Ok (done ++ xs)) ≡ read_lines f.read (length bytes) bytes → Goes f bytes (done ++ x ∷ []) next
-  goes-more-at zero bytes done rest next x long at fits same = absurd (omega arith)
-  goes-more-at (suc most) bytes done rest next x long at fits same =
+  goes-more-at : (most : ℕ) (bytes : List ℕ) (done : List X) (rest next : List ℕ) (x : X) → ends end rest ≡ false → f.read rest ≡ Ok (x, next) → length rest < most
+      → and_then {B = List X × List ℕ} (read_lines end f.read most rest) (λ s. Ok (done ++ s.0, s.1)) ≡ (lines end f).read bytes → Goes end f bytes (done ++ x ∷ []) next
+  goes-more-at zero bytes done rest next x on at fits same = absurd (omega arith)
+  goes-more-at (suc most) bytes done rest next x on at fits same =
       let first = F.takes rest next x at in
       let some_bytes = some x first.0 in
       let sum = ap length first.2 ∙ length-append (f.spell x) next in
-      let step : read_lines f.read (suc most) rest ≡ and_then (read_lines f.read most next) (λ xs. Ok (x ∷ xs)) = lines-step most rest long ∙ (rw at refl) in
+      let step : read_lines end f.read (suc most) rest ≡ and_then (read_lines end f.read most next) (λ s. Ok (x ∷ s.0, s.1)) = lines-step most rest on ∙ (rw at refl) in
       record {
         most = most;
         fits = omega arith;
-        same = one-before done x (read_lines f.read most next) ∙ ap (λ (r : Result (List X) (List ℕ)). and_then {B = List X} r (λ xs. Ok (done ++ xs))) (sym step) ∙ same;
+        same = one-before done x (read_lines end f.read most next) ∙ ap (λ (r : Result (List X × List ℕ) (List ℕ)). and_then {B = List X × List ℕ} r (λ s. Ok (done ++ s.0, s.1))) (sym step) ∙ same;
       }
 
-  pub goes-more : (bytes : List ℕ) (done : List X) (rest next : List ℕ) (x : X) → Goes f bytes done rest → 1 ≤ length rest → f.read rest ≡ Ok (x, next) → Goes f bytes (done ++ x ∷ []) next
-  goes-more bytes done rest next x goes long at = goes-more-at goes.most bytes done rest next x long at goes.fits goes.same
+  pub goes-more : (bytes : List ℕ) (done : List X) (rest next : List ℕ) (x : X) → Goes end f bytes done rest → ends end rest ≡ false → f.read rest ≡ Ok (x, next) → Goes end f bytes (done ++ x ∷ []) next
+  goes-more bytes done rest next x goes on at = goes-more-at goes.most bytes done rest next x on at goes.fits goes.same
 
   pub goes-smaller : (rest next : List ℕ) (x : X) → f.read rest ≡ Ok (x, next) → length next < length rest
   goes-smaller rest next x at =
@@ -267,27 +269,24 @@ module _ {X : Type 0} (f : Format X) (F : IsFormat f) (some : (x : X) → f.Good
       let sum = ap length first.2 ∙ length-append (f.spell x) next in
       omega arith
 
-  goes-stop-at : (most : ℕ) (bytes : List ℕ) (done : List X) (rest stop : List ℕ) → 1 ≤ length rest → f.read rest ≡ Err stop → length rest ≤ most
-      → and_then {B = List X} (read_lines f.read most rest) (λ xs. Ok (done ++ xs)) ≡ read_lines f.read (length bytes) bytes → (lines f).read bytes ≡ Err stop
-  goes-stop-at zero bytes done rest stop long at fits same = absurd (omega arith)
-  goes-stop-at (suc most) bytes done rest stop long at fits same =
-      let step : read_lines f.read (suc most) rest ≡ Err stop = lines-step most rest long ∙ (rw at refl) in
-      let whole : read_lines f.read (length bytes) bytes ≡ Err stop = sym same ∙ ap (λ (r : Result (List X) (List ℕ)). and_then {B = List X} r (λ xs. Ok (done ++ xs))) step in
-      ap (λ (r : Result (List X) (List ℕ)). and_then {B = List X × List ℕ} r (λ xs. Ok (xs, []))) whole
+  goes-stop-at : (most : ℕ) (bytes : List ℕ) (done : List X) (rest stop : List ℕ) → ends end rest ≡ false → f.read rest ≡ Err stop → length rest < most
+      → and_then {B = List X × List ℕ} (read_lines end f.read most rest) (λ s. Ok (done ++ s.0, s.1)) ≡ (lines end f).read bytes → (lines end f).read bytes ≡ Err stop
+  goes-stop-at zero bytes done rest stop on at fits same = absurd (omega arith)
+  goes-stop-at (suc most) bytes done rest stop on at fits same =
+      let step : read_lines end f.read (suc most) rest ≡ Err stop = lines-step most rest on ∙ (rw at refl) in
+      sym same ∙ ap (λ (r : Result (List X × List ℕ) (List ℕ)). and_then {B = List X × List ℕ} r (λ s. Ok (done ++ s.0, s.1))) step
 
-  pub goes-stop : (bytes : List ℕ) (done : List X) (rest stop : List ℕ) → Goes f bytes done rest → 1 ≤ length rest → f.read rest ≡ Err stop → (lines f).read bytes ≡ Err stop
-  goes-stop bytes done rest stop goes long at = goes-stop-at goes.most bytes done rest stop long at goes.fits goes.same
+  pub goes-stop : (bytes : List ℕ) (done : List X) (rest stop : List ℕ) → Goes end f bytes done rest → ends end rest ≡ false → f.read rest ≡ Err stop → (lines end f).read bytes ≡ Err stop
+  goes-stop bytes done rest stop goes on at = goes-stop-at goes.most bytes done rest stop on at goes.fits goes.same
 
-  goes-end-at : (most : ℕ) (bytes : List ℕ) (done : List X) → and_then {B = List X} (read_lines f.read most []) (λ xs. Ok (done ++ xs)) ≡ read_lines f.read (length bytes) bytes
-      → (lines f).read bytes ≡ Ok (done, [])
-  goes-end-at most bytes done same =
-      let step : and_then {B = List X} (read_lines f.read most []) (λ xs. Ok (done ++ xs)) ≡ Ok done =
-      ap (λ (r : Result (List X) (List ℕ)). and_then {B = List X} r (λ xs. Ok (done ++ xs))) (lines-none most) ∙ ap (λ l. Ok l) (append-nil done) in
-      ap (λ (r : Result (List X) (List ℕ)). and_then {B = List X × List ℕ} r (λ xs. Ok (xs, []))) (sym same ∙ step)
+  goes-end-at : (most : ℕ) (bytes : List ℕ) (done : List X) (rest : List ℕ) → ends end rest ≡ true → length rest < most
+      → and_then {B = List X × List ℕ} (read_lines end f.read most rest) (λ s. Ok (done ++ s.0, s.1)) ≡ (lines end f).read bytes → (lines end f).read bytes ≡ Ok (done, rest)
+  goes-end-at zero bytes done rest at fits same = absurd (omega arith)
+  goes-end-at (suc most) bytes done rest at fits same =
+      sym same ∙ ap (λ (r : Result (List X × List ℕ) (List ℕ)). and_then {B = List X × List ℕ} r (λ s. Ok (done ++ s.0, s.1))) (lines-none most rest at) ∙ ap (λ l. Ok (l, rest)) (append-nil done)
 
-  pub goes-end : (bytes : List ℕ) (done : List X) (rest : List ℕ) → Goes f bytes done rest → length rest ≡ 0 → (lines f).read bytes ≡ Ok (done, [])
-  goes-end bytes done [] goes none = goes-end-at goes.most bytes done goes.same
-  goes-end bytes done (c ∷ cs) goes none = absurd (omega arith)
+  pub goes-end : (bytes : List ℕ) (done : List X) (rest : List ℕ) → Goes end f bytes done rest → ends end rest ≡ true → (lines end f).read bytes ≡ Ok (done, rest)
+  goes-end bytes done rest goes at = goes-end-at goes.most bytes done rest at goes.fits goes.same
 
 -- one of these values, each with a text of its own
 module _ {X : Type 0} (spell : X → List ℕ) where

@@ -34,49 +34,49 @@ literal_stops text bytes i within inside other =
       | inr none ↦ let nothing : drop i bytes ≡ [] = drop_of_length-le bytes none in rw (at_place text i within, nothing) refl
     ]
 
-digits-bad : (n end c : ℕ) (cs : List ℕ) → (c ≡ end → ⊥) → (is_digit c && ltb (10 * n + (c - 48)) (2 ^ 64)) ≡ false → read_digits n end (c ∷ cs) ≡ Err (c ∷ cs)
+digits-bad : (limit n end c : ℕ) (cs : List ℕ) → (c ≡ end → ⊥) → (is_digit c && ltb (10 * n + (c - 48)) limit) ≡ false → read_digits limit n end (c ∷ cs) ≡ Err (c ∷ cs)
 unfolding read_digits
-digits-bad n end c cs other bad = rw (ne_eqb c end other, bad) refl
+digits-bad limit n end c cs other bad = rw (ne_eqb c end other, bad) refl
 
-digits-more : (n end c : ℕ) (cs : List ℕ) → (c ≡ end → ⊥) → (is_digit c && ltb (10 * n + (c - 48)) (2 ^ 64)) ≡ true → read_digits n end (c ∷ cs) ≡ read_digits (10 * n + (c - 48)) end cs
+digits-more : (limit n end c : ℕ) (cs : List ℕ) → (c ≡ end → ⊥) → (is_digit c && ltb (10 * n + (c - 48)) limit) ≡ true → read_digits limit n end (c ∷ cs) ≡ read_digits limit (10 * n + (c - 48)) end cs
 unfolding read_digits
-digits-more n end c cs other good = rw (ne_eqb c end other, good) refl
+digits-more limit n end c cs other good = rw (ne_eqb c end other, good) refl
 
-digits-end : (n end c : ℕ) (cs : List ℕ) → c ≡ end → read_digits n end (c ∷ cs) ≡ Ok (n, cs)
+digits-end : (limit n end c : ℕ) (cs : List ℕ) → c ≡ end → read_digits limit n end (c ∷ cs) ≡ Ok (n, cs)
 unfolding read_digits
-digits-end n end c cs same = rw (eq-eqb c end same) refl
+digits-end limit n end c cs same = rw (eq-eqb c end same) refl
 
 -- how a digit is added
-abbrev added : ℕ → ℕ → Option ℕ
-added n c = if is_digit c && ltb (10 * n + (c - 48)) (2 ^ 64) then Some (10 * n + (c - 48)) else None
+abbrev added : ℕ → ℕ → ℕ → Option ℕ
+added limit n c = if is_digit c && ltb (10 * n + (c - 48)) limit then Some (10 * n + (c - 48)) else None
 
-added_none : (n c : ℕ) → None ≡ added n c → (is_digit c && ltb (10 * n + (c - 48)) (2 ^ 64)) ≡ false
-added_none n c is = let P : Option ℕ → Type 0 = λ o. None ≡ o → (is_digit c && ltb (10 * n + (c - 48)) (2 ^ 64)) ≡ false in
-    cond_both (is_digit c && ltb (10 * n + (c - 48)) (2 ^ 64)) (Some (10 * n + (c - 48))) None P (λ h at. absurd (let none : ⊥ = cc in none)) (λ h at. h) is
+added_none : (limit n c : ℕ) → None ≡ added limit n c → (is_digit c && ltb (10 * n + (c - 48)) limit) ≡ false
+added_none limit n c is = let P : Option ℕ → Type 0 = λ o. None ≡ o → (is_digit c && ltb (10 * n + (c - 48)) limit) ≡ false in
+    cond_both (is_digit c && ltb (10 * n + (c - 48)) limit) (Some (10 * n + (c - 48))) None P (λ h at. absurd (let none : ⊥ = cc in none)) (λ h at. h) is
 
-added_some : (n c m : ℕ) → Some m ≡ added n c → ((is_digit c && ltb (10 * n + (c - 48)) (2 ^ 64)) ≡ true) × (m ≡ 10 * n + (c - 48))
-added_some n c m is = let P : Option ℕ → Type 0 = λ o. Some m ≡ o → ((is_digit c && ltb (10 * n + (c - 48)) (2 ^ 64)) ≡ true) × (m ≡ 10 * n + (c - 48)) in
-    cond_both (is_digit c && ltb (10 * n + (c - 48)) (2 ^ 64)) (Some (10 * n + (c - 48))) None P (λ h at. (h, let same : m ≡ 10 * n + (c - 48) = cc in same)) (λ h at. absurd (let none : ⊥ = cc in none)) is
+added_some : (limit n c m : ℕ) → Some m ≡ added limit n c → ((is_digit c && ltb (10 * n + (c - 48)) limit) ≡ true) × (m ≡ 10 * n + (c - 48))
+added_some limit n c m is = let P : Option ℕ → Type 0 = λ o. Some m ≡ o → ((is_digit c && ltb (10 * n + (c - 48)) limit) ≡ true) × (m ≡ 10 * n + (c - 48)) in
+    cond_both (is_digit c && ltb (10 * n + (c - 48)) limit) (Some (10 * n + (c - 48))) None P (λ h at. (h, let same : m ≡ 10 * n + (c - 48) = cc in same)) (λ h at. absurd (let none : ⊥ = cc in none)) is
 
-pub digits_stop : (n end : ℕ) (bytes : List ℕ) (i : ℕ) → i < length bytes → (get_or bytes i 0 ≡ end → ⊥) → None ≡ added n (get_or bytes i 0) → read_digits n end (drop i bytes) ≡ Err (drop i bytes)
-digits_stop n end bytes i within other bad = rw (at_place bytes i within) (digits-bad n end (get_or bytes i 0) (drop (i + 1) bytes) other (added_none n (get_or bytes i 0) bad))
+pub digits_stop : (limit n end : ℕ) (bytes : List ℕ) (i : ℕ) → i < length bytes → (get_or bytes i 0 ≡ end → ⊥) → None ≡ added limit n (get_or bytes i 0) → read_digits limit n end (drop i bytes) ≡ Err (drop i bytes)
+digits_stop limit n end bytes i within other bad = rw (at_place bytes i within) (digits-bad limit n end (get_or bytes i 0) (drop (i + 1) bytes) other (added_none limit n (get_or bytes i 0) bad))
 
-pub digits_go_on : (n end m : ℕ) (bytes : List ℕ) (i : ℕ) → i < length bytes → (get_or bytes i 0 ≡ end → ⊥) → Some m ≡ added n (get_or bytes i 0)
-    → read_digits m end (drop (i + 1) bytes) ≡ read_digits n end (drop i bytes)
-digits_go_on n end m bytes i within other good =
+pub digits_go_on : (limit n end m : ℕ) (bytes : List ℕ) (i : ℕ) → i < length bytes → (get_or bytes i 0 ≡ end → ⊥) → Some m ≡ added limit n (get_or bytes i 0)
+    → read_digits limit m end (drop (i + 1) bytes) ≡ read_digits limit n end (drop i bytes)
+digits_go_on limit n end m bytes i within other good =
     let c = get_or bytes i 0 in
-    let a = added_some n c m good in
-    ap (λ k. read_digits k end (drop (i + 1) bytes)) a.1 ∙ sym (digits-more n end c (drop (i + 1) bytes) other a.0) ∙ ap (read_digits n end) (sym (at_place bytes i within))
+    let a = added_some limit n c m good in
+    ap (λ k. read_digits limit k end (drop (i + 1) bytes)) a.1 ∙ sym (digits-more limit n end c (drop (i + 1) bytes) other a.0) ∙ ap (read_digits limit n end) (sym (at_place bytes i within))
 
-pub digits_end : (n end : ℕ) (bytes : List ℕ) (i : ℕ) → i < length bytes → get_or bytes i 0 ≡ end → read_digits n end (drop i bytes) ≡ Ok (n, drop (i + 1) bytes)
-digits_end n end bytes i within same = rw (at_place bytes i within) (digits-end n end (get_or bytes i 0) (drop (i + 1) bytes) same)
+pub digits_end : (limit n end : ℕ) (bytes : List ℕ) (i : ℕ) → i < length bytes → get_or bytes i 0 ≡ end → read_digits limit n end (drop i bytes) ≡ Ok (n, drop (i + 1) bytes)
+digits_end limit n end bytes i within same = rw (at_place bytes i within) (digits-end limit n end (get_or bytes i 0) (drop (i + 1) bytes) same)
 
-digits-none : (n end : ℕ) → read_digits n end [] ≡ Err []
+digits-none : (limit n end : ℕ) → read_digits limit n end [] ≡ Err []
 unfolding read_digits
-digits-none n end = refl
+digits-none limit n end = refl
 
-pub digits_past : (n end : ℕ) (bytes : List ℕ) → read_digits n end (drop (length bytes) bytes) ≡ Err (drop (length bytes) bytes)
-digits_past n end bytes = rw (past bytes) (digits-none n end)
+pub digits_past : (limit n end : ℕ) (bytes : List ℕ) → read_digits limit n end (drop (length bytes) bytes) ≡ Err (drop (length bytes) bytes)
+digits_past limit n end bytes = rw (past bytes) (digits-none limit n end)
 
 -- hex digits
 hex-bad : (k n c : ℕ) (cs : List ℕ) → is_lower_hex c ≡ false → read_hex_digits (suc k) n (c ∷ cs) ≡ Err (c ∷ cs)

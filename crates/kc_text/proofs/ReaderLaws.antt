@@ -1,5 +1,5 @@
 -- The laws of the formats that others are composed of.
-use Rattle.std.proofs.Common.{◌≡◌, ℕ, zero, suc, ◌+◌, ◌-◌, ◌*◌, ◌/◌, ◌%◌, ◌^◌, ◌<◌, ◌≤◌, true, false, ◌&&◌, eqb, leb, ltb, if◌then◌else◌, List, [], ◌∷◌, ◌++◌, length, Result, Ok, Err, decimal, refl, sym, ap, ◌∙◌, subst, arith, append_assoc}
+use Rattle.std.proofs.Common.{◌≡◌, ℕ, zero, suc, ◌+◌, ◌-◌, ◌*◌, ◌/◌, ◌%◌, ◌^◌, ◌<◌, ◌≤◌, true, false, ◌&&◌, eqb, leb, ltb, if◌then◌else◌, List, [], ◌∷◌, ◌++◌, length, Result, Ok, Err, decimal, refl, sym, ap, ◌∙◌, subst, arith, lit≤, append_assoc}
 use Rattle.std.proofs.Math.Nat.{div-add-mod, mul_assoc}
 use Rattle.std.proofs.lemmas.List.{append-nil}
 use Rattle.std.proofs.lemmas.Fmt.{decimal_digit, decimal_step, decimal_by_steps}
@@ -8,7 +8,7 @@ use Rattle.std.proofs.lemmas.Bool.Decides.{nat_tests}
 use Rattle.kc_word.specs.Hex.{hex_digit, hex_digits}
 use Rattle.kc_text.specs.Format.{Format, Anything, Begins, NoMore, Stops, IsFormat}
 use Rattle.kc_text.specs.Reading.{and_then}
-use Rattle.kc_text.specs.Readers.{read_literal, literal, is_name_byte, has_name_bytes, is_name, read_name, read_name_first, name_and, is_digit, read_digits, read_decimal, decimal_and, is_lower_hex, lower_value, read_hex_digits, hex16, read_digit, digit_from}
+use Rattle.kc_text.specs.Readers.{read_literal, literal, is_name_byte, has_name_bytes, is_name, read_name, read_name_first, name_and, is_digit, read_digits, read_decimal, decimal_and, decimal_below, is_lower_hex, lower_value, read_hex_digits, hex16, read_digit, digit_from}
 use Rattle.kc_text.proofs.FormatLaws.{ok_is, err_is, ok_not_err, none_more}
 
 -- what a reader of bytes answers
@@ -288,27 +288,27 @@ decimal-first c is =
     let back : 48 + (c - 48) ≡ c = omega arith in
     decimal_digit (c - 48) (omega arith) ∙ ap (λ d. d ∷ []) back
 
-module _ (end : ℕ) (ends : is_digit end ≡ false) where
+module _ (limit end : ℕ) (ten : 10 ≤ limit) (word : limit ≤ 2 ^ 64) (ends : is_digit end ≡ false) where
   digit_not_end : (c : ℕ) → is_digit c ≡ true → eqb c end ≡ false
   digit_not_end c is = false_from_ne_true (eqb c end) (λ h. let same = eqb-true c end h in true≢false (sym is ∙ ap is_digit same ∙ ends))
 
-  digits-step : (n c : ℕ) (cs : List ℕ) → is_digit c ≡ true → 10 * n + (c - 48) < 2 ^ 64 → read_digits n end (c ∷ cs) ≡ read_digits (10 * n + (c - 48)) end cs
+  digits-step : (n c : ℕ) (cs : List ℕ) → is_digit c ≡ true → 10 * n + (c - 48) < limit → read_digits limit n end (c ∷ cs) ≡ read_digits limit (10 * n + (c - 48)) end cs
   unfolding read_digits
   digits-step n c cs is fits =
-      let goes : (is_digit c && ltb (10 * n + (c - 48)) (2 ^ 64)) ≡ true = and_from (is_digit c) (ltb (10 * n + (c - 48)) (2 ^ 64)) is (lt-ltb (10 * n + (c - 48)) (2 ^ 64) fits) in
+      let goes : (is_digit c && ltb (10 * n + (c - 48)) limit) ≡ true = and_from (is_digit c) (ltb (10 * n + (c - 48)) limit) is (lt-ltb (10 * n + (c - 48)) limit fits) in
       rw (digit_not_end c is, goes) refl
 
-  digits-end : (n : ℕ) (cs : List ℕ) → read_digits n end (end ∷ cs) ≡ Ok (n, cs)
+  digits-end : (n : ℕ) (cs : List ℕ) → read_digits limit n end (end ∷ cs) ≡ Ok (n, cs)
   unfolding read_digits
   digits-end n cs = rw (eq-eqb end end refl) refl
 
   -- the digits of a number lead to it
   Leads : ℕ → List ℕ → Type 0
-  Leads n text = n < 2 ^ 64 → (c : ℕ) × (ds : List ℕ) × (text ≡ c ∷ ds) × (is_digit c ≡ true) × (1 ≤ n → 49 ≤ c) × ((tail : List ℕ) → read_digits (c - 48) end (ds ++ tail) ≡ read_digits n end tail)
+  Leads n text = n < limit → (c : ℕ) × (ds : List ℕ) × (text ≡ c ∷ ds) × (is_digit c ≡ true) × (1 ≤ n → 49 ≤ c) × ((tail : List ℕ) → read_digits limit (c - 48) end (ds ++ tail) ≡ read_digits limit n end tail)
 
   leads-one : (n : ℕ) → n < 10 → Leads n ((48 + n) ∷ [])
   unfolding Leads
-  leads-one n small fits = (48 + n, [], refl, digit_is (48 + n) (omega arith) (omega arith), (λ some. omega arith), (λ tail. ap (λ m. read_digits m end tail) (omega arith)))
+  leads-one n small fits = (48 + n, [], refl, digit_is (48 + n) (omega arith) (omega arith), (λ some. omega arith), (λ tail. ap (λ m. read_digits limit m end tail) (omega arith)))
 
   leads-more : (n : ℕ) (ds : List ℕ) → 10 ≤ n → Leads (n / 10) ds → Leads n (ds ++ (48 + n % 10) ∷ [])
   unfolding Leads
@@ -322,73 +322,75 @@ module _ (end : ℕ) (ends : is_digit end ≡ false) where
         (ap (λ l. l ++ last ∷ []) b.2),
         b.3,
         (λ some. b.4 (omega arith)),
-        (λ tail. ap (read_digits (b.0 - 48) end) (append_assoc b.1 (last ∷ []) tail) ∙ b.5 (last ∷ tail)
-            ∙ digits-step (n / 10) last tail is (omega arith) ∙ ap (λ m. read_digits m end tail) number),
+        (λ tail. ap (read_digits limit (b.0 - 48) end) (append_assoc b.1 (last ∷ []) tail) ∙ b.5 (last ∷ tail)
+            ∙ digits-step (n / 10) last tail is (omega arith) ∙ ap (λ m. read_digits limit m end tail) number),
       )
 
   leads : (n : ℕ) → n < 2 ^ 64 → Leads n (decimal n)
   leads = decimal_by_steps Leads leads-one leads-more
 
-  decimal-zero : (cs : List ℕ) → read_decimal end (48 ∷ cs) ≡ and_then (read_literal (end ∷ []) cs) (λ r. Ok (0, r.1))
+  decimal-zero : (cs : List ℕ) → read_decimal limit end (48 ∷ cs) ≡ and_then (read_literal (end ∷ []) cs) (λ r. Ok (0, r.1))
   decimal-zero cs = refl
 
-  decimal-some : (c : ℕ) (cs : List ℕ) → is_digit c ≡ true → 49 ≤ c → read_decimal end (c ∷ cs) ≡ read_digits (c - 48) end cs
+  decimal-some : (c : ℕ) (cs : List ℕ) → is_digit c ≡ true → 49 ≤ c → read_decimal limit end (c ∷ cs) ≡ read_digits limit (c - 48) end cs
   decimal-some c cs is some = let other : eqb c 48 ≡ false = grind (arith, nat_tests) in rw (other, is) refl
 
-  decimal-again : (n : ℕ) (rest : List ℕ) → n < 2 ^ 64 → read_decimal end ((decimal n ++ end ∷ []) ++ rest) ≡ Ok (n, rest)
+  decimal-again : (n : ℕ) (rest : List ℕ) → n < limit → read_decimal limit end ((decimal n ++ end ∷ []) ++ rest) ≡ Ok (n, rest)
   unfolding Leads
   decimal-again zero rest fits =
       let text : (decimal 0 ++ end ∷ []) ++ rest ≡ 48 ∷ end ∷ rest = ap (λ l. (l ++ end ∷ []) ++ rest) (decimal_digit 0 (omega arith)) in
-      ap (read_decimal end) text ∙ decimal-zero (end ∷ rest) ∙ (rw (literal-again (end ∷ []) rest) refl)
+      ap (read_decimal limit end) text ∙ decimal-zero (end ∷ rest) ∙ (rw (literal-again (end ∷ []) rest) refl)
   decimal-again (suc k) rest fits =
       let n = suc k in
-      let l = leads n fits fits in
+      let l = leads n (omega arith) fits in
       let c = l.0 in
       let text : (decimal n ++ end ∷ []) ++ rest ≡ c ∷ (l.1 ++ end ∷ rest) = append_assoc (decimal n) (end ∷ []) rest ∙ ap (λ t. t ++ end ∷ rest) l.2 in
-      ap (read_decimal end) text ∙ decimal-some c (l.1 ++ end ∷ rest) l.3 (l.4 (omega arith)) ∙ l.5 (end ∷ rest) ∙ digits-end n rest
+      ap (read_decimal limit end) text ∙ decimal-some c (l.1 ++ end ∷ rest) l.3 (l.4 (omega arith)) ∙ l.5 (end ∷ rest) ∙ digits-end n rest
 
   DigitsTake : ℕ → List ℕ → ℕ × List ℕ → Type 0
-  DigitsTake n bytes q = (q.0 < 2 ^ 64) × (decimal n ++ bytes ≡ decimal q.0 ++ end ∷ q.1)
+  DigitsTake n bytes q = (q.0 < limit) × (decimal n ++ bytes ≡ decimal q.0 ++ end ∷ q.1)
 
-  digits-take : (n : ℕ) (bytes : List ℕ) (q : ℕ × List ℕ) → 1 ≤ n → n < 2 ^ 64 → read_digits n end bytes ≡ Ok q → DigitsTake n bytes q
+  digits-take : (n : ℕ) (bytes : List ℕ) (q : ℕ × List ℕ) → 1 ≤ n → n < limit → read_digits limit n end bytes ≡ Ok q → DigitsTake n bytes q
   unfolding read_digits DigitsTake
   digits-take n [] q some fits is = absurd (let none : ⊥ = cc in none)
   digits-take n (c ∷ cs) q some fits is =
       let P : Result (ℕ × List ℕ) (List ℕ) → Type 0 = λ r. r ≡ Ok q → DigitsTake n (c ∷ cs) q in
       let next = 10 * n + (c - 48) in
-      cond_both (eqb c end) (Ok (n, cs)) (if is_digit c && ltb next (2 ^ 64) then read_digits next end cs else Err (c ∷ cs)) P
+      cond_both (eqb c end) (Ok (n, cs)) (if is_digit c && ltb next limit then read_digits limit next end cs else Err (c ∷ cs)) P
       (λ h at. subst (DigitsTake n (c ∷ cs)) (ok_is (n, cs) q at) (fits, ap (λ d. decimal n ++ d ∷ cs) (eqb-true c end h)))
-      (λ h. cond_both (is_digit c && ltb next (2 ^ 64)) (read_digits next end cs) (Err (c ∷ cs)) P
+      (λ h. cond_both (is_digit c && ltb next limit) (read_digits limit next end cs) (Err (c ∷ cs)) P
       (λ good at.
-      let parts = and_parts (is_digit c) (ltb next (2 ^ 64)) good in
-      let small : next < 2 ^ 64 = ltb-true next (2 ^ 64) parts.1 in
+      let parts = and_parts (is_digit c) (ltb next limit) good in
+      let small : next < limit = ltb-true next limit parts.1 in
+      let wide : next < 2 ^ 64 = omega arith in
       let t = digits-take next cs q (omega arith) small at in
-      (t.0, sym (append_assoc (decimal n) (c ∷ []) cs) ∙ ap (λ l. l ++ cs) (sym (decimal-goes n c some parts.0 small)) ∙ t.1))
+      (t.0, sym (append_assoc (decimal n) (c ∷ []) cs) ∙ ap (λ l. l ++ cs) (sym (decimal-goes n c some parts.0 wide)) ∙ t.1))
       (λ bad at. absurd (let none : ⊥ = cc in none))) is
 
   DigitsFront : ℕ → List ℕ → Type 0
-  DigitsFront n front = (m : ℕ) × (m < 2 ^ 64) × (decimal n ++ front ≡ decimal m)
+  DigitsFront n front = (m : ℕ) × (m < limit) × (decimal n ++ front ≡ decimal m)
 
-  digits-halt : (n : ℕ) (bytes rest : List ℕ) → 1 ≤ n → n < 2 ^ 64 → read_digits n end bytes ≡ Err rest → Halt (read_digits n end) (DigitsFront n) bytes rest
+  digits-halt : (n : ℕ) (bytes rest : List ℕ) → 1 ≤ n → n < limit → read_digits limit n end bytes ≡ Err rest → Halt (read_digits limit n end) (DigitsFront n) bytes rest
   unfolding read_digits DigitsFront
-  digits-halt n [] rest some fits is = halt_end (read_digits n end) (DigitsFront n) rest (n, fits, append-nil (decimal n)) (err_is [] rest is)
+  digits-halt n [] rest some fits is = halt_end (read_digits limit n end) (DigitsFront n) rest (n, fits, append-nil (decimal n)) (err_is [] rest is)
   digits-halt n (c ∷ cs) rest some fits is =
-      let P : Result (ℕ × List ℕ) (List ℕ) → Type 0 = λ r. r ≡ Err rest → Halt (read_digits n end) (DigitsFront n) (c ∷ cs) rest in
+      let P : Result (ℕ × List ℕ) (List ℕ) → Type 0 = λ r. r ≡ Err rest → Halt (read_digits limit n end) (DigitsFront n) (c ∷ cs) rest in
       let next = 10 * n + (c - 48) in
-      cond_both (eqb c end) (Ok (n, cs)) (if is_digit c && ltb next (2 ^ 64) then read_digits next end cs else Err (c ∷ cs)) P
+      cond_both (eqb c end) (Ok (n, cs)) (if is_digit c && ltb next limit then read_digits limit next end cs else Err (c ∷ cs)) P
       (λ h at. absurd (let none : ⊥ = cc in none))
-      (λ h. cond_both (is_digit c && ltb next (2 ^ 64)) (read_digits next end cs) (Err (c ∷ cs)) P
+      (λ h. cond_both (is_digit c && ltb next limit) (read_digits limit next end cs) (Err (c ∷ cs)) P
       (λ good at.
-      let parts = and_parts (is_digit c) (ltb next (2 ^ 64)) good in
-      let small : next < 2 ^ 64 = ltb-true next (2 ^ 64) parts.1 in
-      halt_cons (read_digits n end) (read_digits next end) (DigitsFront n) (DigitsFront next) c cs rest
+      let parts = and_parts (is_digit c) (ltb next limit) good in
+      let small : next < limit = ltb-true next limit parts.1 in
+      let wide : next < 2 ^ 64 = omega arith in
+      halt_cons (read_digits limit n end) (read_digits limit next end) (DigitsFront n) (DigitsFront next) c cs rest
       (λ tail e there. digits-step n c tail parts.0 small ∙ there)
-      (λ front known. (known.0, known.1, sym (append_assoc (decimal n) (c ∷ []) front) ∙ ap (λ l. l ++ front) (sym (decimal-goes n c some parts.0 small)) ∙ known.2))
+      (λ front known. (known.0, known.1, sym (append_assoc (decimal n) (c ∷ []) front) ∙ ap (λ l. l ++ front) (sym (decimal-goes n c some parts.0 wide)) ∙ known.2))
       (digits-halt next cs rest (omega arith) small at))
-      (λ bad at. halt_here (read_digits n end) (DigitsFront n) c cs rest (n, fits, append-nil (decimal n)) (λ tail. rw (h, bad) refl) (err_is (c ∷ cs) rest at))) is
+      (λ bad at. halt_here (read_digits limit n end) (DigitsFront n) c cs rest (n, fits, append-nil (decimal n)) (λ tail. rw (h, bad) refl) (err_is (c ∷ cs) rest at))) is
 
   DecimalTakes : List ℕ → ℕ × List ℕ → Type 0
-  DecimalTakes bytes q = (q.0 < 2 ^ 64) × (bytes ≡ (decimal q.0 ++ end ∷ []) ++ q.1)
+  DecimalTakes bytes q = (q.0 < limit) × (bytes ≡ (decimal q.0 ++ end ∷ []) ++ q.1)
 
   zero-takes : (cs : List ℕ) (q : ℕ × List ℕ) (r : Result (Unit {0} × List ℕ) (List ℕ)) → read_literal (end ∷ []) cs ≡ r → and_then r (λ r. Ok (0, r.1)) ≡ Ok q → DecimalTakes (48 ∷ cs) q
   unfolding DecimalTakes
@@ -398,14 +400,14 @@ module _ (end : ℕ) (ends : is_digit end ≡ false) where
       let whole : 48 ∷ cs ≡ (decimal 0 ++ end ∷ []) ++ t.1 = ap (λ l. 48 ∷ l) text ∙ ap (λ l. (l ++ end ∷ []) ++ t.1) (sym (decimal_digit 0 (omega arith))) in
       subst (DecimalTakes (48 ∷ cs)) (ok_is (0, t.1) q is) (omega arith, whole)
 
-  decimal-takes : (bytes : List ℕ) (q : ℕ × List ℕ) → read_decimal end bytes ≡ Ok q → DecimalTakes bytes q
+  decimal-takes : (bytes : List ℕ) (q : ℕ × List ℕ) → read_decimal limit end bytes ≡ Ok q → DecimalTakes bytes q
   unfolding DecimalTakes DigitsTake
   decimal-takes [] q is = absurd (let none : ⊥ = cc in none)
   decimal-takes (c ∷ cs) q is =
       let P : Result (ℕ × List ℕ) (List ℕ) → Type 0 = λ r. r ≡ Ok q → DecimalTakes (c ∷ cs) q in
-      cond_both (eqb c 48) (and_then (read_literal (end ∷ []) cs) (λ r. Ok (0, r.1))) (if is_digit c then read_digits (c - 48) end cs else Err (c ∷ cs)) P
+      cond_both (eqb c 48) (and_then (read_literal (end ∷ []) cs) (λ r. Ok (0, r.1))) (if is_digit c then read_digits limit (c - 48) end cs else Err (c ∷ cs)) P
       (λ h at. let AtDigit : ℕ → Type 0 = λ d. DecimalTakes (d ∷ cs) q in subst AtDigit (sym (eqb-true c 48 h)) (zero-takes cs q (read_literal (end ∷ []) cs) refl at))
-      (λ h. cond_both (is_digit c) (read_digits (c - 48) end cs) (Err (c ∷ cs)) P
+      (λ h. cond_both (is_digit c) (read_digits limit (c - 48) end cs) (Err (c ∷ cs)) P
       (λ good at.
       let bounds = digit_bounds c good in
       let low : 48 ≤ c = bounds.0 in
@@ -416,49 +418,52 @@ module _ (end : ℕ) (ends : is_digit end ≡ false) where
       (λ bad at. absurd (let none : ⊥ = cc in none))) is
 
   DecimalFront : List ℕ → Type 0
-  DecimalFront = Begins (decimal_and end)
+  DecimalFront = Begins (decimal_below limit end)
 
   decimal-none-yet : DecimalFront []
   unfolding DecimalFront
   decimal-none-yet = (0, decimal 0 ++ end ∷ [], omega arith, refl)
 
   zero-halt : (cs rest : List ℕ) (r : Result (Unit {0} × List ℕ) (List ℕ)) → read_literal (end ∷ []) cs ≡ r → and_then {B = ℕ × List ℕ} r (λ r. Ok (0, r.1)) ≡ Err rest
-      → Halt (read_decimal end) DecimalFront (48 ∷ cs) rest
+      → Halt (read_decimal limit end) DecimalFront (48 ∷ cs) rest
   unfolding DecimalFront BeginsLiteral
   zero-halt cs rest (Ok t) at is = absurd (let none : ⊥ = cc in none)
   zero-halt cs rest (Err e) at is =
-      halt_cons (read_decimal end) (read_literal (end ∷ [])) DecimalFront (BeginsLiteral (end ∷ [])) 48 cs rest
+      halt_cons (read_decimal limit end) (read_literal (end ∷ [])) DecimalFront (BeginsLiteral (end ∷ [])) 48 cs rest
       (λ tail e there. decimal-zero tail ∙ (rw there refl))
       (λ front known. (0, known.0, omega arith, ap (λ l. 48 ∷ l) known.1 ∙ ap (λ l. l ++ end ∷ []) (sym (decimal_digit 0 (omega arith)))))
       (literal-halt (end ∷ []) cs rest (at ∙ ap (λ l. Err l) (err_is e rest is)))
 
-  decimal-halt : (bytes rest : List ℕ) → read_decimal end bytes ≡ Err rest → Halt (read_decimal end) DecimalFront bytes rest
+  decimal-halt : (bytes rest : List ℕ) → read_decimal limit end bytes ≡ Err rest → Halt (read_decimal limit end) DecimalFront bytes rest
   unfolding DecimalFront DigitsFront
-  decimal-halt [] rest is = halt_end (read_decimal end) DecimalFront rest decimal-none-yet (err_is [] rest is)
+  decimal-halt [] rest is = halt_end (read_decimal limit end) DecimalFront rest decimal-none-yet (err_is [] rest is)
   decimal-halt (c ∷ cs) rest is =
-      let P : Result (ℕ × List ℕ) (List ℕ) → Type 0 = λ r. r ≡ Err rest → Halt (read_decimal end) DecimalFront (c ∷ cs) rest in
-      cond_both (eqb c 48) (and_then (read_literal (end ∷ []) cs) (λ r. Ok (0, r.1))) (if is_digit c then read_digits (c - 48) end cs else Err (c ∷ cs)) P
-      (λ h at. let AtDigit : ℕ → Type 0 = λ d. Halt (read_decimal end) DecimalFront (d ∷ cs) rest in subst AtDigit (sym (eqb-true c 48 h)) (zero-halt cs rest (read_literal (end ∷ []) cs) refl at))
-      (λ h. cond_both (is_digit c) (read_digits (c - 48) end cs) (Err (c ∷ cs)) P
+      let P : Result (ℕ × List ℕ) (List ℕ) → Type 0 = λ r. r ≡ Err rest → Halt (read_decimal limit end) DecimalFront (c ∷ cs) rest in
+      cond_both (eqb c 48) (and_then (read_literal (end ∷ []) cs) (λ r. Ok (0, r.1))) (if is_digit c then read_digits limit (c - 48) end cs else Err (c ∷ cs)) P
+      (λ h at. let AtDigit : ℕ → Type 0 = λ d. Halt (read_decimal limit end) DecimalFront (d ∷ cs) rest in subst AtDigit (sym (eqb-true c 48 h)) (zero-halt cs rest (read_literal (end ∷ []) cs) refl at))
+      (λ h. cond_both (is_digit c) (read_digits limit (c - 48) end cs) (Err (c ∷ cs)) P
       (λ good at.
       let bounds = digit_bounds c good in
       let low : 48 ≤ c = bounds.0 in
       let high : c ≤ 57 = bounds.1 in
       let other = eqb-false c 48 h in
       let some : 49 ≤ c = omega arith in
-      halt_cons (read_decimal end) (read_digits (c - 48) end) DecimalFront (DigitsFront (c - 48)) c cs rest
+      halt_cons (read_decimal limit end) (read_digits limit (c - 48) end) DecimalFront (DigitsFront (c - 48)) c cs rest
       (λ tail e there. decimal-some c tail good some ∙ there)
       (λ front known. (known.0, end ∷ [], known.1, ap (λ l. (l ++ front) ++ end ∷ []) (sym (decimal-first c good)) ∙ ap (λ l. l ++ end ∷ []) known.2))
       (digits-halt (c - 48) cs rest (omega arith) (omega arith) at))
-      (λ bad at. halt_here (read_decimal end) DecimalFront c cs rest decimal-none-yet (λ tail. rw (h, bad) refl) (err_is (c ∷ cs) rest at))) is
+      (λ bad at. halt_here (read_decimal limit end) DecimalFront c cs rest decimal-none-yet (λ tail. rw (h, bad) refl) (err_is (c ∷ cs) rest at))) is
 
-  pub decimal-law : IsFormat (decimal_and end)
+  pub below-law : IsFormat (decimal_below limit end)
   unfolding DecimalFront DecimalTakes
-  decimal-law = record {
+  below-law = record {
     again = λ n rest good after. decimal-again n rest good;
     takes = λ bytes rest n is. let t = decimal-takes bytes (n, rest) is in (t.0, tt, t.1);
-    stops = λ bytes rest is. stops_by (decimal_and end) bytes rest decimal-again (decimal-halt bytes rest is);
+    stops = λ bytes rest is. stops_by (decimal_below limit end) bytes rest decimal-again (decimal-halt bytes rest is);
   }
+
+pub decimal-law : (end : ℕ) → is_digit end ≡ false → IsFormat (decimal_and end)
+decimal-law end ends = below-law (2 ^ 64) end (lit≤ tt) (lit≤ tt) ends
 
 -- a number in 16 hex digits
 hex_back : (d : ℕ) → d < 16 → (is_lower_hex (hex_digit d) ≡ true) × (lower_value (hex_digit d) ≡ d)

@@ -1,5 +1,5 @@
 -- Formats made of others. Each law is proved once, so a composition has its laws from its parts.
-use Rattle.std.specs.Prelude.{◌≡◌, ◌≤◌, ℕ, zero, suc, ◌⊎◌, List, [], ◌∷◌, ◌++◌, length, Result, Ok, Err, All}
+use Rattle.std.specs.Prelude.{◌≡◌, ◌<◌, ℕ, zero, suc, ◌⊎◌, Bool, true, false, ◌==◌, if◌then◌else◌, List, [], ◌∷◌, ◌++◌, length, Option, Some, None, Result, Ok, Err, All}
 use Rattle.std.proofs.Common.{inl, inr}
 use Rattle.kc_text.specs.Format.{Format}
 use Rattle.kc_text.specs.Reading.{and_then, or_else}
@@ -56,25 +56,36 @@ followed f text = record {
   read = λ bytes. and_then (f.read bytes) (λ r. and_then (read_literal text r.1) (λ s. Ok (r.0, s.1)));
 }
 
--- values to the end, each with its text: there are no more of them than bytes
+-- whether values end here: where the bytes do, or before this byte, with which no value's text begins
+abbrev pub ends : Option ℕ → List ℕ → Bool
+ends None [] = true
+ends None (c ∷ cs) = false
+ends (Some end) [] = false
+ends (Some end) (c ∷ cs) = c == end
+
+abbrev pub EndsAt : Option ℕ → List ℕ → Type 0
+EndsAt end rest = ends end rest ≡ true
+
+-- values up to their end, each with its text: there are no more of them than bytes
 abbrev pub texts : {X : Type 0} → (X → List ℕ) → List X → List ℕ
 texts spell [] = []
 texts spell (x ∷ xs) = spell x ++ texts spell xs
 
-unfoldable pub read_lines : {X : Type 0} → (List ℕ → Result (X × List ℕ) (List ℕ)) → ℕ → List ℕ → Result (List X) (List ℕ)
-read_lines read most [] = Ok []
-read_lines read zero (c ∷ cs) = Err (c ∷ cs)
-read_lines read (suc most) (c ∷ cs) = and_then (read (c ∷ cs)) (λ r. and_then (read_lines read most r.1) (λ xs. Ok (r.0 ∷ xs)))
+unfoldable pub read_lines : {X : Type 0} → Option ℕ → (List ℕ → Result (X × List ℕ) (List ℕ)) → ℕ → List ℕ → Result (List X × List ℕ) (List ℕ)
+read_lines end read zero bytes = Err bytes
+read_lines end read (suc most) bytes =
+    if ends end bytes then Ok ([], bytes)
+    else and_then (read bytes) (λ r. and_then (read_lines end read most r.1) (λ s. Ok (r.0 ∷ s.0, s.1)))
 
-abbrev pub lines : {X : Type 0} → Format X → Format (List X)
-lines f = record {
+abbrev pub lines : {X : Type 0} → Option ℕ → Format X → Format (List X)
+lines end f = record {
   Good = All f.Good;
   spell = texts f.spell;
-  read = λ bytes. and_then (read_lines f.read (length bytes) bytes) (λ xs. Ok (xs, []));
+  read = λ bytes. read_lines end f.read (suc (length bytes)) bytes;
 }
 
 -- a loop that reads line by line: these values are read, and these bytes are left
-pub record Goes {X : Type 0} (f : Format X) (bytes : List ℕ) (done : List X) (rest : List ℕ) : Type 0 where
+pub record Goes {X : Type 0} (end : Option ℕ) (f : Format X) (bytes : List ℕ) (done : List X) (rest : List ℕ) : Type 0 where
   pub most : ℕ
-  pub fits : length rest ≤ most
-  pub same : and_then {B = List X} (read_lines f.read most rest) (λ xs. Ok (done ++ xs)) ≡ read_lines f.read (length bytes) bytes
+  pub fits : length rest < most
+  pub same : and_then {B = List X × List ℕ} (read_lines end f.read most rest) (λ s. Ok (done ++ s.0, s.1)) ≡ (lines end f).read bytes

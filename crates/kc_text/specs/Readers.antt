@@ -46,23 +46,27 @@ name_and end = record { Good = λ name. IsTrue (is_name name); spell = λ name. 
 abbrev pub is_digit : ℕ → Bool
 is_digit c = nat_le 48 c && nat_le c 57
 
--- decimal digits that go on those of n, as long as the number is below 2^64, and then the byte that ends them
-unfoldable pub read_digits : ℕ → ℕ → List ℕ → Result (ℕ × List ℕ) (List ℕ)
-read_digits n end [] = Err []
-read_digits n end (c ∷ cs) =
+-- decimal digits that go on those of n, as long as the number is below the limit, and then the byte that ends them
+unfoldable pub read_digits : ℕ → ℕ → ℕ → List ℕ → Result (ℕ × List ℕ) (List ℕ)
+read_digits limit n end [] = Err []
+read_digits limit n end (c ∷ cs) =
     if c == end then Ok (n, cs)
-    else (if is_digit c && nat_lt (10 * n + (c - 48)) (2 ^ 64) then read_digits (10 * n + (c - 48)) end cs else Err (c ∷ cs))
+    else (if is_digit c && nat_lt (10 * n + (c - 48)) limit then read_digits limit (10 * n + (c - 48)) end cs else Err (c ∷ cs))
 
 -- nothing may follow a 0 but the byte that ends it
-abbrev pub read_decimal : ℕ → List ℕ → Result (ℕ × List ℕ) (List ℕ)
-read_decimal end [] = Err []
-read_decimal end (c ∷ cs) =
+abbrev pub read_decimal : ℕ → ℕ → List ℕ → Result (ℕ × List ℕ) (List ℕ)
+read_decimal limit end [] = Err []
+read_decimal limit end (c ∷ cs) =
     if c == 48 then and_then (read_literal (end ∷ []) cs) (λ r. Ok (0, r.1))
-    else (if is_digit c then read_digits (c - 48) end cs else Err (c ∷ cs))
+    else (if is_digit c then read_digits limit (c - 48) end cs else Err (c ∷ cs))
 
--- a number below 2^64 in decimal, without leading zeros, and then the byte that ends it, which is no digit
+-- a number below a limit, which is at least 10, in decimal, without leading zeros, and then the byte that ends it, which
+-- is no digit
+abbrev pub decimal_below : ℕ → ℕ → Format ℕ
+decimal_below limit end = record { Good = λ n. n < limit; spell = λ n. decimal n ++ end ∷ []; read = read_decimal limit end }
+
 abbrev pub decimal_and : ℕ → Format ℕ
-decimal_and end = record { Good = λ n. n < 2 ^ 64; spell = λ n. decimal n ++ end ∷ []; read = read_decimal end }
+decimal_and end = decimal_below (2 ^ 64) end
 
 -- whether a byte is a hex digit in lower case, and what it is worth then
 abbrev pub is_lower_hex : ℕ → Bool

@@ -2,7 +2,7 @@
 ghost use Rattle.std.specs.Prelude.{◌≡◌, ◌&&◌, ◌+◌, ◌-◌, ◌*◌, ◌<◌, ◌≤◌, ◌^◌, true, Some, None, if◌then◌else◌, nat_lt, IfOk, take, drop, length};
 ghost use Rattle.kc_text.specs.Answers.{Gives};
 ghost use Rattle.kc_text.specs.Reading.{shorter};
-ghost use Rattle.kc_text.specs.Readers.{literal, name_and, decimal_and, hex16, digit_from, is_name_byte, is_digit, is_lower_hex, lower_value, read_digits, read_name, has_name_bytes, is_name};
+ghost use Rattle.kc_text.specs.Readers.{literal, name_and, decimal_and, decimal_below, hex16, digit_from, is_name_byte, is_digit, is_lower_hex, lower_value, read_digits, read_name, has_name_bytes, is_name};
 
 /// Reads a text that stands first, and gives the bytes after it. It takes no memory.
 ///
@@ -27,31 +27,54 @@ fn is_digit(c: u8) -> bool
     c.is_ascii_digit()
 }
 
-// The number with one more digit, where it is one and the number stays below 2^64.
-fn with_digit(n: u64, c: u8) -> Option<u64>
-    ensures { result ≡ (if is_digit c && nat_lt (10 * n + (c - 48)) (2 ^ 64) then Some (10 * n + (c - 48)) else None) }
+// The number with one more digit, where it is one and the number stays within the greatest.
+fn with_digit(n: u64, c: u8, most: u64) -> Option<u64>
+    ensures { result ≡ (if is_digit c && nat_lt (10 * n + (c - 48)) (most + 1) then Some (10 * n + (c - 48)) else None) }
 {
     if !is_digit(c) {
         return None;
     }
-    n.checked_mul(10)?.checked_add(u64::from(c - b'0'))
+    let more = n.checked_mul(10)?.checked_add(u64::from(c - b'0'))?;
+    if more <= most { Some(more) } else { None }
 }
 
 // Reads digits that go on those of a number, and the byte that ends them.
-fn more_digits(bytes: &[u8], first: u64, end: u8) -> Result<(u64, &[u8]), &[u8]>
-    ensures { Gives (λ r. (r.0, r.1.now)) result (read_digits first end bytes.now) }
+fn more_digits(bytes: &[u8], first: u64, end: u8, most: u64) -> Result<(u64, &[u8]), &[u8]>
+    ensures { Gives (λ r. (r.0, r.1.now)) result (read_digits (most + 1) first end bytes.now) }
 {
     let mut n = first;
     for (i, c) in bytes.iter().enumerate() {
         if *c == end {
             return Ok((n, &bytes[i + 1..]));
         }
-        match with_digit(n, *c) {
+        match with_digit(n, *c, most) {
             Some(more) => n = more,
             None => return Err(&bytes[i..]),
         }
     }
     Err(&bytes[bytes.len()..])
+}
+
+/// Reads a number in decimal without leading zeros and the byte that ends it, which is no digit, and gives the bytes
+/// after that. The number is at most this one, which is at least 9. It takes no memory.
+///
+/// # Errors
+///
+/// The bytes from the one on where no such number goes on.
+pub fn read_decimal_to(bytes: &[u8], end: u8, most: u64) -> Result<(u64, &[u8]), &[u8]>
+    ensures { Gives (λ r. (r.0, r.1.now)) result ((decimal_below (most + 1) end).read bytes.now) }
+{
+    match bytes {
+        [] => Err(bytes),
+        [b'0', rest @ ..] => Ok((0, read_literal(rest, &[end])?)),
+        [c, rest @ ..] => {
+            if is_digit(*c) {
+                more_digits(rest, u64::from(*c - b'0'), end, most)
+            } else {
+                Err(bytes)
+            }
+        }
+    }
 }
 
 /// Reads a number below 2^64 in decimal without leading zeros and the byte that ends it, which is no digit, and
@@ -63,17 +86,7 @@ fn more_digits(bytes: &[u8], first: u64, end: u8) -> Result<(u64, &[u8]), &[u8]>
 pub fn read_decimal(bytes: &[u8], end: u8) -> Result<(u64, &[u8]), &[u8]>
     ensures { Gives (λ r. (r.0, r.1.now)) result ((decimal_and end).read bytes.now) }
 {
-    match bytes {
-        [] => Err(bytes),
-        [b'0', rest @ ..] => Ok((0, read_literal(rest, &[end])?)),
-        [c, rest @ ..] => {
-            if is_digit(*c) {
-                more_digits(rest, u64::from(*c - b'0'), end)
-            } else {
-                Err(bytes)
-            }
-        }
-    }
+    read_decimal_to(bytes, end, u64::MAX)
 }
 
 // Whether a byte is a hex digit in lower case.

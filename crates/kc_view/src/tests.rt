@@ -3,7 +3,7 @@ ghost use Rattle.std.specs.Prelude.{◌≡◌, ◌<◌, ◌≤◌};
 
 use crate::{Led, View};
 use kc_btf::Btf;
-use kc_found::{ListSpace, VWord};
+use kc_found::{ListSpace, Origin, VWord};
 use kc_layout::{Field, Hops, Located};
 use kc_word::{Bits, Steps};
 use std::alloc::{AllocError, Global};
@@ -32,7 +32,7 @@ fn space_of(alloc: Global) -> Result<ListSpace, AllocError> {
         words.push(VWord {
             va,
             pa: va,
-            off: va,
+            off: Origin::File(va),
             value,
         })?;
     }

@@ -17,7 +17,7 @@ pub use hex::{hex16, read_hex};
 pub use laws::know_hex;
 pub use memory::NoMemory;
 pub use numbers::{get_u16, get_u32, get_u64};
-pub use plain::{Pa, PageCfg, Segment};
+pub use plain::{Pa, PageCfg, Segment, Tail};
 pub use steps::Steps;
 
 #[cfg(test)]

@@ -28,3 +28,12 @@ pub struct PageCfg {
     /// The bits that memory encryption sets in an entry; they are no part of its address.
     pub sme: u64,
 }
+
+/// How the memory that a segment has and the file leaves out, from `filesz` up to `memsz` bytes, is read.
+#[derive(Clone, Copy, Debug, PartialEq, Eq)]
+pub enum Tail {
+    /// It is absent.
+    Absent,
+    /// It is zero.
+    Zero,
+}

@@ -9,6 +9,7 @@ use Rattle.kc_found.specs.XaSites.{node_trials, xa_trials}
 use Rattle.kc_found.specs.declared.asked.Asked.{Asked}
 use Rattle.kc_memory.specs.Stopped.{Stopped}
 use Rattle.kc_memory.specs.declared.rule.Rule.TheVariants.{X5, X7, X8, M6}
+use Rattle.kc_memory.specs.declared.words.Origin.TheVariants.{File}
 use Rattle.kc_memory.specs.declared.words.VWord.{VWord}
 
 abbrev stop_at : ℕ → Stopped
@@ -19,7 +20,7 @@ look [] va = Err (stop_at va)
 look (w ∷ ws) va = if nat_eq w.va va then Ok w else look ws va
 
 abbrev word : ℕ → ℕ → VWord
-word va value = record { va = va; pa = va; off = va + 0x2000; value = value }
+word va value = record { va = va; pa = va; off = File (va + 0x2000); value = value }
 
 abbrev asked : Asked
 asked = record { audit = 0; start = 0xb110 }

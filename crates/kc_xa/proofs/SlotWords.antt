@@ -3,6 +3,7 @@ use Rattle.std.proofs.Common.{◌≡◌, ℕ, zero, suc, ◌+◌, ◌-◌, ◌*�
 use Rattle.std.specs.Prelude.{Result, Ok, Err, IfSome, map}
 use Rattle.std.proofs.Math.Seq.{drop-cons}
 use Rattle.std.proofs.Math.Nat.{mul-add}
+use Rattle.kc_memory.specs.declared.words.Origin.TheVariants.{File}
 use Rattle.kc_memory.specs.declared.words.VWord.{VWord}
 use Rattle.kc_memory.specs.declared.rule.Rule.TheVariants.{A}
 use Rattle.kc_memory.specs.Image.{Image}
@@ -56,7 +57,7 @@ one_more most n old before after le more = let all = mul-add most n 1 in let one
 
 -- the slot that a turn of a loop looks at
 abbrev no_word : VWord
-no_word = record { va = 0; pa = 0; off = 0; value = 0 }
+no_word = record { va = 0; pa = 0; off = File 0; value = 0 }
 
 pub next_slot : (seen slots : List VWord) (i : ℕ) → seen ≡ slots → i < length seen → drop i slots ≡ get_or seen i no_word ∷ drop (i + 1) slots
 next_slot seen slots i e lt = rw (← e) (let s : i + 1 ≡ suc i = omega arith in rw s (drop-cons seen i no_word lt))

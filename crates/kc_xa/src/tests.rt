@@ -2,7 +2,7 @@
 ghost use Rattle.std.specs.Prelude.{◌≡◌, ◌<◌};
 
 use crate::xa_walk;
-use kc_found::{ListSpace, VWord, WalkStop, XaItem, XaShape, XaWalked};
+use kc_found::{ListSpace, Origin, VWord, WalkStop, XaItem, XaShape, XaWalked};
 use kc_word::Steps;
 use std::alloc::{AllocError, Global};
 use std::marker::Brand;
@@ -42,7 +42,7 @@ fn space_of(alloc: Global, changed: (u64, u64)) -> Result<ListSpace, AllocError>
         words.push(VWord {
             va: *va,
             pa: *va,
-            off: *va,
+            off: Origin::File(*va),
             value: *value,
         })?;
     }
@@ -51,7 +51,7 @@ fn space_of(alloc: Global, changed: (u64, u64)) -> Result<ListSpace, AllocError>
         words.push(VWord {
             va,
             pa: va,
-            off: va,
+            off: Origin::File(va),
             value: 0,
         })?;
     }

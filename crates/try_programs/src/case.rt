@@ -128,6 +128,8 @@ impl Case {
             "types" => put_pairs(&mut self.files.types, small(at), rest),
             "length" => self.files.dump.truncate(small(at)),
             "types_length" => self.files.types.truncate(small(at)),
+            "module_bytes" => put_pairs(&mut self.files.split, small(at), rest),
+            "module_length" => self.files.split.truncate(small(at)),
             _ => {}
         }
     }

@@ -3,7 +3,9 @@ ghost use Rattle.std.specs.Prelude.{◌≤◌};
 
 use crate::case::{hex, small};
 use crate::texts::Texts;
-use kc_fixture::{MAP, NOTE, Types, btf_file, core_with_note, lines_behind, push_line};
+use kc_fixture::{
+    MAP, NOTE, Types, btf_file, core_with_note, lines_behind, push_line, push_numbers,
+};
 use kc_gen::make;
 use kc_outside::MemStore;
 use kc_word::NoMemory;
@@ -18,6 +20,8 @@ pub struct CaseFiles {
     pub types: Vec<u8>,
     map: Vec<u8>,
     plan: Vec<u8>,
+    /// `z.mod`.
+    pub split: Vec<u8>,
     missing: Vec<String>,
 }
 
@@ -72,6 +76,30 @@ fn bytes_of(alloc: Global, pairs: &str) -> Result<Vec<u8>, AllocError> {
         bytes.push((hex(pair) & 0xff) as u8)?;
     }
     Ok(bytes)
+}
+
+// Adds names, each with a NUL after it.
+fn push_names(file: &mut Vec<u8>, names: &str) -> Result<(), AllocError> {
+    for name in names.split(' ') {
+        file.extend_from_slice(name.as_bytes())?;
+        file.push(0)?;
+    }
+    Ok(())
+}
+
+// The file of a module's types: the numbers of `module` lines and the names of `names` lines, as the lines come, or so many
+// zeros.
+fn split_file(alloc: Global, lines: &str) -> Result<Vec<u8>, AllocError> {
+    let mut file = Vec::new(alloc);
+    for line in lines.lines() {
+        match line.split_once(' ').unwrap_or((line, "")) {
+            ("module", numbers) => push_numbers(&mut file, numbers)?,
+            ("names", names) => push_names(&mut file, names)?,
+            ("module_size", length) => return vec![in alloc; 0; small(length)],
+            _ => {}
+        }
+    }
+    Ok(file)
 }
 
 // The map: the usual rows or those of `map` lines, and `row` lines after them; or so many zeros.
@@ -133,6 +161,7 @@ impl CaseFiles {
             types: types_file(alloc, lines)?,
             map: map_text(alloc, lines)?,
             plan: plan_text(alloc, lines, texts)?,
+            split: split_file(alloc, lines)?,
             missing,
         })
     }
@@ -150,6 +179,7 @@ impl CaseFiles {
             types: Vec::from_slice(alloc, files.btf.as_slice())?,
             map: Vec::from_slice(alloc, files.map.as_slice())?,
             plan: Vec::from_slice(alloc, files.plan.as_slice())?,
+            split: Vec::new(alloc),
             missing: Vec::new(alloc),
         })
     }
@@ -166,6 +196,7 @@ impl CaseFiles {
             ("z.btf", &self.types),
             ("z.map", &self.map),
             ("z.plan", &self.plan),
+            ("z.mod", &self.split),
         ] {
             if !self.is_missing(name) {
                 store.add(name, bytes)?;

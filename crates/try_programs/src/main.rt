@@ -11,6 +11,8 @@
 //!   `length` and `types_length` say where they are cut, and `grown` how long the dump is. `selves` are words that name themselves.
 //! - `note`, `stated` and `last` are lines of the kernel's note, `map` and `row` of the map, `type` of the types, `plan` of the plan, and
 //!   `planned` is a plan by its name. `types_size`, `map_size`, `plan_size` and `plan_spaces` are lengths of files of zeros or spaces.
+//! - `module` are numbers of a module's types, in decimal or behind `0x`, and `names` names behind them; `module_bytes`, `module_length` and
+//!   `module_size` are as those of the types.
 //! - `made` are the files of so many made items, and `spine` makes a spine of their tree.
 //! - `status`, `out`, `err` and `usage` are what is wanted, and `call` is a call of the store, and then of the sinks, in its order.
 #![tactic(auto)]
@@ -29,7 +31,7 @@ use crate::trying::{try_calls, try_each, try_lengths};
 use std::io;
 
 // The files of cases of kaudit.
-const KAUDIT: [&str; 25] = [
+const KAUDIT: [&str; 26] = [
     "pages",
     "segments",
     "stops",
@@ -53,6 +55,7 @@ const KAUDIT: [&str; 25] = [
     "tasks",
     "checks",
     "plans",
+    "modules",
     "failing",
     "loops",
 ];
@@ -72,7 +75,7 @@ fn main(rt: HostRuntime) -> io::Result<()> {
     try_each(&rt, &texts, "far_rings", Program::Kaudit)?;
     try_each(&rt, &texts, "calls", Program::Kaudit)?;
     try_each(&rt, &texts, "match_calls", Program::Kmatch)?;
-    for name in ["whole", "kin"] {
+    for name in ["whole", "kin", "five"] {
         try_calls(&rt, &texts, name, Program::Kaudit)?;
         try_lengths(&rt, &texts, name, Program::Kaudit)?;
     }

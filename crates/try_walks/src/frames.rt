@@ -3,7 +3,7 @@ ghost use Rattle.std.specs.Prelude.{None, []};
 
 use anyhow::{Context, Result};
 use kc_fixture::{core_file, set_word};
-use kc_memory::{FrameStop, Frames, PWord};
+use kc_memory::{FrameStop, Frames, Origin, PWord};
 use kc_word::{Steps, get_u64, read_hex};
 use std::alloc::Global;
 use std::sync::ledger::Ledger;
@@ -65,7 +65,10 @@ impl Frames for Dump {
         }
         let off = pa.saturating_add(0x2000);
         match get_u64(&self.file, off as usize) {
-            Some(value) => Ok(PWord { value, off }),
+            Some(value) => Ok(PWord {
+                value,
+                off: Origin::File(off),
+            }),
             None => Err(FrameStop::Absent),
         }
     }

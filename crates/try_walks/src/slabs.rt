@@ -5,7 +5,7 @@ use crate::types::{field, no_types};
 use crate::walk::Walks;
 use anyhow::{Context, Result, ensure};
 use kc_cases::{Case, CaseFile, answer_text};
-use kc_found::{Grid, ListShape, Place, Scalar};
+use kc_found::{Grid, ListShape, Origin, Place, Scalar};
 use kc_slub::{cache_walk, free_walk};
 use kc_view::{Base, SlubShape};
 use kc_word::Steps;
@@ -135,7 +135,7 @@ fn first_number(file: &CaseFile, pointer: &str) -> Result<Scalar> {
         first: Place {
             va: Some(file.number("freelist")?),
             pa: 0x83e0,
-            off: 0xa3e0,
+            off: Origin::File(0xa3e0),
             value,
         },
         second: None,

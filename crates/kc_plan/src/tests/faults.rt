@@ -16,13 +16,62 @@ version = 1.0
 extra = 1
 
 P2 Version
-version = 2
+version = 3
 extra = 1
+
+P2 Version
+version = 0
+tail = 1
+
+P2 Version
+version = -1
+
+P4 Version
+version = 2.0
+
+P4 Version
+version = '2'
+
+P4 Tail
+version = 2
+tail = 1
 
 P3 Other
 version = 1
 extra = 1
 audit = 1
+
+P3 Other
+version = 1
+extra = 1
+tail = 1
+
+P4 Tail
+version = 1
+tail = 'none'
+
+P4 Tail
+version = 1
+tail = 0
+audit = 1
+
+P4 Tail
+version = 1
+tail = ''
+audit = []
+
+P3 Audit
+version = 1
+tail = 'zero'
+
+P1
+version = 1
+tail = 'zero'
+tail = 'zero'
+
+P3 0 Other
+version = 1
+audit = [{ kind = 'ring', tail = 'zero', name = 1 }]
 
 P4 Audit
 version = 1

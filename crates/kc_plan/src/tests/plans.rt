@@ -9,6 +9,25 @@ plan
 \u{feff}version = 0x1\r
 'audit' = []
 
+plan
+version = 1
+tail = 'absent'
+audit = []
+
+plan zero
+version = 1
+audit = []
+tail = 'zero'
+
+plan 2
+audit = []
+version = 2
+
+plan 2 zero
+version = 0b10
+tail = 'zero'
+audit = []
+
 plan r ring 0 8 root ffffffff8000c120 6 hops 0 0 0 byte 0 type 6 element Some(32) 0 each;
 version = 1
 audit = [{ kind = 'ring', name = 'r', root = 'my_ring', element = 'item', link = 'link', each = [] }]

@@ -153,6 +153,55 @@ expected ffffffff8000b140
 place ffff888000011018 0000000000011018 0000000000013018 0000000000000000
 =
 read
+roots 3
+root r broken
+audit r
+start ffffffff8000b120
+rule L1
+at ffff888000011048
+expected ffff888000011000
+place ffff888000011048 0000000000011048 0000000000013048 ffffffff8000b120
+root t clean
+audit t walks 1 elements 3
+root h clean
+audit h walks 1 elements 1
+=
+read
+roots 0
+=
+read
+roots 2
+root g clean
+audit g walks 1 elements 1
+audit t walks 0 elements 0
+root root broken
+audit root
+start ffff888000020000
+rule M6
+at ffff888000020000
+expected none
+stop 0 0000000000020000
+=
+read
+broken
+audit r
+start ffff888000020000
+rule N
+at ffff888000020000
+expected none
+place ffff888000020000 0000000000020000 tail 0000000000000000
+=
+read
+broken
+audit r
+start ffffffff8000b120
+rule M4
+at ffff888000011000
+expected none
+stop 1 0000000000011048
+place - 0000000000011048 tail 0000000000000000
+=
+read
 clean
 audit r walks 18446744073709551615 elements 18446744073709551615
 =
@@ -345,4 +394,127 @@ rule L1
 at ffff888000011048
 expected none
 place ffff888000011048 0000000000011048 0000000000013048 ffffffff8000b120
-stop 1 0000000000004180";
+stop 1 0000000000004180
+=
+21
+roots 1
+root r clean
+root t clean
+=
+21
+roots 2
+root r clean
+=
+8
+roots 0
+root r clean
+=
+8
+roots 257
+=
+8
+roots 300
+=
+10
+roots 256
+=
+7
+roots 01
+=
+5
+roots
+=
+19 open
+roots 1
+root r clea
+=
+14
+roots 1
+root r
+clean
+=
+13
+roots 1
+root  clean
+=
+8
+roots 1
+clean
+=
+21
+roots 1
+root r clean
+place
+=
+181
+roots 2
+root r broken
+audit r
+start ffffffff8000b120
+rule L1
+at ffff888000011048
+expected ffff888000011000
+place ffff888000011048 0000000000011048 0000000000013048 ffffffff8000b120
+audit t walks 1 elements 3
+=
+182
+roots 2
+root r broken
+audit r
+start ffffffff8000b120
+rule L1
+at ffff888000011048
+expected ffff888000011000
+place ffff888000011048 0000000000011048 0000000000013048 ffffffff8000b120
+rule L1
+=
+30
+roots 2
+root r broken
+audit r
+root t clean
+=
+120
+broken
+audit r
+start ffff888000020000
+rule N
+at ffff888000020000
+expected none
+place ffff888000020000 0000000000020000 tial 0000000000000000
+=
+123
+broken
+audit r
+start ffff888000020000
+rule N
+at ffff888000020000
+expected none
+place ffff888000020000 0000000000020000 tail0000000000000000 0000000000000000
+=
+119
+broken
+audit r
+start ffff888000020000
+rule N
+at ffff888000020000
+expected none
+place ffff888000020000 0000000000020000 Tail 0000000000000000
+=
+120
+broken
+audit r
+start ffff888000020000
+rule N
+at ffff888000020000
+expected none
+place ffff888000020000 0000000000020000 0tail 0000000000000000
+=
+102
+broken
+audit r
+start ffff888000020000
+rule N
+at ffff888000020000
+expected none
+place ffff888000020000 tail tail 0000000000000000";

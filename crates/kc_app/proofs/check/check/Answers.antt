@@ -3,7 +3,7 @@ use Rattle.kc_outside.specs.declared.store.Slot.TheVariants as slot
 use Rattle.kc_elf.specs.Parts.{Parts}
 use Rattle.kc_btf.specs.Btf.{Types}
 use Rattle.kc_plan.specs.declared.plan.Plan.{Plan}
-use Rattle.kc_plan.specs.Views.{plan_seen}
+use Rattle.kc_plan.specs.Views.{plan_whole}
 use Rattle.kc_ends.specs.declared.answer.Answer.{Answer}
 use Rattle.kc_app.specs.Check.{files_view}
 use Rattle.kc_app.proofs.Checked.{check_prints, late_stays}
@@ -22,7 +22,7 @@ judge-requires-clause-inside g c = rw (c.find_plan.ensures.dump_sizes, c.read_ty
 
 pub returns-clause-output : goal.returns-clause-output
 returns-clause-output g c =
-    check_prints (g.S.Store.files c.args.store.now) (files_view c.args.asks.now) (λ (x : Parts). x) (λ (x : Types). x) plan_seen
+    check_prints (g.S.Store.files c.args.store.now) (files_view c.args.asks.now) (λ (x : Parts). x) (λ (x : Types). x) plan_whole
     c.in_ok-core.core c.in_ok-info.info c.in_ok-types.types c.in_ok-plan.plan c.judge.result
     c.in_ok-core.ensures.told c.in_ok-info.ensures.made (rw c.in_ok-core.ensures.files at c.in_ok-types.ensures.told)
     (rw (c.in_ok-types.ensures.files, c.in_ok-core.ensures.files) at c.in_ok-plan.ensures.told)

@@ -4,7 +4,8 @@ use Rattle.kc_ends.specs.Ending.{fails, parts, tells}
 use Rattle.kc_app.specs.Commands.{command, usage_text}
 use Rattle.kc_app.specs.Shown.{shown_written}
 use Rattle.kc_app.proofs.Calls.{done_at, few}
-use Rattle.kc_app.proofs.Ends.{answer_ends, answer_true}
+use Rattle.kc_app.proofs.Ends.{answer_ends, answer_prints, answer_true}
+use Rattle.kc_app.proofs.ModuleEnds.{module_answer_ends, module_answer_prints}
 use Rattle.kc_app.proofs.Selftests.{answers_or_memory}
 use Rattle.kc_app.proofs.top.kaudit.Goals as goal
 
@@ -16,6 +17,21 @@ returns-clause-told g c =
 pub returns-clause-stands : goal.returns-clause-stands
 returns-clause-stands g c =
     answer_ends c.know_shown.ensures.ends (map string_bytes c.args.words.now) (g.S.Store.files c.args.store.now) c.finish.result (g.O.Sink.taken c.args.out.now) (g.O.Sink.taken c.finish.new.out) (g.E.Sink.taken c.args.err.now) (g.E.Sink.taken c.finish.new.err)
+    (returns-clause-told g c)
+
+pub returns-clause-roots : goal.returns-clause-roots
+returns-clause-roots g c =
+    answer_prints c.know_shown.ensures.roots (map string_bytes c.args.words.now) (g.S.Store.files c.args.store.now) c.finish.result (g.O.Sink.taken c.args.out.now) (g.O.Sink.taken c.finish.new.out) (g.E.Sink.taken c.args.err.now) (g.E.Sink.taken c.finish.new.err)
+    (returns-clause-told g c)
+
+pub returns-clause-stands_with_module : goal.returns-clause-stands_with_module
+returns-clause-stands_with_module g c =
+    module_answer_ends c.know_shown.ensures.module_ends (map string_bytes c.args.words.now) (g.S.Store.files c.args.store.now) c.finish.result (g.O.Sink.taken c.args.out.now) (g.O.Sink.taken c.finish.new.out) (g.E.Sink.taken c.args.err.now) (g.E.Sink.taken c.finish.new.err)
+    (returns-clause-told g c)
+
+pub returns-clause-roots_with_module : goal.returns-clause-roots_with_module
+returns-clause-roots_with_module g c =
+    module_answer_prints c.know_shown.ensures.roots (map string_bytes c.args.words.now) (g.S.Store.files c.args.store.now) c.finish.result (g.O.Sink.taken c.args.out.now) (g.O.Sink.taken c.finish.new.out) (g.E.Sink.taken c.args.err.now) (g.E.Sink.taken c.finish.new.err)
     (returns-clause-told g c)
 
 pub returns-clause-shown : goal.returns-clause-shown

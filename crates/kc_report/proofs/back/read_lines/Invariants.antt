@@ -1,11 +1,10 @@
 use Rattle.std.proofs.Common.{length}
 use Rattle.kc_text.specs.Compose.{Goes}
-use Rattle.kc_report.specs.Formats.{line_format}
-use Rattle.kc_report.proofs.FormatLaws.{line-law, line-some}
+use Rattle.kc_report.specs.Formats.{end_of, line_format}
 use Rattle.kc_report.proofs.back.read_lines.Given as goal
 
-abbrev pub invariant-loop-rest : goal.invariant-loop-rest
-invariant-loop-rest l = Goes line_format l.bytes l.lines l.rest
+abbrev pub invariant-loop-alloc : goal.invariant-loop-alloc
+invariant-loop-alloc l = Goes (end_of l.more) line_format l.bytes l.lines l.rest
 
-abbrev pub decreases-loop-rest : goal.decreases-loop-rest
-decreases-loop-rest l = length l.rest
+abbrev pub decreases-loop-alloc : goal.decreases-loop-alloc
+decreases-loop-alloc l = length l.rest

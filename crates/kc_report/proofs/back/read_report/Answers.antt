@@ -7,12 +7,12 @@ overflow_sub-result c =
     rest_within bytes c.in-Err-At.rest.now (stopped_at bytes c.in-Err-At.field-0 c.in-Err-At.rest c.in-Err-At.field-0-is c.in-Err-At.ensures)
 
 pub returns-in-Ok-clause-report : goal.returns-in-Ok-clause-report
-returns-in-Ok-clause-report c = report_is c.args.bytes.now c.in-Ok.report c.in-Ok.ensures
+returns-in-Ok-clause-report c = report_is c.args.bytes.now _ c.in-Ok.report c.in-Ok.ensures
 
 pub returns-in-Ok-clause-only : goal.returns-in-Ok-clause-only
 returns-in-Ok-clause-only c other is =
     let bytes = c.args.bytes.now in
-    only_one bytes other c.in-Ok.report is (report_is bytes c.in-Ok.report c.in-Ok.ensures)
+    only_one bytes other c.in-Ok.report is (report_is bytes _ c.in-Ok.report c.in-Ok.ensures)
 
 pub returns-in-Err-At-clause-refused : goal.returns-in-Err-At-clause-refused
 returns-in-Err-At-clause-refused c =

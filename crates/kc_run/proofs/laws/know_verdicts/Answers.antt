@@ -1,5 +1,6 @@
-use Rattle.kc_run.proofs.Showing.{verdicts_stand}
-use Rattle.kc_run.proofs.Standing.{clean_where_standing}
+use Rattle.kc_run.proofs.RootLaws.{first_of_roots}
+use Rattle.kc_run.proofs.Showing.{root_verdicts_stand, verdicts_stand}
+use Rattle.kc_run.proofs.Standing.{clean_roots_stand, clean_where_standing}
 use Rattle.kc_run.proofs.laws.know_verdicts.Goals as goal
 
 pub returns-clause-clean : goal.returns-clause-clean
@@ -12,8 +13,33 @@ returns-clause-clean c = clean_where_standing (record {
   tasks = c.know_tasks.ensures.walked;
 })
 
+pub returns-clause-roots : goal.returns-clause-roots
+returns-clause-roots c = clean_roots_stand (record {
+  rings = c.know_lists.ensures.rings;
+  chains = c.know_lists.ensures.hash_chains;
+  trees = c.know_trees.ensures.trees;
+  arrays = c.know_xarrays.ensures.walked;
+  caches = c.know_caches.ensures.walked;
+  tasks = c.know_tasks.ensures.walked;
+})
+
+pub returns-clause-first : goal.returns-clause-first
+returns-clause-first c = first_of_roots
+
 pub returns-clause-places : goal.returns-clause-places
 returns-clause-places c = verdicts_stand (record {
+  numbers = c.know_numbers.ensures.stand;
+  values = c.know_values.ensures.values;
+  rings = c.know_lists.ensures.ring_places;
+  chains = c.know_lists.ensures.hash_places;
+  trees = c.know_trees.ensures.places;
+  arrays = c.know_xarrays.ensures.places;
+  caches = c.know_caches.ensures.places;
+  tasks = c.know_tasks.ensures.places;
+})
+
+pub returns-clause-root_places : goal.returns-clause-root_places
+returns-clause-root_places c = root_verdicts_stand (record {
   numbers = c.know_numbers.ensures.stand;
   values = c.know_values.ensures.values;
   rings = c.know_lists.ensures.ring_places;

@@ -5,9 +5,10 @@ use Rattle.kc_btf.specs.Answers.{unless}
 use Rattle.kc_btf.specs.Btf.{outside_fault}
 use Rattle.kc_btf.specs.Kept.{kept}
 use Rattle.kc_btf.specs.Whole.{AreOf}
-use Rattle.kc_btf.proofs.ReadLemmas.{IsTabled, AreRecords, ReferInside, btf-table, none-outside, length-strings, spelled-kept, form-kept, inside-kept}
+use Rattle.kc_btf.proofs.ReadLemmas.{part_short, IsTabled, AreRecords, ReferInside, btf-table, none-outside, length-strings, spelled-kept, form-kept, inside-kept}
 use Rattle.kc_btf.proofs.SpellingLemmas.{IsBytes, are_bytes}
 use Rattle.kc_btf.proofs.btf.Btf.read.Goals as goal
+use Rattle.kc_btf.specs.Header.{types_at, types_end}
 
 pub returns-in_err-check_inside-clause-exact : goal.returns-in_err-check_inside-clause-exact
 returns-in_err-check_inside-clause-exact c =
@@ -21,8 +22,9 @@ returns-in_err-check_inside-clause-exact c =
       sound = rw c.deref.ensures.value at c.in_ok-header.ensures.fault;
       places = rw c.deref-2.ensures.value at c.in_ok-table.ensures.exact;
     } in
+    let count : c.in_ok-table.table.len ≡ length table = omega arith in
     let outside : outside_fault bytes (header.strings_end - header.strings) (length table) (map (λ place. header.types + place) table) ≡ Some c.in_err-check_inside.field-0.0 =
-    rw (c.deref-3.ensures.value, c.deref-4.ensures.value) at c.in_err-check_inside.ensures in
+    rw (c.deref-3.ensures.value, c.deref-4.ensures.value, c.len.ensures, count) at c.in_err-check_inside.ensures.exact in
     rw (gave.1, gave.2) (btf-table bytes header table is ∙ ap (λ (f : Option BtfFault). unless f (Ok (kept bytes header table))) outside)
 
 -- what the calls before gave
@@ -36,7 +38,9 @@ tabled c = record {
 
 none : (c : goal.In_ok-check_inside) → let header = c.in_ok-header.header in let table = c.in_ok-table.table.items in
     outside_fault c.args.bytes.items (header.strings_end - header.strings) (length table) (map (λ place. header.types + place) table) ≡ None
-none c = rw (c.deref-3.ensures.value, c.deref-4.ensures.value) at c.in_ok-check_inside.ensures
+none c =
+    let count : c.in_ok-table.table.len ≡ length c.in_ok-table.table.items = omega arith in
+    rw (c.deref-3.ensures.value, c.deref-4.ensures.value, c.len.ensures, count) at c.in_ok-check_inside.ensures.exact
 
 bytes_fit : (c : goal.In_ok-check_inside) → IsBytes c.args.bytes.items
 bytes_fit c = are_bytes c.args.bytes.items (λ i within. omega arith)
@@ -66,6 +70,7 @@ whole c =
 
 pub invariant_of-result : goal.invariant_of-result
 invariant_of-result c = record {
+  read = (tabled c).read;
   sections = (tabled c).inside;
   few = omega (arith, (tabled c).inside.short, c.in_ok-table.ensures.few);
   found = found c;
@@ -84,3 +89,11 @@ returns-clause-form c = (whole c).form
 
 pub returns-clause-inside : goal.returns-clause-inside
 returns-clause-inside c = (whole c).inside
+
+pub returns-clause-types_short : goal.returns-clause-types_short
+returns-clause-types_short c =
+    let bytes = c.args.bytes.items in
+    rw (whole c).spelled (part_short (types_at bytes) (types_end bytes) bytes)
+
+pub returns-clause-strings_short : goal.returns-clause-strings_short
+returns-clause-strings_short c = part_short c.in_ok-header.header.strings c.in_ok-header.header.strings_end c.args.bytes.items

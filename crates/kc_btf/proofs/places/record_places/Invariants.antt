@@ -1,7 +1,7 @@
 use Rattle.std.proofs.Common.{◌≡◌, ◌+◌, ◌-◌, ◌*◌, ◌≤◌, length, map, All}
 use Rattle.kc_btf.specs.Records.{places, IsRecord}
 use Rattle.kc_btf.proofs.PlaceLemmas.{continues}
-use Rattle.kc_btf.proofs.places.places.Given as goal
+use Rattle.kc_btf.proofs.places.record_places.Given as goal
 
 -- the places so far, and those of what is left
 abbrev pub invariant-loop-at : goal.invariant-loop-at

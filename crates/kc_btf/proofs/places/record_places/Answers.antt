@@ -1,10 +1,12 @@
-use Rattle.std.proofs.Common.{List, ℕ, Ok, ◌≡◌, ◌+◌, ◌-◌, ◌∷◌, [], length, map, sym, ap, ◌∙◌, arith, append-nil}
+use Rattle.std.proofs.Common.{rules, List, ℕ, Ok, ◌≡◌, ◌+◌, ◌-◌, ◌∷◌, [], length, map, sym, ap, ◌∙◌, arith, append-nil}
 use Rattle.std.proofs.lemmas.List.Elements.{All-push}
 use Rattle.std.proofs.lemmas.List.{length-append}
 use Rattle.std.proofs.lemmas.Result.{err_from_is_err_and}
-use Rattle.kc_btf.specs.Records.{IsRecord}
+use Rattle.kc_btf.specs.Records.{IsRecord, places}
+use Rattle.kc_btf.proofs.SpellingLemmas.{IsBytes, are_bytes}
+use Rattle.kc_btf.proofs.ReadLemmas.{spelled-table, form-table}
 use Rattle.kc_btf.proofs.PlaceLemmas.{continues, places-end, places-fault, places-pushed}
-use Rattle.kc_btf.proofs.places.places.Goals as goal
+use Rattle.kc_btf.proofs.places.record_places.Goals as goal
 
 pub returns-in_err-size-clause-exact : goal.returns-in_err-size-clause-exact
 returns-in_err-size-clause-exact c =
@@ -28,9 +30,21 @@ loop-at-preserved c =
       found = All-push (λ place. IsRecord bytes (c.args.types + place)) table (c.loop-at.at - c.args.types) c.loop-at.invariant.found here;
     }
 
-pub returns-clause-exact : goal.returns-clause-exact
-returns-clause-exact c =
+exact : (c : goal.After-loop-at) → places (length c.args.bytes.now) c.args.bytes.now c.args.types c.args.end ≡ Ok (map (λ place. c.args.types + place) c.loop-at.table.items)
+exact c =
     let table = c.loop-at.table.items in
     let bytes = c.args.bytes.now in
     let front = map (λ place. c.args.types + place) table in
     sym c.loop-at.invariant.whole ∙ ap (continues front) (places-end (length bytes - length table) c.loop-at.at c.args.end bytes c.loop-at-test.false) ∙ ap (λ (ps : List ℕ). Ok ps) (append-nil front)
+
+pub returns-clause-exact : goal.returns-clause-exact
+returns-clause-exact c = exact c
+
+fit : (c : goal.After-loop-at) → IsBytes c.args.bytes.now
+fit c = are_bytes c.args.bytes.now (λ i within. search (rules, c.type_inv.bytes))
+
+pub returns-clause-spelled : goal.returns-clause-spelled
+returns-clause-spelled c = spelled-table c.args.bytes.now c.args.types c.args.end c.loop-at.table.items (fit c) c.requires.start c.requires.inside (exact c)
+
+pub returns-clause-form : goal.returns-clause-form
+returns-clause-form c = form-table c.args.bytes.now c.args.types c.loop-at.table.items (fit c) c.loop-at.invariant.found

@@ -1,0 +1,63 @@
+-- `check` over the types of a kernel with those of a module of it.
+use Rattle.std.specs.Prelude.{ℕ, List, [], ◌∷◌, codes, Option, Some, None}
+use Rattle.std.specs.Option.{option_or}
+use Rattle.kc_outside.specs.declared.store.Slot.TheVariants as slot
+use Rattle.kc_notes.specs.Info.{info}
+use Rattle.kc_input.specs.declared.refusal.Refusal.TheVariants.{Notes}
+use Rattle.kc_input.specs.Inputs.{dump_parts, module_in, types_in}
+use Rattle.kc_input.specs.Made.{◌>>=◌, Made, checked, gives}
+use Rattle.kc_input.specs.Paging.{by_info}
+use Rattle.kc_ends.specs.Asked.{Asked}
+use Rattle.kc_app.specs.declared.check_module.Asks.{Asks}
+use Rattle.kc_app.specs.Check.{Audited, Files, audited_by, audited_shown, check_asks, files_view, planned_in}
+use Rattle.kc_app.specs.Form.{Form}
+use Rattle.kc_app.specs.Shown.{Shown}
+use Rattle.kc_app.specs.Word.{bytes_of}
+
+-- what it asks: four files and the module's by their names
+pub record FiveFiles : Type 0 where
+  pub files : Files
+  pub split : List ℕ
+
+-- the faults come in the order dump, types, module, map and plan
+abbrev pub audited_with : Option (List ℕ) → Option (List ℕ) → Option (List ℕ) → Option (List ℕ) → Option (List ℕ) → Made Audited
+audited_with dump btf split map plan = do
+  parts ← dump_parts dump
+  told ← checked Notes (info parts.notes)
+  base ← types_in btf
+  types ← module_in base split
+  planned ← planned_in types told map plan
+  gives (audited_by parts.segments (by_info told) planned (bytes_of dump))
+
+-- what it makes of its files
+abbrev pub module_made : Option (List ℕ) → Option (List ℕ) → Option (List ℕ) → Option (List ℕ) → Option (List ℕ) → Made Shown
+module_made dump btf split map plan = do
+  all ← audited_with dump btf split map plan
+  gives (audited_shown all)
+
+abbrev pub module_asked : FiveFiles → Asked Shown
+module_asked f = record {
+  named = record { slot = slot.Dump; name = f.files.dump } ∷ record { slot = slot.Btf; name = f.files.btf }
+      ∷ record { slot = slot.Module; name = f.split } ∷ record { slot = slot.Map; name = f.files.map }
+      ∷ record { slot = slot.Plan; name = f.files.plan } ∷ [];
+  made = λ files. module_made (files slot.Dump) (files slot.Btf) (files slot.Module) (files slot.Map) (files slot.Plan);
+}
+
+abbrev pub module_asks : List (List ℕ) → Option (Asked Shown)
+module_asks (dump ∷ btf ∷ map ∷ plan ∷ split ∷ []) =
+    Some (module_asked (record { files = record { dump = dump; btf = btf; map = map; plan = plan }; split = split }))
+module_asks _ = None
+
+-- the command `check`, with a module or without one
+abbrev pub checks_asks : List (List ℕ) → Option (Asked Shown)
+checks_asks words = option_or (module_asks words) (check_asks words)
+
+abbrev pub check_form : Form
+check_form = record { name = codes "check"; words = codes "DUMP BTF MAP PLAN" ∷ codes "DUMP BTF MAP PLAN MODULE" ∷ []; asks = checks_asks }
+
+-- as the code keeps them
+abbrev pub five_view : Asks → FiveFiles
+five_view a = record { files = files_view a.files; split = a.split.now }
+
+abbrev pub module_view : Asks → Asked Shown
+module_view a = module_asked (five_view a)

@@ -1,0 +1,6 @@
+mod BackLemmas
+mod FileLemmas
+mod JoinLemmas
+mod NameLemmas
+mod MoreLemmas
+mod SplitLemmas

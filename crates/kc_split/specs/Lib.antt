@@ -1,0 +1,4 @@
+pub mod File
+pub mod Join
+pub mod Laws
+pub mod Split
