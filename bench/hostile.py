@@ -13,7 +13,8 @@ grammar. It runs under a limit of 512 MiB and of ten seconds, and has to end
   physical address, and the address led there by the page tables, each read by `second.py`, which shares no code with kaudit;
 - where `second.py` reads the files too, with the same status and the same texts.
 
-A run that ends otherwise is printed, and its files are kept in FOLDER. It prints how many runs ended how.
+A run that ends otherwise is printed, and its files are kept in FOLDER. It prints how many runs ended how, also where it is stopped by
+Ctrl-C or SIGTERM before all are done.
 """
 import argparse
 import collections
@@ -23,6 +24,7 @@ import random
 import re
 import resource
 import shutil
+import signal
 import subprocess
 import sys
 import tempfile
@@ -388,6 +390,12 @@ def work(task):
 BTF = open(os.path.join(DATA, "z.btf"), "rb").read()
 
 
+def leave_signals():
+    """Ctrl-C is the parent's to answer, which ends its children by SIGTERM."""
+    signal.signal(signal.SIGINT, signal.SIG_IGN)
+    signal.signal(signal.SIGTERM, signal.SIG_DFL)
+
+
 def main():
     words = argparse.ArgumentParser()
     words.add_argument("kaudit")
@@ -401,12 +409,17 @@ def main():
     step = 500
     tasks = [(asks.seed + k, min(step, asks.runs - k), programs, asks.keep) for k in range(0, asks.runs, step)]
     ends, faults, asked = collections.Counter(), 0, 0
-    with multiprocessing.Pool(asks.jobs) as pool:
-        for told in pool.imap_unordered(work, tasks):
-            ends, faults, asked = ends + told[0], faults + told[1], asked + told[2]
+    signal.signal(signal.SIGTERM, signal.default_int_handler)
+    try:
+        with multiprocessing.Pool(asks.jobs, initializer=leave_signals) as pool:
+            for told in pool.imap_unordered(work, tasks):
+                ends, faults, asked = ends + told[0], faults + told[1], asked + told[2]
+                print(f"{ends.total()} runs, {faults} wrong", end="\r", file=sys.stderr)
+    except KeyboardInterrupt:
+        print("stopped before the end", file=sys.stderr)
     for (name, status, rule), count in sorted(ends.items()):
         print(f"{count:8} {name} status {status} {rule}")
-    print(f"{asks.runs} runs, {asked} of them answered by the second reader too, {faults} wrong")
+    print(f"{ends.total()} runs, {asked} of them answered by the second reader too, {faults} wrong")
     sys.exit(faults != 0)
 
 
