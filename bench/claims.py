@@ -30,10 +30,10 @@ PINNED = {("kc_expr/specs/Machine.antt", "parsed"): ("kc_expr/specs/Spelling.ant
 NOT_CLEAN = {"audited_shown", "refusal_line", "ShownStand", "word_form", "layout_form", "show_form", "selftest_form"}
 
 # The crates that make counters of steps.
-MAKE_BLANKS = {"kc_app", "try_walks"}
+MAKE_BLANKS = {"kc_app", "try_walks", "try_files"}
 
 # The crates whose purpose is to state the laws of others: they alone cite another's lemmas.
-STATE_LAWS = {"kc_laws"}
+STATE_LAWS = {"kc_laws", "kc_run_laws"}
 
 BORROWED = re.compile(r"\bRattle\.(kc_\w+)\.proofs\.")
 

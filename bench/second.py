@@ -969,7 +969,9 @@ class Audit:
             self.head = self.place(kernel, element_above, table["from"], self.head_struct(table))
         element = table.get("element", ELEMENTS.get(self.kind))
         self.element = None if element is None else kernel.struct(element)
-        self.link = self.place(kernel, self.element, table["link"], LINKS[self.kind])[1] if "link" in table else 0
+        pointers, self.link = self.place(kernel, self.element, table["link"], LINKS[self.kind]) if "link" in table else ([], 0)
+        if pointers:  # a link lies in its element
+            raise Refused("plan")
         self.checks = [self.look_up(types, text) for text in table.get("check", [])]
         self.shape = self.shape_of(kernel, table)
 
@@ -1098,7 +1100,7 @@ def plan_of(data, kernel):
             raise Refused("plan")
         kernel.memory.core.zero = tail == "zero"
         return audits, numbers, tables, version
-    except (KeyError, TypeError, AttributeError, ValueError):
+    except (KeyError, TypeError, AttributeError, ValueError, IndexError):  # a type is another one than the kind needs, too
         raise Refused("plan") from None
 
 

@@ -22,11 +22,12 @@ use Rattle.kc_report.specs.Copies.{names_of as reached_names}
 use Rattle.kc_input.specs.declared.halt.Halt.{Halt}
 use Rattle.kc_input.specs.declared.halt.Halt.TheVariants.{Refused, Store, Memory}
 use Rattle.kc_input.specs.declared.refusal.Refusal.TheVariants.{Notes}
-use Rattle.kc_input.specs.Inputs.{dump_parts, map_in, plan_in, plan_over, rows_in, types_in}
+use Rattle.kc_input.specs.Inputs.{dump_parts, map_in, plan_in, rows_in, types_in}
 use Rattle.kc_input.specs.Made.{◌>>=◌, Made, checked, gives}
 use Rattle.kc_input.specs.Paging.{by_info}
 use Rattle.kc_input.specs.Slots.{refused_slot}
 use Rattle.kc_ends.specs.Asked.{Asked}
+use Rattle.kc_app.specs.Audits.{plan_over}
 use Rattle.kc_app.specs.declared.check.Asks.{Asks}
 use Rattle.kc_ends.specs.declared.status.Status.{Status}
 use Rattle.kc_ends.specs.declared.status.Status.TheVariants as status

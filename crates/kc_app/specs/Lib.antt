@@ -1,4 +1,5 @@
 pub mod Answer
+pub mod Audits
 pub mod Calls
 pub mod Check
 pub mod CheckModule

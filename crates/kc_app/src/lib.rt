@@ -3,6 +3,7 @@
 
 mod answer;
 mod asking;
+mod audits;
 mod check;
 mod check_module;
 mod command;

@@ -212,9 +212,20 @@ fn before_nul_or_end(text: &[u8]) -> &[u8]
     }
 }
 
-// Whether the bytes before the first NUL are these. A name that is longer isn't gone through: the names of a
-// file may be long, and many records may have the same.
+// Whether the bytes before the first NUL are these. Most names differ in their first byte.
 fn is_before_nul(text: &[u8], name: &[u8]) -> bool
+    ensures { result ≡ bytes_eq (before_first (λ c. c == 0) text.now) name.now }
+{
+    match (text, name) {
+        ([c, ..], []) => *c == 0,
+        ([c, ..], [n, ..]) if *c != *n => false,
+        _ => is_window(text, name),
+    }
+}
+
+// The same, whatever the first bytes are. A name that is longer isn't gone through: the names of a file may be
+// long, and many records may have the same.
+fn is_window(text: &[u8], name: &[u8]) -> bool
     ensures { result ≡ bytes_eq (before_first (λ c. c == 0) text.now) name.now }
 {
     let window = &text[..(name.len() + 1).min(text.len())];

@@ -4,7 +4,8 @@ ghost use Rattle.kc_btf.specs.Numbers.{word};
 ghost use Rattle.kc_btf.specs.Header.{are_strings};
 
 use crate::stop::{BRule, BtfFault};
-use kc_word::{get_u16, get_u32};
+use byteorder::{ByteOrder, LittleEndian};
+use kc_word::get_u16;
 
 /// The bytes of a header that every file has.
 const HEADER: usize = 24;
@@ -31,7 +32,7 @@ pub(crate) fn word(bytes: &[u8], at: usize) -> u32
     requires { at + 4 ≤ length bytes.now }
     ensures { result ≡ word bytes.now at }
 {
-    get_u32(bytes, at).unwrap()
+    LittleEndian::read_u32(&bytes[at..])
 }
 
 impl Header {

@@ -2,6 +2,7 @@ pub mod BitLemmas
 pub mod ByteLemmas
 pub mod FaultLemmas
 pub mod LiveLemmas
+pub mod NameLemmas
 pub mod ReadLemmas
 pub mod SaidLemmas
 pub mod TokenLemmas

@@ -154,6 +154,11 @@ extend hex_mark c = more_hex 0 (digit_value c)
 extend (hex_digits n) c = more_hex n (digit_value c)
 extend (path_part mark text) c = more_path mark text c
 
+-- the same of a token that is no path
+abbrev pub longer : Piece → ℕ → Option Piece
+longer (path_part mark text) c = None
+longer piece c = extend piece c
+
 -- the tokens before the next one, where the begun one may end here
 abbrev pub settle_path : State → Mark → List ℕ → Option State
 settle_path s in_name text = take_token s (path text)

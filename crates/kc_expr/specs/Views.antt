@@ -1,5 +1,5 @@
 -- What the code keeps, as the definitions have it.
-use Rattle.std.specs.Prelude.{◌≡◌, Option, Some, None}
+use Rattle.std.specs.Prelude.{◌≡◌, ℕ, Bool, true, false, List, Option, Some, None}
 use Rattle.kc_expr.specs.Tree.{Token, Tree}
 use Rattle.kc_expr.specs.Tree.Token.{bang, open_token, close_token, operator, number, path}
 use Rattle.kc_expr.specs.Tree.Tree.{literal, field, negation, group, binary}
@@ -18,8 +18,6 @@ use Rattle.kc_expr.specs.declared.piece.Mark.{Mark as CodeMark}
 use Rattle.kc_expr.specs.declared.piece.Mark.TheVariants.{InName, BeforeName, InIndex, BehindIndex, BehindMinus}
 use Rattle.kc_expr.specs.declared.piece.Piece.{Piece as CodePiece}
 use Rattle.kc_expr.specs.declared.piece.Piece.TheVariants as code
-use Rattle.kc_expr.specs.declared.piece.Next.{Next}
-use Rattle.kc_expr.specs.declared.piece.Next.TheVariants.{On, Ends}
 use Rattle.kc_expr.specs.declared.reader.Reader.{Reader}
 
 abbrev pub shape : Node → Tree
@@ -69,10 +67,20 @@ piece_of code.HexMark = hex_mark
 piece_of (code.Hex n) = hex_digits n
 piece_of (code.Path mark text) = path_part (mark_of mark) text.items
 
--- the piece goes on by a byte, or it ends there and is given back
-abbrev pub GoesOn : Piece → Option Piece → Next → Type 0
-GoesOn old more (On piece) = more ≡ Some (piece_of piece)
-GoesOn old more (Ends piece) = (more ≡ None) × (piece_of piece ≡ old)
+-- What comes next is there, as `true` says, and it is this; or nothing is there.
+abbrev pub Follows : {X : Type 0} → Option X → X → Bool → Type 0
+Follows next now true = next ≡ Some now
+Follows next now false = next ≡ None
+
+-- the piece goes on by a byte, or it ends there and stays
+abbrev pub GoesOn : Piece → Option Piece → Piece → Bool → Type 0
+GoesOn old next now true = next ≡ Some now
+GoesOn old next now false = (next ≡ None) × (now ≡ old)
+
+-- a path goes on by a byte, with this text and mark, or it ends there and its text stays
+abbrev pub PathGoesOn : List ℕ → Option Piece → List ℕ → Option CodeMark → Type 0
+PathGoesOn old next now (Some mark) = next ≡ Some (path_part (mark_of mark) now)
+PathGoesOn old next now None = (next ≡ None) × (now ≡ old)
 
 abbrev pub reading_of : Reader → Reading
 reading_of r = record { state = state_of r.state; piece = piece_of r.piece }

@@ -27,11 +27,11 @@ pub fn parse(alloc: Global, text: &[u8]) -> Result<Expr, ExprStop>
     // The same as a function of the bytes, for definitions that read checks.
     ensures exact { GivesTold place_of tree_of result (parsed text.now) }
 {
-    let start = Reader {
+    let mut reader = Reader {
         state: State::Want(Stack::Bottom),
         piece: Piece::Start,
     };
-    let root = read(alloc, text, 0, start)?;
+    let root = read(alloc, text, 0, &mut reader)?;
     let mut paths = Vec::new(alloc);
     list_fields(alloc, &mut paths, &root)?;
     Ok(Expr { root, paths })

@@ -2,10 +2,10 @@
 ghost use Rattle.std.specs.Prelude.{◌≡◌, ◌<◌, ◌++◌, [], ◌∷◌, IfOk, Option, Some, None, option_map, nat_lt, if◌then◌else◌, ◌&&◌, ◌+◌, ◌*◌, ◌-◌, ◌^◌};
 ghost use Rattle.kc_word.specs.Hex.{digit_value};
 ghost use Rattle.kc_layout.specs.Path.{is_digit, is_letter, is_word};
-ghost use Rattle.kc_expr.specs.Machine.{extend, more_decimal, more_hex, more_path, behind_step};
+ghost use Rattle.kc_expr.specs.Machine.{extend, longer, more_decimal, more_hex, more_path, behind_step};
 ghost use Rattle.kc_expr.specs.Machine.Mark.{in_index, behind_minus};
 ghost use Rattle.kc_expr.specs.Machine.Piece.{path_part};
-ghost use Rattle.kc_expr.specs.Views.{piece_of, mark_of, GoesOn};
+ghost use Rattle.kc_expr.specs.Views.{piece_of, mark_of, GoesOn, PathGoesOn};
 
 use crate::token::Token;
 use crate::tree::Operator;
@@ -46,13 +46,6 @@ pub(crate) enum Piece {
     Path(Mark, Vec<u8>),
 }
 
-// A piece with a byte more, or the piece that ended before that byte.
-#[derive(Drop)]
-pub(crate) enum Next {
-    On(Piece),
-    Ends(Piece),
-}
-
 pub(crate) fn is_digit(c: u8) -> bool
     ensures { result ≡ is_digit c }
 {
@@ -65,7 +58,7 @@ pub(crate) fn is_letter(c: u8) -> bool
     matches!(c, b'A'..=b'Z' | b'_' | b'a'..=b'z')
 }
 
-fn is_word(c: u8) -> bool
+pub(crate) fn is_word(c: u8) -> bool
     ensures { result ≡ is_word c }
 {
     is_letter(c) || is_digit(c)
@@ -103,40 +96,29 @@ fn more_hex(n: u64, c: u8) -> Option<Piece>
     Some(Piece::Hex(n))
 }
 
-// A piece goes on as another one, where there is one.
-fn or_ends(piece: Piece, more: Option<Piece>) -> Next
-    ensures { GoesOn (piece_of piece) (option_map piece_of more) result }
+// A path with a byte more, and where it ends then.
+fn with_byte(text: &mut Vec<u8>, next: Mark, c: u8) -> Result<Option<Mark>, NoMemory>
+    ensures { IfOk result (PathGoesOn text.old.items (Some (path_part (mark_of next) (text.old.items ++ c ∷ []))) text.new.items) }
 {
-    match more {
-        Some(more) => Next::On(more),
-        None => Next::Ends(piece),
-    }
-}
-
-// A path with a byte more.
-fn with_byte(text: Vec<u8>, mark: Mark, c: u8) -> Result<Next, NoMemory>
-    ensures { IfOk result (GoesOn (path_part (mark_of mark) text.items) (Some (path_part (mark_of mark) (text.items ++ c ∷ [])))) }
-{
-    let mut text = text;
     text.push(c)?;
-    Ok(Next::On(Piece::Path(mark, text)))
+    Ok(Some(next))
 }
 
 // A step of a path begins, or the path ends.
-fn behind_step(mark: Mark, text: Vec<u8>, c: u8) -> Result<Next, NoMemory>
-    ensures { IfOk result (GoesOn (path_part (mark_of mark) text.items) (behind_step text.items c)) }
+fn behind_step(text: &mut Vec<u8>, c: u8) -> Result<Option<Mark>, NoMemory>
+    ensures { IfOk result (PathGoesOn text.old.items (behind_step text.old.items c) text.new.items) }
 {
     match c {
         b'.' => with_byte(text, Mark::BeforeName, c),
         b'[' => with_byte(text, Mark::InIndex(0), c),
-        b'-' => Ok(Next::On(Piece::Path(Mark::BehindMinus, text))),
-        _ => Ok(Next::Ends(Piece::Path(mark, text))),
+        b'-' => Ok(Some(Mark::BehindMinus)),
+        _ => Ok(None),
     }
 }
 
 // An index goes on by a digit, or ends by its bracket.
-fn in_index(digits: u8, text: Vec<u8>, c: u8) -> Result<Next, NoMemory>
-    ensures { IfOk result (GoesOn (path_part (in_index digits) text.items) (more_path (in_index digits) text.items c)) }
+fn in_index(digits: u8, text: &mut Vec<u8>, c: u8) -> Result<Option<Mark>, NoMemory>
+    ensures { IfOk result (PathGoesOn text.old.items (more_path (in_index digits) text.old.items c) text.new.items) }
 {
     if is_digit(c) {
         if digits < 10 {
@@ -145,78 +127,96 @@ fn in_index(digits: u8, text: Vec<u8>, c: u8) -> Result<Next, NoMemory>
     } else if c == b']' && digits > 0 {
         return with_byte(text, Mark::BehindIndex, c);
     }
-    Ok(Next::Ends(Piece::Path(Mark::InIndex(digits), text)))
+    Ok(None)
 }
 
 // A pointer is followed where `>` stands behind the `-`.
-fn behind_minus(text: Vec<u8>, c: u8) -> Result<Next, NoMemory>
-    ensures { IfOk result (GoesOn (path_part behind_minus text.items) (more_path behind_minus text.items c)) }
+fn behind_minus(text: &mut Vec<u8>, c: u8) -> Result<Option<Mark>, NoMemory>
+    ensures { IfOk result (PathGoesOn text.old.items (more_path behind_minus text.old.items c) text.new.items) }
 {
     if c != b'>' {
-        return Ok(Next::Ends(Piece::Path(Mark::BehindMinus, text)));
+        return Ok(None);
     }
-    let mut text = text;
     text.extend_from_slice(b"->")?;
-    Ok(Next::On(Piece::Path(Mark::BeforeName, text)))
+    Ok(Some(Mark::BeforeName))
 }
 
 // A path goes on, or ends.
-fn more_path(mark: Mark, text: Vec<u8>, c: u8) -> Result<Next, NoMemory>
-    ensures { IfOk result (GoesOn (path_part (mark_of mark) text.items) (more_path (mark_of mark) text.items c)) }
+fn more_path(mark: Mark, text: &mut Vec<u8>, c: u8) -> Result<Option<Mark>, NoMemory>
+    ensures { IfOk result (PathGoesOn text.old.items (more_path (mark_of mark) text.old.items c) text.new.items) }
 {
     match mark {
         Mark::InName => {
             if is_word(c) {
                 with_byte(text, Mark::InName, c)
             } else {
-                behind_step(Mark::InName, text, c)
+                behind_step(text, c)
             }
         }
         Mark::BeforeName => {
             if is_letter(c) {
                 with_byte(text, Mark::InName, c)
             } else {
-                Ok(Next::Ends(Piece::Path(Mark::BeforeName, text)))
+                Ok(None)
             }
         }
         Mark::InIndex(digits) => in_index(digits, text, c),
-        Mark::BehindIndex => behind_step(Mark::BehindIndex, text, c),
+        Mark::BehindIndex => behind_step(text, c),
         Mark::BehindMinus => behind_minus(text, c),
     }
 }
 
-// A piece goes on by a byte, or ends.
-pub(crate) fn extend(piece: Piece, c: u8) -> Result<Next, NoMemory>
-    ensures { IfOk result (GoesOn (piece_of piece) (extend (piece_of piece) c)) }
+// What a piece that is no path is with a byte more, where it goes on.
+fn longer(piece: &Piece, c: u8) -> Option<Piece>
+    ensures { option_map piece_of result ≡ longer (piece_of piece.now) c }
 {
     match piece {
-        Piece::Start => Ok(Next::Ends(Piece::Start)),
-        Piece::Gap => Ok(Next::Ends(Piece::Gap)),
-        Piece::Whole(token) => Ok(Next::Ends(Piece::Whole(token))),
-        Piece::Short(op, long, second) => {
-            if c == second {
-                Ok(Next::On(Piece::Whole(Token::Operator(long))))
+        Piece::Short(_, long, second) => {
+            if c == *second {
+                Some(Piece::Whole(Token::Operator(*long)))
             } else {
-                Ok(Next::Ends(Piece::Short(op, long, second)))
+                None
             }
         }
         Piece::Half(op) => {
             if c == b'=' {
-                Ok(Next::On(Piece::Whole(Token::Operator(op))))
+                Some(Piece::Whole(Token::Operator(*op)))
             } else {
-                Ok(Next::Ends(Piece::Half(op)))
+                None
             }
         }
         Piece::Zero => {
             if c == b'x' {
-                Ok(Next::On(Piece::HexMark))
+                Some(Piece::HexMark)
             } else {
-                Ok(or_ends(Piece::Zero, more_decimal(0, c)))
+                more_decimal(0, c)
             }
         }
-        Piece::Decimal(n) => Ok(or_ends(Piece::Decimal(n), more_decimal(n, c))),
-        Piece::HexMark => Ok(or_ends(Piece::HexMark, more_hex(0, c))),
-        Piece::Hex(n) => Ok(or_ends(Piece::Hex(n), more_hex(n, c))),
-        Piece::Path(mark, text) => more_path(mark, text, c),
+        Piece::Decimal(n) => more_decimal(*n, c),
+        Piece::HexMark => more_hex(0, c),
+        Piece::Hex(n) => more_hex(*n, c),
+        Piece::Start | Piece::Gap | Piece::Whole(_) | Piece::Path(_, _) => None,
+    }
+}
+
+// A piece goes on by a byte, as `true` says, or it ends and stays.
+pub(crate) fn extend(piece: &mut Piece, c: u8) -> Result<bool, NoMemory>
+    ensures { IfOk result (GoesOn (piece_of piece.old) (extend (piece_of piece.old) c) (piece_of piece.new)) }
+{
+    if let Piece::Path(mark, text) = piece {
+        return match more_path(*mark, text, c)? {
+            Some(next) => {
+                *mark = next;
+                Ok(true)
+            }
+            None => Ok(false),
+        };
+    }
+    match longer(piece, c) {
+        Some(more) => {
+            *piece = more;
+            Ok(true)
+        }
+        None => Ok(false),
     }
 }

@@ -1,13 +1,14 @@
 // Reading byte by byte.
-ghost use Rattle.std.specs.Prelude.{◌≡◌, ◌+◌, ◌<◌, ◌^◌, [], ◌∷◌, length, IfOk, Some, None, option_map, option_and_then, if◌then◌else◌};
+ghost use Rattle.std.specs.Prelude.{◌≡◌, ℕ, ◌+◌, ◌<◌, ◌≤◌, ◌^◌, [], ◌∷◌, length, drop, IfOk, Some, None, option_map, option_and_then, if◌then◌else◌};
 ghost use Rattle.kc_word.specs.Answers.{GivesTold};
+ghost use Rattle.kc_layout.specs.Path.{word_length};
 ghost use Rattle.kc_expr.specs.Machine.{step, settle, settle_path, begin_unit, begin_operator, begin_comparison, begin_token, next_token, result_of, read, room, is_start, is_gap};
 ghost use Rattle.kc_expr.specs.Machine.Mark.{in_name};
 ghost use Rattle.kc_expr.specs.Machine.Piece.{path_part, whole};
-ghost use Rattle.kc_expr.specs.Views.{shape, stack_of, state_of, token_of, mark_of, piece_of, reading_of};
+ghost use Rattle.kc_expr.specs.Views.{shape, stack_of, state_of, token_of, mark_of, piece_of, reading_of, Follows};
 ghost use Rattle.kc_expr.specs.Told.{place_of};
 
-use crate::piece::{Mark, Next, Piece, extend, is_digit, is_letter};
+use crate::piece::{Mark, Piece, extend, is_digit, is_letter, is_word};
 use crate::stack::{Stack, compares, has_open, has_room};
 use crate::state::{OPEN_MOST, State, take_token, tree_at};
 use crate::stop::ExprStop;
@@ -15,6 +16,7 @@ use crate::token::Token;
 use crate::tree::{Node, Operator};
 use kc_word::NoMemory;
 use std::alloc::Global;
+use std::mem;
 
 // The tokens that were read, and the one that is begun.
 #[derive(Drop)]
@@ -26,37 +28,41 @@ pub(crate) struct Reader {
 // The tokens up to the end of a path, and a `-` behind it.
 fn settle_path(
     alloc: Global,
-    state: State,
+    state: &mut State,
     mark: Mark,
     text: Vec<u8>,
-) -> Result<Option<State>, NoMemory>
-    ensures { IfOk result (λ o. option_map state_of o ≡ settle_path (state_of state) (mark_of mark) text.items) }
+) -> Result<bool, NoMemory>
+    ensures { IfOk result (Follows (settle_path (state_of state.old) (mark_of mark) text.items) (state_of state.new)) }
 {
     match mark {
         Mark::InName => take_token(alloc, state, Token::Path(text)),
         Mark::BehindIndex => take_token(alloc, state, Token::Path(text)),
-        Mark::BehindMinus => match take_token(alloc, state, Token::Path(text))? {
-            Some(state) => take_token(alloc, state, Token::Operator(Operator::Minus)),
-            None => Ok(None),
-        },
-        Mark::BeforeName => Ok(None),
-        Mark::InIndex(_) => Ok(None),
+        Mark::BehindMinus => {
+            if take_token(alloc, state, Token::Path(text))? {
+                take_token(alloc, state, Token::Operator(Operator::Minus))
+            } else {
+                Ok(false)
+            }
+        }
+        Mark::BeforeName => Ok(false),
+        Mark::InIndex(_) => Ok(false),
     }
 }
 
-// The tokens up to the end of the one that is begun, where it may end here.
-fn settle(alloc: Global, state: State, piece: Piece) -> Result<Option<State>, NoMemory>
-    ensures { IfOk result (λ o. option_map state_of o ≡ settle (state_of state) (piece_of piece)) }
+// The tokens up to the end of the one that is begun. False where it may not end here, and then nothing is said of
+// the state.
+fn settle(alloc: Global, state: &mut State, piece: Piece) -> Result<bool, NoMemory>
+    ensures { IfOk result (Follows (settle (state_of state.old) (piece_of piece)) (state_of state.new)) }
 {
     match piece {
-        Piece::Start => Ok(Some(state)),
-        Piece::Gap => Ok(Some(state)),
+        Piece::Start => Ok(true),
+        Piece::Gap => Ok(true),
         Piece::Whole(token) => take_token(alloc, state, token),
         Piece::Short(op, _, _) => take_token(alloc, state, Token::Operator(op)),
-        Piece::Half(_) => Ok(None),
+        Piece::Half(_) => Ok(false),
         Piece::Zero => take_token(alloc, state, Token::Literal(0)),
         Piece::Decimal(n) => take_token(alloc, state, Token::Literal(n)),
-        Piece::HexMark => Ok(None),
+        Piece::HexMark => Ok(false),
         Piece::Hex(n) => take_token(alloc, state, Token::Literal(n)),
         Piece::Path(mark, text) => settle_path(alloc, state, mark, text),
     }
@@ -154,22 +160,23 @@ fn begin_token(alloc: Global, state: &State, c: u8) -> Result<Option<Piece>, NoM
     }
 }
 
-// A byte behind the token that ends here; `first` says that there is none.
-fn next_token(alloc: Global, first: bool, c: u8, state: State) -> Result<Option<Reader>, NoMemory>
-    ensures { IfOk result (λ o. option_map reading_of o ≡ next_token first c (state_of state)) }
+// A byte behind the token that ended; `first` says that there is none. False where it may not stand there.
+fn next_token(alloc: Global, first: bool, c: u8, reader: &mut Reader) -> Result<bool, NoMemory>
+    ensures { IfOk result (Follows (next_token first c (state_of reader.old.state)) (reading_of reader.new)) }
 {
     if c == b' ' {
         if first {
-            return Ok(None);
+            return Ok(false);
         }
-        return Ok(Some(Reader {
-            state,
-            piece: Piece::Gap,
-        }));
+        reader.piece = Piece::Gap;
+        return Ok(true);
     }
-    match begin_token(alloc, &state, c)? {
-        Some(piece) => Ok(Some(Reader { state, piece })),
-        None => Ok(None),
+    match begin_token(alloc, &reader.state, c)? {
+        Some(piece) => {
+            reader.piece = piece;
+            Ok(true)
+        }
+        None => Ok(false),
     }
 }
 
@@ -185,58 +192,102 @@ fn is_gap(piece: &Piece) -> bool
     matches!(piece, Piece::Gap)
 }
 
-// A byte behind a token, which ends here.
-fn end_token(alloc: Global, state: State, piece: Piece, c: u8) -> Result<Option<Reader>, NoMemory>
-    ensures { IfOk result (λ o. option_map reading_of o ≡ option_and_then (next_token (is_start (piece_of piece)) c) (settle (state_of state) (piece_of piece))) }
+// A byte behind a token, which ends here. False where it may not stand there.
+fn end_token(alloc: Global, reader: &mut Reader, c: u8) -> Result<bool, NoMemory>
+    ensures { IfOk result (Follows (option_and_then (next_token (is_start (piece_of reader.old.piece)) c) (settle (state_of reader.old.state) (piece_of reader.old.piece))) (reading_of reader.new)) }
 {
-    let first = is_start(&piece);
-    match settle(alloc, state, piece)? {
-        Some(state) => next_token(alloc, first, c, state),
-        None => Ok(None),
+    let first = is_start(&reader.piece);
+    let piece = mem::replace(&mut reader.piece, Piece::Gap);
+    if settle(alloc, &mut reader.state, piece)? {
+        next_token(alloc, first, c, reader)
+    } else {
+        Ok(false)
     }
 }
 
-// One byte more, where a check goes on so.
+// One byte more. False where no check goes on so, and then nothing is said of the reader.
 #[tactic(auto, unfolding(crate::specs::Machine::step))]
-fn step(alloc: Global, reader: Reader, c: u8) -> Result<Option<Reader>, NoMemory>
-    ensures { IfOk result (λ o. option_map reading_of o ≡ step (reading_of reader) c) }
+fn step(alloc: Global, reader: &mut Reader, c: u8) -> Result<bool, NoMemory>
+    ensures { IfOk result (Follows (step (reading_of reader.old) c) (reading_of reader.new)) }
 {
-    let Reader { state, piece } = reader;
-    match extend(piece, c)? {
-        Next::On(piece) => Ok(Some(Reader { state, piece })),
-        Next::Ends(piece) => end_token(alloc, state, piece, c),
+    if extend(&mut reader.piece, c)? {
+        Ok(true)
+    } else {
+        end_token(alloc, reader, c)
     }
 }
 
-// The tree of a text that ends here.
+// The tree of a text that ends here. Nothing is said of the reader then.
 #[tactic(auto, unfolding(crate::specs::Machine::result_of))]
-fn result_of(alloc: Global, reader: Reader) -> Result<Option<Node>, NoMemory>
-    ensures { IfOk result (λ o. option_map shape o ≡ result_of (reading_of reader)) }
+fn result_of(alloc: Global, reader: &mut Reader) -> Result<Option<Node>, NoMemory>
+    ensures { IfOk result (λ o. option_map shape o ≡ result_of (reading_of reader.old)) }
 {
-    let Reader { state, piece } = reader;
-    if is_gap(&piece) {
+    if is_gap(&reader.piece) {
         return Ok(None);
     }
-    match settle(alloc, state, piece)? {
-        Some(state) => tree_at(alloc, state),
-        None => Ok(None),
+    let piece = mem::replace(&mut reader.piece, Piece::Gap);
+    if settle(alloc, &mut reader.state, piece)? {
+        let state = mem::replace(&mut reader.state, State::Want(Stack::Bottom));
+        tree_at(alloc, state)
+    } else {
+        Ok(None)
     }
 }
 
-// The tree of the rest of a text. `at` is the place of the rest.
+// How many bytes of a name a text begins with.
+fn word_length(text: &[u8]) -> usize
+    ensures exact { result ≡ word_length text.now }
+    ensures within { result ≤ length text.now }
+{
+    match text {
+        [] => 0,
+        [c, rest @ ..] => {
+            if is_word(*c) {
+                1 + word_length(rest)
+            } else {
+                0
+            }
+        }
+    }
+}
+
+// Takes at once the bytes of a text by which a name goes on, and says how many they are.
+fn take_name(reader: &mut Reader, text: &[u8]) -> Result<usize, NoMemory>
+    ensures within { IfOk result (λ taken. taken ≤ length text.now) }
+    ensures same { IfOk result (λ taken. (at : ℕ) → read text.now at (reading_of reader.old) ≡ read (drop taken text.now) (at + taken) (reading_of reader.new)) }
+{
+    match &mut reader.piece {
+        Piece::Path(Mark::InName, name) => {
+            let taken = word_length(text);
+            name.extend_from_slice(&text[..taken])?;
+            Ok(taken)
+        }
+        _ => Ok(0),
+    }
+}
+
+// The tree of the rest of a text. `at` is the place of the rest. Nothing is said of the reader then.
 #[tactic(auto, unfolding(crate::specs::Machine::read))]
-pub(crate) fn read(alloc: Global, text: &[u8], at: u32, reader: Reader) -> Result<Node, ExprStop>
+pub(crate) fn read(
+    alloc: Global,
+    text: &[u8],
+    at: u32,
+    reader: &mut Reader,
+) -> Result<Node, ExprStop>
     requires { at + length text.now < 2 ^ 32 }
-    ensures { GivesTold place_of shape result (read text.now at (reading_of reader)) }
+    ensures { GivesTold place_of shape result (read text.now at (reading_of reader.old)) }
 {
     match text {
         [] => match result_of(alloc, reader)? {
             Some(tree) => Ok(tree),
             None => Err(ExprStop::X1(at)),
         },
-        [c, rest @ ..] => match step(alloc, reader, *c)? {
-            Some(next) => read(alloc, rest, at + 1, next),
-            None => Err(ExprStop::X1(at)),
-        },
+        [c, rest @ ..] => {
+            if !step(alloc, reader, *c)? {
+                return Err(ExprStop::X1(at));
+            }
+            let taken = take_name(reader, rest)?;
+            read(alloc, &rest[taken..], at + 1 + taken as u32, reader)
+        }
     }
 }

@@ -4,13 +4,14 @@ ghost use Rattle.kc_expr.specs.Machine.{take_token, tree_at, behind_open, finish
 ghost use Rattle.kc_expr.specs.Tree.{left_rank};
 ghost use Rattle.kc_expr.specs.Tree.Token.{operator};
 ghost use Rattle.kc_expr.specs.declared.state.State.TheVariants.{Want, After};
-ghost use Rattle.kc_expr.specs.Views.{shape, stack_of, state_of, token_of};
+ghost use Rattle.kc_expr.specs.Views.{shape, stack_of, state_of, token_of, Follows};
 
 use crate::stack::{Stack, compares, has_room, is_alone, left_rank, reduce};
 use crate::token::Token;
 use crate::tree::{Node, Operator};
 use kc_word::NoMemory;
 use std::alloc::Global;
+use std::mem;
 
 // How many parentheses and `!` may be open at once.
 pub(crate) const OPEN_MOST: u8 = 16;
@@ -100,17 +101,20 @@ fn take_after(
     }
 }
 
-// One token more, where it may stand there.
-pub(crate) fn take_token(
-    alloc: Global,
-    state: State,
-    token: Token,
-) -> Result<Option<State>, NoMemory>
-    ensures { IfOk result (λ o. option_map state_of o ≡ take_token (state_of state) (token_of token)) }
+// One token more. False where it may not stand there, and then nothing is said of the state.
+pub(crate) fn take_token(alloc: Global, state: &mut State, token: Token) -> Result<bool, NoMemory>
+    ensures { IfOk result (Follows (take_token (state_of state.old) (token_of token)) (state_of state.new)) }
 {
-    match state {
-        State::Want(stack) => take_unit(alloc, stack, token),
-        State::After(unit, stack) => take_after(alloc, unit, stack, token),
+    let next = match mem::replace(state, State::Want(Stack::Bottom)) {
+        State::Want(stack) => take_unit(alloc, stack, token)?,
+        State::After(unit, stack) => take_after(alloc, unit, stack, token)?,
+    };
+    match next {
+        Some(next) => {
+            *state = next;
+            Ok(true)
+        }
+        None => Ok(false),
     }
 }
 

@@ -18,6 +18,11 @@ use kc_word::Steps;
 use std::alloc::Global;
 use std::sync::ledger::Ledger;
 
+/// Does nothing. A word takes six steps at most.
+pub fn know_most<S: Space>(space: &S)
+    ensures { S.most space.now ≤ 6 }
+{}
+
 /// A field of a struct of this type, which a walk reads. It reads no word that the number doesn't need, and
 /// takes memory for the place of a refused paging entry alone.
 ///
@@ -36,6 +41,8 @@ pub fn read_field<S: Space, L: Ledger>(
     ensures named { IsNamed result asked.now.audit asked.now.start }
     ensures steps { steps.new
         ≤ steps.old + 2 * (length (hop_list field.now.hops) * S.most space.old) + 2 * S.most space.old }
+    // Four pointers at most are followed, and each of them and the number stand in two words at most.
+    ensures few { steps.new ≤ steps.old + 60 }
     ensures words { WalkStepsOf
         (λ image. words_at image view.now.at (hop_list field.now.hops) (bits_view field.now.bits))
         (S.image space.old) result (S.most space.old) steps.old steps.new }
@@ -43,6 +50,7 @@ pub fn read_field<S: Space, L: Ledger>(
     ensures stays { SpaceStays S.image S.files S.through S.most space.old space.new }
     ensures cause { CountsWalkFaults result (S.faults space.old) (S.faults space.new) }
 {
+    know_most(space);
     match field_of(space, view, field, steps) {
         Ok(number) => Ok(number),
         Err(stop) => Err(stopped(alloc, asked, stop, None)),
@@ -71,6 +79,8 @@ pub fn check_field<S: Space, L: Ledger>(
     ensures named { IsNamed result asked.now.audit asked.now.start }
     ensures steps { steps.new
         ≤ steps.old + 2 * (length (hop_list field.now.hops) * S.most space.old) + 2 * S.most space.old }
+    // Four pointers at most are followed, and each of them and the number stand in two words at most.
+    ensures few { steps.new ≤ steps.old + 60 }
     ensures words { WalkStepsOf
         (λ image. words_at image view.now.at (hop_list field.now.hops) (bits_view field.now.bits))
         (S.image space.old) result (S.most space.old) steps.old steps.new }

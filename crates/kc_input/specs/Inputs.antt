@@ -10,12 +10,8 @@ use Rattle.kc_split.specs.Join.{with_module}
 use Rattle.kc_split.specs.Split.{split}
 use Rattle.kc_layout.specs.Find.{find}
 use Rattle.kc_layout.specs.Ends.{NumberAt, field}
-use Rattle.kc_notes.specs.declared.info.Info.{Info}
 use Rattle.kc_syms.specs.Addresses.{common_of}
-use Rattle.kc_syms.specs.Rows.{RowText, addresses, rows}
-use Rattle.kc_plan.specs.Planned.{PlanAt}
-use Rattle.kc_plan.specs.Kernels.{Kernel}
-use Rattle.kc_plan.specs.Plans.{plan}
+use Rattle.kc_syms.specs.Rows.{RowText, rows}
 use Rattle.kc_input.specs.declared.refusal.Refusal.TheVariants as refusal
 use Rattle.kc_input.specs.Made.{◌>>=◌, Made, bytes_in, checked, gives, short_file, wanted}
 
@@ -70,11 +66,3 @@ number_at types id path = checked refusal.Path (field types id path)
 -- the bytes of a plan, unless it is above the limit
 abbrev pub plan_in : Option (List ℕ) → Made (List ℕ)
 plan_in file = short_file slot.Plan file
-
--- a kernel's types, the addresses that the rows of its map list, and what its notes tell
-abbrev pub kernel_by : Types → List RowText → Info → Kernel
-kernel_by types rows told = record { types = types; symbols = λ name. addresses name rows; kaslr = told.kaslr; five = told.five }
-
--- a plan over these, or its first fault
-abbrev pub plan_over : Types → List RowText → Info → List ℕ → Made PlanAt
-plan_over types rows told bytes = checked refusal.Plan (plan (kernel_by types rows told) bytes)

@@ -15,11 +15,11 @@ use Rattle.kc_layout.specs.declared.fault.QRule.{QRule}
 use Rattle.kc_layout.specs.declared.fault.QRule.TheVariants.{Q2, Q3, Q4, Q5, Q6, Q7, Q8}
 use Rattle.kc_syms.specs.declared.fault.SymFault.{SymFault}
 use Rattle.kc_syms.specs.declared.fault.SymFault.TheVariants.{S2, S3}
-use Rattle.kc_plan.specs.declared.fault.PlanFault.{PlanFault}
-use Rattle.kc_plan.specs.declared.fault.PlanKey.{PlanKey}
-use Rattle.kc_plan.specs.declared.fault.PRule.{PRule}
-use Rattle.kc_plan.specs.declared.fault.PRule.TheVariants.{P1, P2, P3, P4, P5, P6, P7, P8, P9, P10, P11, P12}
-use Rattle.kc_plan.specs.Keys.{spelled}
+use Rattle.kc_keys.specs.declared.fault.PlanFault.{PlanFault}
+use Rattle.kc_keys.specs.declared.fault.PlanKey.{PlanKey}
+use Rattle.kc_keys.specs.declared.fault.PRule.{PRule}
+use Rattle.kc_keys.specs.declared.fault.PRule.TheVariants.{P1, P2, P3, P4, P5, P6, P7, P8, P9, P10, P11, P12}
+use Rattle.kc_keys.specs.Keys.{spelled}
 use Rattle.kc_text.specs.Text.{hex}
 use Rattle.kc_input.specs.declared.refusal.Refusal.{Refusal}
 use Rattle.kc_input.specs.declared.refusal.Refusal.TheVariants.{Core, Notes, TooLong, Types, Module as of_module, MapLine, Symbol, NoType, Path, Plan as of_plan}

@@ -5,8 +5,8 @@ use Rattle.kc_elf.specs.declared.fault.CoreStop.{CoreStop}
 use Rattle.kc_elf.specs.declared.fault.CoreStop.TheVariants as elf
 use Rattle.kc_syms.specs.declared.fault.SymStop.{SymStop}
 use Rattle.kc_syms.specs.declared.fault.SymStop.TheVariants as syms
-use Rattle.kc_plan.specs.declared.fault.PlanStop.{PlanStop}
-use Rattle.kc_plan.specs.declared.fault.PlanStop.TheVariants as plans
+use Rattle.kc_keys.specs.declared.fault.PlanStop.{PlanStop}
+use Rattle.kc_keys.specs.declared.fault.PlanStop.TheVariants as plans
 use Rattle.kc_input.specs.declared.refusal.Refusal.TheVariants.{Core, Types, MapLine, Plan}
 use Rattle.kc_input.specs.declared.halt.Halt.{Halt}
 use Rattle.kc_input.specs.declared.halt.Halt.TheVariants.{Refused, Store, Memory}

@@ -5,8 +5,8 @@ ghost use Rattle.kc_input.specs.declared.halt.Halt.TheVariants.{Refused, Store, 
 use crate::refusal::Refusal;
 use kc_btf::BtfStop;
 use kc_elf::CoreStop;
+use kc_keys::PlanStop;
 use kc_outside::Failed;
-use kc_plan::PlanStop;
 use kc_syms::SymStop;
 use kc_word::NoMemory;
 use std::alloc::AllocError;

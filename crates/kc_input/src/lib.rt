@@ -1,4 +1,4 @@
-//! What the files of a command hold, or the first refusal: a dump and its notes, types, symbols and a plan.
+//! What the files of a command hold, or the first refusal: a dump and its notes, types, symbols and a plan's text.
 #![tactic(auto)]
 
 mod dump;
@@ -18,6 +18,6 @@ pub use halt::Halt;
 pub use line::refusal_line;
 pub use map::{read_map, read_symbols};
 pub use module::read_module;
-pub use plan::{read_audits, read_plan_file};
+pub use plan::read_plan_file;
 pub use refusal::Refusal;
 pub use types::read_types;

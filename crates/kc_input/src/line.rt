@@ -6,10 +6,10 @@ ghost use Rattle.kc_input.specs.Lines.{audit_part, btf_code, btf_text, core_code
 use crate::refusal::Refusal;
 use kc_btf::{BRule, BtfFault};
 use kc_elf::CoreFault;
+use kc_keys::{PRule, PlanFault, PlanKey, spelling};
 use kc_layout::{PathFault, QRule};
 use kc_notes::{NoteFault, NoteKey};
 use kc_outside::Slot;
-use kc_plan::{PRule, PlanFault, PlanKey, spelling};
 use kc_syms::SymFault;
 use kc_text::{push, push_hex, push_numbered};
 use kc_word::NoMemory;

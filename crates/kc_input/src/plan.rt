@@ -1,26 +1,17 @@
-// The plan of an audit.
-ghost use Rattle.std.specs.Prelude.{◌≡◌, ◌≤◌, ℕ, List, length, IfOk};
+// The file of a plan.
+ghost use Rattle.std.specs.Prelude.{◌≡◌, ◌≤◌, ℕ, List};
 ghost use Rattle.kc_outside.specs.declared.store.Slot.{Slot};
 ghost use Rattle.kc_outside.specs.Counts.{Rose};
 ghost use Rattle.kc_outside.specs.Files.{OthersStay};
-ghost use Rattle.kc_syms.specs.Answers.{Stands};
-ghost use Rattle.kc_syms.specs.Rows.{RowText};
-ghost use Rattle.kc_syms.specs.Symbols.{symbol};
-ghost use Rattle.kc_plan.specs.Inside.{AreInside};
-ghost use Rattle.kc_plan.specs.Views.{plan_whole};
 ghost use Rattle.kc_input.specs.Calls.{ReadsOnce};
-ghost use Rattle.kc_input.specs.Halts.{NotStore, OnStore, UnlessStore};
-ghost use Rattle.kc_input.specs.Inputs.{plan_in, plan_over};
+ghost use Rattle.kc_input.specs.Halts.{OnStore, UnlessStore};
+ghost use Rattle.kc_input.specs.Inputs.{plan_in};
 ghost use Rattle.kc_input.specs.Slots.{RefusesIn};
-ghost use Rattle.kc_input.specs.Made.{Is, IsOf};
+ghost use Rattle.kc_input.specs.Made.{IsOf};
 
 use crate::file::read_file;
 use crate::halt::Halt;
-use kc_btf::Btf;
-use kc_notes::Info;
 use kc_outside::{Slot, Store};
-use kc_plan::{Plan, know_plans, read_plan};
-use kc_syms::Symbols;
 use std::alloc::Global;
 
 /// Reads the bytes of a plan whole, into slot Plan.
@@ -44,25 +35,4 @@ pub fn read_plan_file<S: Store>(alloc: Global, store: &mut S, name: &str) -> Res
     ensures cause { OnStore result (Rose (S.faults store.old) (S.faults store.new)) }
 {
     read_file(alloc, store, Slot::Plan, name)
-}
-
-/// The plan with these bytes, over a kernel's types and symbols.
-///
-/// # Errors
-///
-/// The plan's first fault P1 to P12, with its audit and key; no memory was left.
-pub fn read_audits(
-    alloc: Global,
-    bytes: &[u8],
-    types: &Btf,
-    symbols: &Symbols<'_>,
-    info: &Info,
-) -> Result<Plan, Halt>
-    ensures made { (rows : List RowText) → Stands (symbol symbols.now) rows → Is plan_whole (plan_over types.now rows info.now bytes.now) result }
-    ensures refused { RefusesIn Slot.Plan result }
-    ensures no_call { NotStore result }
-    ensures inside { IfOk result (λ plan. AreInside (length types.now.records) plan.audits) }
-{
-    know_plans();
-    Ok(read_plan(alloc, bytes, types, symbols, info)?)
 }

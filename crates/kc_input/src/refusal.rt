@@ -4,10 +4,10 @@ ghost use Rattle.kc_input.specs.declared.refusal.Refusal.TheVariants.{Core, Note
 
 use kc_btf::BtfFault;
 use kc_elf::CoreFault;
+use kc_keys::PlanFault;
 use kc_layout::PathFault;
 use kc_notes::NoteFault;
 use kc_outside::Slot;
-use kc_plan::PlanFault;
 use kc_syms::SymFault;
 
 /// The first fault of a command's files, or of what it looks up in them.

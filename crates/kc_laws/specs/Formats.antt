@@ -3,6 +3,8 @@ use Rattle.std.specs.Prelude.{◌≡◌, ℕ, ◌+◌, ◌^◌, ◌<◌, ◌≤�
 use Rattle.kc_text.specs.Format.{Format, Begins, IsRead, IsFormat, IsWhole, IsPlace}
 use Rattle.kc_text.specs.Readers.{IsAmong, decimal_and, decimal_below, digit_from, hex16, is_digit, is_name_byte, literal, name_and, one_of, read_one_of}
 use Rattle.kc_text.specs.Compose.{EndsAt, Goes, after, both, either, ends, followed, lines, mapped, nothing}
+use Rattle.kc_text.specs.Counted.{counted, ended, times}
+use Rattle.kc_text.proofs.CountedLaws as counts
 use Rattle.kc_text.proofs.FormatLaws as made
 use Rattle.kc_text.proofs.LineLaws as lined
 use Rattle.kc_text.proofs.ReaderLaws as read
@@ -124,3 +126,15 @@ stop-place = lined.stop-place
 -- and these bytes are no value's text
 pub stop-none : {X : Type 0} (f : Format X) → IsWhole f → (bytes rest : List ℕ) → f.read bytes ≡ Err rest → (x : X) → f.Good x → bytes ≡ f.spell x → ⊥
 stop-none = lined.stop-none
+
+-- so many values, each with its text
+pub times-law : {X : Type 0} (f : Format X) → IsFormat f → (x : X) × f.Good x → (n : ℕ) → IsFormat (times f n)
+times-law = counts.times-law
+
+-- their number in a line, and then each with its text
+pub counted-law : {X : Type 0} (f : Format X) → IsFormat f → (x : X) × f.Good x → IsFormat (counted f)
+counted-law = counts.counted-law
+
+-- a text that ends where the bytes end
+pub ended-law : {X : Type 0} (f : Format X) → IsFormat f → IsWhole (ended f)
+ended-law = counts.ended-law

@@ -6,8 +6,8 @@ use Rattle.kc_btf.specs.Btf.{Types}
 use Rattle.kc_found.specs.declared.shapes.HShape.{HShape}
 use Rattle.kc_found.specs.declared.shapes.RbShape.{RbShape}
 use Rattle.kc_found.specs.declared.xarrays.XaShape.{XaShape}
-use Rattle.kc_plan.specs.declared.fault.PRule.{PRule}
-use Rattle.kc_plan.specs.declared.fault.PRule.TheVariants.{P4}
+use Rattle.kc_keys.specs.declared.fault.PRule.{PRule}
+use Rattle.kc_keys.specs.declared.fault.PRule.TheVariants.{P4}
 use Rattle.kc_plan.specs.declared.keys.Needs.{Needs}
 use Rattle.kc_plan.specs.declared.keys.Need.TheVariants.{Required, Allowed, Barred}
 use Rattle.kc_plan.specs.declared.kinds.NodeBytes.{NodeBytes}

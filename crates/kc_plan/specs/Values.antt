@@ -2,13 +2,13 @@
 use Rattle.std.specs.Prelude.{ℕ, List, [], ◌∷◌, Bool, Option, Some, None, Result, Ok, Err, ⊤, is_some, if◌then◌else◌}
 use Rattle.std.specs.Option.{ok_or}
 use Rattle.toml.specs.Data.{Data, Items, no_items, item, Members, get_member, as_str, as_bool}
-use Rattle.kc_plan.specs.declared.fault.PRule.{PRule}
-use Rattle.kc_plan.specs.declared.fault.PRule.TheVariants.{P3, P4}
-use Rattle.kc_plan.specs.declared.fault.PlanKey.{PlanKey}
-use Rattle.kc_plan.specs.declared.fault.PlanFault.{PlanFault}
+use Rattle.kc_keys.specs.declared.fault.PRule.{PRule}
+use Rattle.kc_keys.specs.declared.fault.PRule.TheVariants.{P3, P4}
+use Rattle.kc_keys.specs.declared.fault.PlanKey.{PlanKey}
+use Rattle.kc_keys.specs.declared.fault.PlanFault.{PlanFault}
 use Rattle.kc_plan.specs.declared.keys.Need.{Need}
 use Rattle.kc_plan.specs.declared.keys.Need.TheVariants.{Required, Allowed, Barred}
-use Rattle.kc_plan.specs.Keys.{spelled}
+use Rattle.kc_keys.specs.Keys.{spelled}
 
 infixl 10 ◌>>=◌
 abbrev pub ◌>>=◌ : {A B E : Type 0} → Result A E → (A → Result B E) → Result B E

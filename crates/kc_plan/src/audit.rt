@@ -6,7 +6,6 @@ ghost use Rattle.kc_plan.specs.Answers.{Gives};
 ghost use Rattle.kc_plan.specs.Audits.{is_among, kind_for, name_for, is_untyped, tree_for, parts_for, audit_for, audits_for};
 ghost use Rattle.kc_plan.specs.Views.{text, tree_text, part_text, audit_text, audit_texts, tables_in};
 
-use crate::fault::{PRule, PlanKey, PlanStop};
 use crate::item::{AuditWords, PartWords, TreeWords};
 use crate::keys::{AUDIT_KEYS, Need, Needs};
 use crate::kinds::{Sort, needs_of, sort_of};
@@ -14,6 +13,7 @@ use crate::start::start_of;
 use crate::value::{
     flag_at, has, has_only, names_at, put, refuse_if, required_text, stop, text_at,
 };
+use kc_keys::{PRule, PlanKey, PlanStop};
 use kc_text::is_name;
 use std::alloc::Global;
 use toml::Table;

@@ -3,7 +3,7 @@ ghost use Rattle.std.specs.Prelude.{◌≡◌, ◌≤◌, [], length, Some, unwr
 ghost use Rattle.std.specs.Option.{option_copied};
 ghost use Rattle.kc_layout.specs.Ends.{located};
 ghost use Rattle.kc_layout.specs.Views.{byte_view, bits_view};
-ghost use Rattle.kc_plan.specs.declared.fault.PlanKey.TheVariants as key;
+ghost use Rattle.kc_keys.specs.declared.fault.PlanKey.TheVariants as key;
 ghost use Rattle.kc_plan.specs.Answers.{Gives};
 ghost use Rattle.kc_plan.specs.Plans.{struct_at, type_named, addressed, root_at, from_at, root_for, begun, element_at, link_for, key_for, first_byte};
 ghost use Rattle.kc_plan.specs.Kinds.{IsRow};
@@ -14,13 +14,13 @@ ghost use Rattle.kc_plan.specs.Views.{kernel, start_text};
 ghost use Rattle.kc_syms.specs.Addresses.{common_of};
 ghost use Rattle.kc_syms.specs.Symbols.{symbol};
 
-use crate::fault::{PRule, PlanKey, PlanStop};
 use crate::item::StartWords;
 use crate::known::Known;
 use crate::planned::Start;
 use crate::shape::{Row, is_struct};
 use crate::value::stop;
 use kc_btf::Btf;
+use kc_keys::{PRule, PlanKey, PlanStop};
 use kc_layout::{Hops, Located, locate, resolve};
 use kc_syms::Symbols;
 use kc_word::Bits;

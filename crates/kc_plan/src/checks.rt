@@ -4,7 +4,7 @@ ghost use Rattle.kc_expr.specs.Exprs.{tree_of};
 ghost use Rattle.kc_expr.specs.Machine.{parsed};
 ghost use Rattle.kc_expr.specs.Values.{fields_of as paths_of};
 ghost use Rattle.kc_layout.specs.Views.{number_view};
-ghost use Rattle.kc_plan.specs.declared.fault.PlanKey.TheVariants as key;
+ghost use Rattle.kc_keys.specs.declared.fault.PlanKey.TheVariants as key;
 ghost use Rattle.kc_plan.specs.Answers.{Gives};
 ghost use Rattle.kc_plan.specs.CheckTexts.{all_checks_for, check_for, checks_for, fields_for, or_refused};
 ghost use Rattle.kc_plan.specs.Inside.{ChecksInside, FieldsInside};
@@ -12,12 +12,12 @@ ghost use Rattle.kc_plan.specs.Planned.{check_seen};
 ghost use Rattle.kc_plan.specs.Values.{at};
 ghost use Rattle.kc_plan.specs.Views.{text};
 
-use crate::fault::{PRule, PlanKey, PlanStop};
 use crate::planned::{Check, Checks, Fields};
 use crate::value::{refuse_if, stop};
 use kc_btf::Btf;
 use kc_expr::{Expr, ExprStop, parse};
 use kc_found::Items;
+use kc_keys::{PRule, PlanKey, PlanStop};
 use kc_layout::resolve;
 use std::alloc::Global;
 

@@ -7,10 +7,10 @@ ghost use Rattle.kc_plan.specs.Steps.{document, parsed, version_for, tail_of, ta
 ghost use Rattle.kc_plan.specs.Views.{plan_text, tables_seen};
 
 use crate::audit::audits_of;
-use crate::fault::{PRule, PlanFault, PlanKey, PlanStop};
 use crate::item::PlanWords;
 use crate::keys::{Need, TOP_KEYS};
 use crate::value::{has_only, refuse_if, required_number, stop, tables_at, text_at};
+use kc_keys::{PRule, PlanFault, PlanKey, PlanStop};
 use kc_word::Tail;
 use std::alloc::Global;
 use toml::Table;

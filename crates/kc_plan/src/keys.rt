@@ -1,8 +1,5 @@
 // The keys of a plan, and what a kind of audit may ask of one.
-ghost use Rattle.std.specs.Prelude.{◌≡◌};
-ghost use Rattle.kc_plan.specs.Keys.{spelled};
-
-use crate::fault::PlanKey;
+use kc_keys::PlanKey;
 
 // What a kind of audit asks of a key.
 #[derive(Clone, Copy)]
@@ -22,33 +19,6 @@ pub(crate) struct Needs {
     pub link: Need,
     // `key`, `unique` and `cached`
     pub tree: Need,
-}
-
-/// How a key is spelled. A key that isn't for its table, whatever the kind, is told as `other`; none is
-/// asked for as that.
-pub fn spelling(key: PlanKey) -> &'static str
-    ensures { result.now ≡ spelled key }
-{
-    match key {
-        PlanKey::Version => "version",
-        PlanKey::Tail => "tail",
-        PlanKey::Audit => "audit",
-        PlanKey::Name => "name",
-        PlanKey::Kind => "kind",
-        PlanKey::Root => "root",
-        PlanKey::RootType => "root_type",
-        PlanKey::RootPath => "root_path",
-        PlanKey::From => "from",
-        PlanKey::Optional => "optional",
-        PlanKey::Element => "element",
-        PlanKey::Link => "link",
-        PlanKey::Key => "key",
-        PlanKey::Unique => "unique",
-        PlanKey::Cached => "cached",
-        PlanKey::Check => "check",
-        PlanKey::Each => "each",
-        PlanKey::Other => "other",
-    }
 }
 
 // The keys of a plan.

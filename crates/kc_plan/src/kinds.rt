@@ -6,7 +6,6 @@ ghost use Rattle.kc_plan.specs.Kinds.{sort_of, needs_of, hlist_words, root_words
 ghost use Rattle.kc_plan.specs.Inside.{KindInside};
 ghost use Rattle.kc_plan.specs.Views.{kernel, own_seen};
 
-use crate::fault::PRule;
 use crate::keys::{Need, Needs};
 use crate::kind::Kind;
 use crate::known::Known;
@@ -15,6 +14,7 @@ use crate::slabs::{are_single, slub_words};
 use crate::tasks::task_words;
 use kc_btf::Btf;
 use kc_found::{HShape, RbShape, XaShape};
+use kc_keys::PRule;
 
 // The kinds of audits.
 #[derive(Clone, Copy)]

@@ -5,7 +5,6 @@ mod audit;
 mod begin;
 mod checks;
 mod document;
-mod fault;
 mod item;
 mod keys;
 mod kind;
@@ -22,8 +21,7 @@ mod start;
 mod tasks;
 mod value;
 
-pub use fault::{PRule, PlanFault, PlanKey, PlanStop};
-pub use keys::spelling;
+pub use kc_keys::{PRule, PlanFault, PlanKey, PlanStop, spelling};
 pub use kind::Kind;
 pub use laws::know_plans;
 pub use plan::Plan;

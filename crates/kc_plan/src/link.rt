@@ -4,9 +4,9 @@ ghost use Rattle.kc_plan.specs.Answers.{Gives};
 ghost use Rattle.kc_plan.specs.Links.{numbered, unless_named, is_named, name_links, audit_links, all_named, above_of, is_within, all_within, links_for};
 ghost use Rattle.kc_plan.specs.Views.{audit_text, links_in, text};
 
-use crate::fault::{PRule, PlanKey, PlanStop};
 use crate::item::{AuditWords, Link};
 use crate::value::{put, refuse_if, stop};
+use kc_keys::{PRule, PlanKey, PlanStop};
 use std::alloc::Global;
 
 /// How deep audits stand at most.

@@ -10,7 +10,6 @@ ghost use Rattle.kc_plan.specs.Views.{kernel, kernel_of, audit_text, plan_whole}
 use crate::begin::{begun, element_at, key_at, link_at, root_of};
 use crate::checks::checks_of;
 use crate::document::{document_of, plan_in};
-use crate::fault::{PRule, PlanKey, PlanStop};
 use crate::item::{AuditWords, Link};
 use crate::kinds::{Rows, row_of, rows_of, shape_of};
 use crate::known::Known;
@@ -21,6 +20,7 @@ use crate::shape::Own;
 use crate::value::{refuse_if, stop};
 use kc_btf::Btf;
 use kc_found::{Items, Name};
+use kc_keys::{PRule, PlanKey, PlanStop};
 use kc_layout::Names;
 use kc_notes::Info;
 use kc_syms::Symbols;

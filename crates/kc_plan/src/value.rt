@@ -3,16 +3,17 @@ ghost use Rattle.std.specs.Prelude.{◌≡◌, ◌∷◌, [], ◌++◌, Some, No
 ghost use Rattle.std.specs.Option.{option_copied};
 ghost use Rattle.toml.specs.Data.{as_str, as_bool, as_integer, as_array, as_table, get_member};
 ghost use Rattle.toml.specs.View.{view, array_view, table_view};
-ghost use Rattle.kc_plan.specs.declared.fault.PlanStop.TheVariants.{Fault};
+ghost use Rattle.kc_keys.specs.declared.fault.PlanStop.TheVariants.{Fault};
 ghost use Rattle.kc_plan.specs.Answers.{Gives, ReadsAll};
 ghost use Rattle.kc_plan.specs.Audits.{all_keys, names_for};
-ghost use Rattle.kc_plan.specs.Keys.{spelled, is_one_of};
+ghost use Rattle.kc_plan.specs.Keys.{is_one_of};
+ghost use Rattle.kc_keys.specs.Keys.{spelled};
 ghost use Rattle.kc_plan.specs.Steps.{tables};
 ghost use Rattle.kc_plan.specs.Values.{all_read, at, asked, refuse_if, required, has, value_at, text_for, flag_for};
 ghost use Rattle.kc_plan.specs.Views.{text, texts, tables_seen};
 
-use crate::fault::{PRule, PlanFault, PlanKey, PlanStop};
-use crate::keys::{Need, spelling};
+use crate::keys::Need;
+use kc_keys::{PRule, PlanFault, PlanKey, PlanStop, spelling};
 use kc_word::NoMemory;
 use std::alloc::Global;
 use toml::value::Array;

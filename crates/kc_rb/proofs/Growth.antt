@@ -14,7 +14,8 @@ use Rattle.kc_found.specs.Trials.{Trial, Meet, broken_if, met, claimed_in, IsUnb
 use Rattle.kc_found.specs.Violations.{Violation, breaks}
 use Rattle.kc_laws.specs.Trials.{met-append, claimed_in-append, unbroken_parts, unbroken_whole}
 use Rattle.kc_rb.proofs.Descent.{at_null, at_node, node_is, nulls_null, nulls_node, nulls_is, claimed_site, met_site}
-use Rattle.kc_rb.proofs.Opening.{Good, good, fine}
+use Rattle.kc_rb.specs.Nodes.{Good}
+use Rattle.kc_rb.proofs.Opening.{good, fine}
 
 -- the trials below a node
 abbrev pub below : RbCourse → Option ℕ → ℕ → RbSpot → RbLinks → Option RbKey → List (Trial ℕ)

@@ -14,6 +14,7 @@ use Rattle.kc_found.specs.RbTrees.{RbCourse, links_at, keys_at, site_with, broke
 use Rattle.kc_found.specs.Trials.{Break, IsUnbroken}
 use Rattle.kc_found.specs.Violations.{Violation, breaks, missed}
 use Rattle.kc_laws.specs.Trials.{unbroken_parts}
+use Rattle.kc_rb.specs.Nodes.{Good, NodesAreGood}
 
 pub over : (strict : Bool) (low : Option ℤ) (k : ℤ) → is_below strict low k ≡ false → IsOver strict low k
 over strict None k e = tt
@@ -78,14 +79,6 @@ no_fault : (a : Option Violation) → IsUnbroken {X = ℕ} (broken_by a) → a �
 no_fault None u = refl
 no_fault (Some f) u = absurd u
 
--- what a node without a broken rule is
-pub record Good (c : RbCourse) (s : RbSpot) (n : RbLinks) (k : Option RbKey) : Type 0 where
-  pub links : links_at c s ≡ Ok n
-  pub keys : keys_at c s ≡ Ok k
-  pub parent : parent_in n.parent.value ≡ s.parent
-  pub colour : (s.red && is_red n.parent.value) ≡ false
-  pub between : IsBetween c.shape.unique s.low s.high k
-
 pub good : (c : RbCourse) (s : RbSpot) (there : Result RbLinks Stopped) (key : Result (Option RbKey) Stopped) → links_at c s ≡ there → keys_at c s ≡ key → IsUnbroken (site_with c s there key) → (n : RbLinks) × (k : Option RbKey) × Good c s n k
 good c s (Ok n) (Ok k) et ek u =
     let p = unbroken_parts {X = ℕ} (broken_by (link_fault c.asked s n)) (broken_by (key_fault c.asked c.shape.unique s k)) u in
@@ -101,3 +94,6 @@ fine_with c s n k (Err m) key et ek el ef = absurd (cc)
 
 pub fine : (c : RbCourse) (s : RbSpot) (n : RbLinks) (k : Option RbKey) → Good c s n k → IsUnbroken (site_with c s (links_at c s) (keys_at c s))
 fine c s n k g = fine_with c s n k (links_at c s) (keys_at c s) g.links g.keys (links_fine c.asked s n g.parent g.colour) (key_fine c.asked c.shape.unique s k g.between)
+
+pub nodes_are_good : NodesAreGood
+nodes_are_good = λ c s. (good c s (links_at c s) (keys_at c s) refl refl, fine c s)

@@ -1,5 +1,6 @@
 // What the definitions of walks say, for a reader to believe and a caller to learn.
 ghost use Rattle.kc_rb.specs.Laws.{KeysRise, NullsAgree, TreeOrViolation, TreePlacesStand, TreesAreWalked};
+ghost use Rattle.kc_rb.specs.Nodes.{NodesAreGood};
 
 use kc_found::{know_numbers, know_places};
 
@@ -17,3 +18,9 @@ pub fn know_trees()
     know_places();
     know_numbers();
 }
+
+/// Does nothing. No rule is broken at the node of a position exactly where its words and its key can be read, it names its
+/// parent, a red parent has a black child, and its key is within the bounds.
+pub fn know_nodes()
+    ensures { NodesAreGood }
+{}

@@ -10,7 +10,10 @@ mod spots;
 mod walk;
 
 pub use counted::rb_walk_counted;
-pub use laws::know_trees;
+pub use laws::{know_nodes, know_trees};
+pub use node::enter_node;
+pub use reading::enter_head;
+pub use spots::{left_of, right_of, root_of};
 pub use walk::rb_walk;
 
 #[cfg(test)]

@@ -12,8 +12,13 @@ use kc_word::Steps;
 use std::alloc::Global;
 use std::sync::ledger::Ledger;
 
-// Enters the node at a position, and gives its words and its key.
-pub(crate) fn enter_node<S: Space, L: Ledger>(
+/// Enters the node at a position: reads its three words and its key, tests the rules R1 to R4, and takes its words. Gives its
+/// words and its key, or none where the tree has no keys.
+///
+/// # Errors
+///
+/// The first violation at the node, a failure of the space, whose count of faults then rose, or out of memory.
+pub fn enter_node<S: Space, L: Ledger>(
     alloc: Global,
     space: &mut S,
     shape: &RbShape,

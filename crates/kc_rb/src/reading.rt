@@ -145,8 +145,13 @@ fn take_leftmost(
     }
 }
 
-// Reads and takes the words of a root.
-pub(crate) fn enter_head<S: Space, L: Ledger>(
+/// Reads and takes the words of a root, whose virtual address is the start of the audit that asks.
+///
+/// # Errors
+///
+/// M1 to M6 where a word can't be read, A where it was taken, a failure of the space, whose count of faults then rose, or
+/// out of memory.
+pub fn enter_head<S: Space, L: Ledger>(
     alloc: Global,
     space: &mut S,
     shape: &RbShape,

@@ -5,8 +5,8 @@ ghost use Rattle.kc_found.specs.RbTrees.{left_spot, right_spot, root_spot};
 use crate::rules::is_red;
 use kc_found::{RbKey, RbLinks, RbSpot, VWord};
 
-// The position of the whole tree.
-pub(crate) fn root_of(root: VWord) -> RbSpot
+/// The position of the whole tree, by the word of its root.
+pub fn root_of(root: VWord) -> RbSpot
     ensures { result ≡ root_spot root }
 {
     RbSpot {
@@ -41,8 +41,8 @@ fn bound_of(key: &Option<RbKey>) -> Option<i128>
     }
 }
 
-// The position of a node's left child.
-pub(crate) fn left_of(spot: &RbSpot, links: &RbLinks, key: &Option<RbKey>) -> RbSpot
+/// The position of a node's left child, by the node's position, words and key.
+pub fn left_of(spot: &RbSpot, links: &RbLinks, key: &Option<RbKey>) -> RbSpot
     requires { spot.now.black < 2 ^ 64 - 1 }
     ensures { result ≡ left_spot spot.now links.now key.now }
 {
@@ -56,8 +56,8 @@ pub(crate) fn left_of(spot: &RbSpot, links: &RbLinks, key: &Option<RbKey>) -> Rb
     }
 }
 
-// The position of a node's right child.
-pub(crate) fn right_of(spot: &RbSpot, links: &RbLinks, key: &Option<RbKey>) -> RbSpot
+/// The position of a node's right child, by the node's position, words and key.
+pub fn right_of(spot: &RbSpot, links: &RbLinks, key: &Option<RbKey>) -> RbSpot
     requires { spot.now.black < 2 ^ 64 - 1 }
     ensures { result ≡ right_spot spot.now links.now key.now }
 {

@@ -1,9 +1,10 @@
 mod Arrays
 mod Checking
-mod Counting
-mod Going
+pub mod Counting
+pub mod Few
+pub mod Going
 mod RootLaws
 mod Rows
 mod Showing
 mod Standing
-mod Unrolling
+pub mod Unrolling

@@ -12,8 +12,8 @@ use kc_plan::Start;
 use kc_word::NoMemory;
 use std::alloc::Global;
 
-// The path to an audit's start.
-pub(crate) fn path_of(start: &Start) -> &Located
+/// The path to an audit's start, from a symbol or from an element.
+pub fn path_of(start: &Start) -> &Located
     ensures path { byte_view result.now ≡ path_of (start_seen start.now) }
     ensures inside { (count : ℕ) → StartsInside count start.now → result.now.ty ≤ count }
 {
@@ -23,8 +23,8 @@ pub(crate) fn path_of(start: &Start) -> &Located
     }
 }
 
-// Whether a null pointer on the way is passed over.
-pub(crate) fn is_optional(start: &Start) -> bool
+/// Whether the audit is passed over where a pointer on its path is null.
+pub fn is_optional(start: &Start) -> bool
     ensures { result ≡ is_optional (start_seen start.now) }
 {
     match start {
@@ -33,8 +33,8 @@ pub(crate) fn is_optional(start: &Start) -> bool
     }
 }
 
-// The element that holds a node at an offset.
-pub(crate) fn container_of(link: u64, node: u64) -> u64
+/// The virtual address of the element that holds a node, by its offset in the element, in bytes. It wraps at 2^64.
+pub fn container_of(link: u64, node: u64) -> u64
     ensures { result ≡ container_of link node }
 {
     node.wrapping_sub(link)

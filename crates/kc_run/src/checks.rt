@@ -1,6 +1,7 @@
 // The checks of an element.
-ghost use Rattle.std.specs.Prelude.{◌≡◌, ◌++◌, ◌∷◌, List, length, map, option_to_list, IfOk, OnOk};
-ghost use Rattle.kc_memory.specs.Stays.{SpaceStays};
+ghost use Rattle.std.specs.Prelude.{◌≡◌, ◌≤◌, ◌+◌, ◌*◌, ◌++◌, ◌∷◌, List, length, map, option_to_list, IfOk, OnOk};
+ghost use Rattle.kc_memory.specs.Space.{AnswersAs};
+ghost use Rattle.kc_memory.specs.Stays.{CountsFaults, SpaceStays};
 ghost use Rattle.kc_layout.specs.Views.{number_view};
 ghost use Rattle.kc_expr.specs.Values.{is_true};
 ghost use Rattle.kc_view.specs.Fields.{or_missed};
@@ -13,7 +14,8 @@ ghost use Rattle.kc_run.specs.Tally.{TalliesAs};
 
 use kc_btf::Btf;
 use kc_expr::eval;
-use kc_found::{Asked, Found, Items, Places, Rule, Scalar, Space, WalkStop, stopped};
+use kc_found::{Asked, Found, Items, Places, Rule, Scalar, Space, Stop, WalkStop, stopped};
+use kc_layout::Field;
 use kc_plan::{Check, Checks, Fields};
 use kc_view::View;
 use kc_word::{NoMemory, Steps};
@@ -78,6 +80,28 @@ fn holds(alloc: Global, check: &Check, numbers: &Numbers) -> Result<bool, AllocE
     Ok(eval(&check.expr, &values) != 0)
 }
 
+// Does nothing. A word takes six steps at most.
+fn know_most<S: Space>(space: &S)
+    ensures { S.most space.now ≤ 6 }
+{}
+
+// The number of a field of an element.
+fn read_one<S: Space, L: Ledger>(
+    space: &mut S,
+    element: &View<'_>,
+    field: &Field,
+    steps: &mut Steps<L>,
+) -> Result<Scalar, Stop>
+    ensures exact { AnswersAs (λ image. number_at image element.now.at (number_view field.now)) (S.image space.old) result }
+    ensures steps { steps.new ≤ steps.old + 60 }
+
+    ensures stays { SpaceStays S.image S.files S.through S.most space.old space.new }
+    ensures cause { CountsFaults result (S.faults space.old) (S.faults space.new) }
+{
+    know_most(space);
+    element.read(space, field, steps)
+}
+
 // The numbers of the fields of an element, all of them.
 fn read_fields<S: Space, L: Ledger>(
     alloc: Global,
@@ -92,13 +116,14 @@ fn read_fields<S: Space, L: Ledger>(
         (S.image space.old) result }
     ensures size { IfOk result (λ numbers. length numbers ≡ length fields.now) }
     ensures named { IsNamed result asked.now.audit asked.now.start }
+    ensures steps { steps.new ≤ steps.old + 60 * length fields.now }
 
     ensures stays { SpaceStays S.image S.files S.through S.most space.old space.new }
     ensures cause { CountsWalkFaults result (S.faults space.old) (S.faults space.new) }
 {
     let mut numbers = Numbers::new(alloc);
     for i in 0..fields.len() {
-        let number = match element.read(space, fields.get(i), steps) {
+        let number = match read_one(space, element, fields.get(i), steps) {
             Ok(number) => number,
             Err(stop) => return Err(stopped(alloc, asked, stop, None)),
         };
@@ -124,6 +149,7 @@ fn look_check<S: Space, L: Ledger>(
         (numbers_of (number_at image element.now.at) (check_seen check.now).fields))
         counts counts (S.image space.old) result }
     ensures named { IsNamed result asked.now.audit asked.now.start }
+    ensures steps { steps.new ≤ steps.old + 480 }
 
     ensures stays { SpaceStays S.image S.files S.through S.most space.old space.new }
     ensures cause { CountsWalkFaults result (S.faults space.old) (S.faults space.new) }
@@ -139,8 +165,14 @@ fn look_check<S: Space, L: Ledger>(
     }
 }
 
-// Looks at the checks of an element that a walk met, one after the other.
-pub(crate) fn look_checks<S: Space, L: Ledger>(
+/// Looks at the checks of the element at a virtual address that an audit met, one after the other, each with at most eight
+/// fields.
+///
+/// # Errors
+///
+/// The first violation: M1 to M6 where a field can't be read, C where a check is 0. Or a failure of the space, whose count of
+/// faults then rose, or out of memory.
+pub fn look_checks<S: Space, L: Ledger>(
     alloc: Global,
     btf: &Btf,
     space: &mut S,
@@ -153,6 +185,7 @@ pub(crate) fn look_checks<S: Space, L: Ledger>(
         (λ image. checks_seen (world image) asked.now (map check_seen checks.now) element)
         counts counts (S.image space.old) result }
     ensures named { IsNamed result asked.now.audit asked.now.start }
+    ensures steps { steps.new ≤ steps.old + 480 * length checks.now }
 
     ensures stays { SpaceStays S.image S.files S.through S.most space.old space.new }
     ensures cause { CountsWalkFaults result (S.faults space.old) (S.faults space.new) }

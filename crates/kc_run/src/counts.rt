@@ -8,8 +8,12 @@ use kc_plan::Plan;
 use kc_word::NoMemory;
 use std::alloc::Global;
 
-// No walk yet, for each audit of a plan.
-pub(crate) fn no_walks(alloc: Global, plan: &Plan) -> Result<Counts, NoMemory>
+/// No walk yet, for each audit of a plan.
+///
+/// # Errors
+///
+/// Out of memory.
+pub fn no_walks(alloc: Global, plan: &Plan) -> Result<Counts, NoMemory>
     ensures { IfOk result (λ counts. counts ≡ zeros (plan_seen plan.now)) }
 {
     let mut counts = Counts::new(alloc);
@@ -22,8 +26,8 @@ pub(crate) fn no_walks(alloc: Global, plan: &Plan) -> Result<Counts, NoMemory>
     Ok(counts)
 }
 
-// Counts a walk of an audit, which met so many elements.
-pub(crate) fn count_walk(counts: &mut Counts, audit: u32, elements: usize)
+/// Counts a walk of an audit, which met so many elements. A count stays at 2^64 - 1 once it is there.
+pub fn count_walk(counts: &mut Counts, audit: u32, elements: usize)
     requires { audit < length counts.old }
     ensures added { counts.new ≡ added counts.old audit elements }
     ensures size { length counts.new ≡ length counts.old }

@@ -11,6 +11,9 @@ mod nest;
 mod roots;
 mod walk;
 
+pub use begin::{container_of, is_optional, path_of};
+pub use checks::look_checks;
+pub use counts::{count_walk, no_walks};
 pub use each::run_each;
 pub use laws::know_verdicts;
 pub use roots::{RunStop, run};

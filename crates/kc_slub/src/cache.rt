@@ -4,7 +4,7 @@ ghost use Rattle.kc_memory.specs.Stays.{SpaceStays};
 ghost use Rattle.kc_found.specs.Walks.{CountsWalkFaults, IsNamed, WalksAs};
 ghost use Rattle.kc_view.specs.Caches.{base_of, bases_of, count_of, objects_of, optional_of};
 
-use kc_fields::read_field;
+use kc_fields::{know_most, read_field};
 use kc_found::{Asked, Rule, Space, WalkStop, broken_field, low_word, read_bits, stopped};
 use kc_layout::Field;
 use kc_view::{Base, SlabObjects, SlubBases, SlubShape, View};
@@ -22,10 +22,12 @@ fn read_base<S: Space, L: Ledger>(
 ) -> Result<u64, WalkStop>
     ensures exact { WalksAs (λ n. n) (λ i. base_of i asked.now base) (S.image space.old) result }
     ensures named { IsNamed result asked.now.audit asked.now.start }
+    ensures steps { steps.new ≤ steps.old + 6 }
 
     ensures stays { SpaceStays S.image S.files S.through S.most space.old space.new }
     ensures cause { CountsWalkFaults result (S.faults space.old) (S.faults space.new) }
 {
+    know_most(space);
     match base {
         Base::Is(number) => Ok(number),
         Base::At(at) => match space.word(at, steps) {
@@ -47,10 +49,12 @@ fn read_count<S: Space, L: Ledger>(
     ensures exact { WalksAs (λ n. n) (λ i. count_of i asked.now nodes node_ids) (S.image space.old) result }
     ensures few { IfOk result (λ n. n ≤ nodes) }
     ensures named { IsNamed result asked.now.audit asked.now.start }
+    ensures steps { steps.new ≤ steps.old + 12 }
 
     ensures stays { SpaceStays S.image S.files S.through S.most space.old space.new }
     ensures cause { CountsWalkFaults result (S.faults space.old) (S.faults space.new) }
 {
+    know_most(space);
     let bits = Bits {
         bit: 0,
         width: 32,
@@ -76,6 +80,7 @@ pub(crate) fn read_bases<S: Space, L: Ledger>(
     ensures exact { WalksAs (λ b. b) (λ i. bases_of i asked.now shape.now) (S.image space.old) result }
     ensures few { IfOk result (λ b. b.nodes ≤ shape.now.nodes) }
     ensures named { IsNamed result asked.now.audit asked.now.start }
+    ensures steps { steps.new ≤ steps.old + 24 }
 
     ensures stays { SpaceStays S.image S.files S.through S.most space.old space.new }
     ensures cause { CountsWalkFaults result (S.faults space.old) (S.faults space.new) }
@@ -102,6 +107,7 @@ fn read_optional<S: Space, L: Ledger>(
     requires { cache.now.at ≡ asked.now.start }
     ensures exact { WalksAs (λ n. n) (λ i. optional_of i asked.now field.now) (S.image space.old) result }
     ensures named { IsNamed result asked.now.audit asked.now.start }
+    ensures steps { steps.new ≤ steps.old + 60 }
 
     ensures stays { SpaceStays S.image S.files S.through S.most space.old space.new }
     ensures cause { CountsWalkFaults result (S.faults space.old) (S.faults space.new) }
@@ -128,6 +134,7 @@ pub(crate) fn read_objects<S: Space, L: Ledger>(
     ensures exact { WalksAs (λ o. o) (λ i. objects_of i asked.now shape.now) (S.image space.old) result }
     ensures fits { IfOk result (λ o. (1 ≤ o.size) × (o.offset + 8 ≤ o.size)) }
     ensures named { IsNamed result asked.now.audit asked.now.start }
+    ensures steps { steps.new ≤ steps.old + 240 }
 
     ensures stays { SpaceStays S.image S.files S.through S.most space.old space.new }
     ensures cause { CountsWalkFaults result (S.faults space.old) (S.faults space.new) }

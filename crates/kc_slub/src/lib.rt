@@ -4,14 +4,17 @@
 mod cache;
 mod counted;
 mod free;
+mod kept;
 mod laws;
 mod slab;
 mod walk;
+mod walks;
 
 pub use counted::free_walk_counted;
 pub use free::{decode, free_walk};
+pub use kept::Kept;
 pub use laws::{know_caches, know_free_lists};
-pub use walk::cache_walk;
+pub use walk::{cache_walk, cache_walk_by};
 
 #[cfg(test)]
 mod tests;

@@ -1,11 +1,13 @@
 // A slab on a partial list.
-ghost use Rattle.std.specs.Prelude.{◌≡◌, ◌≤◌, ◌+◌, length};
+ghost use Rattle.std.specs.Prelude.{◌≡◌, ◌≤◌, ◌+◌, ◌*◌, length};
 ghost use Rattle.kc_memory.specs.Stays.{SpaceStays};
 ghost use Rattle.kc_found.specs.FreeLists.{IsGrid};
 ghost use Rattle.kc_found.specs.Walks.{CountsWalkFaults, IsNamed, WalksAs};
-ghost use Rattle.kc_view.specs.Caches.{counts_checked, free_checked, grid_of, is_descriptor, list_checked, page_of, slab_checked};
+ghost use Rattle.kc_chains.specs.Chains.{WalkPays, size};
+ghost use Rattle.kc_chains.specs.CachesBy.{counts_by, free_by, list_by, slab_by};
+ghost use Rattle.kc_view.specs.Caches.{grid_of, is_descriptor, page_of};
 
-use crate::free::free_walk;
+use kc_chains::Chains;
 use kc_fields::{check_field, read_field};
 use kc_found::{Asked, Grid, Rule, Scalar, Space, WalkStop, broken_field};
 use kc_view::{FieldNumber, SlabObjects, SlubBases, SlubShape, View};
@@ -54,9 +56,10 @@ fn grid_of(
 }
 
 // Looks at a slab's free list, which is to have so many objects.
-fn check_list<S: Space, L: Ledger>(
+fn check_list<S: Space, C: Chains, L: Ledger>(
     alloc: Global,
     space: &mut S,
+    chains: &mut C,
     asked: &Asked,
     grid: &Grid,
     slab: u64,
@@ -66,14 +69,17 @@ fn check_list<S: Space, L: Ledger>(
     steps: &mut Steps<L>,
 ) -> Result<u64, WalkStop>
     requires { IsGrid grid.now }
-    ensures exact { WalksAs (λ s. s) (λ i. list_checked i asked.now grid.now slab wanted inuse.now first)
+    ensures exact { WalksAs (λ s. (s, C.lists chains.new))
+        (λ i. list_by (C.free_by i) asked.now grid.now slab wanted inuse.now first (C.lists chains.old))
         (S.image space.old) result }
     ensures named { IsNamed result asked.now.audit asked.now.start }
+    ensures pays { C.paid → WalkPays result 0 0 (size (C.lists chains.old))
+        (size (C.lists chains.new)) steps.old steps.new }
 
     ensures stays { SpaceStays S.image S.files S.through S.most space.old space.new }
     ensures cause { CountsWalkFaults result (S.faults space.old) (S.faults space.new) }
 {
-    let free = match free_walk(alloc, space, grid, first, asked.audit, asked.start, steps) {
+    let free = match chains.free(alloc, space, asked, grid, first, steps) {
         Ok(free) => free,
         Err(stop) => return Err(stop),
     };
@@ -91,9 +97,10 @@ fn check_list<S: Space, L: Ledger>(
 }
 
 // Looks at a slab's free list, which is to have as many objects as aren't in use.
-fn check_free<S: Space, L: Ledger>(
+fn check_free<S: Space, C: Chains, L: Ledger>(
     alloc: Global,
     space: &mut S,
+    chains: &mut C,
     asked: &Asked,
     shape: &SlubShape,
     bases: &SlubBases,
@@ -105,10 +112,12 @@ fn check_free<S: Space, L: Ledger>(
 ) -> Result<u64, WalkStop>
     requires some { 1 ≤ objects.now.size }
     requires inside { objects.now.offset + 8 ≤ objects.now.size }
-    ensures exact { WalksAs (λ s. s)
-        (λ i. free_checked i asked.now shape.now bases.now objects.now slab.now.at count inuse.now)
+    ensures exact { WalksAs (λ s. (s, C.lists chains.new))
+        (λ i. free_by i (C.free_by i) asked.now shape.now bases.now objects.now slab.now.at count inuse.now (C.lists chains.old))
         (S.image space.old) result }
     ensures named { IsNamed result asked.now.audit asked.now.start }
+    ensures pays { C.paid → WalkPays result 60 60 (size (C.lists chains.old))
+        (size (C.lists chains.new)) steps.old steps.new }
 
     ensures stays { SpaceStays S.image S.files S.through S.most space.old space.new }
     ensures cause { CountsWalkFaults result (S.faults space.old) (S.faults space.new) }
@@ -122,6 +131,7 @@ fn check_free<S: Space, L: Ledger>(
     check_list(
         alloc,
         space,
+        chains,
         asked,
         &grid,
         slab.at(),
@@ -133,9 +143,10 @@ fn check_free<S: Space, L: Ledger>(
 }
 
 // Looks at a slab's numbers of objects, and then at its free list.
-fn check_counts<S: Space, L: Ledger>(
+fn check_counts<S: Space, C: Chains, L: Ledger>(
     alloc: Global,
     space: &mut S,
+    chains: &mut C,
     asked: &Asked,
     shape: &SlubShape,
     bases: &SlubBases,
@@ -145,9 +156,12 @@ fn check_counts<S: Space, L: Ledger>(
 ) -> Result<u64, WalkStop>
     requires some { 1 ≤ objects.now.size }
     requires inside { objects.now.offset + 8 ≤ objects.now.size }
-    ensures exact { WalksAs (λ s. s) (λ i. counts_checked i asked.now shape.now bases.now objects.now slab.now.at)
+    ensures exact { WalksAs (λ s. (s, C.lists chains.new))
+        (λ i. counts_by i (C.free_by i) asked.now shape.now bases.now objects.now slab.now.at (C.lists chains.old))
         (S.image space.old) result }
     ensures named { IsNamed result asked.now.audit asked.now.start }
+    ensures pays { C.paid → WalkPays result 180 180 (size (C.lists chains.old))
+        (size (C.lists chains.new)) steps.old steps.new }
 
     ensures stays { SpaceStays S.image S.files S.through S.most space.old space.new }
     ensures cause { CountsWalkFaults result (S.faults space.old) (S.faults space.new) }
@@ -159,14 +173,15 @@ fn check_counts<S: Space, L: Ledger>(
         return Err(broken_field(alloc, asked, Rule::U3, count.at, &count.number, None));
     }
     check_free(
-        alloc, space, asked, shape, bases, objects, slab, most, &inuse, steps,
+        alloc, space, chains, asked, shape, bases, objects, slab, most, &inuse, steps,
     )
 }
 
 // Looks at a slab, and gives its address.
-pub(crate) fn check_slab<S: Space, L: Ledger>(
+pub(crate) fn check_slab<S: Space, C: Chains, L: Ledger>(
     alloc: Global,
     space: &mut S,
+    chains: &mut C,
     asked: &Asked,
     shape: &SlubShape,
     bases: &SlubBases,
@@ -176,9 +191,12 @@ pub(crate) fn check_slab<S: Space, L: Ledger>(
 ) -> Result<u64, WalkStop>
     requires some { 1 ≤ objects.now.size }
     requires inside { objects.now.offset + 8 ≤ objects.now.size }
-    ensures exact { WalksAs (λ s. s) (λ i. slab_checked i asked.now shape.now bases.now objects.now slab.now.at)
+    ensures exact { WalksAs (λ s. (s, C.lists chains.new))
+        (λ i. slab_by i (C.free_by i) asked.now shape.now bases.now objects.now slab.now.at (C.lists chains.old))
         (S.image space.old) result }
     ensures named { IsNamed result asked.now.audit asked.now.start }
+    ensures pays { C.paid → WalkPays result 300 300 (size (C.lists chains.old))
+        (size (C.lists chains.new)) steps.old steps.new }
 
     ensures stays { SpaceStays S.image S.files S.through S.most space.old space.new }
     ensures cause { CountsWalkFaults result (S.faults space.old) (S.faults space.new) }
@@ -195,5 +213,7 @@ pub(crate) fn check_slab<S: Space, L: Ledger>(
         steps,
     )?;
     check_field(alloc, space, asked, Rule::U2, slab, &shape.frozen, 0, steps)?;
-    check_counts(alloc, space, asked, shape, bases, objects, slab, steps)
+    check_counts(
+        alloc, space, chains, asked, shape, bases, objects, slab, steps,
+    )
 }

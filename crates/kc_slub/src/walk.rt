@@ -1,17 +1,21 @@
 // The partial lists of a cache.
-ghost use Rattle.std.specs.Prelude.{◌≡◌, ℕ, ◌∷◌, ◌++◌, [], ◌≤◌, ◌+◌, ◌^◌, ◌<◌, length, IfOk, IfSome, OnOk};
+ghost use Rattle.std.specs.Prelude.{◌≡◌, ℕ, ◌∷◌, ◌++◌, [], ◌≤◌, ◌+◌, ◌*◌, ◌^◌, ◌<◌, length, IfOk, IfSome, OnOk};
 ghost use Rattle.kc_memory.specs.Stays.{SpaceStays};
 ghost use Rattle.kc_found.specs.Walks.{CountsWalkFaults, IsNamed, OnBroken, OnWalkFault, WalksAs};
-ghost use Rattle.kc_view.specs.Caches.{IsInside, cache_slabs, knode_checked, node_checked, nodes_checked, partial_of, slabs_checked};
+ghost use Rattle.kc_chains.specs.Chains.{WalkPays, size};
+ghost use Rattle.kc_chains.specs.CachesBy.{cache_by, knode_by, node_by, nodes_by, slabs_by};
+ghost use Rattle.kc_view.specs.Caches.{IsInside, cache_slabs};
 ghost use Rattle.kc_view.specs.FiniteCaches.{NoSlub, Slub};
 
 use crate::cache::{read_bases, read_objects};
 use crate::slab::check_slab;
+use crate::walks::Walks;
 use kc_btf::Btf;
-use kc_fields::read_field;
+use kc_chains::{Chains, know_chains};
+use kc_fields::{know_most, read_field};
 use kc_found::{Asked, Rule, Space, WalkStop, Walked, broken_field, low_word, read_bits, stopped};
-use kc_list::{know_lists, ring};
-use kc_view::{SlabObjects, SlubBases, SlubShape, View, started_at};
+use kc_list::know_lists;
+use kc_view::{SlabObjects, SlubBases, SlubShape, View};
 use kc_word::{Bits, NoMemory, Steps};
 use std::alloc::Global;
 use std::sync::ledger::Ledger;
@@ -29,9 +33,10 @@ fn push_slab(slabs: &mut Walked, slab: u64) -> Result<(), WalkStop>
 }
 
 // Looks at the slabs of a ring's nodes.
-fn check_slabs<S: Space, L: Ledger>(
+fn check_slabs<S: Space, C: Chains, L: Ledger>(
     alloc: Global,
     space: &mut S,
+    chains: &mut C,
     asked: &Asked,
     btf: &Btf,
     shape: &SlubShape,
@@ -44,10 +49,12 @@ fn check_slabs<S: Space, L: Ledger>(
     requires some { 1 ≤ objects.now.size }
     requires inside { objects.now.offset + 8 ≤ objects.now.size }
     requires types { IsInside shape.now btf.now }
-    ensures exact { WalksAs (λ _. slabs.new)
-        (λ i. slabs_checked i asked.now shape.now bases.now objects.now slabs.old nodes.now)
+    ensures exact { WalksAs (λ _. (slabs.new, C.lists chains.new))
+        (λ i. slabs_by i (C.free_by i) asked.now shape.now bases.now objects.now slabs.old (C.lists chains.old) nodes.now)
         (S.image space.old) result }
     ensures named { IsNamed result asked.now.audit asked.now.start }
+    ensures pays { C.paid → WalkPays result (300 * length nodes.now) (300 * length nodes.now) (size (C.lists chains.old))
+        (size (C.lists chains.new)) steps.old steps.new }
 
     ensures stays { SpaceStays S.image S.files S.through S.most space.old space.new }
     ensures cause { CountsWalkFaults result (S.faults space.old) (S.faults space.new) }
@@ -56,42 +63,26 @@ fn check_slabs<S: Space, L: Ledger>(
     while i < nodes.len() {
         let at = nodes.get(i).wrapping_sub(shape.slab_list);
         let view = View::new(btf, shape.slab, at);
-        let slab = match check_slab(alloc, space, asked, shape, bases, objects, &view, steps) {
+        let slab = match check_slab(
+            alloc, space, chains, asked, shape, bases, objects, &view, steps,
+        ) {
             Ok(slab) => slab,
             Err(stop) => return Err(stop),
         };
-        push_slab(slabs, slab)?;
+        match push_slab(slabs, slab) {
+            Ok(()) => {}
+            Err(stop) => return Err(stop),
+        }
         i += 1;
     }
     Ok(())
 }
 
-// The ring of a node's partial slabs.
-fn walk_partial<S: Space, L: Ledger>(
-    alloc: Global,
-    space: &mut S,
-    asked: &Asked,
-    shape: &SlubShape,
-    knode: u64,
-    steps: &mut Steps<L>,
-) -> Result<Walked, WalkStop>
-    ensures exact { WalksAs (λ w. w) (λ i. partial_of i asked.now shape.now knode) (S.image space.old) result }
-    ensures named { IsNamed result asked.now.audit asked.now.start }
-
-    ensures stays { SpaceStays S.image S.files S.through S.most space.old space.new }
-    ensures cause { CountsWalkFaults result (S.faults space.old) (S.faults space.new) }
-{
-    let head = knode.wrapping_add(shape.partial);
-    match ring(alloc, space, &shape.list, head, asked.audit, steps) {
-        Ok(nodes) => Ok(nodes),
-        Err(stop) => Err(started_at(stop, asked.start)),
-    }
-}
-
 // Looks at the partial slabs of a node, and at how many it says they are.
-fn check_knode<S: Space, L: Ledger>(
+fn check_knode<S: Space, C: Chains, L: Ledger>(
     alloc: Global,
     space: &mut S,
+    chains: &mut C,
     asked: &Asked,
     btf: &Btf,
     shape: &SlubShape,
@@ -104,18 +95,22 @@ fn check_knode<S: Space, L: Ledger>(
     requires some { 1 ≤ objects.now.size }
     requires inside { objects.now.offset + 8 ≤ objects.now.size }
     requires types { IsInside shape.now btf.now }
-    ensures exact { WalksAs (λ _. slabs.new)
-        (λ i. knode_checked i asked.now shape.now bases.now objects.now slabs.old knode) (S.image space.old) result }
+    ensures exact { WalksAs (λ _. (slabs.new, C.lists chains.new))
+        (λ i. knode_by i (C.ring_by i) (C.free_by i) asked.now shape.now bases.now objects.now slabs.old knode (C.lists chains.old))
+        (S.image space.old) result }
     ensures named { IsNamed result asked.now.audit asked.now.start }
+    ensures pays { C.paid → WalkPays result 0 60 (size (C.lists chains.old))
+        (size (C.lists chains.new)) steps.old steps.new }
 
     ensures stays { SpaceStays S.image S.files S.through S.most space.old space.new }
     ensures cause { CountsWalkFaults result (S.faults space.old) (S.faults space.new) }
 {
     let view = View::new(btf, shape.knode, knode);
     let said = read_field(alloc, space, asked, &view, &shape.nr_partial, steps)?;
-    let nodes = walk_partial(alloc, space, asked, shape, knode, steps)?;
+    let head = knode.wrapping_add(shape.partial);
+    let nodes = chains.ring(alloc, space, asked, &shape.list, head, steps)?;
     check_slabs(
-        alloc, space, asked, btf, shape, bases, objects, &nodes, slabs, steps,
+        alloc, space, chains, asked, btf, shape, bases, objects, &nodes, slabs, steps,
     )?;
     let wanted = nodes.len() as u64;
     if said.value() != wanted {
@@ -125,9 +120,10 @@ fn check_knode<S: Space, L: Ledger>(
 }
 
 // Looks at the node of a pointer of the array `node`, unless the pointer is null.
-fn check_node<S: Space, L: Ledger>(
+fn check_node<S: Space, C: Chains, L: Ledger>(
     alloc: Global,
     space: &mut S,
+    chains: &mut C,
     asked: &Asked,
     btf: &Btf,
     shape: &SlubShape,
@@ -141,9 +137,12 @@ fn check_node<S: Space, L: Ledger>(
     requires some { 1 ≤ objects.now.size }
     requires inside { objects.now.offset + 8 ≤ objects.now.size }
     requires types { IsInside shape.now btf.now }
-    ensures exact { WalksAs (λ _. slabs.new)
-        (λ im. node_checked im asked.now shape.now bases.now objects.now slabs.old i) (S.image space.old) result }
+    ensures exact { WalksAs (λ _. (slabs.new, C.lists chains.new))
+        (λ im. node_by im (C.ring_by im) (C.free_by im) asked.now shape.now bases.now objects.now slabs.old i (C.lists chains.old))
+        (S.image space.old) result }
     ensures named { IsNamed result asked.now.audit asked.now.start }
+    ensures pays { C.paid → WalkPays result 12 72 (size (C.lists chains.old))
+        (size (C.lists chains.new)) steps.old steps.new }
 
     ensures stays { SpaceStays S.image S.files S.through S.most space.old space.new }
     ensures cause { CountsWalkFaults result (S.faults space.old) (S.faults space.new) }
@@ -153,6 +152,7 @@ fn check_node<S: Space, L: Ledger>(
         width: 64,
         signed: false,
     };
+    know_most(space);
     let at = asked.start.wrapping_add(shape.node).wrapping_add(8 * i);
     let knode = match read_bits(space, at, bits, steps) {
         Ok(pointer) => low_word(&pointer),
@@ -162,14 +162,15 @@ fn check_node<S: Space, L: Ledger>(
         return Ok(());
     }
     check_knode(
-        alloc, space, asked, btf, shape, bases, objects, knode, slabs, steps,
+        alloc, space, chains, asked, btf, shape, bases, objects, knode, slabs, steps,
     )
 }
 
 // Looks at the nodes of the cache, and gives the slabs on their lists.
-fn walk_nodes<S: Space, L: Ledger>(
+fn walk_nodes<S: Space, C: Chains, L: Ledger>(
     alloc: Global,
     space: &mut S,
+    chains: &mut C,
     asked: &Asked,
     btf: &Btf,
     shape: &SlubShape,
@@ -181,10 +182,12 @@ fn walk_nodes<S: Space, L: Ledger>(
     requires some { 1 ≤ objects.now.size }
     requires inside { objects.now.offset + 8 ≤ objects.now.size }
     requires types { IsInside shape.now btf.now }
-    ensures exact { WalksAs (λ w. w)
-        (λ i. nodes_checked i asked.now shape.now bases.now objects.now bases.now.nodes 0 [])
+    ensures exact { WalksAs (λ w. (w, C.lists chains.new))
+        (λ i. nodes_by i (C.ring_by i) (C.free_by i) asked.now shape.now bases.now objects.now bases.now.nodes 0 [] (C.lists chains.old))
         (S.image space.old) result }
     ensures named { IsNamed result asked.now.audit asked.now.start }
+    ensures pays { C.paid → WalkPays result (12 * bases.now.nodes) (12 * bases.now.nodes + 60) (size (C.lists chains.old))
+        (size (C.lists chains.new)) steps.old steps.new }
 
     ensures stays { SpaceStays S.image S.files S.through S.most space.old space.new }
     ensures cause { CountsWalkFaults result (S.faults space.old) (S.faults space.new) }
@@ -193,7 +196,7 @@ fn walk_nodes<S: Space, L: Ledger>(
     let mut i = 0;
     while i < bases.nodes {
         match check_node(
-            alloc, space, asked, btf, shape, bases, objects, i, &mut slabs, steps,
+            alloc, space, chains, asked, btf, shape, bases, objects, i, &mut slabs, steps,
         ) {
             Ok(()) => {}
             Err(stop) => return Err(stop),
@@ -203,7 +206,43 @@ fn walk_nodes<S: Space, L: Ledger>(
     Ok(slabs)
 }
 
-// The slabs on the lists of a cache.
+/// The slabs on the partial lists of the cache at which the walk starts, node by node, each in the order of its ring, where the
+/// rings and the free lists come by `chains`. Where lists pay, those that are used up pay for all steps but 12 for each pointer of
+/// the array `node`, and 400.
+///
+/// # Errors
+///
+/// The first violation, exactly where the cache has one by such chains; a failure of the space, whose count of faults then
+/// rose; or out of memory.
+pub fn cache_walk_by<S: Space, C: Chains, L: Ledger>(
+    alloc: Global,
+    space: &mut S,
+    chains: &mut C,
+    asked: &Asked,
+    btf: &Btf,
+    shape: &SlubShape,
+    steps: &mut Steps<L>,
+) -> Result<Walked, WalkStop>
+    requires { IsInside shape.now btf.now }
+    ensures walk { WalksAs (λ w. (w, C.lists chains.new))
+        (λ i. cache_by i (C.ring_by i) (C.free_by i) shape.now asked.now (C.lists chains.old))
+        (S.image space.old) result }
+    ensures named { IsNamed result asked.now.audit asked.now.start }
+    ensures pays { C.paid → WalkPays result (12 * shape.now.nodes + 400) (12 * shape.now.nodes + 400) (size (C.lists chains.old))
+        (size (C.lists chains.new)) steps.old steps.new }
+
+    ensures stays { SpaceStays S.image S.files S.through S.most space.old space.new }
+    ensures cause { CountsWalkFaults result (S.faults space.old) (S.faults space.new) }
+{
+    let bases = read_bases(alloc, space, asked, shape, steps)?;
+    let view = View::new(btf, shape.cache, asked.start);
+    let objects = read_objects(alloc, space, asked, shape, &view, steps)?;
+    walk_nodes(
+        alloc, space, chains, asked, btf, shape, &bases, &objects, steps,
+    )
+}
+
+// The slabs on the lists of a cache, whose chains are walked.
 fn walk_cache<S: Space, L: Ledger>(
     alloc: Global,
     space: &mut S,
@@ -219,10 +258,9 @@ fn walk_cache<S: Space, L: Ledger>(
     ensures stays { SpaceStays S.image S.files S.through S.most space.old space.new }
     ensures cause { CountsWalkFaults result (S.faults space.old) (S.faults space.new) }
 {
-    let bases = read_bases(alloc, space, asked, shape, steps)?;
-    let view = View::new(btf, shape.cache, asked.start);
-    let objects = read_objects(alloc, space, asked, shape, &view, steps)?;
-    walk_nodes(alloc, space, asked, btf, shape, &bases, &objects, steps)
+    know_chains();
+    let mut chains = Walks;
+    cache_walk_by(alloc, space, &mut chains, asked, btf, shape, steps)
 }
 
 /// The slabs on the partial lists of the cache at virtual address `cache`, node by node, each in the order of its ring.

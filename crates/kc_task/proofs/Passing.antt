@@ -10,7 +10,9 @@ use Rattle.kc_found.specs.declared.found.WalkStop.TheVariants as ends
 use Rattle.kc_found.specs.Trials.{and_then}
 use Rattle.kc_found.specs.Violations.{Violation}
 use Rattle.kc_found.specs.Walks.{WalksAs}
-use Rattle.kc_view.specs.TaskLists.{all_pass, gathered, task_of}
+use Rattle.kc_view.specs.TaskLists.{all_pass, task_of}
+use Rattle.kc_chains.specs.Chains.{Came, Lists, alone}
+use Rattle.kc_chains.specs.TasksBy.{gathered_by, passed_by}
 
 here : (ns : List ℕ) (k n : ℕ) → slice_get ns k ≡ Some n → drop k ns ≡ n ∷ drop (suc k) ns
 here ns k n e = drop-cons ns k 0 (slice_get_within ns k n e) ∙ ap (λ m. m ∷ drop (suc k) ns) (get_or_from_slice_get ns k n 0 e)
@@ -59,54 +61,89 @@ pub pass_end : {V : Type 0} (v : V → ⊤) (image : Option Image) (go : Image �
 pass_end v None go ts k x left all = tt
 pass_end v (Some i) go ts k x left all = left ∙ ap (all_pass (go i)) (drop_of_length-le ts all) ∙ pass_none (go i)
 
+-- the tasks that have to pass by a way to come by rings, one by one
+left_at : (go : ℕ → Lists → Result Lists Violation) (ts : List ℕ) (lists : Lists) (k t : ℕ) → slice_get ts k ≡ Some t → passed_by go (drop k ts) lists ≡ and_then (go t lists) (λ more. passed_by go (drop (suc k) ts) more)
+unfolding passed_by
+left_at go ts lists k t is = ap (λ xs. passed_by go xs lists) (here ts k t is)
+
+left_none : (go : ℕ → Lists → Result Lists Violation) (lists : Lists) → passed_by go [] lists ≡ Ok lists
+unfolding passed_by
+left_none go lists = refl
+
+-- what is left to look at, of all: the lists before, and those now
+abbrev pub ListsLeft : Option Image → (Image → ℕ → Lists → Result Lists Violation) → List ℕ → Lists → Lists → ℕ → Type 0
+ListsLeft image go ts before lists k = IfSome image (λ i. passed_by (go i) ts before ≡ passed_by (go i) (drop k ts) lists)
+
+pub left_stop : {U V : Type 0} (u : U → Lists) (v : V → Lists) (image : Option Image) (go : Image → ℕ → Lists → Result Lists Violation) (ts : List ℕ) (before lists : Lists) (k t : ℕ) (stop : WalkStop) →
+    ListsLeft image go ts before lists k → slice_get ts k ≡ Some t → WalksAs u (λ i. go i t lists) image (Err stop) → WalksAs v (λ i. passed_by (go i) ts before) image (Err stop)
+left_stop u v None go ts before lists k t stop left is e = tt
+left_stop u v (Some i) go ts before lists k t (ends.Broken f) left is e = left ∙ left_at (go i) ts lists k t is ∙ ap (λ r. and_then r (λ more. passed_by (go i) (drop (suc k) ts) more)) e
+left_stop u v (Some i) go ts before lists k t ends.Fault left is e = tt
+left_stop u v (Some i) go ts before lists k t ends.NoMemory left is e = tt
+
+pub left_go : {U : Type 0} (u : U → Lists) (image : Option Image) (go : Image → ℕ → Lists → Result Lists Violation) (ts : List ℕ) (before lists : Lists) (k next t : ℕ) (x : U) → suc k ≡ next →
+    ListsLeft image go ts before lists k → slice_get ts k ≡ Some t → WalksAs u (λ i. go i t lists) image (Ok x) → ListsLeft image go ts before (u x) next
+left_go u None go ts before lists k next t x on left is e = tt
+left_go u (Some i) go ts before lists k next t x on left is e =
+    rw (← on) (left ∙ left_at (go i) ts lists k t is ∙ ap (λ r. and_then r (λ more. passed_by (go i) (drop (suc k) ts) more)) e)
+
+pub left_end : {V : Type 0} (v : V → Lists) (image : Option Image) (go : Image → ℕ → Lists → Result Lists Violation) (ts : List ℕ) (before : Lists) (k : ℕ) (x : V) →
+    ListsLeft image go ts before (v x) k → length ts ≤ k → WalksAs v (λ i. passed_by (go i) ts before) image (Ok x)
+left_end v None go ts before k x left all = tt
+left_end v (Some i) go ts before k x left all = left ∙ ap (λ xs. passed_by (go i) xs (v x)) (drop_of_length-le ts all) ∙ left_none (go i) (v x)
+
 -- the leaders whose threads are gathered, one by one
-abbrev added : List ℕ → Result (List ℕ) Violation → Result (List ℕ) Violation
-added threads r = and_then r (λ more. Ok (threads ++ more))
+abbrev added : List ℕ → Came (List ℕ) → Came (List ℕ)
+added threads r = and_then r (λ p. Ok (threads ++ p.0, p.1))
 
-gather_at : (go : ℕ → Result (List ℕ) Violation) (ls : List ℕ) (k l : ℕ) → slice_get ls k ≡ Some l → gathered go (drop k ls) ≡ and_then (go l) (λ threads. added threads (gathered go (drop (suc k) ls)))
-unfolding gathered
-gather_at go ls k l is = ap (gathered go) (here ls k l is)
+gather_at : (go : ℕ → Lists → Came (List ℕ)) (threads : List ℕ) (lists : Lists) (ls : List ℕ) (k l : ℕ) → slice_get ls k ≡ Some l →
+    gathered_by go threads lists (drop k ls) ≡ and_then (go l lists) (λ r. gathered_by go (threads ++ r.0) r.1 (drop (suc k) ls))
+unfolding gathered_by
+gather_at go threads lists ls k l is = ap (gathered_by go threads lists) (here ls k l is)
 
-gather_none : (go : ℕ → Result (List ℕ) Violation) → gathered go [] ≡ Ok []
-unfolding gathered
-gather_none go = refl
+gather_none : (go : ℕ → Lists → Came (List ℕ)) (threads : List ℕ) (lists : Lists) → gathered_by go threads lists [] ≡ Ok (threads, lists)
+unfolding gathered_by
+gather_none go threads lists = refl
 
-added_none : (r : Result (List ℕ) Violation) → r ≡ added [] r
-added_none (Ok more) = refl
-added_none (Err v) = refl
+first_added : (r : Came (List ℕ)) (threads : List ℕ) (on : List ℕ → Lists → Came (List ℕ)) → and_then r (λ p. on (threads ++ p.0) p.1) ≡ and_then (added threads r) (λ p. on p.0 p.1)
+first_added (Ok p) threads on = refl
+first_added (Err v) threads on = refl
 
-joined : (r s : Result (List ℕ) Violation) (threads all : List ℕ) → added threads r ≡ Ok all → added threads (and_then r (λ ts. added ts s)) ≡ added all s
-joined (Ok ts) (Ok more) threads all is = let same : threads ++ ts ≡ all = cc in ap Ok (sym (append_assoc threads ts more) ∙ ap (λ xs. xs ++ more) same)
-joined (Ok ts) (Err v) threads all is = refl
-joined (Err v) s threads all is = let none : ⊥ = cc in absurd none
+-- what is left to gather, of all: the lists before, and the threads and lists now
+abbrev pub GatherLeft : Option Image → (Image → ℕ → Lists → Came (List ℕ)) → List ℕ → Lists → List ℕ → Lists → ℕ → Type 0
+GatherLeft image go ls before threads lists k = IfSome image (λ i. gathered_by (go i) [] before ls ≡ gathered_by (go i) threads lists (drop k ls))
 
-halted : (r s : Result (List ℕ) Violation) (threads : List ℕ) (f : Violation) → added threads r ≡ Err f → added threads (and_then r (λ ts. added ts s)) ≡ Err f
-halted (Ok ts) s threads f is = let none : ⊥ = cc in absurd none
-halted (Err v) s threads f is = is
+gather_here : (go : ℕ → Lists → Came (List ℕ)) (ls threads : List ℕ) (lists : Lists) (k l : ℕ) → slice_get ls k ≡ Some l →
+    gathered_by go threads lists (drop k ls) ≡ and_then (added threads (go l lists)) (λ p. gathered_by go p.0 p.1 (drop (suc k) ls))
+gather_here go ls threads lists k l is = gather_at go threads lists ls k l is ∙ first_added (go l lists) threads (λ more rest. gathered_by go more rest (drop (suc k) ls))
 
--- what is left to gather, after these threads
-abbrev pub GatherLeft : Option Image → (Image → ℕ → Result (List ℕ) Violation) → List ℕ → List ℕ → ℕ → Type 0
-GatherLeft image go ls threads k = IfSome image (λ i. gathered (go i) ls ≡ and_then (gathered (go i) (drop k ls)) (λ more. Ok (threads ++ more)))
+pub gather_stop : {U V : Type 0} (u : U → List ℕ × Lists) (v : V → List ℕ × Lists) (image : Option Image) (go : Image → ℕ → Lists → Came (List ℕ)) (ls : List ℕ) (before : Lists) (threads : List ℕ) (lists : Lists) (k l : ℕ) (stop : WalkStop) →
+    GatherLeft image go ls before threads lists k → slice_get ls k ≡ Some l → WalksAs u (λ i. and_then (go i l lists) (λ r. Ok (threads ++ r.0, r.1))) image (Err stop) →
+    WalksAs v (λ i. gathered_by (go i) [] before ls) image (Err stop)
+gather_stop u v None go ls before threads lists k l stop left is e = tt
+gather_stop u v (Some i) go ls before threads lists k l (ends.Broken f) left is e =
+    left ∙ gather_here (go i) ls threads lists k l is ∙ ap (λ r. and_then r (λ p. gathered_by (go i) p.0 p.1 (drop (suc k) ls))) e
+gather_stop u v (Some i) go ls before threads lists k l ends.Fault left is e = tt
+gather_stop u v (Some i) go ls before threads lists k l ends.NoMemory left is e = tt
 
-pub gather_begin : (image : Option Image) (go : Image → ℕ → Result (List ℕ) Violation) (ls : List ℕ) → GatherLeft image go ls [] 0
-gather_begin None go ls = tt
-gather_begin (Some i) go ls = added_none (gathered (go i) ls)
+pub gather_go : {U : Type 0} (u : U → List ℕ × Lists) (image : Option Image) (go : Image → ℕ → Lists → Came (List ℕ)) (ls : List ℕ) (before : Lists) (threads : List ℕ) (lists : Lists) (k next l : ℕ) (x : U) → suc k ≡ next →
+    GatherLeft image go ls before threads lists k → slice_get ls k ≡ Some l → WalksAs u (λ i. and_then (go i l lists) (λ r. Ok (threads ++ r.0, r.1))) image (Ok x) →
+    GatherLeft image go ls before (u x).0 (u x).1 next
+gather_go u None go ls before threads lists k next l x on left is e = tt
+gather_go u (Some i) go ls before threads lists k next l x on left is e =
+    rw (← on) (left ∙ gather_here (go i) ls threads lists k l is ∙ ap (λ r. and_then r (λ p. gathered_by (go i) p.0 p.1 (drop (suc k) ls))) e)
 
-pub gather_stop : {U V : Type 0} (u : U → List ℕ) (v : V → List ℕ) (image : Option Image) (go : Image → ℕ → Result (List ℕ) Violation) (ls threads : List ℕ) (k l : ℕ) (stop : WalkStop) →
-    GatherLeft image go ls threads k → slice_get ls k ≡ Some l → WalksAs u (λ i. and_then (go i l) (λ more. Ok (threads ++ more))) image (Err stop) → WalksAs v (λ i. gathered (go i) ls) image (Err stop)
-gather_stop u v None go ls threads k l stop left is e = tt
-gather_stop u v (Some i) go ls threads k l (ends.Broken f) left is e = left ∙ ap (added threads) (gather_at (go i) ls k l is) ∙ halted (go i l) (gathered (go i) (drop (suc k) ls)) threads f e
-gather_stop u v (Some i) go ls threads k l ends.Fault left is e = tt
-gather_stop u v (Some i) go ls threads k l ends.NoMemory left is e = tt
+pub gather_end : {V : Type 0} (v : V → List ℕ × Lists) (image : Option Image) (go : Image → ℕ → Lists → Came (List ℕ)) (ls : List ℕ) (before : Lists) (k : ℕ) (x : V) →
+    GatherLeft image go ls before (v x).0 (v x).1 k → length ls ≤ k → WalksAs v (λ i. gathered_by (go i) [] before ls) image (Ok x)
+gather_end v None go ls before k x left all = tt
+gather_end v (Some i) go ls before k x left all =
+    left ∙ ap (gathered_by (go i) (v x).0 (v x).1) (drop_of_length-le ls all) ∙ gather_none (go i) (v x).0 (v x).1
 
-pub gather_go : {U : Type 0} (u : U → List ℕ) (image : Option Image) (go : Image → ℕ → Result (List ℕ) Violation) (ls threads : List ℕ) (k next l : ℕ) (x : U) → suc k ≡ next →
-    GatherLeft image go ls threads k → slice_get ls k ≡ Some l → WalksAs u (λ i. and_then (go i l) (λ more. Ok (threads ++ more))) image (Ok x) → GatherLeft image go ls (u x) next
-gather_go u None go ls threads k next l x on left is e = tt
-gather_go u (Some i) go ls threads k next l x on left is e =
-    rw (← on) (left ∙ ap (added threads) (gather_at (go i) ls k l is) ∙ joined (go i l) (gathered (go i) (drop (suc k) ls)) threads (u x) e)
-
-pub gather_end : {V : Type 0} (v : V → List ℕ) (image : Option Image) (go : Image → ℕ → Result (List ℕ) Violation) (ls : List ℕ) (k : ℕ) (x : V) →
-    GatherLeft image go ls (v x) k → length ls ≤ k → WalksAs v (λ i. gathered (go i) ls) image (Ok x)
-gather_end v None go ls k x left all = tt
-gather_end v (Some i) go ls k x left all =
-    left ∙ ap (λ ns. added (v x) (gathered (go i) ns)) (drop_of_length-le ls all) ∙ ap (added (v x)) (gather_none (go i)) ∙ ap Ok (append-nil (v x))
+-- what comes alone of a walk whose rings are walked
+pub comes_alone : (w : List ℕ → List ℕ × Lists) (image : Option Image) (m : Image → Came (List ℕ)) (truth : Image → Result (List ℕ) Violation) (r : Result (List ℕ) WalkStop) →
+    ((i : Image) → alone (m i) ≡ truth i) → ((xs : List ℕ) → (w xs).0 ≡ xs) → WalksAs w m image r → WalksAs (λ (xs : List ℕ). xs) truth image r
+comes_alone w None m truth r same first e = tt
+comes_alone w (Some i) m truth (Ok xs) same first e = sym (same i) ∙ ap alone e ∙ ap Ok (first xs)
+comes_alone w (Some i) m truth (Err (ends.Broken f)) same first e = sym (same i) ∙ ap alone e
+comes_alone w (Some i) m truth (Err ends.Fault) same first e = tt
+comes_alone w (Some i) m truth (Err ends.NoMemory) same first e = tt

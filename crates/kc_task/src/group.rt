@@ -1,13 +1,16 @@
 // A thread group: its leader, what its threads share, and its threads.
-ghost use Rattle.std.specs.Prelude.{◌≡◌};
+ghost use Rattle.std.specs.Prelude.{◌≡◌, ◌≤◌, ◌+◌, ◌*◌, length};
 ghost use Rattle.kc_memory.specs.Stays.{SpaceStays};
 ghost use Rattle.kc_found.specs.Walks.{CountsWalkFaults, IsNamed, WalksAs};
-ghost use Rattle.kc_view.specs.TaskLists.{IsInside, all_pass, among_checked, group_of, is_among, leader_checked, tgid_checked, thread_checked, thread_head, threads_checked};
+ghost use Rattle.kc_chains.specs.Chains.{WalkPays, size};
+ghost use Rattle.kc_chains.specs.TasksBy.{leader_by, passed_by, thread_by, threads_by};
+ghost use Rattle.kc_view.specs.TaskLists.{IsInside, among_checked, group_of, is_among, tgid_checked, thread_head};
 
 use crate::rings::tasks_on;
 use crate::thread::check_thread;
 use kc_btf::Btf;
-use kc_fields::{check_field, read_field};
+use kc_chains::Rings;
+use kc_fields::{check_field, know_most, read_field};
 use kc_found::{Asked, Rule, Space, WalkStop, Walked, broken_at, broken_field, stopped};
 use kc_view::{TaskShape, ThreadGroup, View};
 use kc_word::Steps;
@@ -33,6 +36,7 @@ fn check_tgid<S: Space, L: Ledger>(
     ensures exact { WalksAs (λ n. n) (λ i. tgid_checked i asked.now shape.now leader.now.at)
         (S.image space.old) result }
     ensures named { IsNamed result asked.now.audit asked.now.start }
+    ensures steps { steps.new ≤ steps.old + 120 }
 
     ensures stays { SpaceStays S.image S.files S.through S.most space.old space.new }
     ensures cause { CountsWalkFaults result (S.faults space.old) (S.faults space.new) }
@@ -58,6 +62,7 @@ fn read_group<S: Space, L: Ledger>(
     requires { IsInside shape.now btf.now }
     ensures exact { WalksAs (λ g. g) (λ i. group_of i asked.now shape.now leader) (S.image space.old) result }
     ensures named { IsNamed result asked.now.audit asked.now.start }
+    ensures steps { steps.new ≤ steps.old + 240 }
 
     ensures stays { SpaceStays S.image S.files S.through S.most space.old space.new }
     ensures cause { CountsWalkFaults result (S.faults space.old) (S.faults space.new) }
@@ -94,10 +99,12 @@ fn check_among<S: Space, L: Ledger>(
     ensures exact { WalksAs (λ _. tt) (λ i. among_checked i asked.now shape.now group.now threads.now)
         (S.image space.old) result }
     ensures named { IsNamed result asked.now.audit asked.now.start }
+    ensures steps { steps.new ≤ steps.old + 6 }
 
     ensures stays { SpaceStays S.image S.files S.through S.most space.old space.new }
     ensures cause { CountsWalkFaults result (S.faults space.old) (S.faults space.new) }
 {
+    know_most(space);
     if is_among(threads, group.leader) {
         return Ok(());
     }
@@ -109,9 +116,10 @@ fn check_among<S: Space, L: Ledger>(
 }
 
 // Looks at the threads of a group, one by one.
-fn check_all<S: Space, L: Ledger>(
+fn check_all<S: Space, R: Rings, L: Ledger>(
     alloc: Global,
     space: &mut S,
+    rings: &mut R,
     asked: &Asked,
     btf: &Btf,
     shape: &TaskShape,
@@ -120,9 +128,12 @@ fn check_all<S: Space, L: Ledger>(
     steps: &mut Steps<L>,
 ) -> Result<(), WalkStop>
     requires { IsInside shape.now btf.now }
-    ensures exact { WalksAs (λ _. tt) (λ i. all_pass (thread_checked i asked.now shape.now group.now) threads.now)
+    ensures exact { WalksAs (λ _. R.lists rings.new)
+        (λ i. passed_by (thread_by i (R.ring_by i) asked.now shape.now group.now) threads.now (R.lists rings.old))
         (S.image space.old) result }
     ensures named { IsNamed result asked.now.audit asked.now.start }
+    ensures pays { R.paid → WalkPays result (246 * length threads.now) (246 * length threads.now) (size (R.lists rings.old))
+        (size (R.lists rings.new)) steps.old steps.new }
 
     ensures stays { SpaceStays S.image S.files S.through S.most space.old space.new }
     ensures cause { CountsWalkFaults result (S.faults space.old) (S.faults space.new) }
@@ -130,7 +141,7 @@ fn check_all<S: Space, L: Ledger>(
     let mut i = 0;
     while i < threads.len() {
         let at = *threads.get(i);
-        match check_thread(alloc, space, asked, btf, shape, group, at, steps) {
+        match check_thread(alloc, space, rings, asked, btf, shape, group, at, steps) {
             Ok(()) => {}
             Err(stop) => return Err(stop),
         }
@@ -140,9 +151,10 @@ fn check_all<S: Space, L: Ledger>(
 }
 
 // Looks at the threads of a group, and gives them.
-fn check_threads<S: Space, L: Ledger>(
+fn check_threads<S: Space, R: Rings, L: Ledger>(
     alloc: Global,
     space: &mut S,
+    rings: &mut R,
     asked: &Asked,
     btf: &Btf,
     shape: &TaskShape,
@@ -150,24 +162,38 @@ fn check_threads<S: Space, L: Ledger>(
     steps: &mut Steps<L>,
 ) -> Result<Walked, WalkStop>
     requires { IsInside shape.now btf.now }
-    ensures exact { WalksAs (λ threads. threads) (λ i. threads_checked i asked.now shape.now group.now)
-        (S.image space.old) result }
+    ensures exact { WalksAs (λ threads. (threads, R.lists rings.new))
+        (λ i. threads_by i (R.ring_by i) asked.now shape.now group.now (R.lists rings.old)) (S.image space.old) result }
     ensures named { IsNamed result asked.now.audit asked.now.start }
+    ensures pays { R.paid → WalkPays result 0 0 (size (R.lists rings.old))
+        (size (R.lists rings.new)) steps.old steps.new }
 
     ensures stays { SpaceStays S.image S.files S.through S.most space.old space.new }
     ensures cause { CountsWalkFaults result (S.faults space.old) (S.faults space.new) }
 {
     let head = thread_head(shape, group);
-    let threads = tasks_on(alloc, space, asked, shape, head, shape.thread_node, steps)?;
+    let threads = tasks_on(
+        alloc,
+        space,
+        rings,
+        asked,
+        shape,
+        head,
+        shape.thread_node,
+        steps,
+    )?;
     check_among(alloc, space, asked, shape, group, &threads, steps)?;
-    check_all(alloc, space, asked, btf, shape, group, &threads, steps)?;
+    check_all(
+        alloc, space, rings, asked, btf, shape, group, &threads, steps,
+    )?;
     Ok(threads)
 }
 
 // Looks at the group of a leader, and gives its threads.
-pub(crate) fn check_leader<S: Space, L: Ledger>(
+pub(crate) fn check_leader<S: Space, R: Rings, L: Ledger>(
     alloc: Global,
     space: &mut S,
+    rings: &mut R,
     asked: &Asked,
     btf: &Btf,
     shape: &TaskShape,
@@ -175,13 +201,15 @@ pub(crate) fn check_leader<S: Space, L: Ledger>(
     steps: &mut Steps<L>,
 ) -> Result<Walked, WalkStop>
     requires { IsInside shape.now btf.now }
-    ensures exact { WalksAs (λ threads. threads) (λ i. leader_checked i asked.now shape.now leader)
-        (S.image space.old) result }
+    ensures exact { WalksAs (λ threads. (threads, R.lists rings.new))
+        (λ i. leader_by i (R.ring_by i) asked.now shape.now leader (R.lists rings.old)) (S.image space.old) result }
     ensures named { IsNamed result asked.now.audit asked.now.start }
+    ensures pays { R.paid → WalkPays result 240 240 (size (R.lists rings.old))
+        (size (R.lists rings.new)) steps.old steps.new }
 
     ensures stays { SpaceStays S.image S.files S.through S.most space.old space.new }
     ensures cause { CountsWalkFaults result (S.faults space.old) (S.faults space.new) }
 {
     let group = read_group(alloc, space, asked, btf, shape, leader, steps)?;
-    check_threads(alloc, space, asked, btf, shape, &group, steps)
+    check_threads(alloc, space, rings, asked, btf, shape, &group, steps)
 }

@@ -6,9 +6,10 @@ mod laws;
 mod rings;
 mod thread;
 mod walk;
+mod walks;
 
 pub use laws::know_tasks;
-pub use walk::tasks_walk;
+pub use walk::{tasks_walk, tasks_walk_by};
 
 #[cfg(test)]
 mod tests;

@@ -2,11 +2,13 @@
 ghost use Rattle.std.specs.Prelude.{◌≡◌, map, IfOk};
 ghost use Rattle.kc_memory.specs.Stays.{SpaceStays};
 ghost use Rattle.kc_found.specs.Walks.{CountsWalkFaults, IsNamed, WalksAs};
-ghost use Rattle.kc_view.specs.TaskLists.{task_of, tasks_on};
+ghost use Rattle.kc_chains.specs.Chains.{ChainPays, size};
+ghost use Rattle.kc_chains.specs.TasksBy.{tasks_by};
+ghost use Rattle.kc_view.specs.TaskLists.{task_of};
 
+use kc_chains::Rings;
 use kc_found::{Asked, Space, WalkStop, Walked};
-use kc_list::ring;
-use kc_view::{TaskShape, started_at};
+use kc_view::TaskShape;
 use kc_word::{NoMemory, Steps};
 use std::alloc::Global;
 use std::sync::ledger::Ledger;
@@ -23,26 +25,25 @@ fn tasks_of(alloc: Global, nodes: &Walked, offset: u64) -> Result<Walked, NoMemo
 }
 
 // The tasks that the nodes of a ring stand in, by the ring's head.
-pub(crate) fn tasks_on<S: Space, L: Ledger>(
+pub(crate) fn tasks_on<S: Space, R: Rings, L: Ledger>(
     alloc: Global,
     space: &mut S,
+    rings: &mut R,
     asked: &Asked,
     shape: &TaskShape,
     head: u64,
     offset: u64,
     steps: &mut Steps<L>,
 ) -> Result<Walked, WalkStop>
-    ensures exact { WalksAs (λ tasks. tasks) (λ i. tasks_on i asked.now shape.now head offset)
-        (S.image space.old) result }
+    ensures exact { WalksAs (λ tasks. (tasks, R.lists rings.new))
+        (λ i. tasks_by (R.ring_by i) asked.now shape.now head offset (R.lists rings.old)) (S.image space.old) result }
     ensures named { IsNamed result asked.now.audit asked.now.start }
+    ensures pays { R.paid → ChainPays result (size (R.lists rings.old)) (size (R.lists rings.new)) steps.old steps.new }
 
     ensures stays { SpaceStays S.image S.files S.through S.most space.old space.new }
     ensures cause { CountsWalkFaults result (S.faults space.old) (S.faults space.new) }
 {
-    let nodes = match ring(alloc, space, &shape.list, head, asked.audit, steps) {
-        Ok(nodes) => nodes,
-        Err(stop) => return Err(started_at(stop, asked.start)),
-    };
+    let nodes = rings.ring(alloc, space, asked, &shape.list, head, steps)?;
     match tasks_of(alloc, &nodes, offset) {
         Ok(tasks) => Ok(tasks),
         Err(NoMemory) => Err(WalkStop::NoMemory),

@@ -1,14 +1,17 @@
 // A thread: what it shares with its group, its children, and its stack.
-ghost use Rattle.std.specs.Prelude.{◌≡◌};
+ghost use Rattle.std.specs.Prelude.{◌≡◌, ◌≤◌, ◌+◌, ◌*◌, length};
 ghost use Rattle.kc_memory.specs.declared.rule.Rule.TheVariants.{T5};
 ghost use Rattle.kc_memory.specs.Stays.{SpaceStays};
 ghost use Rattle.kc_found.specs.Walks.{CountsWalkFaults, IsNamed, WalksAs};
 ghost use Rattle.kc_view.specs.Fields.{holds};
-ghost use Rattle.kc_view.specs.TaskLists.{IsInside, all_pass, children_checked, end_checked, shared_checked, stack_checked, thread_checked};
+ghost use Rattle.kc_chains.specs.Chains.{WalkPays, size};
+ghost use Rattle.kc_chains.specs.TasksBy.{children_by, thread_by};
+ghost use Rattle.kc_view.specs.TaskLists.{IsInside, all_pass, end_checked, shared_checked, stack_checked};
 
 use crate::rings::tasks_on;
 use kc_btf::Btf;
-use kc_fields::{check_field, read_field};
+use kc_chains::Rings;
+use kc_fields::{check_field, know_most, read_field};
 use kc_found::{Asked, Rule, Space, WalkStop, Walked, broken_at, stopped};
 use kc_view::{TaskShape, ThreadGroup, View};
 use kc_word::Steps;
@@ -34,6 +37,7 @@ fn check_parents<S: Space, L: Ledger>(
         (λ i. all_pass (λ child. holds i asked.now T5 child shape.now.real_parent owner) children.now)
         (S.image space.old) result }
     ensures named { IsNamed result asked.now.audit asked.now.start }
+    ensures steps { steps.new ≤ steps.old + 60 * length children.now }
 
     ensures stays { SpaceStays S.image S.files S.through S.most space.old space.new }
     ensures cause { CountsWalkFaults result (S.faults space.old) (S.faults space.new) }
@@ -52,9 +56,10 @@ fn check_parents<S: Space, L: Ledger>(
 }
 
 // Looks at the children of a task.
-fn check_children<S: Space, L: Ledger>(
+fn check_children<S: Space, R: Rings, L: Ledger>(
     alloc: Global,
     space: &mut S,
+    rings: &mut R,
     asked: &Asked,
     btf: &Btf,
     shape: &TaskShape,
@@ -62,14 +67,26 @@ fn check_children<S: Space, L: Ledger>(
     steps: &mut Steps<L>,
 ) -> Result<(), WalkStop>
     requires { IsInside shape.now btf.now }
-    ensures exact { WalksAs (λ _. tt) (λ i. children_checked i asked.now shape.now owner) (S.image space.old) result }
+    ensures exact { WalksAs (λ _. R.lists rings.new)
+        (λ i. children_by i (R.ring_by i) asked.now shape.now owner (R.lists rings.old)) (S.image space.old) result }
     ensures named { IsNamed result asked.now.audit asked.now.start }
+    ensures pays { R.paid → WalkPays result 0 0 (size (R.lists rings.old))
+        (size (R.lists rings.new)) steps.old steps.new }
 
     ensures stays { SpaceStays S.image S.files S.through S.most space.old space.new }
     ensures cause { CountsWalkFaults result (S.faults space.old) (S.faults space.new) }
 {
     let head = owner.wrapping_add(shape.children);
-    let children = tasks_on(alloc, space, asked, shape, head, shape.sibling, steps)?;
+    let children = tasks_on(
+        alloc,
+        space,
+        rings,
+        asked,
+        shape,
+        head,
+        shape.sibling,
+        steps,
+    )?;
     check_parents(alloc, space, asked, btf, shape, owner, &children, steps)
 }
 
@@ -83,10 +100,12 @@ fn check_end<S: Space, L: Ledger>(
 ) -> Result<(), WalkStop>
     ensures exact { WalksAs (λ _. tt) (λ i. end_checked i asked.now stack) (S.image space.old) result }
     ensures named { IsNamed result asked.now.audit asked.now.start }
+    ensures steps { steps.new ≤ steps.old + 6 }
 
     ensures stays { SpaceStays S.image S.files S.through S.most space.old space.new }
     ensures cause { CountsWalkFaults result (S.faults space.old) (S.faults space.new) }
 {
+    know_most(space);
     if stack == 0 {
         return Ok(());
     }
@@ -112,6 +131,7 @@ fn check_stack<S: Space, L: Ledger>(
     ensures exact { WalksAs (λ _. tt) (λ i. stack_checked i asked.now shape.now task.now.at)
         (S.image space.old) result }
     ensures named { IsNamed result asked.now.audit asked.now.start }
+    ensures steps { steps.new ≤ steps.old + 66 }
 
     ensures stays { SpaceStays S.image S.files S.through S.most space.old space.new }
     ensures cause { CountsWalkFaults result (S.faults space.old) (S.faults space.new) }
@@ -133,6 +153,7 @@ fn check_shared<S: Space, L: Ledger>(
     ensures exact { WalksAs (λ _. tt) (λ i. shared_checked i asked.now shape.now group.now thread.now.at)
         (S.image space.old) result }
     ensures named { IsNamed result asked.now.audit asked.now.start }
+    ensures steps { steps.new ≤ steps.old + 180 }
 
     ensures stays { SpaceStays S.image S.files S.through S.most space.old space.new }
     ensures cause { CountsWalkFaults result (S.faults space.old) (S.faults space.new) }
@@ -151,9 +172,10 @@ fn check_shared<S: Space, L: Ledger>(
 }
 
 // Looks at a thread of a group.
-pub(crate) fn check_thread<S: Space, L: Ledger>(
+pub(crate) fn check_thread<S: Space, R: Rings, L: Ledger>(
     alloc: Global,
     space: &mut S,
+    rings: &mut R,
     asked: &Asked,
     btf: &Btf,
     shape: &TaskShape,
@@ -162,15 +184,17 @@ pub(crate) fn check_thread<S: Space, L: Ledger>(
     steps: &mut Steps<L>,
 ) -> Result<(), WalkStop>
     requires { IsInside shape.now btf.now }
-    ensures exact { WalksAs (λ _. tt) (λ i. thread_checked i asked.now shape.now group.now at)
-        (S.image space.old) result }
+    ensures exact { WalksAs (λ _. R.lists rings.new)
+        (λ i. thread_by i (R.ring_by i) asked.now shape.now group.now at (R.lists rings.old)) (S.image space.old) result }
     ensures named { IsNamed result asked.now.audit asked.now.start }
+    ensures pays { R.paid → WalkPays result 246 246 (size (R.lists rings.old))
+        (size (R.lists rings.new)) steps.old steps.new }
 
     ensures stays { SpaceStays S.image S.files S.through S.most space.old space.new }
     ensures cause { CountsWalkFaults result (S.faults space.old) (S.faults space.new) }
 {
     let thread = View::new(btf, shape.task, at);
     check_shared(alloc, space, asked, shape, group, &thread, steps)?;
-    check_children(alloc, space, asked, btf, shape, at, steps)?;
+    check_children(alloc, space, rings, asked, btf, shape, at, steps)?;
     check_stack(alloc, space, asked, shape, &thread, steps)
 }

@@ -1,14 +1,18 @@
 // The task list.
-ghost use Rattle.std.specs.Prelude.{◌≡◌, ◌∷◌, ◌++◌, IfOk, IfSome, OnOk, Ok};
+ghost use Rattle.std.specs.Prelude.{◌≡◌, ◌*◌, length, ℕ, List, ◌∷◌, ◌++◌, [], IfOk, IfSome, OnOk, Ok};
 ghost use Rattle.kc_memory.specs.Stays.{SpaceStays};
 ghost use Rattle.kc_found.specs.Trials.{and_then};
 ghost use Rattle.kc_found.specs.Walks.{CountsWalkFaults, IsNamed, OnBroken, WalksAs};
 ghost use Rattle.kc_view.specs.FiniteTasks.{NoTasks, Tasks};
-ghost use Rattle.kc_view.specs.TaskLists.{IsInside, gathered, leader_checked, task_list};
+ghost use Rattle.kc_chains.specs.Chains.{WalkPays, size};
+ghost use Rattle.kc_chains.specs.TasksBy.{gathered_by, leader_by, tasks_all_by};
+ghost use Rattle.kc_view.specs.TaskLists.{IsInside, task_list};
 
 use crate::group::check_leader;
 use crate::rings::tasks_on;
+use crate::walks::Walks;
 use kc_btf::Btf;
+use kc_chains::{Rings, know_chains};
 use kc_found::{Asked, Space, WalkStop, Walked};
 use kc_list::know_lists;
 use kc_view::TaskShape;
@@ -37,9 +41,10 @@ fn all_leaders(alloc: Global, first: u64, others: &Walked) -> Result<Walked, NoM
 }
 
 // Looks at the group of a leader, and adds its threads.
-fn add_threads<S: Space, L: Ledger>(
+fn add_threads<S: Space, R: Rings, L: Ledger>(
     alloc: Global,
     space: &mut S,
+    rings: &mut R,
     asked: &Asked,
     btf: &Btf,
     shape: &TaskShape,
@@ -48,15 +53,18 @@ fn add_threads<S: Space, L: Ledger>(
     steps: &mut Steps<L>,
 ) -> Result<(), WalkStop>
     requires { IsInside shape.now btf.now }
-    ensures exact { WalksAs (λ _. threads.new)
-        (λ i. and_then (leader_checked i asked.now shape.now leader) (λ more. Ok (threads.old ++ more)))
+    ensures exact { WalksAs {B = List ℕ × List (List ℕ)} (λ _. (threads.new, R.lists rings.new))
+        (λ i. and_then (leader_by i (R.ring_by i) asked.now shape.now leader (R.lists rings.old))
+        (λ r. Ok (threads.old ++ r.0, r.1)))
         (S.image space.old) result }
     ensures named { IsNamed result asked.now.audit asked.now.start }
+    ensures pays { R.paid → WalkPays result 240 240 (size (R.lists rings.old))
+        (size (R.lists rings.new)) steps.old steps.new }
 
     ensures stays { SpaceStays S.image S.files S.through S.most space.old space.new }
     ensures cause { CountsWalkFaults result (S.faults space.old) (S.faults space.new) }
 {
-    let more = check_leader(alloc, space, asked, btf, shape, leader, steps)?;
+    let more = check_leader(alloc, space, rings, asked, btf, shape, leader, steps)?;
     match append(threads, &more) {
         Ok(()) => Ok(()),
         Err(NoMemory) => Err(WalkStop::NoMemory),
@@ -64,9 +72,10 @@ fn add_threads<S: Space, L: Ledger>(
 }
 
 // Looks at the groups of these leaders, and gives their threads.
-fn walk_groups<S: Space, L: Ledger>(
+fn walk_groups<S: Space, R: Rings, L: Ledger>(
     alloc: Global,
     space: &mut S,
+    rings: &mut R,
     asked: &Asked,
     btf: &Btf,
     shape: &TaskShape,
@@ -74,9 +83,12 @@ fn walk_groups<S: Space, L: Ledger>(
     steps: &mut Steps<L>,
 ) -> Result<Walked, WalkStop>
     requires { IsInside shape.now btf.now }
-    ensures exact { WalksAs (λ threads. threads) (λ i. gathered (leader_checked i asked.now shape.now) leaders.now)
+    ensures exact { WalksAs (λ threads. (threads, R.lists rings.new))
+        (λ i. gathered_by (leader_by i (R.ring_by i) asked.now shape.now) [] (R.lists rings.old) leaders.now)
         (S.image space.old) result }
     ensures named { IsNamed result asked.now.audit asked.now.start }
+    ensures pays { R.paid → WalkPays result (240 * length leaders.now) (240 * length leaders.now) (size (R.lists rings.old))
+        (size (R.lists rings.new)) steps.old steps.new }
 
     ensures stays { SpaceStays S.image S.files S.through S.most space.old space.new }
     ensures cause { CountsWalkFaults result (S.faults space.old) (S.faults space.new) }
@@ -85,7 +97,17 @@ fn walk_groups<S: Space, L: Ledger>(
     let mut i = 0;
     while i < leaders.len() {
         let leader = *leaders.get(i);
-        match add_threads(alloc, space, asked, btf, shape, leader, &mut threads, steps) {
+        match add_threads(
+            alloc,
+            space,
+            rings,
+            asked,
+            btf,
+            shape,
+            leader,
+            &mut threads,
+            steps,
+        ) {
             Ok(()) => {}
             Err(stop) => return Err(stop),
         }
@@ -94,7 +116,42 @@ fn walk_groups<S: Space, L: Ledger>(
     Ok(threads)
 }
 
-// Walks the ring of leaders, and then looks at their groups.
+/// The threads of the task list at which the walk starts, group by group, each in the order of its ring, where the rings come by
+/// `rings`. Where lists pay, those that are used up pay for all steps.
+///
+/// # Errors
+///
+/// The first violation, exactly where the list has one by such rings; a failure of the space, whose count of faults then
+/// rose; or out of memory.
+pub fn tasks_walk_by<S: Space, R: Rings, L: Ledger>(
+    alloc: Global,
+    space: &mut S,
+    rings: &mut R,
+    asked: &Asked,
+    btf: &Btf,
+    shape: &TaskShape,
+    steps: &mut Steps<L>,
+) -> Result<Walked, WalkStop>
+    requires { IsInside shape.now btf.now }
+    ensures walk { WalksAs (λ tasks. (tasks, R.lists rings.new))
+        (λ i. tasks_all_by i (R.ring_by i) shape.now asked.now (R.lists rings.old)) (S.image space.old) result }
+    ensures named { IsNamed result asked.now.audit asked.now.start }
+    ensures pays { R.paid → WalkPays result 0 0 (size (R.lists rings.old))
+        (size (R.lists rings.new)) steps.old steps.new }
+
+    ensures stays { SpaceStays S.image S.files S.through S.most space.old space.new }
+    ensures cause { CountsWalkFaults result (S.faults space.old) (S.faults space.new) }
+{
+    let head = asked.start.wrapping_add(shape.tasks);
+    let others = tasks_on(alloc, space, rings, asked, shape, head, shape.tasks, steps)?;
+    let leaders = match all_leaders(alloc, asked.start, &others) {
+        Ok(leaders) => leaders,
+        Err(NoMemory) => return Err(WalkStop::NoMemory),
+    };
+    walk_groups(alloc, space, rings, asked, btf, shape, &leaders, steps)
+}
+
+// The threads of the task list, whose rings are walked.
 fn walk_list<S: Space, L: Ledger>(
     alloc: Global,
     space: &mut S,
@@ -110,13 +167,9 @@ fn walk_list<S: Space, L: Ledger>(
     ensures stays { SpaceStays S.image S.files S.through S.most space.old space.new }
     ensures cause { CountsWalkFaults result (S.faults space.old) (S.faults space.new) }
 {
-    let head = asked.start.wrapping_add(shape.tasks);
-    let others = tasks_on(alloc, space, asked, shape, head, shape.tasks, steps)?;
-    let leaders = match all_leaders(alloc, asked.start, &others) {
-        Ok(leaders) => leaders,
-        Err(NoMemory) => return Err(WalkStop::NoMemory),
-    };
-    walk_groups(alloc, space, asked, btf, shape, &leaders, steps)
+    know_chains();
+    let mut rings = Walks;
+    tasks_walk_by(alloc, space, &mut rings, asked, btf, shape, steps)
 }
 
 /// The threads of the task list (`struct task_struct`) that starts at virtual address `start`, group by group, each in

@@ -1,3 +1,4 @@
+pub mod CountedLaws
 pub mod FormatLaws
 pub mod LineLaws
 mod LoopLemmas

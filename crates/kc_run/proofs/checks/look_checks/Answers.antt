@@ -22,6 +22,7 @@ loop-i-preserved g c = (
       (ap (λ (v : Typed). v.at) c.new-view.ensures) (seen_at c.args.checks.now c.loop-i.i c.get.result.now c.get.ensures) c.loop-i.invariant.0 (λ counts. rw c.loop-i.invariant.1.same_image at (c.in-Ok.ensures.tally counts)),
   stays_on _ _ _ _ c.args.space.now c.loop-i.space c.look_check.new.space c.loop-i.invariant.1 c.in-Ok.ensures.stays,
   c.in-Ok.ensures.cause ∙ c.loop-i.invariant.2,
+  omega (arith, c.in-Ok.ensures.steps, c.loop-i.invariant.3),
 )
 
 pub returns-clause-tally : goal.returns-clause-tally

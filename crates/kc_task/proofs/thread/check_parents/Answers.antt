@@ -1,4 +1,4 @@
-use Rattle.std.proofs.Common.{rules, arith, ◌∙◌}
+use Rattle.std.proofs.Common.{◌<◌, ◌≤◌, length, rules, arith, ◌∙◌}
 use Rattle.kc_memory.specs.Stays.{stays_on}
 use Rattle.kc_memory.specs.declared.rule.Rule.TheVariants.{T5}
 use Rattle.kc_view.specs.Fields.{holds}
@@ -16,9 +16,20 @@ loop-i-preserved g c = record {
       (omega arith) c.loop-i.invariant.same c.get.ensures (rw (c.loop-i.invariant.stays.same_image, c.new-child.ensures) at c.in-Ok.ensures.exact);
   inside = search rules;
   stays = stays_on g.S.Space.image g.S.Space.files g.S.Space.through g.S.Space.most _ _ _ c.loop-i.invariant.stays c.in-Ok.ensures.stays;
+  spent = omega (arith, c.loop-i.invariant.spent, c.in-Ok.ensures.few);
   quiet = c.in-Ok.ensures.cause ∙ c.loop-i.invariant.quiet;
 }
 
 pub returns-clause-exact : goal.returns-clause-exact
 returns-clause-exact g c =
     pass_end (λ (x : Unit {0}). tt) (g.S.Space.image c.args.space.now) (λ i child. holds i c.args.asked.now T5 child c.args.shape.now.real_parent c.args.owner) c.args.children.now c.loop-i.i _ c.loop-i.invariant.same (search rules)
+
+pub returns-in-Err-clause-steps : goal.returns-in-Err-clause-steps
+returns-in-Err-clause-steps g c =
+    let inside : c.loop-i.i < length c.args.children.now = search rules in
+    omega (arith, inside, c.loop-i.invariant.spent, c.in-Err.ensures.few)
+
+pub returns-clause-steps : goal.returns-clause-steps
+returns-clause-steps g c =
+    let inside : c.loop-i.i ≤ length c.args.children.now = search rules in
+    omega (arith, inside, c.loop-i.invariant.spent)

@@ -1,0 +1,37 @@
+// The plan of an audit, over a kernel's types and symbols.
+ghost use Rattle.std.specs.Prelude.{◌≡◌, List, length, IfOk};
+ghost use Rattle.kc_outside.specs.declared.store.Slot.{Slot};
+ghost use Rattle.kc_syms.specs.Answers.{Stands};
+ghost use Rattle.kc_syms.specs.Rows.{RowText};
+ghost use Rattle.kc_syms.specs.Symbols.{symbol};
+ghost use Rattle.kc_plan.specs.Inside.{AreInside};
+ghost use Rattle.kc_plan.specs.Views.{plan_whole};
+ghost use Rattle.kc_input.specs.Halts.{NotStore};
+ghost use Rattle.kc_input.specs.Slots.{RefusesIn};
+ghost use Rattle.kc_input.specs.Made.{Is};
+ghost use Rattle.kc_app.specs.Audits.{plan_over};
+
+use kc_btf::Btf;
+use kc_input::Halt;
+use kc_notes::Info;
+use kc_plan::{Plan, know_plans, read_plan};
+use kc_syms::Symbols;
+use std::alloc::Global;
+
+// The plan with these bytes, over a kernel's types and symbols.
+// An error is the plan's first fault P1 to P12, with its audit and key; or no memory was left.
+pub(crate) fn read_audits(
+    alloc: Global,
+    bytes: &[u8],
+    types: &Btf,
+    symbols: &Symbols<'_>,
+    info: &Info,
+) -> Result<Plan, Halt>
+    ensures made { (rows : List RowText) → Stands (symbol symbols.now) rows → Is plan_whole (plan_over types.now rows info.now bytes.now) result }
+    ensures refused { RefusesIn Slot.Plan result }
+    ensures no_call { NotStore result }
+    ensures inside { IfOk result (λ plan. AreInside (length types.now.records) plan.audits) }
+{
+    know_plans();
+    Ok(read_plan(alloc, bytes, types, symbols, info)?)
+}

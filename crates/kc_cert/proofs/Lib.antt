@@ -1,0 +1,10 @@
+mod CertLaws
+mod Copying
+mod Drops
+mod Few
+mod Judging
+mod Making
+mod Right
+mod Spending
+mod TimesLoops
+mod Unrolling

@@ -1,0 +1,173 @@
+// Certificates that are read, written and cut short, and one that is held against a few words.
+ghost use Rattle.std.specs.Prelude.{◌≡◌, ◌<◌, length};
+ghost use Rattle.kc_plan.specs.Inside.{AreInside};
+
+use crate::{CertAnswer, CertRead, Certificate, RecheckStop, cert_text, read_cert, recheck};
+use kc_btf::Btf;
+use kc_fixture::{MAP, btf_file};
+use kc_found::{Counts, ListSpace, Origin, VWord};
+use kc_notes::Info;
+use kc_plan::{Plan, read_plan};
+use kc_syms::Symbols;
+use kc_word::Steps;
+use std::alloc::{AllocError, Global};
+use std::marker::Brand;
+use std::sync::ledger::{Blank, Ledger};
+use std::test::Fail;
+
+const THREE_NODES: &[u8] = b"certificate 1
+step 0 start ffffffff8000b120 lists 1
+list 3
+ffff888000011000
+ffff888000011040
+ffff888000011080
+";
+
+#[test]
+fn a_certificate_is_read_and_written(rt: HostRuntime) -> Result<(), Fail> {
+    let cert = read_cert(rt.alloc(), THREE_NODES)?;
+    let text = cert_text(rt.alloc(), &cert)?;
+    assert_eq!(rt; text.as_slice(), THREE_NODES);
+    Ok(())
+}
+
+#[test]
+fn a_text_is_refused_where_it_stops(rt: HostRuntime) -> Result<(), Fail> {
+    let cut = &THREE_NODES[..109];
+    assert!(rt; matches!(read_cert(rt.alloc(), cut), Err(CertRead::Z1(109))));
+    // The first number of an audit that is too large, at the digit that makes it so.
+    let large = b"certificate 1\nstep 4294967296 start ";
+    assert!(rt; matches!(read_cert(rt.alloc(), large), Err(CertRead::Z1(28))));
+    // A count that no memory holds begins some certificate's text.
+    let many = b"certificate 18446744073709551615";
+    assert!(rt; matches!(read_cert(rt.alloc(), many), Err(CertRead::Z1(32))));
+    Ok(())
+}
+
+// The two maps of physical memory.
+const IMAGE: u64 = 0xffff_ffff_8000_0000;
+
+const DIRECT: u64 = 0xffff_8880_0000_0000;
+
+// A ring of one task, whose signal has a ring of two threads. Each word is at a physical address.
+const WORDS: [(u64, u64); 11] = [
+    (0xb008, DIRECT + 0xd008),
+    (0xb010, DIRECT + 0xd008),
+    (0xd008, IMAGE + 0xb008),
+    (0xd010, IMAGE + 0xb008),
+    (0xd050, DIRECT + 0xd080),
+    (0xd080, DIRECT + 0xd058),
+    (0xd088, DIRECT + 0xd158),
+    (0xd058, DIRECT + 0xd158),
+    (0xd060, DIRECT + 0xd080),
+    (0xd158, DIRECT + 0xd080),
+    (0xd160, DIRECT + 0xd058),
+];
+
+const PLAN: &str = "version = 1
+[[audit]]
+name = 'g'
+kind = 'ring'
+root = 'init_task'
+root_type = 'task_struct'
+root_path = 'tasks'
+element = 'task_struct'
+link = 'tasks'
+each = ['t']
+[[audit]]
+name = 't'
+kind = 'ring'
+from = 'signal->thread_head'
+element = 'task_struct'
+link = 'thread_node'
+";
+
+const INFO: Info = Info {
+    table: 0x1000,
+    five: false,
+    sme: 0,
+    kaslr: 0,
+    phys_base: 0,
+};
+
+const TASK: &str = "step 0 start ffffffff8000b008 lists 1\nlist 1\nffff88800000d008\n";
+
+const THREADS: &str =
+    "step 1 start ffff88800000d080 lists 1\nlist 2\nffff88800000d058\nffff88800000d158\n";
+
+// How many steps, and which; a word that is changed, if it has an address of these; and the answer.
+const CASES: [(u64, &str, &str, u64, u64, &str); 5] = [
+    (2, TASK, THREADS, 0, 0, "yes 1 1 1 2"),
+    (1, TASK, "", 0, 0, "no 2"),
+    (1, THREADS, "", 0, 0, "no 1"),
+    (2, TASK, THREADS, 0xd158, 0, "no 2"),
+    (0, "", "", 0xb008, IMAGE + 0xb008, "no 1"),
+];
+
+// Each word by its two addresses. Of two words with one address the first counts.
+fn space_of(alloc: Global, changed: (u64, u64)) -> Result<ListSpace, AllocError> {
+    let mut words = Vec::new(alloc);
+    for (pa, value) in [[changed].as_slice(), WORDS.as_slice()]
+        .iter()
+        .copied()
+        .flatten()
+    {
+        for map in [IMAGE, DIRECT] {
+            words.push(VWord {
+                va: map.wrapping_add(*pa),
+                pa: *pa,
+                off: Origin::File(*pa),
+                value: *value,
+            })?;
+        }
+    }
+    Ok(ListSpace::new(words))
+}
+
+fn yes_text(alloc: Global, counts: &Counts) -> Result<String, AllocError> {
+    let mut text = String::from_str(alloc, "yes")?;
+    for count in counts.as_slice() {
+        write!(&mut text, " {} {}", count.walks, count.elements)?;
+    }
+    Ok(text)
+}
+
+fn answer<L: Ledger>(
+    alloc: Global,
+    plan: &Plan,
+    btf: &Btf,
+    space: &mut ListSpace,
+    cert: &Certificate,
+    blank: Blank,
+) -> Result<String, AllocError>
+    requires name { blank.name ≡ L.name }
+    requires parts { blank.parts ≡ L.parts }
+    requires some { 0 < L.parts }
+    requires types { AreInside (length btf.now.records) plan.now.audits }
+{
+    let mut steps = Steps::<L>::new(blank);
+    match recheck(alloc, plan, btf, space, cert, &mut steps) {
+        Ok(CertAnswer::Yes(counts)) => yes_text(alloc, &counts),
+        Ok(CertAnswer::No(number)) => format!(in alloc; "no {number}"),
+        Err(RecheckStop::Fault | RecheckStop::NoMemory) => String::from_str(alloc, "no answer"),
+    }
+}
+
+#[test]
+fn steps_fit_or_not(rt: HostRuntime) -> Result<(), Fail> {
+    let alloc = rt.alloc();
+    let btf = Btf::read(alloc, btf_file(alloc)?)?;
+    let symbols = Symbols::read(alloc, MAP.as_bytes())?;
+    let Ok(plan) = read_plan(alloc, PLAN.as_bytes(), &btf, &symbols, &INFO) else {
+        assert!(rt; false, "refused");
+        return Ok(());
+    };
+    for (count, first, second, at, value, wanted) in CASES {
+        let text = format!(in alloc; "certificate {count}\n{first}{second}")?;
+        let cert = read_cert(alloc, text.as_bytes())?;
+        let mut space = space_of(alloc, (at, value))?;
+        let found = answer::<Brand>(alloc, &plan, &btf, &mut space, &cert, Blank::new(1))?;
+        assert_eq!(rt; found.as_str(), wanted, "{count} {at:x}={value:x}");
+    }
+    Ok(())
+}

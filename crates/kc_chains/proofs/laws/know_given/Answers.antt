@@ -1,0 +1,8 @@
+use Rattle.kc_chains.proofs.Giving.{given_free, given_rings}
+use Rattle.kc_chains.proofs.laws.know_given.Goals as goal
+
+pub returns-clause-rings : goal.returns-clause-rings
+returns-clause-rings c = given_rings
+
+pub returns-clause-free : goal.returns-clause-free
+returns-clause-free c = given_free

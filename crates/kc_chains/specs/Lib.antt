@@ -1,0 +1,5 @@
+pub mod CachesBy
+pub mod Chains
+pub mod Given
+pub mod Laws
+pub mod TasksBy

@@ -1,0 +1,7 @@
+mod Claiming
+mod Drops
+mod Growing
+mod Meeting
+mod Pacing
+mod Planting
+mod Tested

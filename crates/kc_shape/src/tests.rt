@@ -1,0 +1,119 @@
+// A ring, a hash chain and a red-black tree over a few words.
+ghost use Rattle.std.specs.Prelude.{◌≡◌, ◌<◌};
+
+use crate::{test_chain, test_ring, test_tree, turned};
+use kc_found::{HShape, ListShape, ListSpace, Origin, RbShape, VWord, Walked};
+use kc_word::Steps;
+use std::alloc::{AllocError, Global};
+use std::marker::Brand;
+use std::sync::ledger::{Blank, Ledger};
+use std::test::Fail;
+
+// A ring's head at 1000 with two nodes, a hash chain's head at 4000 with two nodes, and the root at 7000 of a black node at 7100 with
+// two red children. The words of a tree's node are the parent's address with the colour, the right child and the left one.
+const WORDS: [(u64, u64); 21] = [
+    (1000, 2000),
+    (1008, 3000),
+    (2000, 3000),
+    (2008, 1000),
+    (3000, 1000),
+    (3008, 2000),
+    (4000, 5000),
+    (5000, 6000),
+    (5008, 4000),
+    (6000, 0),
+    (6008, 5000),
+    (7000, 7104),
+    (7104, 1),
+    (7112, 7304),
+    (7120, 7204),
+    (7204, 7104),
+    (7212, 0),
+    (7220, 0),
+    (7304, 7104),
+    (7312, 0),
+    (7320, 0),
+];
+
+// A list for each of them, and what the three tests answer.
+const CASES: [(&[u64], &[u64], &[u64], &str); 2] = [
+    (
+        &[2000, 3000],
+        &[5000, 6000],
+        &[7104, 7204, 0, 0, 7304, 0, 0],
+        "Ok(()) Ok(()) Ok(())",
+    ),
+    (
+        &[3000, 2000],
+        &[5000],
+        &[7104, 7204, 0, 0, 7304, 0],
+        "Err(Unfit) Err(Unfit) Err(Unfit)",
+    ),
+];
+
+fn space_of(alloc: Global) -> Result<ListSpace, AllocError> {
+    let mut words = Vec::new(alloc);
+    for (va, value) in WORDS {
+        words.push(VWord {
+            va,
+            pa: va,
+            off: Origin::File(va),
+            value,
+        })?;
+    }
+    Ok(ListSpace::new(words))
+}
+
+fn list_of(alloc: Global, numbers: &[u64]) -> Result<Walked, AllocError> {
+    let mut list = Walked::new(alloc);
+    for number in numbers {
+        list.push(*number).map_err(|_| AllocError)?;
+    }
+    Ok(list)
+}
+
+// What the three tests answer on these lists.
+fn answers<L: Ledger>(alloc: Global, lists: [&[u64]; 3], blank: Blank) -> Result<String, AllocError>
+    requires name { blank.name ≡ L.name }
+    requires parts { blank.parts ≡ L.parts }
+    requires some { 0 < L.parts }
+{
+    let mut space = space_of(alloc)?;
+    let mut steps = Steps::<L>::new(blank);
+    let ring = ListShape { next: 0, prev: 8 };
+    let nodes = list_of(alloc, lists[0])?;
+    let first = test_ring(alloc, &mut space, &ring, 1000, &nodes, &mut steps);
+    let chain = HShape {
+        first: 0,
+        next: 0,
+        pprev: 8,
+    };
+    let nodes = list_of(alloc, lists[1])?;
+    let second = test_chain(alloc, &mut space, &chain, 4000, &nodes, &mut steps);
+    let tree = RbShape {
+        parent_color: 0,
+        right: 8,
+        left: 16,
+        root: 0,
+        leftmost: None,
+        link: 0,
+        key: None,
+        unique: false,
+    };
+    let numbers = list_of(alloc, lists[2])?;
+    let third = test_tree(alloc, &mut space, &tree, 7000, &numbers, &mut steps);
+    format!(in alloc; "{first:?} {second:?} {third:?}")
+}
+
+#[test]
+fn lists_are_shapes_or_not(rt: HostRuntime) -> Result<(), Fail> {
+    let alloc = rt.alloc();
+    for (ring, chain, tree, wanted) in CASES {
+        let told = answers::<Brand>(alloc, [ring, chain, tree], Blank::new(1))?;
+        assert_eq!(rt; told.as_str(), wanted);
+    }
+    let numbers = list_of(alloc, &[7104, 7204, 0, 0, 7304, 0, 0])?;
+    let nodes = turned(alloc, &numbers).map_err(|_| AllocError)?;
+    assert_eq!(rt; nodes.as_slice(), [7204, 7104, 7304].as_slice());
+    Ok(())
+}

@@ -1,0 +1,93 @@
+// Chains that are walked, and whose lists are kept.
+ghost use Rattle.std.specs.Prelude.{◌≡◌, ◌∷◌, ◌++◌, [], IfOk, OnOk};
+ghost use Rattle.kc_found.specs.Walks.{OnBroken, OnWalkFault};
+ghost use Rattle.kc_chains.specs.Chains.{free_kept, ring_kept};
+
+use crate::free::free_walk;
+use kc_chains::{Chains, Rings};
+use kc_found::{Asked, Grid, Items, ListShape, Scalar, Space, WalkStop, Walked};
+use kc_list::ring;
+use kc_view::started_at;
+use kc_word::{NoMemory, Steps};
+use std::alloc::Global;
+use std::sync::ledger::Ledger;
+
+/// Chains come by their walks, and their lists are kept, in the order in which they are asked for.
+#[derive(Drop)]
+pub struct Kept {
+    /// The lists.
+    pub lists: Items<Walked>,
+}
+
+// Another list of the same addresses.
+fn copy_of(alloc: Global, list: &Walked) -> Result<Walked, NoMemory>
+    ensures { IfOk result (λ copy. copy ≡ list.now) }
+{
+    let mut copy = Walked::new(alloc);
+    for at in list.as_slice() {
+        copy.push(*at)?;
+    }
+    Ok(copy)
+}
+
+// Keeps a list behind the others.
+fn keep(alloc: Global, lists: &mut Items<Walked>, list: &Walked) -> Result<(), WalkStop>
+    ensures added { OnOk result (lists.new ≡ lists.old ++ list.now ∷ []) }
+    ensures broken { OnBroken result ⊥ }
+    ensures no_fault { OnWalkFault result ⊥ }
+{
+    let copy = match copy_of(alloc, list) {
+        Ok(copy) => copy,
+        Err(NoMemory) => return Err(WalkStop::NoMemory),
+    };
+    match lists.push(copy) {
+        Ok(()) => Ok(()),
+        Err(NoMemory) => Err(WalkStop::NoMemory),
+    }
+}
+
+impl Rings for Kept {
+    ghost lists = { λ k. k.lists };
+
+    ghost paid = { ⊥ };
+
+    ghost ring_by = { ring_kept };
+
+    fn ring<S: Space, L: Ledger>(
+        &mut self,
+        alloc: Global,
+        space: &mut S,
+        asked: &Asked,
+        shape: &ListShape,
+        head: u64,
+        steps: &mut Steps<L>,
+    ) -> Result<Walked, WalkStop> {
+        let nodes = match ring(alloc, space, shape, head, asked.audit, steps) {
+            Ok(nodes) => nodes,
+            Err(stop) => return Err(started_at(stop, asked.start)),
+        };
+        keep(alloc, &mut self.lists, &nodes)?;
+        Ok(nodes)
+    }
+}
+
+impl Chains for Kept {
+    ghost free_by = { free_kept };
+
+    fn free<S: Space, L: Ledger>(
+        &mut self,
+        alloc: Global,
+        space: &mut S,
+        asked: &Asked,
+        grid: &Grid,
+        first: Scalar,
+        steps: &mut Steps<L>,
+    ) -> Result<Walked, WalkStop> {
+        let objects = match free_walk(alloc, space, grid, first, asked.audit, asked.start, steps) {
+            Ok(objects) => objects,
+            Err(stop) => return Err(stop),
+        };
+        keep(alloc, &mut self.lists, &objects)?;
+        Ok(objects)
+    }
+}
