@@ -14,7 +14,7 @@ grammar. It runs under a limit of 512 MiB and of ten seconds, and has to end
 - where `second.py` reads the files too, with the same status and the same texts.
 
 A run that ends otherwise is printed, and its files are kept in FOLDER. It prints how many runs ended how, also where it is stopped by
-Ctrl-C or SIGTERM before all are done.
+Ctrl-C or SIGTERM before all are done. With TMPDIR in memory (/dev/shm) it is three times as fast as on a disk.
 """
 import argparse
 import collections

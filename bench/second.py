@@ -332,6 +332,13 @@ class Types:
     def kind(self, number):
         return 0 if number == 0 else self.records[number][0]
 
+    def length(self, number):
+        """How many elements an array has, under modifiers; a plan is refused that needs one where none is."""
+        bare = self.bare(number)
+        if bare is None or self.kind(bare) != 3:
+            raise Refused("plan")
+        return self.records[bare][4][2]
+
     def find(self, name):
         name = name.encode()
         found = []
@@ -413,7 +420,7 @@ class Types:
         kind = self.bare(kind)
         sort, _, flag, size, words, _ = self.records[kind] if kind else (0,) * 6
         if sort == 1:
-            signed, own, offset = words[0] >> 24 & 15 == 1, words[0] & 255, words[0] >> 16 & 255
+            signed, own, offset = words[0] >> 24 & 1 == 1, words[0] & 255, words[0] >> 16 & 255
             bit, width = (bit, width) if width else (bit + offset, own)
         elif sort in (2, 6, 19):
             signed, width = sort != 2 and bool(flag), width or (64 if sort == 2 else 8 * size)
@@ -859,7 +866,7 @@ def slub(kernel, cache):
         symbol = address(kernel.rows, name, info.kaslr)
         bases.append((five if info.levels == 5 else four) if symbol is None else memory.place(symbol)[3])
     _, node_at, kind = types.located(kernel.struct("kmem_cache"), "node")
-    nodes = types.records[types.bare(kind)][4][2]
+    nodes = types.length(kind)
     symbol = address(kernel.rows, "nr_node_ids", info.kaslr)
     if symbol is not None:
         nodes = min(nodes, memory.number(symbol, 0, 32)[0])
@@ -1000,7 +1007,7 @@ class Audit:
             return shape | {"cached": cached, "key": key, "unique": table.get("unique", False), "link": self.link}
         if self.kind == "xarray":
             _, slots, kind = kernel.types.located(kernel.struct("xa_node"), "slots")
-            chunk = kernel.types.records[kernel.types.bare(kind)][4][2]
+            chunk = kernel.types.length(kind)
             shape = {k: kernel.offset("xa_node", k, 8) for k in ("shift", "offset", "count", "nr_values")}
             shape |= {k: kernel.offset("xa_node", k) for k in ("parent", "array")}
             return shape | {"head": kernel.offset("xarray", "xa_head"), "slots": slots, "chunk": chunk, "step": 4 if chunk == 16 else 6}
@@ -1100,7 +1107,7 @@ def plan_of(data, kernel):
             raise Refused("plan")
         kernel.memory.core.zero = tail == "zero"
         return audits, numbers, tables, version
-    except (KeyError, TypeError, AttributeError, ValueError, IndexError):  # a type is another one than the kind needs, too
+    except (KeyError, TypeError, AttributeError, ValueError):
         raise Refused("plan") from None
 
 
