@@ -6,7 +6,7 @@ usage: certificates.py DUMP BTF MAP PLAN [MODULE]
 It stands on the second reader (`second.py`) alone and shares no code with kaudit. The text is `certificate STEPS`, then for each walk
 `step AUDIT start ADDRESS lists COUNT` and for each list `list COUNT` and its numbers, one a line: the nodes of a ring or a hash chain; a tree
 in preorder, 0 for a null; an xarray's entries in preorder, a node's followed by those of its slots; of a slab cache for each node of memory
-the ring's nodes and then each slab's free objects; of tasks the ring's nodes, and for each leader its threads' and each thread's children's.
+the ring's nodes and then each slab's free objects; of tasks the ring's nodes, and for each leader its threads' and each thread's children's; of pids the xarray's entries and then each pid's tasks.
 """
 import mmap
 import sys
@@ -68,6 +68,10 @@ def lists_of(audit, kernel, head):
         return [preorder(kernel, audit.shape, word(kernel, head + audit.shape["root"]))]
     if audit.kind == "xarray":
         return [entries(kernel, audit.shape, word(kernel, head + audit.shape["head"]))]
+    if audit.kind == "pids":
+        top = word(kernel, head + audit.shape["idr_rt"] + audit.shape["head"])
+        chains = [second.hash_chain(kernel.memory, (pid + audit.shape["tasks"]) % TOP, *audit.shape["chain"]) for pid in audit.walk(kernel, head)]
+        return [entries(kernel, audit.shape, top)] + chains
     walk = second.slub if audit.kind == "slub" else second.tasks
     return listened(lambda: walk(kernel, head))
 

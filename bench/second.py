@@ -687,7 +687,7 @@ def tree(memory, head, shape):
 
 
 def xarray(memory, head, shape):
-    """The pointers of an xarray with their indexes."""
+    """The pointers of an xarray with their indexes. An IDR's nodes may count slots that are reserved and still null."""
     walk, items = Walk(memory), []
     top = walk.read(head + shape["head"])
     walk.claim(top)
@@ -736,7 +736,7 @@ def xarray(memory, head, shape):
         if array[3] != head:
             raise Broken("X4", array[0], head, places=[array])
         filled = sum(place[3] != 0 for place in slots)
-        if fields["count"][0] != filled:
+        if not (filled <= fields["count"][0] <= chunk if shape.get("idr") else fields["count"][0] == filled):
             raise Broken("X5", fields["count"][1], filled, places=[fields["count"][2]])
         sibling = any(place[3] & 3 == 2 and place[3] >> 2 <= chunk - 2 for place in slots)
         odd = sum(place[3] & 1 for place in slots)
@@ -764,7 +764,7 @@ def xarray(memory, head, shape):
         if found == "node":
             inner, below, lower = enter(slots[k], here, k, shift, index)
             todo.append((inner, below, lower, index, 0))
-    return [pointer for _, pointer in items]
+    return items
 
 
 class Kernel:
@@ -953,11 +953,25 @@ def tasks(kernel, first):
     return found
 
 
+def pids(kernel, start, shape):
+    """The pids of an IDR by rising number, each with the tasks that are on its first chain."""
+    memory, found = kernel.memory, []
+    bit, width, signed = shape["nr"]
+    for index, pid in xarray(memory, (start + shape["idr_rt"]) % TOP, shape):
+        number, places = memory.number(pid, bit, width, signed)
+        if number % TOP != index:
+            raise Broken("G1", (pid + bit // 8) % TOP, index, places=places)
+        for node in hash_chain(memory, (pid + shape["tasks"]) % TOP, *shape["chain"]):
+            kernel.check_field((node - shape["links"]) % TOP, "task_struct", "thread_pid", pid, "G2")
+        found.append(pid)
+    return found
+
+
 # The plan and its verdict.
 
-HEADS = {"ring": "list_head", "hlist": "hlist_head", "rbtree": "rb_root", "xarray": "xarray", "slub": "kmem_cache", "tasks": "task_struct"}
+HEADS = {"pids": "idr", "ring": "list_head", "hlist": "hlist_head", "rbtree": "rb_root", "xarray": "xarray", "slub": "kmem_cache", "tasks": "task_struct"}
 LINKS = {"ring": "list_head", "hlist": "hlist_node", "rbtree": "rb_node"}
-ELEMENTS = {"slub": "slab", "tasks": "task_struct"}
+ELEMENTS = {"slub": "slab", "tasks": "task_struct", "pids": "pid"}
 
 
 class Audit:
@@ -1005,13 +1019,27 @@ class Audit:
             shape["leftmost"] = kernel.offset("rb_root_cached", "rb_leftmost") if cached else None
             key = kernel.types.plain(self.element, table["key"]) if "key" in table else None
             return shape | {"cached": cached, "key": key, "unique": table.get("unique", False), "link": self.link}
-        if self.kind == "xarray":
+        if self.kind in ("xarray", "pids"):
             _, slots, kind = kernel.types.located(kernel.struct("xa_node"), "slots")
             chunk = kernel.types.length(kind)
             shape = {k: kernel.offset("xa_node", k, 8) for k in ("shift", "offset", "count", "nr_values")}
             shape |= {k: kernel.offset("xa_node", k) for k in ("parent", "array")}
-            return shape | {"head": kernel.offset("xarray", "xa_head"), "slots": slots, "chunk": chunk, "step": 4 if chunk == 16 else 6}
+            shape |= {"head": kernel.offset("xarray", "xa_head"), "slots": slots, "chunk": chunk, "step": 4 if chunk == 16 else 6}
+            return shape if self.kind == "xarray" else shape | self.shape_of_pids(kernel)
         return None
+
+    @staticmethod
+    def shape_of_pids(kernel):
+        """What a table of pids has beside its xarray; `numbers` may be an array of no elements, whose first one is meant all the same."""
+        bit, width, signed = kernel.types.plain(kernel.struct("upid"), "nr")
+        return {
+            "idr": True,
+            "idr_rt": kernel.byte("idr", "idr_rt"),
+            "nr": (8 * kernel.byte("pid", "numbers") + bit, width, signed),
+            "tasks": kernel.byte("pid", "tasks"),
+            "chain": [kernel.offset(*of) for of in (("hlist_head", "first"), ("hlist_node", "next"), ("hlist_node", "pprev"))],
+            "links": kernel.byte("task_struct", "pid_links"),
+        }
 
     def walk(self, kernel, head):
         """The elements at a head."""
@@ -1024,7 +1052,9 @@ class Audit:
         elif self.kind == "rbtree":
             nodes = tree(memory, head, self.shape)
         elif self.kind == "xarray":
-            return xarray(memory, head, self.shape)
+            return [pointer for _, pointer in xarray(memory, head, self.shape)]
+        elif self.kind == "pids":
+            return pids(kernel, head, self.shape)
         else:
             return slub(kernel, head) if self.kind == "slub" else tasks(kernel, head)
         return [(node - self.link) % TOP for node in nodes]

@@ -28,6 +28,7 @@ refused_few faults asked old new (refusals.Symbol f) is = inr (inr (inl is))
 refused_few faults asked old new refusals.NoType is = inr (inr (inl is))
 refused_few faults asked old new (refusals.Path f) is = inr (inr (inl is))
 refused_few faults asked old new (refusals.Plan f) is = inr (inr (inl is))
+refused_few faults asked old new (refusals.Certificate n) is = inr (inr (inl is))
 
 pub few : {S : Type 0} (faults asked : S → ℕ) (outcome : Option (Result Answer Halt)) (old new : S) → LayoutCalls faults asked outcome old new → FewCalls faults asked old new
 few faults asked None old new is = inl is

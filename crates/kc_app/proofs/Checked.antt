@@ -81,22 +81,3 @@ not_two version other = by_test (nat_eq version 2) refl
     by_test : (b : Bool) → nat_eq version 2 ≡ b → nat_eq version 2 ≡ false
     by_test true is = absurd (other (eqb-true version 2 is))
     by_test false is = is
-
--- the steps of `check` on a file that is there
-prints_made : (file btf map plan : Option (List ℕ)) (parts : Parts) (told : Info) (types : Types) (planned : PlanAt) (r : Result Answer Halt)
-    → dump_parts file ≡ gives parts → checked Notes (info parts.notes) ≡ gives told → types_in btf ≡ gives types → planned_in types told map plan ≡ gives planned
-    → PrintsOfBytes shown_written (λ bytes. gives (shown_on parts.segments (by_info told) planned bytes)) file r
-    → Prints shown_written (check_made file btf map plan) r
-prints_made None btf map plan parts told types planned r is noted typed found prints = absurd (let none : ⊥ = cc in none)
-prints_made (Some bytes) btf map plan parts told types planned r is noted typed found prints = rw (is, noted, typed, found) prints
-
--- and where the files are told
-pub check_prints : {X Y Z : Type 0} (files : Option Told) (f : Files) (core : X → Parts) (types : Y → Types) (plan : Z → PlanAt) (x : X) (told : Info) (y : Y) (z : Z) (r : Result Answer Halt)
-    → IsOf core (λ files. dump_parts (files slot.Dump f.dump)) files (Ok x) → checked Notes (info (core x).notes) ≡ gives told
-    → IsOf types (λ files. types_in (files slot.Btf f.btf)) files (Ok y)
-    → IsOf plan (λ files. planned_in (types y) told (files slot.Map f.map) (files slot.Plan f.plan)) files (Ok z)
-    → PrintsOfBytes shown_written (λ bytes. gives (shown_on (core x).segments (by_info told) (plan z) bytes)) (named files slot.Dump f.dump) r
-    → PrintsOf shown_written (λ files. check_made (files slot.Dump f.dump) (files slot.Btf f.btf) (files slot.Map f.map) (files slot.Plan f.plan)) files r
-check_prints None f core types plan x told y z r is noted typed planned prints = tt
-check_prints (Some files) f core types plan x told y z r is noted typed planned prints =
-    prints_made (files slot.Dump f.dump) (files slot.Btf f.btf) (files slot.Map f.map) (files slot.Plan f.plan) (core x) told (types y) (plan z) r is noted typed planned prints

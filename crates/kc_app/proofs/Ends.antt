@@ -11,6 +11,7 @@ use Rattle.kc_plan.specs.Roots.{root_verdicts}
 use Rattle.kc_plan.specs.Seen.{roots}
 use Rattle.kc_plan.specs.Verdicts.{IsClean, verdict}
 use Rattle.kc_run.specs.Laws.{CleanRootsStand, CleanWhereStanding, FirstOfRoots}
+use Rattle.kc_cert.specs.declared.certificate.CertStep.{CertStep}
 use Rattle.kc_input.specs.Made.{◌>>=◌, Made, gives}
 use Rattle.kc_ends.specs.declared.status.Status.{Status}
 use Rattle.kc_ends.specs.declared.status.Status.TheVariants.{Done, Broken}
@@ -18,9 +19,10 @@ use Rattle.kc_ends.specs.Ends.{IsTold, IsWritten}
 use Rattle.kc_ends.specs.Output.{Output, Ends, word_files}
 use Rattle.kc_ends.specs.Status.{is_answer}
 use Rattle.kc_app.specs.Check.{Audited, ChecksStand, RootsTold, TellsRoots, TellsStanding, audited, audited_shown, names_of, roots_shown, verdict_said, verdict_shown}
-use Rattle.kc_app.specs.Commands.{command}
 use Rattle.kc_app.specs.Headline.{CheckEnds, CheckPrints, ChecksEnd, EndsBy, PrintsBy, check_words}
-use Rattle.kc_app.specs.Output.{ShownStand, StandsIn, TookTrue, out_of, output_written, written_of}
+use Rattle.kc_app.specs.Output.{FitsFiles, FitsOutput, IsToldBy, ShownStand, StandsIn, TookTrue, out_of, output_written, written_of}
+use Rattle.kc_app.specs.Program.{program}
+use Rattle.kc_app.specs.Reply.{Reply, shows_made}
 use Rattle.kc_app.specs.Shown.{Shown, said_status, shown_status, shown_text}
 use Rattle.kc_app.proofs.Rooted.{roots_end, roots_told}
 
@@ -59,85 +61,86 @@ pub roots_are_told : CleanRootsStand → RootsTold
 roots_are_told law all = versions_told law all (nat_eq all.version 2)
 
 -- what is made of what is audited ends by it
-pub made_ends : ChecksStand → (made : Made Audited) → IfSome (option_map Ends (made >>= (λ all. gives (audited_shown all)))) (λ (output : Output Shown). EndsBy made (output_written output).status)
-made_ends stand None = tt
-made_ends stand (Some (Err refusal)) = refl
-made_ends stand (Some (Ok all)) = stand all
+pub made_ends : ChecksStand → (cert : List CertStep) (made : Made Audited)
+    → IfSome (option_map Ends (shows_made (made >>= (λ all. gives (audited_shown all))))) (λ (output : Output Reply). EndsBy made (output_written cert output).status)
+made_ends stand cert None = tt
+made_ends stand cert (Some (Err refusal)) = refl
+made_ends stand cert (Some (Ok all)) = stand all
 
 pub checks_end : ChecksStand → ChecksEnd
-checks_end stand f files = made_ends stand (audited (files Dump) (files Btf) (files Map) (files Plan))
+checks_end stand cert f files = made_ends stand cert (audited (files Dump) (files Btf) (files Map) (files Plan))
 
 pub on_true : {P Q : Type 0} (b : Bool) → (P → Q) → OnTrue b P → OnTrue b Q
 on_true true follows p = follows p
 on_true false follows p = tt
 
 -- and so does what is written of it
-pub written_ends : (made : Made Audited) (output : Option (Output Shown)) (status : Status) (out_old out_new err_old err_new : Option (List ℕ))
-    → IfSome output (λ o. EndsBy made (output_written o).status) → IsWritten (option_map output_written output) status out_old out_new err_old err_new → EndsBy made status
-written_ends made None status out_old out_new err_old err_new ends is = absurd is
-written_ends made (Some o) status out_old out_new err_old err_new ends is = rw is.ends ends
+pub written_ends : (cert : List CertStep) (made : Made Audited) (output : Option (Output Reply)) (status : Status) (out_old out_new err_old err_new : Option (List ℕ))
+    → IfSome output (λ o. EndsBy made (output_written cert o).status) → IsWritten (option_map (output_written cert) output) status out_old out_new err_old err_new → EndsBy made status
+written_ends cert made None status out_old out_new err_old err_new ends is = absurd is
+written_ends cert made (Some o) status out_old out_new err_old err_new ends is = rw is.ends ends
 
-check_written : (words : List (List ℕ)) (files : Told) (status : Status) (out_old out_new err_old err_new : Option (List ℕ))
-    → ChecksEnd → IsWritten (written_of words files) status out_old out_new err_old err_new → CheckEnds words files status
-check_written words files status out_old out_new err_old err_new law is f same =
-    written_ends (audited (files Dump f.dump) (files Btf f.btf) (files Map f.map) (files Plan f.plan)) (out_of (check_words f) files) status out_old out_new err_old err_new
-    (law f (word_files (command (check_words f)) files)) (rw same at is)
+check_written : (cert : List CertStep) (words : List (List ℕ)) (files : Told) (status : Status) (out_old out_new err_old err_new : Option (List ℕ))
+    → ChecksEnd → IsWritten (written_of cert words files) status out_old out_new err_old err_new → CheckEnds words files status
+check_written cert words files status out_old out_new err_old err_new law is f same =
+    written_ends cert (audited (files Dump f.dump) (files Btf f.btf) (files Map f.map) (files Plan f.plan)) (out_of (check_words f) files) status out_old out_new err_old err_new
+    (law cert f (word_files (program (check_words f)) files)) (rw same at is)
 
-check_told : (words : List (List ℕ)) (files : Option Told) (status : Status) (out_old out_new err_old err_new : Option (List ℕ))
-    → ChecksEnd → IsTold (written_of words) files status out_old out_new err_old err_new → IfSome files (λ f. CheckEnds words f status)
-check_told words None status out_old out_new err_old err_new law is = tt
-check_told words (Some files) status out_old out_new err_old err_new law is = check_written words files status out_old out_new err_old err_new law is
+check_told : (cert : List CertStep) (words : List (List ℕ)) (files : Option Told) (status : Status) (out_old out_new err_old err_new : Option (List ℕ))
+    → ChecksEnd → IsTold (written_of cert words) files status out_old out_new err_old err_new → IfSome files (λ f. CheckEnds words f status)
+check_told cert words None status out_old out_new err_old err_new law is = tt
+check_told cert words (Some files) status out_old out_new err_old err_new law is = check_written cert words files status out_old out_new err_old err_new law is
 
 -- an answer of the program ends a check by what its files hold
 pub answer_ends : ChecksEnd → (words : List (List ℕ)) (files : Option Told) (status : Status) (out_old out_new err_old err_new : Option (List ℕ))
-    → OnTrue (is_answer status) (IsTold (written_of words) files status out_old out_new err_old err_new) → OnTrue (is_answer status) (IfSome files (λ f. CheckEnds words f status))
+    → OnTrue (is_answer status) (IsToldBy words files status out_old out_new err_old err_new) → OnTrue (is_answer status) (IfSome files (λ f. CheckEnds words f status))
 answer_ends law words files status out_old out_new err_old err_new told =
-    on_true (is_answer status) (λ is. check_told words files status out_old out_new err_old err_new law is) told
+    on_true (is_answer status) (λ is. check_told is.0 words files status out_old out_new err_old err_new law is.2) told
 
 -- a check prints what is shown of what it audits
-took_shown : (made : Made Audited) (all : Audited) (status : Status) (out_old out_new err_old err_new : Option (List ℕ))
-    → made ≡ gives all → IsWritten (option_map output_written (option_map Ends (made >>= (λ all. gives (audited_shown all))))) status out_old out_new err_old err_new
+took_shown : (cert : List CertStep) (made : Made Audited) (all : Audited) (status : Status) (out_old out_new err_old err_new : Option (List ℕ))
+    → made ≡ gives all → IsWritten (option_map (output_written cert) (option_map Ends (shows_made (made >>= (λ all. gives (audited_shown all)))))) status out_old out_new err_old err_new
     → out_new ≡ with_piece out_old (shown_text (audited_shown all))
-took_shown None all status out_old out_new err_old err_new is written = absurd (let none : ⊥ = cc in none)
-took_shown (Some (Err refusal)) all status out_old out_new err_old err_new is written = absurd (let none : ⊥ = cc in none)
-took_shown (Some (Ok other)) all status out_old out_new err_old err_new is written =
+took_shown cert None all status out_old out_new err_old err_new is written = absurd (let none : ⊥ = cc in none)
+took_shown cert (Some (Err refusal)) all status out_old out_new err_old err_new is written = absurd (let none : ⊥ = cc in none)
+took_shown cert (Some (Ok other)) all status out_old out_new err_old err_new is written =
     let same : other ≡ all = cc in
     subst (λ (a : Audited). out_new ≡ with_piece out_old (shown_text (audited_shown a))) same written.out_took
 
-pub prints_by : (made : Made Audited) (status : Status) (out_old out_new err_old err_new : Option (List ℕ))
-    → RootsTold → IsWritten (option_map output_written (option_map Ends (made >>= (λ all. gives (audited_shown all))))) status out_old out_new err_old err_new → PrintsBy made out_old out_new
-prints_by made status out_old out_new err_old err_new law written all is = (took_shown made all status out_old out_new err_old err_new is written, law all)
+pub prints_by : (cert : List CertStep) (made : Made Audited) (status : Status) (out_old out_new err_old err_new : Option (List ℕ))
+    → RootsTold → IsWritten (option_map (output_written cert) (option_map Ends (shows_made (made >>= (λ all. gives (audited_shown all)))))) status out_old out_new err_old err_new → PrintsBy made out_old out_new
+prints_by cert made status out_old out_new err_old err_new law written all is = (took_shown cert made all status out_old out_new err_old err_new is written, law all)
 
-check_prints : (words : List (List ℕ)) (files : Told) (status : Status) (out_old out_new err_old err_new : Option (List ℕ))
-    → RootsTold → IsWritten (written_of words files) status out_old out_new err_old err_new → CheckPrints words files out_old out_new
-check_prints words files status out_old out_new err_old err_new law is f same =
-    prints_by (audited (files Dump f.dump) (files Btf f.btf) (files Map f.map) (files Plan f.plan)) status out_old out_new err_old err_new law (rw same at is)
+check_prints : (cert : List CertStep) (words : List (List ℕ)) (files : Told) (status : Status) (out_old out_new err_old err_new : Option (List ℕ))
+    → RootsTold → IsWritten (written_of cert words files) status out_old out_new err_old err_new → CheckPrints words files out_old out_new
+check_prints cert words files status out_old out_new err_old err_new law is f same =
+    prints_by cert (audited (files Dump f.dump) (files Btf f.btf) (files Map f.map) (files Plan f.plan)) status out_old out_new err_old err_new law (rw same at is)
 
-prints_told : (words : List (List ℕ)) (files : Option Told) (status : Status) (out_old out_new err_old err_new : Option (List ℕ))
-    → RootsTold → IsTold (written_of words) files status out_old out_new err_old err_new → IfSome files (λ f. CheckPrints words f out_old out_new)
-prints_told words None status out_old out_new err_old err_new law is = tt
-prints_told words (Some files) status out_old out_new err_old err_new law is = check_prints words files status out_old out_new err_old err_new law is
+prints_told : (cert : List CertStep) (words : List (List ℕ)) (files : Option Told) (status : Status) (out_old out_new err_old err_new : Option (List ℕ))
+    → RootsTold → IsTold (written_of cert words) files status out_old out_new err_old err_new → IfSome files (λ f. CheckPrints words f out_old out_new)
+prints_told cert words None status out_old out_new err_old err_new law is = tt
+prints_told cert words (Some files) status out_old out_new err_old err_new law is = check_prints cert words files status out_old out_new err_old err_new law is
 
 -- an answer of the program prints so
 pub answer_prints : RootsTold → (words : List (List ℕ)) (files : Option Told) (status : Status) (out_old out_new err_old err_new : Option (List ℕ))
-    → OnTrue (is_answer status) (IsTold (written_of words) files status out_old out_new err_old err_new) → OnTrue (is_answer status) (IfSome files (λ f. CheckPrints words f out_old out_new))
+    → OnTrue (is_answer status) (IsToldBy words files status out_old out_new err_old err_new) → OnTrue (is_answer status) (IfSome files (λ f. CheckPrints words f out_old out_new))
 answer_prints law words files status out_old out_new err_old err_new told =
-    on_true (is_answer status) (λ is. prints_told words files status out_old out_new err_old err_new law is) told
+    on_true (is_answer status) (λ is. prints_told is.0 words files status out_old out_new err_old err_new law is.2) told
 
 -- what is written of an output whose words are true of the dump
-written_true : (output : Option (Output Shown)) (status : Status) (out_old out_new err_old err_new : Option (List ℕ))
-    → IfSome output StandsIn → IsWritten (option_map output_written output) status out_old out_new err_old err_new → TookTrue output out_old out_new
-written_true None status out_old out_new err_old err_new stands is = absurd is
-written_true (Some o) status out_old out_new err_old err_new stands is = (is.out_took, stands)
+written_true : (cert : List CertStep) (output : Option (Output Reply)) (status : Status) (out_old out_new err_old err_new : Option (List ℕ))
+    → IfSome output StandsIn → FitsOutput cert output → IsWritten (option_map (output_written cert) output) status out_old out_new err_old err_new → TookTrue output out_old out_new
+written_true cert None status out_old out_new err_old err_new stands fits is = absurd is
+written_true cert (Some o) status out_old out_new err_old err_new stands fits is = (cert, fits, is.out_took, stands)
 
-told_true : (words : List (List ℕ)) (files : Option Told) (status : Status) (out_old out_new err_old err_new : Option (List ℕ))
-    → ShownStand → IsTold (written_of words) files status out_old out_new err_old err_new → IfSome files (λ f. TookTrue (out_of words f) out_old out_new)
-told_true words None status out_old out_new err_old err_new law is = tt
-told_true words (Some files) status out_old out_new err_old err_new law is =
-    written_true (out_of words files) status out_old out_new err_old err_new (law words (word_files (command words) files)) is
+told_true : (cert : List CertStep) (words : List (List ℕ)) (files : Option Told) (status : Status) (out_old out_new err_old err_new : Option (List ℕ))
+    → ShownStand → FitsFiles cert words files → IsTold (written_of cert words) files status out_old out_new err_old err_new → IfSome files (λ f. TookTrue (out_of words f) out_old out_new)
+told_true cert words None status out_old out_new err_old err_new law fits is = tt
+told_true cert words (Some files) status out_old out_new err_old err_new law fits is =
+    written_true cert (out_of words files) status out_old out_new err_old err_new (law words (word_files (program words) files)) fits is
 
 -- an answer of the program shows words that are true of the dump
 pub answer_true : ShownStand → (words : List (List ℕ)) (files : Option Told) (status : Status) (out_old out_new err_old err_new : Option (List ℕ))
-    → OnTrue (is_answer status) (IsTold (written_of words) files status out_old out_new err_old err_new) → OnTrue (is_answer status) (IfSome files (λ f. TookTrue (out_of words f) out_old out_new))
+    → OnTrue (is_answer status) (IsToldBy words files status out_old out_new err_old err_new) → OnTrue (is_answer status) (IfSome files (λ f. TookTrue (out_of words f) out_old out_new))
 answer_true law words files status out_old out_new err_old err_new told =
-    on_true (is_answer status) (λ is. told_true words files status out_old out_new err_old err_new law is) told
+    on_true (is_answer status) (λ is. told_true is.0 words files status out_old out_new err_old err_new law is.1 is.2) told

@@ -1,10 +1,15 @@
 mod Calls
+mod CertEnds
+mod Certified
 mod Checked
 mod CheckedModule
 mod Counts
 mod Ends
+mod Fitted
+mod Holding
 mod ModuleEnds
 mod Planned
+mod Replies
 mod Rooted
 mod Selftests
 mod Stands

@@ -3,50 +3,51 @@ use Rattle.std.proofs.Common.{◌≡◌, ℕ, List, Option, Some, None, IfSome}
 use Rattle.std.specs.Bool.{OnTrue}
 use Rattle.kc_outside.specs.declared.store.Slot.TheVariants.{Dump, Btf, Map, Plan, Module}
 use Rattle.kc_outside.specs.Files.{Files as Told}
+use Rattle.kc_cert.specs.declared.certificate.CertStep.{CertStep}
 use Rattle.kc_ends.specs.declared.status.Status.{Status}
 use Rattle.kc_ends.specs.Ends.{IsTold, IsWritten}
 use Rattle.kc_ends.specs.Output.{word_files}
 use Rattle.kc_ends.specs.Status.{is_answer}
 use Rattle.kc_app.specs.Check.{ChecksStand, RootsTold}
 use Rattle.kc_app.specs.CheckModule.{audited_with}
-use Rattle.kc_app.specs.Commands.{command}
 use Rattle.kc_app.specs.ModuleHeadline.{ModuleCheckEnds, ModuleCheckPrints, ModuleChecksEnd, module_words}
-use Rattle.kc_app.specs.Output.{out_of, written_of}
+use Rattle.kc_app.specs.Output.{IsToldBy, out_of, written_of}
+use Rattle.kc_app.specs.Program.{program}
 use Rattle.kc_app.proofs.Ends.{made_ends, on_true, prints_by, written_ends}
 
 pub module_checks_end : ChecksStand → ModuleChecksEnd
-module_checks_end stand f files = made_ends stand (audited_with (files Dump) (files Btf) (files Module) (files Map) (files Plan))
+module_checks_end stand cert f files = made_ends stand cert (audited_with (files Dump) (files Btf) (files Module) (files Map) (files Plan))
 
 -- and so does what is written of it
-module_written : (words : List (List ℕ)) (files : Told) (status : Status) (out_old out_new err_old err_new : Option (List ℕ))
-    → ModuleChecksEnd → IsWritten (written_of words files) status out_old out_new err_old err_new → ModuleCheckEnds words files status
-module_written words files status out_old out_new err_old err_new law is f same =
-    written_ends (audited_with (files Dump f.files.dump) (files Btf f.files.btf) (files Module f.split) (files Map f.files.map) (files Plan f.files.plan)) (out_of (module_words f) files) status out_old out_new err_old err_new
-    (law f (word_files (command (module_words f)) files)) (rw same at is)
+module_written : (cert : List CertStep) (words : List (List ℕ)) (files : Told) (status : Status) (out_old out_new err_old err_new : Option (List ℕ))
+    → ModuleChecksEnd → IsWritten (written_of cert words files) status out_old out_new err_old err_new → ModuleCheckEnds words files status
+module_written cert words files status out_old out_new err_old err_new law is f same =
+    written_ends cert (audited_with (files Dump f.files.dump) (files Btf f.files.btf) (files Module f.split) (files Map f.files.map) (files Plan f.files.plan)) (out_of (module_words f) files) status out_old out_new err_old err_new
+    (law cert f (word_files (program (module_words f)) files)) (rw same at is)
 
-module_told : (words : List (List ℕ)) (files : Option Told) (status : Status) (out_old out_new err_old err_new : Option (List ℕ))
-    → ModuleChecksEnd → IsTold (written_of words) files status out_old out_new err_old err_new → IfSome files (λ f. ModuleCheckEnds words f status)
-module_told words None status out_old out_new err_old err_new law is = tt
-module_told words (Some files) status out_old out_new err_old err_new law is = module_written words files status out_old out_new err_old err_new law is
+module_told : (cert : List CertStep) (words : List (List ℕ)) (files : Option Told) (status : Status) (out_old out_new err_old err_new : Option (List ℕ))
+    → ModuleChecksEnd → IsTold (written_of cert words) files status out_old out_new err_old err_new → IfSome files (λ f. ModuleCheckEnds words f status)
+module_told cert words None status out_old out_new err_old err_new law is = tt
+module_told cert words (Some files) status out_old out_new err_old err_new law is = module_written cert words files status out_old out_new err_old err_new law is
 
 -- an answer of the program ends such a check by what its files hold
 pub module_answer_ends : ModuleChecksEnd → (words : List (List ℕ)) (files : Option Told) (status : Status) (out_old out_new err_old err_new : Option (List ℕ))
-    → OnTrue (is_answer status) (IsTold (written_of words) files status out_old out_new err_old err_new) → OnTrue (is_answer status) (IfSome files (λ f. ModuleCheckEnds words f status))
+    → OnTrue (is_answer status) (IsToldBy words files status out_old out_new err_old err_new) → OnTrue (is_answer status) (IfSome files (λ f. ModuleCheckEnds words f status))
 module_answer_ends law words files status out_old out_new err_old err_new told =
-    on_true (is_answer status) (λ is. module_told words files status out_old out_new err_old err_new law is) told
+    on_true (is_answer status) (λ is. module_told is.0 words files status out_old out_new err_old err_new law is.2) told
 
 -- and it prints what is shown of what they hold
-module_prints : (words : List (List ℕ)) (files : Told) (status : Status) (out_old out_new err_old err_new : Option (List ℕ))
-    → RootsTold → IsWritten (written_of words files) status out_old out_new err_old err_new → ModuleCheckPrints words files out_old out_new
-module_prints words files status out_old out_new err_old err_new law is f same =
-    prints_by (audited_with (files Dump f.files.dump) (files Btf f.files.btf) (files Module f.split) (files Map f.files.map) (files Plan f.files.plan)) status out_old out_new err_old err_new law (rw same at is)
+module_prints : (cert : List CertStep) (words : List (List ℕ)) (files : Told) (status : Status) (out_old out_new err_old err_new : Option (List ℕ))
+    → RootsTold → IsWritten (written_of cert words files) status out_old out_new err_old err_new → ModuleCheckPrints words files out_old out_new
+module_prints cert words files status out_old out_new err_old err_new law is f same =
+    prints_by cert (audited_with (files Dump f.files.dump) (files Btf f.files.btf) (files Module f.split) (files Map f.files.map) (files Plan f.files.plan)) status out_old out_new err_old err_new law (rw same at is)
 
-prints_told : (words : List (List ℕ)) (files : Option Told) (status : Status) (out_old out_new err_old err_new : Option (List ℕ))
-    → RootsTold → IsTold (written_of words) files status out_old out_new err_old err_new → IfSome files (λ f. ModuleCheckPrints words f out_old out_new)
-prints_told words None status out_old out_new err_old err_new law is = tt
-prints_told words (Some files) status out_old out_new err_old err_new law is = module_prints words files status out_old out_new err_old err_new law is
+prints_told : (cert : List CertStep) (words : List (List ℕ)) (files : Option Told) (status : Status) (out_old out_new err_old err_new : Option (List ℕ))
+    → RootsTold → IsTold (written_of cert words) files status out_old out_new err_old err_new → IfSome files (λ f. ModuleCheckPrints words f out_old out_new)
+prints_told cert words None status out_old out_new err_old err_new law is = tt
+prints_told cert words (Some files) status out_old out_new err_old err_new law is = module_prints cert words files status out_old out_new err_old err_new law is
 
 pub module_answer_prints : RootsTold → (words : List (List ℕ)) (files : Option Told) (status : Status) (out_old out_new err_old err_new : Option (List ℕ))
-    → OnTrue (is_answer status) (IsTold (written_of words) files status out_old out_new err_old err_new) → OnTrue (is_answer status) (IfSome files (λ f. ModuleCheckPrints words f out_old out_new))
+    → OnTrue (is_answer status) (IsToldBy words files status out_old out_new err_old err_new) → OnTrue (is_answer status) (IfSome files (λ f. ModuleCheckPrints words f out_old out_new))
 module_answer_prints law words files status out_old out_new err_old err_new told =
-    on_true (is_answer status) (λ is. prints_told words files status out_old out_new err_old err_new law is) told
+    on_true (is_answer status) (λ is. prints_told is.0 words files status out_old out_new err_old err_new law is.2) told

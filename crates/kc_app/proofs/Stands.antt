@@ -30,13 +30,12 @@ use Rattle.kc_input.specs.declared.refusal.Refusal.TheVariants.{NoType, Path}
 use Rattle.kc_input.specs.Inputs.{types_in}
 use Rattle.kc_input.specs.Made.{◌>>=◌, Made, gives, wanted}
 use Rattle.kc_ends.specs.Asked.{Asked}
-use Rattle.kc_ends.specs.Output.{Ends, output_of}
+use Rattle.kc_ends.specs.Output.{Output, Usage, Ends, output_of}
 use Rattle.kc_app.specs.Check.{Audited, audited, audited_shown, check_asks, check_made, names_of, roots_shown, verdict_shown}
 use Rattle.kc_app.specs.CheckModule.{audited_with, check_form, checks_asks, module_made}
-use Rattle.kc_app.specs.Commands.{forms}
+use Rattle.kc_app.specs.Commands.{command, forms}
 use Rattle.kc_app.specs.Form.{Form}
 use Rattle.kc_app.specs.Layout.{layout_asks, layout_made, layout_of}
-use Rattle.kc_app.specs.Output.{ShownStand, StandsIn}
 use Rattle.kc_app.specs.Selftest.{count_in, selftest_asked, selftest_asks}
 use Rattle.kc_app.specs.Show.{Question, number_read, number_shown, show_asks, show_made, show_sought}
 use Rattle.kc_app.specs.Shown.{IsTrueOfDump, Listed, Shown}
@@ -44,9 +43,15 @@ use Rattle.kc_app.specs.Word.{numbers_asked, table_word, word_asks, word_image, 
 use Rattle.kc_app.proofs.Ends.{shown_by}
 use Rattle.kc_app.proofs.Rooted.{roots_shown_stand}
 
+-- the words that the output of a command shows, if it shows some
+abbrev pub ShowsTrue : Output Shown → Type 0
+ShowsTrue Usage = Unit {0}
+ShowsTrue (Ends (Ok shown)) = IsTrueOfDump shown
+ShowsTrue (Ends (Err refusal)) = Unit {0}
+
 -- what steps make shows such words
 abbrev MadeStands : Made Shown → Type 0
-MadeStands made = IfSome (option_map Ends made) StandsIn
+MadeStands made = IfSome (option_map Ends made) ShowsTrue
 
 bound : {A : Type 0} (m : Made A) (f : A → Made Shown) → ((a : A) → MadeStands (f a)) → MadeStands (m >>= f)
 bound None f each = tt
@@ -96,8 +101,8 @@ module_stands known dump btf split map plan =
     bound (audited_with dump btf split map plan) (λ all. gives (audited_shown all)) (λ all. audited_stands known all (nat_eq all.version 2))
 
 -- and so does what words ask for
-abbrev AskStands : (Slot → Option (List ℕ)) → Option (Asked Shown) → Type 0
-AskStands files asked = IfSome (output_of asked files) StandsIn
+abbrev pub AskStands : (Slot → Option (List ℕ)) → Option (Asked Shown) → Type 0
+AskStands files asked = IfSome (output_of asked files) ShowsTrue
 
 numbers_stand : Known → (files : Slot → Option (List ℕ)) (dump : List ℕ) (table : Option (Option ℕ)) (address : Option ℕ) → AskStands files (numbers_asked dump table address)
 numbers_stand known files dump (Some table) (Some address) = word_stands known.places table address (files Dump)
@@ -147,20 +152,20 @@ selftest_ask known files (n ∷ []) = count_stands known files (count_in n)
 selftest_ask known files (a ∷ b ∷ words) = tt
 
 -- of each command
-abbrev FormStands : Form → Type 0
+abbrev FormStands : Form Shown → Type 0
 FormStands form = (files : Slot → Option (List ℕ)) (words : List (List ℕ)) → AskStands files (form.asks words)
 
-found_stands : (files : Slot → Option (List ℕ)) (name : List ℕ) (words : List (List ℕ)) (fs : List Form) → AllByRecursion FormStands fs
-    → AskStands files (option_and_then (λ (form : Form). form.asks words) (find (λ form. bytes_eq name form.name) fs))
+found_stands : (files : Slot → Option (List ℕ)) (name : List ℕ) (words : List (List ℕ)) (fs : List (Form Shown)) → AllByRecursion FormStands fs
+    → AskStands files (option_and_then (λ (form : Form Shown). form.asks words) (find (λ form. bytes_eq name form.name) fs))
 found_stands files name words [] all = tt
 found_stands files name words (f ∷ fs) all = by_test (bytes_eq name f.name) (found_stands files name words fs all.1)
   where
-    by_test : (b : Bool) → AskStands files (option_and_then (λ (form : Form). form.asks words) (find (λ form. bytes_eq name form.name) fs))
-        → AskStands files (option_and_then (λ (form : Form). form.asks words) (cond b (Some f) (find (λ form. bytes_eq name form.name) fs)))
+    by_test : (b : Bool) → AskStands files (option_and_then (λ (form : Form Shown). form.asks words) (find (λ form. bytes_eq name form.name) fs))
+        → AskStands files (option_and_then (λ (form : Form Shown). form.asks words) (cond b (Some f) (find (λ form. bytes_eq name form.name) fs)))
     by_test true later = all.0 files words
     by_test false later = later
 
-pub shown_stand : Known → ShownStand
-shown_stand known [] files = tt
-shown_stand known (name ∷ words) files =
+pub commands_stand : Known → (words : List (List ℕ)) (files : Slot → Option (List ℕ)) → AskStands files (command words)
+commands_stand known [] files = tt
+commands_stand known (name ∷ words) files =
     found_stands files name words forms (word_ask known, (layout_ask, (show_ask known, (checks_ask known, (selftest_ask known, tt)))))

@@ -52,7 +52,7 @@ module_asks _ = None
 abbrev pub checks_asks : List (List ℕ) → Option (Asked Shown)
 checks_asks words = option_or (module_asks words) (check_asks words)
 
-abbrev pub check_form : Form
+abbrev pub check_form : Form Shown
 check_form = record { name = codes "check"; words = codes "DUMP BTF MAP PLAN" ∷ codes "DUMP BTF MAP PLAN MODULE" ∷ []; asks = checks_asks }
 
 -- as the code keeps them

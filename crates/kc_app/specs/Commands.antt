@@ -1,4 +1,4 @@
--- The commands, and which one the words of a command line are.
+-- The commands that show words of a dump, and which one the words of a command line are.
 use Rattle.std.specs.Prelude.{ℕ, List, [], ◌∷◌, ◌++◌, codes, find, Option, None, option_and_then}
 use Rattle.std.specs.Str.{bytes_eq}
 use Rattle.kc_ends.specs.Asked.{Asked}
@@ -11,7 +11,7 @@ use Rattle.kc_app.specs.Shown.{Shown}
 use Rattle.kc_app.specs.Word.{word_form}
 
 -- the commands in the order of usage
-abbrev pub forms : List Form
+abbrev pub forms : List (Form Shown)
 forms = word_form ∷ layout_form ∷ show_form ∷ check_form ∷ selftest_form ∷ []
 
 -- what the words behind the program's name ask for: the first one names the command, the others are its words
@@ -24,9 +24,6 @@ abbrev pub usage_of : List ℕ → List (List ℕ) → List ℕ
 usage_of name [] = []
 usage_of name (words ∷ ways) = codes "usage: kaudit " ++ name ++ codes " " ++ words ++ codes "\n" ++ usage_of name ways
 
-abbrev pub usage_lines : List Form → List ℕ
+abbrev pub usage_lines : {A : Type 0} → List (Form A) → List ℕ
 usage_lines [] = []
 usage_lines (form ∷ forms) = usage_of form.name form.words ++ usage_lines forms
-
-abbrev pub usage_text : List ℕ
-usage_text = usage_lines forms

@@ -5,6 +5,7 @@ use Rattle.kc_outside.specs.declared.store.Slot.TheVariants.{Dump, Btf, Map, Pla
 use Rattle.kc_outside.specs.Files.{Files as Told}
 use Rattle.kc_outside.specs.Texts.{with_piece}
 use Rattle.kc_input.specs.Made.{Made, gives}
+use Rattle.kc_cert.specs.declared.certificate.CertStep.{CertStep}
 use Rattle.kc_ends.specs.declared.status.Status.{Status}
 use Rattle.kc_ends.specs.declared.status.Status.TheVariants as status
 use Rattle.kc_app.specs.Check.{Audited, Files, TellsRoots, TellsStanding, audited, audited_shown}
@@ -40,5 +41,5 @@ CheckPrints words files old new =
 -- each output of a check has such a status
 abbrev pub ChecksEnd : Type 0
 ChecksEnd =
-    (f : Files) (files : Slot → Option (List ℕ)) → IfSome (out (check_words f) files)
-    (λ output. EndsBy (audited (files Dump) (files Btf) (files Map) (files Plan)) (output_written output).status)
+    (cert : List CertStep) (f : Files) (files : Slot → Option (List ℕ)) → IfSome (out (check_words f) files)
+    (λ output. EndsBy (audited (files Dump) (files Btf) (files Map) (files Plan)) (output_written cert output).status)

@@ -35,7 +35,7 @@ abbrev pub layout_asks : List (List ℕ) → Option (Asked Shown)
 layout_asks (btf ∷ ty ∷ []) = Some (layout_asked btf ty)
 layout_asks _ = None
 
-abbrev pub layout_form : Form
+abbrev pub layout_form : Form Shown
 layout_form = record { name = codes "layout"; words = codes "BTF TYPE" ∷ []; asks = layout_asks }
 
 -- as the code keeps it

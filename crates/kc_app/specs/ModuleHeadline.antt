@@ -3,6 +3,7 @@ use Rattle.std.specs.Prelude.{◌≡◌, ℕ, List, [], ◌∷◌, codes, Option
 use Rattle.kc_outside.specs.declared.store.Slot.{Slot}
 use Rattle.kc_outside.specs.declared.store.Slot.TheVariants.{Dump, Btf, Map, Plan, Module}
 use Rattle.kc_outside.specs.Files.{Files as Told}
+use Rattle.kc_cert.specs.declared.certificate.CertStep.{CertStep}
 use Rattle.kc_ends.specs.declared.status.Status.{Status}
 use Rattle.kc_app.specs.CheckModule.{FiveFiles, audited_with}
 use Rattle.kc_app.specs.Headline.{EndsBy, PrintsBy}
@@ -27,5 +28,5 @@ ModuleCheckPrints words files old new =
 -- each output of such a check has such a status
 abbrev pub ModuleChecksEnd : Type 0
 ModuleChecksEnd =
-    (f : FiveFiles) (files : Slot → Option (List ℕ)) → IfSome (out (module_words f) files)
-    (λ output. EndsBy (audited_with (files Dump) (files Btf) (files Module) (files Map) (files Plan)) (output_written output).status)
+    (cert : List CertStep) (f : FiveFiles) (files : Slot → Option (List ℕ)) → IfSome (out (module_words f) files)
+    (λ output. EndsBy (audited_with (files Dump) (files Btf) (files Module) (files Map) (files Plan)) (output_written cert output).status)

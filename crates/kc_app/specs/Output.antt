@@ -1,40 +1,76 @@
--- What a command line prints and ends with, as a function of its words and files.
-use Rattle.std.specs.Prelude.{◌≡◌, ℕ, List, Option, Some, None, IfSome, Ok, Err}
+-- What a command line prints and ends with, as a function of its words and files, and of a certificate where one is printed.
+use Rattle.std.specs.Prelude.{◌≡◌, ⊤, ℕ, List, Option, Some, None, IfSome, Ok, Err}
 use Rattle.kc_outside.specs.declared.store.Slot.{Slot}
 use Rattle.kc_outside.specs.Files.{Files}
 use Rattle.kc_outside.specs.Texts.{with_piece}
+use Rattle.kc_cert.specs.declared.certificate.CertStep.{CertStep}
+use Rattle.kc_ends.specs.declared.status.Status.{Status}
+use Rattle.kc_ends.specs.Ends.{ErrFailed, IsTold, TookPart}
 use Rattle.kc_ends.specs.Output.{Output, Usage, Ends, output_of, word_files, written, written_files}
 use Rattle.kc_ends.specs.Written.{Written}
-use Rattle.kc_app.specs.Commands.{command, usage_text}
-use Rattle.kc_app.specs.Shown.{IsTrueOfDump, Shown, shown_written}
+use Rattle.kc_app.specs.Program.{program, usage_text}
+use Rattle.kc_app.specs.Reply.{Reply, CertificateOf, Fits, Rechecks, Shows, reply_written}
+use Rattle.kc_app.specs.Shown.{IsTrueOfDump}
 
 -- the output of the words after the program's name. A file is the bytes that a slot's word stands for.
-abbrev pub out : List (List ℕ) → (Slot → Option (List ℕ)) → Option (Output Shown)
-out words files = output_of (command words) files
+abbrev pub out : List (List ℕ) → (Slot → Option (List ℕ)) → Option (Output Reply)
+out words files = output_of (program words) files
 
 -- and over a store's files
-abbrev pub out_of : List (List ℕ) → Files → Option (Output Shown)
-out_of words files = out words (word_files (command words) files)
+abbrev pub out_of : List (List ℕ) → Files → Option (Output Reply)
+out_of words files = out words (word_files (program words) files)
 
--- what is written of an output
-abbrev pub output_written : Output Shown → Written
-output_written output = written usage_text shown_written output
+-- what is written of an output, by the certificate that is printed where one is
+abbrev pub output_written : List CertStep → Output Reply → Written
+output_written cert output = written usage_text (reply_written cert) output
 
 -- and of that over a store's files
-abbrev pub written_of : List (List ℕ) → Files → Option Written
-written_of words files = written_files usage_text shown_written (command words) files
+abbrev pub written_of : List CertStep → List (List ℕ) → Files → Option Written
+written_of cert words files = written_files usage_text (reply_written cert) (program words) files
 
--- the words that an output shows are true of the dump
-abbrev pub StandsIn : Output Shown → Type 0
+-- the certificate is one of the memory, where one is printed
+abbrev pub FitsOutput : List CertStep → Option (Output Reply) → Type 0
+FitsOutput cert None = ⊤
+FitsOutput cert (Some Usage) = ⊤
+FitsOutput cert (Some (Ends (Ok reply))) = Fits cert reply
+FitsOutput cert (Some (Ends (Err refusal))) = ⊤
+
+-- the words that a reply shows are true of the dump
+abbrev pub IsTrueReply : Reply → Type 0
+IsTrueReply (Shows shown) = IsTrueOfDump shown
+IsTrueReply (CertificateOf image audits) = ⊤
+IsTrueReply (Rechecks found) = ⊤
+
+-- and so are those of an output
+abbrev pub StandsIn : Output Reply → Type 0
 StandsIn Usage = Unit {0}
-StandsIn (Ends (Ok shown)) = IsTrueOfDump shown
+StandsIn (Ends (Ok reply)) = IsTrueReply reply
 StandsIn (Ends (Err refusal)) = Unit {0}
 
 -- of each output
 abbrev pub ShownStand : Type 0
 ShownStand = (words : List (List ℕ)) (files : Slot → Option (List ℕ)) → IfSome (out words files) StandsIn
 
--- standard output took the text of an output whose words are true of the dump
-abbrev pub TookTrue : Option (Output Shown) → Option (List ℕ) → Option (List ℕ) → Type 0
+-- Standard output took the text of an output whose words are true of the dump. The certificate fits, where one is printed; for
+-- any other output it says nothing.
+abbrev pub TookTrue : Option (Output Reply) → Option (List ℕ) → Option (List ℕ) → Type 0
 TookTrue None old new = ⊥
-TookTrue (Some output) old new = (new ≡ with_piece old (output_written output).out) × StandsIn output
+TookTrue (Some output) old new =
+    (cert : List CertStep) × FitsOutput cert (Some output) × (new ≡ with_piece old (output_written cert output).out) × StandsIn output
+
+-- where the files are told, a certificate fits their output, if one is printed
+abbrev pub FitsFiles : List CertStep → List (List ℕ) → Option Files → Type 0
+FitsFiles cert words files = IfSome files (λ f. FitsOutput cert (out_of words f))
+
+-- the program ended as the output of the words and the files says
+abbrev pub IsToldBy : List (List ℕ) → Option Files → Status → Option (List ℕ) → Option (List ℕ) → Option (List ℕ) → Option (List ℕ) → Type 0
+IsToldBy words files status out_old out_new err_old err_new =
+    (cert : List CertStep) × FitsFiles cert words files × IsTold (written_of cert words) files status out_old out_new err_old err_new
+
+-- what standard output took where it failed: a prefix of the output's text
+abbrev pub TookPartBy : List (List ℕ) → Option Files → Option (List ℕ) → Option (List ℕ) → Type 0
+TookPartBy words files old new = (cert : List CertStep) × FitsFiles cert words files × TookPart (written_of cert words) files old new
+
+-- what standard error took where it alone failed, for which it doesn't matter what certificate is printed
+abbrev pub ErrFailedBy : List (List ℕ) → Option Files → Type 0 → Option (List ℕ) → Option (List ℕ) → Type 0
+ErrFailedBy words files store_rose old new = (cert : List CertStep) × ErrFailed (written_of cert words) files store_rose old new

@@ -30,7 +30,7 @@ abbrev pub selftest_asks : List (List ℕ) → Option (Asked Shown)
 selftest_asks (n ∷ []) = option_map selftest_asked (count_in n)
 selftest_asks _ = None
 
-abbrev pub selftest_form : Form
+abbrev pub selftest_form : Form Shown
 selftest_form = record { name = codes "selftest"; words = codes "N" ∷ []; asks = selftest_asks }
 
 -- the first word names it

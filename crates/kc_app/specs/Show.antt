@@ -95,7 +95,7 @@ show_asks (dump ∷ btf ∷ map ∷ symbol ∷ ty ∷ path ∷ []) =
     Some (show_asked (record { dump = dump; btf = btf; map = map; symbol = symbol; name = ty; path = path }))
 show_asks _ = None
 
-abbrev pub show_form : Form
+abbrev pub show_form : Form Shown
 show_form = record { name = codes "show"; words = codes "DUMP BTF MAP SYMBOL TYPE PATH" ∷ []; asks = show_asks }
 
 -- as the code keeps them

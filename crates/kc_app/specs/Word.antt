@@ -89,7 +89,7 @@ abbrev pub word_asks : List (List ℕ) → Option (Asked Shown)
 word_asks (dump ∷ table ∷ address ∷ []) = numbers_asked dump (table_word table) (hex_number address)
 word_asks _ = None
 
-abbrev pub word_form : Form
+abbrev pub word_form : Form Shown
 word_form = record { name = codes "word"; words = codes "DUMP TABLE ADDRESS" ∷ []; asks = word_asks }
 
 -- as the code keeps it

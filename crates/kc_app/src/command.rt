@@ -1,4 +1,4 @@
-// Which command the words of a command line are.
+// Which command that shows words of a dump the words of a command line are.
 ghost use Rattle.std.specs.Prelude.{◌≡◌, ◌≤◌, map};
 ghost use Rattle.std.specs.Option.{ForSome};
 ghost use Rattle.std.specs.String.{string_bytes};
@@ -15,10 +15,6 @@ use kc_ends::Answer;
 use kc_input::Halt;
 use kc_outside::Store;
 use std::alloc::Global;
-
-/// A line for each way to write a command.
-pub const USAGE: &[u8] =
-    b"usage: kaudit word DUMP TABLE ADDRESS\nusage: kaudit layout BTF TYPE\nusage: kaudit show DUMP BTF MAP SYMBOL TYPE PATH\nusage: kaudit check DUMP BTF MAP PLAN\nusage: kaudit check DUMP BTF MAP PLAN MODULE\nusage: kaudit selftest N\n";
 
 /// Runs the command that the words behind the program's name are: the first one names it. `None` exactly where
 /// they aren't a command; the store isn't asked then.

@@ -1,24 +1,29 @@
 // What the definition of the output says.
+ghost use Rattle.kc_cert.specs.CertTexts.{TextsTold};
 ghost use Rattle.kc_app.specs.Check.{ChecksStand, RootsTold};
 ghost use Rattle.kc_app.specs.Headline.{ChecksEnd};
 ghost use Rattle.kc_app.specs.ModuleHeadline.{ModuleChecksEnd};
 ghost use Rattle.kc_app.specs.Output.{ShownStand};
 
+use kc_cert::know_texts;
 use kc_memory::know_places;
 use kc_run::know_verdicts;
 use kc_view::know_values;
 
 /// Does nothing. Every word of a dump that an output shows stands in the dump at the printed places. `check` shows that a
 /// dump is clean exactly where every structure that the plan reaches stands, and so it ends: with 0 there, with 1 where one
-/// doesn't stand, and with 2 where a file is refused. Of a plan of version 2 it shows so of each root audit.
+/// doesn't stand, and with 2 where a file is refused. Of a plan of version 2 it shows so of each root audit. A
+/// certificate is read from exactly its text.
 pub fn know_shown()
     ensures shown { ShownStand }
     ensures checked { ChecksStand }
     ensures roots { RootsTold }
     ensures ends { ChecksEnd }
     ensures module_ends { ModuleChecksEnd }
+    ensures texts { TextsTold }
 {
     know_places();
+    know_texts();
     know_values();
     know_verdicts();
 }

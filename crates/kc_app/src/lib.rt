@@ -4,11 +4,16 @@
 mod answer;
 mod asking;
 mod audits;
+mod certify;
+mod certs;
 mod check;
 mod check_module;
 mod command;
+mod held;
 mod laws;
 mod layout;
+mod program;
+mod recheck;
 mod selftest;
 mod show;
 mod top;

@@ -56,9 +56,10 @@ show z.core z.btf z.map an_item item small : 0 : value -1|place ffff888000011020
 check z.core z.btf z.map z.plan : 0 : clean|audit tasks walks 1 elements 3|audit caches walks 1 elements 1|audit slabs walks 1 elements 1|audit ids walks 1 elements 1|
 show z.core z.btf z.map an_item item smell : 2 : refused path Q2 step 1|
 check z.core z.btf z.map x.plan : 3 : store failed|
-check a b c : 6 : usage: kaudit word DUMP TABLE ADDRESS|usage: kaudit layout BTF TYPE|usage: kaudit show DUMP BTF MAP SYMBOL TYPE PATH|usage: kaudit check DUMP BTF MAP PLAN|usage: kaudit check DUMP BTF MAP PLAN MODULE|usage: kaudit selftest N|
+recheck z.core z.btf z.map z.plan z.core : 2 : refused cert Z1 at 0|
+check a b c : 6 : usage: kaudit word DUMP TABLE ADDRESS|usage: kaudit layout BTF TYPE|usage: kaudit show DUMP BTF MAP SYMBOL TYPE PATH|usage: kaudit check DUMP BTF MAP PLAN|usage: kaudit check DUMP BTF MAP PLAN MODULE|usage: kaudit selftest N|usage: kaudit certify DUMP BTF MAP PLAN|usage: kaudit recheck DUMP BTF MAP PLAN CERT|
 selftest 5 : 0 : clean|audit ring walks 1 elements 5|audit tree walks 1 elements 5|audit array walks 1 elements 5|
-selftest 0 : 6 : usage: kaudit word DUMP TABLE ADDRESS|usage: kaudit layout BTF TYPE|usage: kaudit show DUMP BTF MAP SYMBOL TYPE PATH|usage: kaudit check DUMP BTF MAP PLAN|usage: kaudit check DUMP BTF MAP PLAN MODULE|usage: kaudit selftest N|";
+selftest 0 : 6 : usage: kaudit word DUMP TABLE ADDRESS|usage: kaudit layout BTF TYPE|usage: kaudit show DUMP BTF MAP SYMBOL TYPE PATH|usage: kaudit check DUMP BTF MAP PLAN|usage: kaudit check DUMP BTF MAP PLAN MODULE|usage: kaudit selftest N|usage: kaudit certify DUMP BTF MAP PLAN|usage: kaudit recheck DUMP BTF MAP PLAN CERT|";
 
 fn words_of(alloc: Global, line: &str) -> Result<Vec<String>, AllocError> {
     let mut words = Vec::new(alloc);

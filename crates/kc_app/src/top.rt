@@ -9,20 +9,21 @@ ghost use Rattle.kc_outside.specs.Texts.{with_piece};
 ghost use Rattle.kc_ends.specs.declared.status.Status.TheVariants.{Done, NoCommand, OutOfMemory, Refused, SinkFailed, StoreFailed};
 ghost use Rattle.kc_input.specs.Calls.{called};
 ghost use Rattle.kc_ends.specs.Asked.{word_in};
-ghost use Rattle.kc_ends.specs.Ends.{ErrFailed, IsTold, TookPart, TookPrefix};
+ghost use Rattle.kc_ends.specs.Ends.{TookPrefix};
 ghost use Rattle.kc_ends.specs.Failures.{store_failed, memory_refused, sink_failed};
 ghost use Rattle.kc_ends.specs.Last.{StopsAtFailure};
 ghost use Rattle.kc_ends.specs.Status.{At, is_answer, is_silent, is_sink_quiet, is_store_quiet, number};
 ghost use Rattle.kc_ends.specs.Unopened.{AskedStay};
 ghost use Rattle.kc_app.specs.Calls.{FewCalls, IsLayout};
-ghost use Rattle.kc_app.specs.Commands.{command, usage_text};
+ghost use Rattle.kc_app.specs.CertHeadline.{CertifyEnds, RecheckEnds};
 ghost use Rattle.kc_app.specs.Headline.{CheckEnds, CheckPrints};
 ghost use Rattle.kc_app.specs.ModuleHeadline.{ModuleCheckEnds, ModuleCheckPrints};
+ghost use Rattle.kc_app.specs.Output.{ErrFailedBy, IsToldBy, TookPartBy, TookTrue, out_of};
+ghost use Rattle.kc_app.specs.Program.{program, usage_text};
 ghost use Rattle.kc_app.specs.Selftest.{IsSelftest};
-ghost use Rattle.kc_app.specs.Output.{TookTrue, out_of, written_of};
 
-use crate::command::{USAGE, run};
 use crate::laws::know_shown;
+use crate::program::{USAGE, run_any};
 use kc_ends::{Status, finish};
 use kc_outside::{Sink, Store};
 use std::alloc::Global;
@@ -35,11 +36,12 @@ pub fn kaudit<S: Store, O: Sink, E: Sink>(
     out: &mut O,
     err: &mut E,
 ) -> Status
-    requires { (slot : Slot) → ForSome (word_in (command (map string_bytes words.now)) slot) (S.may store.old slot) }
+    requires { (slot : Slot) → ForSome (word_in (program (map string_bytes words.now)) slot) (S.may store.old slot) }
 
-    // Where the files are told, an answer is the one that the output of the words and the files has.
+    // Where the files are told, an answer is the one that the output of the words and the files has. Of `certify` on a clean
+    // dump it is the text of some certificate that fits; which one it is, no definition says.
     ensures told { OnTrue (is_answer result)
-        (IsTold (written_of (map string_bytes words.now)) (S.files store.old) result (O.taken out.old) (O.taken out.new)
+        (IsToldBy (map string_bytes words.now) (S.files store.old) result (O.taken out.old) (O.taken out.new)
         (E.taken err.old) (E.taken err.new)) }
 
     // And `check` then ends with 0 exactly where every root audit stands in the dump, and with 1 exactly where one doesn't, by
@@ -57,6 +59,14 @@ pub fn kaudit<S: Store, O: Sink, E: Sink>(
     ensures shown { OnTrue (is_answer result) (IfSome (S.files store.old)
         (λ files. TookTrue (out_of (map string_bytes words.now) files) (O.taken out.old) (O.taken out.new))) }
 
+    // `certify` ends so too, and prints a certificate of the dump where it ends with 0. `recheck` tells of the certificate whose text
+    // a file is whether it fits the dump, and refuses a file above 256 MiB or one that is no certificate's text.
+    ensures certified { OnTrue (is_answer result) (IfSome (S.files store.old)
+        (λ files. CertifyEnds (map string_bytes words.now) files result (O.taken out.old) (O.taken out.new))) }
+    ensures rechecked { OnTrue (is_answer result) (IfSome (S.files store.old)
+        (λ files. RecheckEnds (map string_bytes words.now) files result (O.taken out.old) (O.taken out.new)
+        (E.taken err.old) (E.taken err.new))) }
+
     // Where nothing failed, there is an answer or want of memory.
     ensures complete { (Rose (S.faults store.old) (S.faults store.new) → ⊥)
         → (Rose (O.faults out.old) (O.faults out.new) → ⊥)
@@ -72,11 +82,11 @@ pub fn kaudit<S: Store, O: Sink, E: Sink>(
     ensures store_failed { At result StoreFailed (Rose (S.faults store.old) (S.faults store.new)) }
     ensures store_text { At result StoreFailed (E.taken err.new ≡ with_piece (E.taken err.old) store_failed) }
     ensures memory_text { At result OutOfMemory (E.taken err.new ≡ with_piece (E.taken err.old) memory_refused) }
-    ensures usage { At result NoCommand (command (map string_bytes words.now) ≡ None) }
+    ensures usage { At result NoCommand (program (map string_bytes words.now) ≡ None) }
     ensures usage_text { At result NoCommand (E.taken err.new ≡ with_piece (E.taken err.old) usage_text) }
-    ensures usage_only { command (map string_bytes words.now) ≡ None → IsTrue
+    ensures usage_only { program (map string_bytes words.now) ≡ None → IsTrue
         (nat_eq (number result) 6 || nat_eq (number result) 4) }
-    ensures usage_unasked { command (map string_bytes words.now) ≡ None → S.asked store.new ≡ S.asked store.old }
+    ensures usage_unasked { program (map string_bytes words.now) ≡ None → S.asked store.new ≡ S.asked store.old }
     ensures sink_failed { At result SinkFailed
         (Rose (O.faults out.old) (O.faults out.new) ⊎ Rose (E.faults err.old) (E.faults err.new)) }
 
@@ -90,12 +100,12 @@ pub fn kaudit<S: Store, O: Sink, E: Sink>(
 
     // Where a file is refused, the files after it aren't opened: their slots are as before.
     ensures unopened { At result Refused
-        (AskedStay (command (map string_bytes words.now)) (S.files store.old) (S.opened store.old)
+        (AskedStay (program (map string_bytes words.now)) (S.files store.old) (S.opened store.old)
         (S.opened store.new)) }
 
     // What the sinks took where one failed.
     ensures out_part { At result SinkFailed (O.faults out.old < O.faults out.new
-        → TookPart (written_of (map string_bytes words.now)) (S.files store.old) (O.taken out.old) (O.taken out.new)) }
+        → TookPartBy (map string_bytes words.now) (S.files store.old) (O.taken out.old) (O.taken out.new)) }
     ensures err_part { At result SinkFailed
         (O.faults out.old < O.faults out.new → TookPrefix (E.taken err.old) (E.taken err.new) sink_failed) }
     ensures err_whole { At result SinkFailed (E.faults err.old < 2 ^ 64 - 1 → E.faults err.new ≡ E.faults err.old
@@ -103,7 +113,7 @@ pub fn kaudit<S: Store, O: Sink, E: Sink>(
     ensures out_nothing { At result SinkFailed (O.faults out.old < 2 ^ 64 - 1 → O.faults out.new ≡ O.faults out.old
         → O.taken out.new ≡ O.taken out.old) }
     ensures err_failed { At result SinkFailed (O.faults out.old < 2 ^ 64 - 1 → O.faults out.new ≡ O.faults out.old
-        → ErrFailed (written_of (map string_bytes words.now)) (S.files store.old)
+        → ErrFailedBy (map string_bytes words.now) (S.files store.old)
         (Rose (S.faults store.old) (S.faults store.new)) (E.taken err.old) (E.taken err.new)) }
 
     // `layout` opens one file, asks its size and reads it once, and the store isn't called after it failed.
@@ -122,6 +132,6 @@ pub fn kaudit<S: Store, O: Sink, E: Sink>(
     ensures err_later { E.faults err.old ≤ E.faults err.new }
 {
     know_shown();
-    let outcome = run(alloc, store, words);
+    let outcome = run_any(alloc, store, words);
     finish(alloc, outcome, USAGE, out, err)
 }

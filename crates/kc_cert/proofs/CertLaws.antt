@@ -1,7 +1,9 @@
 -- The laws of a certificate's formats: they come from those of their parts, and the texts are the same.
-use Rattle.std.proofs.Common.{◌≡◌, ℕ, ◌-◌, ◌<◌, ◌≤◌, ◌^◌, Bool, true, false, eqb, List, [], ◌∷◌, ◌++◌, length, take, codes, decimal, Result, Ok, Err, refl, sym, ap, ◌∙◌, subst, arith, lit<, lit≤, append_assoc}
+use Rattle.std.proofs.Common.{◌≡◌, ℕ, suc, ◌-◌, ◌<◌, ◌≤◌, ◌^◌, Bool, true, false, eqb, List, [], ◌∷◌, ◌++◌, length, take, codes, decimal, Result, Ok, Err, inl, inr, refl, sym, ap, ◌∙◌, subst, arith, lit<, lit≤, append_assoc}
+use Rattle.std.specs.Prelude.{◌↔◌}
 use Rattle.std.specs.Borrow.{Bor}
 use Rattle.std.proofs.lemmas.Bool.{eqb-true, eqb-false}
+use Rattle.std.proofs.lemmas.Bool.Decides.{leb_tells}
 use Rattle.std.proofs.lemmas.List.{append-nil, length-append}
 use Rattle.std.proofs.lemmas.List.Elements.{All-nil}
 use Rattle.kc_text.specs.Compose.{both, after, followed}
@@ -13,7 +15,7 @@ use Rattle.kc_laws.specs.Formats.{after-law, below-law, both-law, counted-law, e
 use Rattle.kc_cert.specs.declared.certificate.CertStep.{CertStep}
 use Rattle.kc_cert.specs.declared.read.ReadStop.{ReadStop}
 use Rattle.kc_cert.specs.declared.read.ReadStop.TheVariants.{At}
-use Rattle.kc_cert.specs.CertTexts.{BeginsCertificate, IsCertificate, IsList, IsNoCertificate, IsStep, cert_format, cert_text, line_format, list_format, list_text, step_format, step_of, step_parts, step_text, steps_format}
+use Rattle.kc_cert.specs.CertTexts.{BeginsCertificate, IsCertificate, IsList, IsNoCertificate, IsStep, TextsTold, cert_format, cert_in, cert_text, line_format, list_format, list_text, placed, step_format, step_of, step_parts, step_text, steps_format}
 use Rattle.kc_cert.specs.Readings.{AddsAll}
 
 small : 0 < 2 ^ 64
@@ -152,3 +154,46 @@ some_left b n is none = let other = eqb-false n 0 (sym is ∙ none) in omega (ar
 
 pub none_left : (b : Bool) (n : ℕ) → b ≡ eqb n 0 → b ≡ true → n ≡ 0
 none_left b n is none = eqb-true n 0 (sym is ∙ none)
+
+-- a text is read as its certificate, and only it
+cert_told : (bytes : List ℕ) (steps : List CertStep) → cert_in bytes ≡ Ok steps ↔ IsCertificate bytes steps
+cert_told bytes steps = (by_read (cert_format.read bytes) refl, λ is. ap (placed bytes) (cert_read bytes steps is))
+  where
+    by_read : (r : Result (List CertStep × List ℕ) (List ℕ)) → cert_format.read bytes ≡ r → placed bytes r ≡ Ok steps → IsCertificate bytes steps
+    by_read (Ok r) read is =
+        let same : r.0 ≡ steps = cc in
+        let t = cert-law.takes bytes r.1 r.0 read in
+        let none : r.1 ≡ [] = t.1 in
+        subst (λ (s : List CertStep). IsCertificate bytes s) same (cert_is bytes r.0 (read ∙ ap (λ (l : List ℕ). Ok (r.0, l)) none))
+    by_read (Err rest) read is = absurd (let no : ⊥ = cc in no)
+
+-- two places of one text are the same
+one_place : (bytes : List ℕ) (m n : ℕ) → IsNoCertificate bytes m → IsNoCertificate bytes n → m ≡ n
+one_place bytes m n one other =
+    elim (leb_tells (suc m) n) [
+      | inl less ↦ absurd (one.place.longest n (omega (arith, less.1)) other.place.within other.place.begins)
+      | inr late ↦
+          elim (leb_tells (suc n) m) [
+            | inl more ↦ absurd (other.place.longest m (omega (arith, more.1)) one.place.within one.place.begins)
+            | inr early ↦ omega (arith, late.1, early.1)
+          ]
+    ]
+
+refused_told : (bytes : List ℕ) (at : ℕ) → cert_in bytes ≡ Err at ↔ IsNoCertificate bytes at
+refused_told bytes at = (by_read (cert_format.read bytes) refl, is_read (cert_format.read bytes) refl)
+  where
+    by_read : (r : Result (List CertStep × List ℕ) (List ℕ)) → cert_format.read bytes ≡ r → placed bytes r ≡ Err at → IsNoCertificate bytes at
+    by_read (Ok r) read is = absurd (let no : ⊥ = cc in no)
+    by_read (Err rest) read is =
+        let same : (length bytes - length rest) ≡ at = cc in
+        subst (λ (n : ℕ). IsNoCertificate bytes n) same (refused_is bytes rest read)
+
+    is_read : (r : Result (List CertStep × List ℕ) (List ℕ)) → cert_format.read bytes ≡ r → IsNoCertificate bytes at → placed bytes r ≡ Err at
+    is_read (Ok r) read none =
+        let t = cert-law.takes bytes r.1 r.0 read in
+        let end : r.1 ≡ [] = t.1 in
+        absurd (none.none r.0 (cert_is bytes r.0 (read ∙ ap (λ (l : List ℕ). Ok (r.0, l)) end)))
+    is_read (Err rest) read none = ap (λ (n : ℕ). Err n) (one_place bytes (length bytes - length rest) at (refused_is bytes rest read) none)
+
+pub texts_told : TextsTold
+texts_told bytes = record { cert = cert_told bytes; refused = refused_told bytes }

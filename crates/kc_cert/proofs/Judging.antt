@@ -1,8 +1,7 @@
 -- Steps that are judged piece by piece, where the memory is told or not.
-use Rattle.std.proofs.Common.{◌≡◌, ℕ, zero, suc, ◌+◌, ◌-◌, ◌<◌, ◌≤◌, Bool, true, false, ◌&&◌, nat_eq, List, [], ◌∷◌, ◌++◌, length, drop, slice_get, Option, Some, None, refl, sym, ◌∙◌, ap, arith}
+use Rattle.std.proofs.Common.{◌≡◌, ℕ, suc, ◌+◌, ◌≤◌, Bool, true, false, ◌&&◌, nat_eq, List, [], ◌∷◌, ◌++◌, length, drop, slice_get, Option, Some, None, refl, sym, ◌∙◌, ap, arith}
 use Rattle.std.specs.Prelude.{Result, Ok, Err, IfSome, if◌then◌else◌}
-use Rattle.std.proofs.lemmas.List.{drop_all, length-drop}
-use Rattle.kc_memory.specs.declared.space.Stop.{Stop}
+use Rattle.std.proofs.lemmas.List.{drop_all}
 use Rattle.kc_memory.specs.declared.space.Stop.TheVariants as stops
 use Rattle.kc_memory.specs.declared.words.Place.{Place}
 use Rattle.kc_memory.specs.Bits.{Number}
@@ -18,7 +17,6 @@ use Rattle.kc_view.specs.declared.view.Led.TheVariants.{At, Null}
 use Rattle.kc_view.specs.Paths.{followed, led}
 use Rattle.kc_view.specs.Pointers.{pointer, reached, target}
 use Rattle.kc_view.specs.Typed.{Typed}
-use Rattle.kc_found.specs.declared.verdict.AuditCount.{AuditCount}
 use Rattle.kc_found.specs.Trials.{and_then}
 use Rattle.kc_plan.specs.Kept.{are_later}
 use Rattle.kc_plan.specs.Planned.{AuditAt}

@@ -4,7 +4,11 @@ mod Drops
 mod Few
 mod Judging
 mod Making
+mod OneShape
+mod Passing
 mod Right
+mod Shaping
+mod Single
 mod Spending
 mod TimesLoops
 mod Unrolling

@@ -1,13 +1,12 @@
 -- A certificate whose steps all fit is that of a plan that stands, with the counts of its verdict.
-use Rattle.std.proofs.Common.{◌≡◌, ℕ, zero, suc, ◌+◌, ◌-◌, ◌<◌, ◌≤◌, Bool, true, false, ◌&&◌, nat_eq, List, [], ◌∷◌, ◌++◌, length, drop, Option, Some, None, refl, sym, ◌∙◌, ap, arith, subst}
-use Rattle.std.specs.Prelude.{Result, Ok, Err, IfSome, if◌then◌else◌, is_none, ⊤}
+use Rattle.std.proofs.Common.{◌≡◌, ℕ, suc, ◌<◌, ◌≤◌, Bool, true, false, ◌&&◌, nat_eq, List, [], ◌∷◌, ◌++◌, length, drop, Option, Some, None, refl, sym, ◌∙◌, ap, arith, subst}
+use Rattle.std.specs.Prelude.{Result, Ok, Err, IfSome, if◌then◌else◌, is_none}
 use Rattle.std.proofs.lemmas.Bool.{and_parts}
 use Rattle.std.proofs.lemmas.List.{drop_all, length-drop}
 use Rattle.kc_memory.specs.Bits.{Number}
 use Rattle.kc_memory.specs.Image.{Image}
 use Rattle.kc_memory.specs.Stopped.{Stopped}
 use Rattle.kc_found.specs.declared.asked.Asked.{Asked}
-use Rattle.kc_found.specs.declared.found.WalkStop.{WalkStop}
 use Rattle.kc_found.specs.declared.found.WalkStop.TheVariants as ends
 use Rattle.kc_found.specs.declared.verdict.AuditCount.{AuditCount}
 use Rattle.kc_found.specs.declared.verdict.Verdict.{Verdict}
@@ -16,12 +15,11 @@ use Rattle.kc_found.specs.Trials.{and_then}
 use Rattle.kc_found.specs.Violations.{Violation}
 use Rattle.kc_expr.specs.Values.{is_true}
 use Rattle.kc_list.specs.Laws.{HashChainsAreWalked, RingsAreWalked}
-use Rattle.kc_plan.specs.declared.kind.Kind.{Kind}
 use Rattle.kc_plan.specs.declared.kind.Kind.TheVariants.{Ring, Hlist, Rbtree, Xarray, Slub, Tasks}
 use Rattle.kc_plan.specs.Checks.{checked, numbers_of, value_of}
 use Rattle.kc_plan.specs.Events.{Event, Walk, Wrong, first_wrong}
 use Rattle.kc_plan.specs.Planned.{AuditAt, CheckAt}
-use Rattle.kc_plan.specs.Seen.{PathEnd, EndsAt, NullAt, all_seen, at_element, below, checks_seen, container_of, entered, in_turn, is_optional, nodes_of, number_at, path_end, path_of, roots, seen, walked, world}
+use Rattle.kc_plan.specs.Seen.{PathEnd, EndsAt, NullAt, at_element, below, checks_seen, container_of, entered, entries_in, in_turn, is_optional, nodes_of, number_at, path_end, path_of, roots, seen, walked, world}
 use Rattle.kc_plan.specs.Verdicts.{IsClean, verdict}
 use Rattle.kc_run.specs.Laws.{CleanWhereStanding}
 use Rattle.kc_run.specs.Tally.{TalliesAs, added, tally, zeros}
@@ -30,14 +28,17 @@ use Rattle.kc_cert.specs.declared.certificate.CertStep.{CertStep}
 use Rattle.kc_cert.specs.declared.certificate.CertAnswer.{CertAnswer}
 use Rattle.kc_cert.specs.declared.certificate.CertAnswer.TheVariants.{Yes, No}
 use Rattle.kc_cert.specs.declared.nest.Cursor.{Cursor}
-use Rattle.kc_shape.specs.declared.halt.Halt.TheVariants.{Unfit, Fault, NoMemory}
+use Rattle.kc_shape.specs.declared.halt.Halt.TheVariants.{Unfit}
 use Rattle.kc_shape.specs.Answers.{TellsAs}
 use Rattle.kc_cert.specs.Answers.{IsRight, JudgesAs, progress}
 use Rattle.kc_cert.specs.Certificates.{Progress, Judged, Judge, all_hold, answer, answer_by, answer_of, below_judged, checks_hold, each_judged, entry_judged, fits, judged, nodes_judged, after_walk, number_of, roots_judged, walk_judged}
 use Rattle.kc_shape.specs.Laws.{HashChainsAreTested, OnlyTreesPass, RingsAreTested}
 use Rattle.kc_rb.specs.Laws.{TreesAreWalked}
+use Rattle.kc_entries.specs.Laws.{OnlyWalksPass}
+use Rattle.kc_given.specs.Laws.{CacheListsGive, TaskListsGive}
 use Rattle.kc_shape.specs.Trees.{turn}
-use Rattle.kc_cert.specs.Shapes.{is_shape, nodes_in, one_list}
+use Rattle.kc_cert.specs.Complete.{ShapesAreWalked}
+use Rattle.kc_cert.specs.Shapes.{is_shape, nodes_in}
 
 -- what is counted, and the first violation
 pub right_seen : (before after : List AuditCount) (es : List Event) → tally before es ≡ Ok after → first_wrong es ≡ None
@@ -128,8 +129,11 @@ pub record ShapeLaws : Type 0 where
   pub chain_walks : HashChainsAreWalked
   pub trees : OnlyTreesPass
   pub tree_walks : TreesAreWalked
+  pub arrays : OnlyWalksPass
+  pub caches : CacheListsGive
+  pub tasks : TaskListsGive
 
-shape_walked : ShapeLaws → (i : Image) (kind : Kind) (n start : ℕ) (lists : List (List ℕ)) → is_shape i kind start lists ≡ true → nodes_of i kind n start ≡ Ok (nodes_in kind lists)
+pub shape_walked : ShapeLaws → ShapesAreWalked
 unfolding is_shape nodes_of
 shape_walked laws i (Ring shape) n start [] is = let none : ⊥ = cc in absurd none
 shape_walked laws i (Ring shape) n start (ns ∷ []) is = (laws.ring_walks i shape n start ns).0 ((laws.rings i shape start ns).1 is)
@@ -140,18 +144,20 @@ shape_walked laws i (Hlist shape) n start (ns ∷ more ∷ others) is = let none
 shape_walked laws i (Rbtree shape) n start [] is = let none : ⊥ = cc in absurd none
 shape_walked laws i (Rbtree shape) n start (ns ∷ []) is = (laws.tree_walks i shape n start (turn [] ns)).0 (laws.trees i shape start ns is)
 shape_walked laws i (Rbtree shape) n start (ns ∷ more ∷ others) is = let none : ⊥ = cc in absurd none
-shape_walked laws i (Xarray shape) n start lists is = let none : ⊥ = cc in absurd none
-shape_walked laws i (Slub shape) n start lists is = let none : ⊥ = cc in absurd none
-shape_walked laws i (Tasks shape) n start lists is = let none : ⊥ = cc in absurd none
+shape_walked laws i (Xarray shape) n start [] is = let none : ⊥ = cc in absurd none
+shape_walked laws i (Xarray shape) n start (ns ∷ []) is = let w = laws.arrays i shape start ns is n in ap entries_in w.1 ∙ ap Ok w.2
+shape_walked laws i (Xarray shape) n start (ns ∷ more ∷ others) is = let none : ⊥ = cc in absurd none
+shape_walked laws i (Slub shape) n start lists is = laws.caches i shape n n start lists is
+shape_walked laws i (Tasks shape) n start lists is = laws.tasks i shape n n start lists is
 
-fits_parts : (i : Image) (n : ℕ) (a : AuditAt) (start : ℕ) (s : CertStep) → fits i n a start s ≡ true → (is_shape i a.kind start s.lists ≡ true) × (all_hold i n a start (nodes_in a.kind s.lists) ≡ true)
+fits_parts : (i : Image) (n : ℕ) (a : AuditAt) (start : ℕ) (s : CertStep) → fits i n a start s ≡ true → (is_shape i a.kind n start s.lists ≡ true) × (all_hold i n a start (nodes_in a.kind s.lists) ≡ true)
 unfolding fits
 fits_parts i n a start s is =
-    let parts = and_parts (nat_eq s.audit n && nat_eq s.start start) (is_shape i a.kind start s.lists && all_hold i n a start (nodes_in a.kind s.lists)) is in
-    let more = and_parts (is_shape i a.kind start s.lists) (all_hold i n a start (nodes_in a.kind s.lists)) parts.1 in
+    let parts = and_parts (nat_eq s.audit n && nat_eq s.start start) (is_shape i a.kind n start s.lists && all_hold i n a start (nodes_in a.kind s.lists)) is in
+    let more = and_parts (is_shape i a.kind n start s.lists) (all_hold i n a start (nodes_in a.kind s.lists)) parts.1 in
     (more.0, more.1)
 
-walk_tallied : ShapeLaws → (i : Image) (n : ℕ) (a : AuditAt) (start : ℕ) (judge : ℕ → ℕ → Judge) (see : ℕ → ℕ → List Event) (counts : List AuditCount) (left : List CertStep) (after : Progress) → Tallied judge see →
+walk_tallied : ShapesAreWalked → (i : Image) (n : ℕ) (a : AuditAt) (start : ℕ) (judge : ℕ → ℕ → Judge) (see : ℕ → ℕ → List Event) (counts : List AuditCount) (left : List CertStep) (after : Progress) → Tallied judge see →
     walk_judged i n a start judge counts left ≡ Ok after → tally counts (walked (world i) n a start see (nodes_of i a.kind n start)) ≡ Ok after.counts
 walk_tallied laws i n a start judge see counts [] after further e = let none : ⊥ = cc in absurd none
 walk_tallied laws i n a start judge see counts (s ∷ left) after further e = by_fit (fits i n a start s) refl e
@@ -164,11 +170,11 @@ walk_tallied laws i n a start judge see counts (s ∷ left) after further e = by
     by_fit false is e = let none : ⊥ = cc in absurd none
     by_fit true is e =
         let parts = fits_parts i n a start s is in
-        let found = shape_walked laws i a.kind n start s.lists parts.0 in
+        let found = laws i a.kind n start s.lists parts.0 in
         ap (λ r. tally counts (walked (world i) n a start see r)) found
         ∙ nodes_tallied i n a start judge see (nodes_in a.kind s.lists) (after_walk left counts n (nodes_in a.kind s.lists)) after further parts.1 e
 
-entry_tallied : ShapeLaws → (i : Image) (n : ℕ) (a : AuditAt) (judge : ℕ → ℕ → Judge) (see : ℕ → ℕ → List Event) (base : ℕ) (there : Result PathEnd Stopped) (p after : Progress) → Tallied judge see →
+entry_tallied : ShapesAreWalked → (i : Image) (n : ℕ) (a : AuditAt) (judge : ℕ → ℕ → Judge) (see : ℕ → ℕ → List Event) (base : ℕ) (there : Result PathEnd Stopped) (p after : Progress) → Tallied judge see →
     entry_judged i n a judge there p ≡ Ok after → tally p.counts (entered (world i) n a see base there) ≡ Ok after.counts
 entry_tallied laws i n a judge see base (Err s) p after further e = let none : ⊥ = cc in absurd none
 entry_tallied laws i n a judge see base (Ok (EndsAt start)) p after further e = walk_tallied laws i n a start judge see p.counts p.left after further e
@@ -183,7 +189,7 @@ pick_tallied : (b : Bool) (one other : Judged) (es us : List Event) (counts : Li
 pick_tallied true one other es us counts after f g e = f e
 pick_tallied false one other es us counts after f g e = g e
 
-judged_tallied : ShapeLaws → (i : Image) (audits : List AuditAt) (k m base : ℕ) (p after : Progress) → judged i audits k m base p ≡ Ok after → tally p.counts (seen (world i) audits k m base) ≡ Ok after.counts
+judged_tallied : ShapesAreWalked → (i : Image) (audits : List AuditAt) (k m base : ℕ) (p after : Progress) → judged i audits k m base p ≡ Ok after → tally p.counts (seen (world i) audits k m base) ≡ Ok after.counts
 unfolding judged seen
 judged_tallied laws i [] k m base p after e = let same : p ≡ after = cc in ap (λ (q : Progress). Ok q.counts) same
 judged_tallied laws i (a ∷ later) k m base p after e =
@@ -196,7 +202,7 @@ clean_is (Clean cs) counts e = tt
 clean_is (Broken v) counts e = let none : ⊥ = cc in absurd none
 
 -- the steps are all those of a plan that stands
-right : ShapeLaws → CleanWhereStanding → (i : Image) (audits : List AuditAt) (steps : List CertStep) (after : Progress) → roots_judged i audits (record { left = steps; counts = zeros audits }) ≡ Ok after → IsRight i audits (Yes after.counts)
+right : ShapesAreWalked → CleanWhereStanding → (i : Image) (audits : List AuditAt) (steps : List CertStep) (after : Progress) → roots_judged i audits (record { left = steps; counts = zeros audits }) ≡ Ok after → IsRight i audits (Yes after.counts)
 right laws clean i audits steps after e =
     let whole = each_tallied (λ r. judged i audits 0 r.0 r.1) (λ r. seen (world i) audits 0 r.0 r.1) (roots 0 audits) (record { left = steps; counts = zeros audits }) after (λ r q s is. judged_tallied laws i audits 0 r.0 r.1 q s is) e in
     let is : verdict i audits ≡ Clean after.counts = ends_clean {A = ℕ} (Some i) audits after.counts 0 whole in
@@ -233,7 +239,7 @@ right_by : (i : Image) (audits : List AuditAt) (steps left : List CertStep) (cou
 right_by i audits steps [] counts r = r
 right_by i audits steps (s ∷ left) counts r = tt
 
-pub ok_right : {A : Type 0} (image : Option Image) (laws : ShapeLaws) (clean : CleanWhereStanding) (audits : List AuditAt) (steps : List CertStep) (start c : Cursor) (u : A) (found : CertAnswer) → progress steps start ≡ begin steps audits → found ≡ answer_by steps c.counts (drop c.at steps) →
+pub ok_right : {A : Type 0} (image : Option Image) (laws : ShapesAreWalked) (clean : CleanWhereStanding) (audits : List AuditAt) (steps : List CertStep) (start c : Cursor) (u : A) (found : CertAnswer) → progress steps start ≡ begin steps audits → found ≡ answer_by steps c.counts (drop c.at steps) →
     JudgesAs (λ i. roots_judged i audits) (progress steps start) (progress steps c) image (Ok u) → IfSome image (λ i. IsRight i audits found)
 ok_right None laws clean audits steps start c u found from is e = tt
 ok_right (Some i) laws clean audits steps start c u found from is e =

@@ -1,12 +1,15 @@
 -- What is left of a certificate.
-use Rattle.std.proofs.Common.{◌≡◌, ℕ, suc, nat_eq, Bool, true, false, ◌+◌, ◌*◌, ◌-◌, ◌<◌, ◌≤◌, List, [], ◌∷◌, length, drop, slice_get, Option, Some, None, refl, sym, ◌∙◌, ap, arith}
+use Rattle.std.proofs.Common.{◌≡◌, ℕ, suc, nat_eq, Bool, true, false, ◌+◌, ◌*◌, ◌-◌, ◌<◌, ◌≤◌, List, [], ◌∷◌, length, drop, slice_get, Some, ap, arith}
 use Rattle.std.specs.Prelude.{if◌then◌else◌}
-use Rattle.std.proofs.lemmas.List.{drop_all, length-drop}
 use Rattle.kc_cert.proofs.Drops.{drop_at}
 use Rattle.kc_cert.specs.declared.certificate.CertStep.{CertStep}
 use Rattle.kc_plan.specs.declared.kind.Kind.{Kind}
 use Rattle.kc_plan.specs.declared.kind.Kind.TheVariants.{Ring, Hlist, Rbtree, Xarray, Slub, Tasks}
+use Rattle.kc_entries.specs.Laws.{PointersAreFew}
+use Rattle.kc_given.specs.Apart.{numbers}
+use Rattle.kc_given.specs.Laws.{FewCacheNodes, FewTaskNodes}
 use Rattle.kc_cert.specs.Answers.{cost}
+use Rattle.kc_cert.specs.Complete.{ShapesAreLong}
 use Rattle.kc_cert.specs.Size.{lists_size, size}
 use Rattle.kc_cert.specs.Shapes.{first_list, nodes_in}
 use Rattle.kc_shape.specs.Trees.{popped, turn}
@@ -30,20 +33,27 @@ turn_few : (above ns : List ℕ) → length (turn above ns) ≤ length ns
 turn_few above [] = omega arith
 turn_few above (n ∷ ns) = few_turned above n ns (nat_eq n 0) (λ ms. turn_few ms ns)
 
-pub nodes_short : (kind : Kind) (lists : List (List ℕ)) (nodes : List ℕ) → nodes ≡ nodes_in kind lists → length nodes ≤ lists_size lists
-nodes_short (Ring shape) lists nodes is = rw is (first_short lists)
-nodes_short (Hlist shape) lists nodes is = rw is (first_short lists)
-nodes_short (Rbtree shape) lists nodes is = let few = turn_few [] (first_list lists) in let short = first_short lists in rw is (omega (arith, few, short))
-nodes_short (Xarray shape) lists nodes is = rw is (omega arith)
-nodes_short (Slub shape) lists nodes is = rw is (omega arith)
-nodes_short (Tasks shape) lists nodes is = rw is (omega arith)
+numbers_short : (lists : List (List ℕ)) → numbers lists ≤ lists_size lists
+numbers_short [] = omega arith
+numbers_short (ns ∷ others) = let rest = numbers_short others in omega (arith, rest)
+
+pub nodes_short : PointersAreFew → FewCacheNodes → FewTaskNodes → ShapesAreLong
+nodes_short arrays caches tasks (Ring shape) lists = first_short lists
+nodes_short arrays caches tasks (Hlist shape) lists = first_short lists
+nodes_short arrays caches tasks (Rbtree shape) lists = let few = turn_few [] (first_list lists) in let short = first_short lists in omega (arith, few, short)
+nodes_short arrays caches tasks (Xarray shape) lists = let few = arrays (first_list lists) in let short = first_short lists in omega (arith, few, short)
+nodes_short arrays caches tasks (Slub shape) lists = let few = caches shape lists in let short = numbers_short lists in omega (arith, few, short)
+nodes_short arrays caches tasks (Tasks shape) lists = let few = tasks shape lists in let short = numbers_short lists in omega (arith, few, short)
 
 -- what a step costs is paid by what it takes, and something is left for what lies below its nodes
-pub step_pays : (old new before after lists nodes kept : ℕ) → kept ≡ nodes → new ≤ old + 12 + 30 * lists + 15360 * nodes → before ≡ 1 + lists + after → nodes ≤ lists → new + cost * after + 12288 * (kept - 0) ≤ old + cost * before
+pub step_pays : (old new before after lists nodes kept : ℕ) → kept ≡ nodes → new ≤ old + 800000 + 1000 * lists + 15360 * nodes → before ≡ 1 + lists + after → nodes ≤ lists → new + cost * after + 12288 * (kept - 0) ≤ old + cost * before
 step_pays old new before after lists nodes kept same is size short = omega (arith, same, is, size, short)
 
-pub halt_pays : (old new before after lists nodes : ℕ) → new ≤ old + 12 + 30 * lists + 15360 * nodes → before ≡ 1 + lists + after → nodes ≤ lists → new ≤ old + cost * before + 0
+pub halt_pays : (old new before after lists nodes : ℕ) → new ≤ old + 800000 + 1000 * lists + 15360 * nodes → before ≡ 1 + lists + after → nodes ≤ lists → new ≤ old + cost * before + 0
 halt_pays old new before after lists nodes is size short = omega (arith, is, size, short)
 
 pub below_pays : (old now new before mid after many i : ℕ) → i < many → now + cost * mid + 12288 * (many - i) ≤ old + cost * before → new + cost * after ≤ now + cost * mid + 12288 → new + cost * after + 12288 * (many - (i + 1)) ≤ old + cost * before
 below_pays old now new before mid after many i lt was is = omega (arith, lt, was, is)
+
+pub few_nodes : ShapesAreLong → (kind : Kind) (lists : List (List ℕ)) (nodes : List ℕ) → nodes ≡ nodes_in kind lists → length nodes ≤ lists_size lists
+few_nodes long kind lists nodes is = rw is (long kind lists)

@@ -1,5 +1,5 @@
 -- An audit of a plan, by its own number, as a certificate's steps are judged.
-use Rattle.std.proofs.Common.{◌≡◌, ℕ, zero, suc, ◌+◌, ◌<◌, ◌≤◌, Bool, true, false, ◌&&◌, nat_eq, nat_lt, List, [], ◌∷◌, length, slice_get, Some, refl, sym, ◌∙◌, ap, arith}
+use Rattle.std.proofs.Common.{◌≡◌, ℕ, zero, suc, ◌+◌, ◌<◌, ◌≤◌, true, false, ◌&&◌, nat_eq, nat_lt, List, [], ◌∷◌, slice_get, Some, refl, sym, ◌∙◌, ap, arith}
 use Rattle.std.specs.Prelude.{Result, Ok, Err, if◌then◌else◌}
 use Rattle.std.proofs.lemmas.Bool.{ne_eqb, eq-eqb, ltb-true, and_parts}
 use Rattle.kc_memory.specs.Image.{Image}
@@ -8,7 +8,7 @@ use Rattle.kc_found.specs.declared.verdict.AuditCount.{AuditCount}
 use Rattle.kc_found.specs.Trials.{and_then}
 use Rattle.kc_plan.specs.Kept.{are_between, are_later}
 use Rattle.kc_plan.specs.Planned.{AuditAt}
-use Rattle.kc_plan.specs.Seen.{PathEnd, EndsAt, NullAt, container_of, is_optional, path_end, path_of}
+use Rattle.kc_plan.specs.Seen.{PathEnd, EndsAt, NullAt, container_of, path_end, path_of}
 use Rattle.kc_run_laws.specs.Runs.{between_at}
 use Rattle.kc_cert.specs.declared.certificate.CertStep.{CertStep}
 use Rattle.kc_cert.specs.Shapes.{nodes_in}

@@ -1,5 +1,5 @@
 -- The text of a certificate.
-use Rattle.std.specs.Prelude.{◌≡◌, ℕ, ◌<◌, ◌^◌, List, ◌++◌, codes, decimal, ⊤}
+use Rattle.std.specs.Prelude.{◌≡◌, ◌↔◌, ℕ, ◌-◌, ◌<◌, ◌^◌, List, ◌++◌, codes, decimal, length, Result, Ok, Err, ⊤}
 use Rattle.kc_text.specs.Format.{Format, IsPlace}
 use Rattle.kc_text.specs.Readers.{decimal_below, hex16}
 use Rattle.kc_text.specs.Compose.{both, mapped, after, followed}
@@ -77,3 +77,26 @@ steps_format = after (codes "certificate ") (counted step_format)
 
 abbrev pub cert_format : Format (List CertStep)
 cert_format = ended steps_format
+
+-- what reading a whole text comes to: what it is the text of, or the place where reading stopped
+abbrev pub placed : {X : Type 0} → List ℕ → Result (X × List ℕ) (List ℕ) → Result X ℕ
+placed bytes (Ok read) = Ok read.0
+placed bytes (Err rest) = Err (length bytes - length rest)
+
+-- the certificate that these bytes are the text of, or the place up to which they begin one's
+abbrev pub cert_in : List ℕ → Result (List CertStep) ℕ
+cert_in bytes = placed bytes (cert_format.read bytes)
+
+-- reading answers it
+abbrev pub ReadsCert : Result (List CertStep) ℕ → Result (List CertStep) CertRead → Type 0
+ReadsCert said (Ok cert) = said ≡ Ok cert
+ReadsCert said (Err (Z1 at)) = said ≡ Err at
+ReadsCert said (Err NoMemory) = ⊤
+
+-- what it is, in the words of texts: a certificate is read from exactly its text, and a place exactly where there is none
+pub record TellsTexts (bytes : List ℕ) : Type 0 where
+  pub cert : (steps : List CertStep) → cert_in bytes ≡ Ok steps ↔ IsCertificate bytes steps
+  pub refused : (at : ℕ) → cert_in bytes ≡ Err at ↔ IsNoCertificate bytes at
+
+abbrev pub TextsTold : Type 0
+TextsTold = (bytes : List ℕ) → TellsTexts bytes

@@ -11,14 +11,13 @@ ghost use Rattle.kc_cert.specs.Certificates.{answer, answer_by, each_judged, jud
 ghost use Rattle.kc_cert.specs.Size.{size};
 
 use crate::certificate::{CertAnswer, Certificate, RecheckStop};
+use crate::laws::know_walked;
 use crate::nest::{Cursor, Known, enter};
 use kc_btf::Btf;
 use kc_found::{Asked, Space};
-use kc_list::know_lists;
 use kc_plan::{Plan, Start};
-use kc_rb::know_trees;
 use kc_run::{know_verdicts, no_walks};
-use kc_shape::{Halt, know_shapes};
+use kc_shape::Halt;
 use kc_word::{NoMemory, Steps};
 use std::alloc::Global;
 use std::sync::ledger::Ledger;
@@ -117,8 +116,7 @@ fn answer_by(cert: &Certificate, cursor: Cursor) -> CertAnswer
 ///
 /// A step fits where its audit and its start are those of the next walk, its lists are the shape there, and the checks of all
 /// its elements hold. A missing step has the number behind the last; where a path stops, or has a null pointer and its audit isn't
-/// optional, the number is that of the step which would come next. The shapes of xarrays, slab caches and task lists aren't
-/// known so far, so no step of theirs fits.
+/// optional, the number is that of the step which would come next.
 ///
 /// # Errors
 ///
@@ -140,9 +138,7 @@ pub fn recheck<S: Space, L: Ledger>(
     ensures stays { SpaceStays S.image S.files S.through S.most space.old space.new }
     ensures cause { CountsRecheckFaults result (S.faults space.old) (S.faults space.new) }
 {
-    know_shapes();
-    know_lists();
-    know_trees();
+    know_walked();
     know_verdicts();
     let known = Known { plan, btf, cert };
     let counts = match no_walks(alloc, plan) {

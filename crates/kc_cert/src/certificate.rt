@@ -1,5 +1,5 @@
 // What a certificate is, and what it comes to.
-use kc_found::{Counts, Items, Walked};
+use kc_found::{Counts, Found, Items, Walked};
 
 /// The lists of addresses that give the shape of a structure. Which they are, the kind of its audit says.
 pub type Lists = Items<Walked>;
@@ -30,6 +30,17 @@ pub enum CertAnswer {
 /// Why a certificate has no answer.
 #[derive(Clone, Copy, Debug, PartialEq, Eq)]
 pub enum RecheckStop {
+    /// Reading the dump failed. The count of faults rose.
+    Fault,
+    /// No memory was left.
+    NoMemory,
+}
+
+/// Why a plan has no certificate.
+#[derive(Drop)]
+pub enum CertStop {
+    /// The dump isn't clean. This is the first violation.
+    Broken(Found),
     /// Reading the dump failed. The count of faults rose.
     Fault,
     /// No memory was left.

@@ -1,6 +1,7 @@
 // Whether a step fits.
 ghost use Rattle.std.specs.Prelude.{◌≡◌, ◌+◌, ◌*◌, ◌≤◌, length};
 ghost use Rattle.kc_memory.specs.Stays.{SpaceStays};
+ghost use Rattle.kc_plan.specs.Inside.{KindInside};
 ghost use Rattle.kc_plan.specs.Planned.{audit_seen};
 ghost use Rattle.kc_shape.specs.Answers.{CountsTestFaults, TellsAs};
 ghost use Rattle.kc_cert.specs.Certificates.{all_hold, checks_hold, fits};
@@ -80,10 +81,11 @@ pub(crate) fn test_step<S: Space, L: Ledger>(
     nodes: &Walked,
     steps: &mut Steps<L>,
 ) -> Result<(), Halt>
-    requires { nodes.now ≡ nodes_in audit.now.kind step.now.lists }
+    requires nodes { nodes.now ≡ nodes_in audit.now.kind step.now.lists }
+    requires kind { KindInside (length btf.now.records) audit.now.kind }
 
     ensures test { TellsAs (λ i. fits i asked.now.audit (audit_seen audit.now) asked.now.start step.now) (S.image space.old) result }
-    ensures steps { steps.new ≤ steps.old + 12 + 30 * lists_size step.now.lists + 15360 * length nodes.now }
+    ensures steps { steps.new ≤ steps.old + 800000 + 1000 * lists_size step.now.lists + 15360 * length nodes.now }
 
     ensures stays { SpaceStays S.image S.files S.through S.most space.old space.new }
     ensures cause { CountsTestFaults result (S.faults space.old) (S.faults space.new) }
@@ -91,7 +93,7 @@ pub(crate) fn test_step<S: Space, L: Ledger>(
     if step.audit != asked.audit || step.start != asked.start {
         return Err(Halt::Unfit);
     }
-    match test_shape(alloc, space, &audit.kind, asked.start, &step.lists, steps) {
+    match test_shape(alloc, space, btf, &audit.kind, asked, &step.lists, steps) {
         Ok(()) => {}
         Err(halt) => return Err(halt),
     }

@@ -4,16 +4,20 @@
 
 mod against;
 mod certificate;
+mod collect;
 mod fits;
+mod issue;
 mod laws;
 mod nest;
+mod pass;
 mod read;
 mod shape;
 mod write;
 
 pub use against::recheck;
-pub use certificate::{CertAnswer, CertStep, Certificate, Lists, RecheckStop};
-pub use laws::know_complete;
+pub use certificate::{CertAnswer, CertStep, CertStop, Certificate, Lists, RecheckStop};
+pub use issue::certify;
+pub use laws::{know_complete, know_single, know_texts};
 pub use read::{CertRead, read_cert};
 pub use write::cert_text;
 

@@ -1,7 +1,7 @@
 // Audits, and those below their elements: each walk takes a step of the certificate.
 ghost use Rattle.std.specs.Prelude.{◌≡◌, ◌<◌, ◌≤◌, drop, length, IsTrue};
 ghost use Rattle.kc_memory.specs.Stays.{SpaceStays};
-ghost use Rattle.kc_plan.specs.Inside.{AreInside};
+ghost use Rattle.kc_plan.specs.Inside.{AreInside, KindInside};
 ghost use Rattle.kc_plan.specs.Kept.{are_between};
 ghost use Rattle.kc_plan.specs.Planned.{audit_seen};
 ghost use Rattle.kc_plan.specs.Views.{plan_seen};
@@ -12,6 +12,7 @@ ghost use Rattle.kc_cert.specs.Size.{size};
 
 use crate::certificate::Certificate;
 use crate::fits::test_step;
+use crate::laws::know_walked;
 use crate::shape::nodes_in;
 use kc_btf::Btf;
 use kc_found::{Asked, Counts, Space, Stop};
@@ -106,6 +107,7 @@ fn look<S: Space, L: Ledger>(
     requires counted { length cursor.old.counts ≡ length known.now.plan.now.audits }
     requires later { IsTrue (are_between asked.now.audit (length known.now.plan.now.audits) audit.now.each) }
     requires few { length audit.now.each ≤ 256 }
+    requires kind { KindInside (length known.now.btf.now.records) audit.now.kind }
 
     ensures judged { JudgesAs
         (λ image p. walk_judged image asked.now.audit (audit_seen audit.now) asked.now.start
@@ -117,6 +119,7 @@ fn look<S: Space, L: Ledger>(
     ensures stays { SpaceStays S.image S.files S.through S.most space.old space.new }
     ensures cause { CountsTestFaults result (S.faults space.old) (S.faults space.new) }
 {
+    know_walked();
     if cursor.at >= known.cert.len() {
         return Err(Halt::Unfit);
     }

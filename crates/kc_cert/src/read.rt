@@ -2,7 +2,7 @@
 ghost use Rattle.std.specs.Prelude.{◌≡◌, List, IfOk, IfErr};
 ghost use Rattle.kc_text.specs.Answers.{Gives};
 ghost use Rattle.kc_text.specs.Counted.{counted, times};
-ghost use Rattle.kc_cert.specs.CertTexts.{IsCertificate, IsRefused, line_format, list_format, step_format, steps_format};
+ghost use Rattle.kc_cert.specs.CertTexts.{IsCertificate, IsRefused, ReadsCert, cert_in, line_format, list_format, step_format, steps_format};
 ghost use Rattle.kc_cert.specs.Readings.{AddsAll, AddsOne, HeadGives};
 ghost use Rattle.kc_cert.specs.declared.certificate.CertStep.{CertStep};
 
@@ -42,6 +42,7 @@ pub fn read_cert(alloc: Global, bytes: &[u8]) -> Result<Certificate, CertRead>
     ensures cert { IfOk result (λ cert. IsCertificate bytes.now cert) }
     ensures only { IfOk result (λ cert. (other : List CertStep) → IsCertificate bytes.now other → other ≡ cert) }
     ensures refused { IfErr result (λ stop. IsRefused stop bytes.now) }
+    ensures made { ReadsCert (cert_in bytes.now) result }
 {
     let mut cert = Certificate::new(alloc);
     match read_all(alloc, &mut cert, bytes) {

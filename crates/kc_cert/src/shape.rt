@@ -1,42 +1,68 @@
 // The shapes of the kinds.
 ghost use Rattle.std.specs.Prelude.{◌≡◌, ◌+◌, ◌*◌, ◌≤◌, length, IfOk};
 ghost use Rattle.kc_memory.specs.Stays.{SpaceStays};
+ghost use Rattle.kc_plan.specs.Inside.{KindInside};
 ghost use Rattle.kc_shape.specs.Answers.{CountsTestFaults, TellsAs};
 ghost use Rattle.kc_cert.specs.Size.{lists_size};
 ghost use Rattle.kc_cert.specs.Shapes.{first_list, is_shape, nodes_in};
 
 use crate::certificate::Lists;
-use kc_found::{Space, Walked};
+use kc_btf::Btf;
+use kc_entries::{pointers_in, test_xarray};
+use kc_found::{Asked, Space, Walked};
+use kc_given::{cache_nodes, task_nodes, test_cache, test_tasks};
 use kc_plan::Kind;
 use kc_shape::{Halt, test_chain, test_ring, test_tree, turned};
 use kc_word::{NoMemory, Steps};
 use std::alloc::Global;
 use std::sync::ledger::Ledger;
 
-// Tests whether lists are the shape of the structure of a kind from a start.
+// Tests whether lists are the shape of the structure of a kind that an audit walks from a start.
 #[tactic(auto, unfolding(crate::specs::Shapes::is_shape))]
 pub(crate) fn test_shape<S: Space, L: Ledger>(
     alloc: Global,
     space: &mut S,
+    btf: &Btf,
     kind: &Kind,
-    start: u64,
+    asked: &Asked,
     lists: &Lists,
     steps: &mut Steps<L>,
 ) -> Result<(), Halt>
-    ensures test { TellsAs (λ i. is_shape i kind.now start lists.now) (S.image space.old) result }
-    ensures steps { steps.new ≤ steps.old + 12 + 30 * lists_size lists.now }
+    requires { KindInside (length btf.now.records) kind.now }
+
+    ensures test { TellsAs (λ i. is_shape i kind.now asked.now.audit asked.now.start lists.now) (S.image space.old) result }
+    ensures steps { steps.new ≤ steps.old + 800000 + 1000 * lists_size lists.now }
 
     ensures stays { SpaceStays S.image S.files S.through S.most space.old space.new }
     ensures cause { CountsTestFaults result (S.faults space.old) (S.faults space.new) }
 {
-    let [nodes] = lists.as_slice() else {
-        return Err(Halt::Unfit);
-    };
     match kind {
-        Kind::Ring(shape) => test_ring(alloc, space, shape, start, nodes, steps),
-        Kind::Hlist(shape) => test_chain(alloc, space, shape, start, nodes, steps),
-        Kind::Rbtree(shape) => test_tree(alloc, space, shape, start, nodes, steps),
-        Kind::Xarray(_) | Kind::Slub(_) | Kind::Tasks(_) => Err(Halt::Unfit),
+        Kind::Ring(shape) => {
+            let [nodes] = lists.as_slice() else {
+                return Err(Halt::Unfit);
+            };
+            test_ring(alloc, space, shape, asked.start, nodes, steps)
+        }
+        Kind::Hlist(shape) => {
+            let [nodes] = lists.as_slice() else {
+                return Err(Halt::Unfit);
+            };
+            test_chain(alloc, space, shape, asked.start, nodes, steps)
+        }
+        Kind::Rbtree(shape) => {
+            let [preorder] = lists.as_slice() else {
+                return Err(Halt::Unfit);
+            };
+            test_tree(alloc, space, shape, asked.start, preorder, steps)
+        }
+        Kind::Xarray(shape) => {
+            let [entries] = lists.as_slice() else {
+                return Err(Halt::Unfit);
+            };
+            test_xarray(alloc, space, shape, asked.start, entries, steps)
+        }
+        Kind::Slub(shape) => test_cache(alloc, space, btf, shape, asked, lists, steps),
+        Kind::Tasks(shape) => test_tasks(alloc, space, btf, shape, asked, lists, steps),
     }
 }
 
@@ -71,6 +97,11 @@ pub(crate) fn nodes_in(alloc: Global, kind: &Kind, lists: &Lists) -> Result<Walk
             let numbers = first_list(alloc, lists)?;
             turned(alloc, &numbers)
         }
-        Kind::Xarray(_) | Kind::Slub(_) | Kind::Tasks(_) => Ok(Walked::new(alloc)),
+        Kind::Xarray(_) => {
+            let numbers = first_list(alloc, lists)?;
+            pointers_in(alloc, &numbers)
+        }
+        Kind::Slub(shape) => cache_nodes(alloc, shape, lists),
+        Kind::Tasks(shape) => task_nodes(alloc, shape, lists),
     }
 }

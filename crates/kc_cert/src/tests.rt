@@ -1,8 +1,11 @@
-// Certificates that are read, written and cut short, and one that is held against a few words.
+// Certificates that are read, written and cut short, one that is held against a few words, and one that is made of them.
 ghost use Rattle.std.specs.Prelude.{◌≡◌, ◌<◌, length};
 ghost use Rattle.kc_plan.specs.Inside.{AreInside};
 
-use crate::{CertAnswer, CertRead, Certificate, RecheckStop, cert_text, read_cert, recheck};
+use crate::{
+    CertAnswer, CertRead, CertStop, Certificate, RecheckStop, cert_text, certify, read_cert,
+    recheck,
+};
 use kc_btf::Btf;
 use kc_fixture::{MAP, btf_file};
 use kc_found::{Counts, ListSpace, Origin, VWord};
@@ -151,6 +154,51 @@ fn answer<L: Ledger>(
         Ok(CertAnswer::No(number)) => format!(in alloc; "no {number}"),
         Err(RecheckStop::Fault | RecheckStop::NoMemory) => String::from_str(alloc, "no answer"),
     }
+}
+
+// The text of the certificate, or the violation's audit and address.
+fn certified<L: Ledger>(
+    alloc: Global,
+    plan: &Plan,
+    btf: &Btf,
+    space: &mut ListSpace,
+    blank: Blank,
+) -> Result<Vec<u8>, AllocError>
+    requires name { blank.name ≡ L.name }
+    requires parts { blank.parts ≡ L.parts }
+    requires some { 0 < L.parts }
+    requires types { AreInside (length btf.now.records) plan.now.audits }
+{
+    let mut steps = Steps::<L>::new(blank);
+    match certify(alloc, plan, btf, space, &mut steps) {
+        Ok(cert) => cert_text(alloc, &cert).map_err(|_| AllocError),
+        Err(CertStop::Broken(found)) => {
+            let text = format!(in alloc; "broken {} {:x}", found.audit, found.at)?;
+            Ok(text.into_bytes())
+        }
+        Err(CertStop::Fault | CertStop::NoMemory) => Ok(Vec::new(alloc)),
+    }
+}
+
+#[test]
+fn a_certificate_is_made_of_a_clean_dump(rt: HostRuntime) -> Result<(), Fail> {
+    let alloc = rt.alloc();
+    let btf = Btf::read(alloc, btf_file(alloc)?)?;
+    let symbols = Symbols::read(alloc, MAP.as_bytes())?;
+    let Ok(plan) = read_plan(alloc, PLAN.as_bytes(), &btf, &symbols, &INFO) else {
+        assert!(rt; false, "refused");
+        return Ok(());
+    };
+    let clean = format!(in alloc; "certificate 2\n{TASK}{THREADS}")?;
+    for (at, value, wanted) in [
+        (0, 0, clean.as_str()),
+        (0xd158, 0, "broken 1 ffff88800000d158"),
+    ] {
+        let mut space = space_of(alloc, (at, value))?;
+        let text = certified::<Brand>(alloc, &plan, &btf, &mut space, Blank::new(1))?;
+        assert_eq!(rt; text.as_slice(), wanted.as_bytes());
+    }
+    Ok(())
 }
 
 #[test]

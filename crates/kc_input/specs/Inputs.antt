@@ -66,3 +66,7 @@ number_at types id path = checked refusal.Path (field types id path)
 -- the bytes of a plan, unless it is above the limit
 abbrev pub plan_in : Option (List ℕ) → Made (List ℕ)
 plan_in file = short_file slot.Plan file
+
+-- the bytes of a certificate, unless it is above the limit
+abbrev pub cert_bytes_in : Option (List ℕ) → Made (List ℕ)
+cert_bytes_in file = short_file slot.Report file

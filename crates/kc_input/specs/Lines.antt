@@ -22,7 +22,7 @@ use Rattle.kc_keys.specs.declared.fault.PRule.TheVariants.{P1, P2, P3, P4, P5, P
 use Rattle.kc_keys.specs.Keys.{spelled}
 use Rattle.kc_text.specs.Text.{hex}
 use Rattle.kc_input.specs.declared.refusal.Refusal.{Refusal}
-use Rattle.kc_input.specs.declared.refusal.Refusal.TheVariants.{Core, Notes, TooLong, Types, Module as of_module, MapLine, Symbol, NoType, Path, Plan as of_plan}
+use Rattle.kc_input.specs.declared.refusal.Refusal.TheVariants.{Core, Notes, TooLong, Types, Module as of_module, MapLine, Symbol, NoType, Path, Plan as of_plan, Certificate}
 
 -- the code of a core file's fault, with the index of a program header
 abbrev pub core_code : CoreFault → List ℕ
@@ -116,7 +116,7 @@ slot_name Dump = codes "dump"
 slot_name Btf = codes "btf"
 slot_name Map = codes "map"
 slot_name Plan = codes "plan"
-slot_name Report = codes "report"
+slot_name Report = codes "cert"
 slot_name Module = codes "module"
 
 -- what is refused, and by which rule
@@ -131,6 +131,7 @@ refusal_text (Symbol fault) = codes "symbol " ++ symbol_code fault
 refusal_text NoType = codes "path Q1 step 0"
 refusal_text (Path fault) = codes "path " ++ path_code fault.rule ++ codes " step " ++ decimal fault.step
 refusal_text (of_plan fault) = codes "plan " ++ plan_code fault
+refusal_text (Certificate at) = codes "cert Z1 at " ++ decimal at
 
 abbrev pub refusal_line : Refusal → List ℕ
 refusal_line refusal = codes "refused " ++ refusal_text refusal ++ codes "\n"

@@ -1,7 +1,7 @@
 -- What is made of a command's files, step by step.
 use Rattle.std.specs.Prelude.{◌≡◌, ⊤, ℕ, ◌^◌, nat_le, if◌then◌else◌, List, length, Option, Some, None, Result, Ok, Err}
 use Rattle.kc_outside.specs.declared.store.Slot.{Slot}
-use Rattle.kc_outside.specs.declared.store.Slot.TheVariants.{Plan}
+use Rattle.kc_outside.specs.declared.store.Slot.TheVariants.{Plan, Report}
 use Rattle.kc_outside.specs.Files.{Files}
 use Rattle.kc_input.specs.declared.refusal.Refusal.{Refusal}
 use Rattle.kc_input.specs.declared.refusal.Refusal.TheVariants.{TooLong}
@@ -41,9 +41,10 @@ abbrev pub bytes_in : Option (List ℕ) → Made (List ℕ)
 bytes_in None = None
 bytes_in (Some bytes) = gives bytes
 
--- how long a file may be that is read whole, in bytes: a plan 1 MiB, another one 64 MiB
+-- how long a file may be that is read whole, in bytes: a plan 1 MiB, a certificate 256 MiB, another one 64 MiB
 abbrev pub limit : Slot → ℕ
 limit Plan = 2 ^ 20
+limit Report = 2 ^ 28
 limit slot = 2 ^ 26
 
 -- a longer file is refused before a byte of it is read

@@ -12,13 +12,14 @@ use crate::refusal::Refusal;
 use kc_outside::{Failed, Slot, Store};
 use std::alloc::Global;
 
-// How long a file may be that is read whole, in bytes: a plan 1 MiB, another one 64 MiB.
+// How long a file may be that is read whole, in bytes: a plan 1 MiB, a certificate 256 MiB, another one 64 MiB.
 fn limit(slot: Slot) -> u64
     ensures value { result ≡ limit slot }
-    ensures most { result ≤ 2 ^ 26 }
+    ensures most { result ≤ 2 ^ 28 }
 {
     match slot {
         Slot::Plan => 1 << 20,
+        Slot::Report => 1 << 28,
         _ => 1 << 26,
     }
 }
@@ -53,7 +54,7 @@ fn read_opened<S: Store>(
     size: u64,
 ) -> Result<Vec<u8>, Halt>
     requires learnt { S.sizes store.old slot ≡ Some size }
-    requires short { size ≤ 2 ^ 26 }
+    requires short { size ≤ 2 ^ 28 }
 
     ensures part { IfOk result (λ bytes. HasPart (content (S.files store.old) slot (S.opened store.old slot)) 0 size bytes.items) }
     ensures length { IfOk result (λ bytes. length bytes.items ≡ size) }
@@ -75,8 +76,8 @@ fn read_opened<S: Store>(
     Ok(bytes)
 }
 
-/// Reads a file whole. A plan of more than 1 MiB, or another file of more than 64 MiB, is refused before a byte of it is
-/// read.
+/// Reads a file whole. A plan of more than 1 MiB, a certificate of more than 256 MiB, or another file of more than 64 MiB, is
+/// refused before a byte of it is read.
 pub fn read_file<S: Store>(
     alloc: Global,
     store: &mut S,
@@ -86,7 +87,7 @@ pub fn read_file<S: Store>(
     requires may { S.may store.old slot name.now }
 
     ensures told { IsOf (λ bytes. bytes.items) (λ files. short_file slot (files slot name.now)) (S.files store.old) result }
-    ensures short { IfOk result (λ bytes. length bytes.items ≤ 2 ^ 26) }
+    ensures short { IfOk result (λ bytes. length bytes.items ≤ limit slot) }
     ensures refused { RefusesIn slot result }
 
     ensures others_opened { OthersStay slot (S.opened store.old) (S.opened store.new) }

@@ -1,6 +1,8 @@
-//! What the files of a command hold, or the first refusal: a dump and its notes, types, symbols and a plan's text.
+//! What the files of a command hold, or the first refusal: a dump and its notes, types, symbols, a plan's text and a
+//! certificate's.
 #![tactic(auto)]
 
+mod cert;
 mod dump;
 mod file;
 mod find;
@@ -12,6 +14,7 @@ mod plan;
 mod refusal;
 mod types;
 
+pub use cert::read_cert_file;
 pub use dump::{paging_by, read_dump, read_info};
 pub use find::{find_field, find_named, find_symbol};
 pub use halt::Halt;

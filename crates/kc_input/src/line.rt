@@ -125,7 +125,7 @@ fn slot_name(slot: Slot) -> &'static [u8]
         Slot::Btf => b"btf",
         Slot::Map => b"map",
         Slot::Plan => b"plan",
-        Slot::Report => b"report",
+        Slot::Report => b"cert",
         Slot::Module => b"module",
     }
 }
@@ -241,6 +241,7 @@ fn push_refusal(text: &mut Vec<u8>, refusal: Refusal) -> Result<(), NoMemory>
         Refusal::NoType => push(text, b"path Q1 step 0"),
         Refusal::Path(fault) => push_path(text, fault),
         Refusal::Plan(fault) => push_plan(text, fault),
+        Refusal::Certificate(at) => push_numbered(text, b"cert Z1 at ", at),
     }
 }
 

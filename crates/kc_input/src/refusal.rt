@@ -33,6 +33,9 @@ pub enum Refusal {
     Path(PathFault),
     /// The plan breaks a rule.
     Plan(PlanFault),
+    /// The file of a certificate is no certificate's text. Its longest front that begins some certificate's text has this
+    /// length in bytes.
+    Certificate(u64),
 }
 
 impl From<CoreFault> for Refusal {

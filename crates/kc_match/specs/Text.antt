@@ -46,10 +46,11 @@ count_line found =
     codes "same " ++ decimal (same_count found) ++ codes " differ " ++ decimal (differs_count found)
     ++ codes " unknown " ++ decimal (unknown_count found) ++ codes "\n"
 
--- what is found of a note's lines, its kernel's release and build, and the counts
+-- what is found of a note's lines, its kernel's release and build and how far KASLR moved it, and the counts
 abbrev pub match_text : List ℕ → List Finding → List ℕ
 match_text note found =
-    finding_lines found ++ key_line (codes "OSRELEASE") note ++ key_line (codes "BUILD-ID") note ++ count_line found
+    finding_lines found ++ key_line (codes "OSRELEASE") note ++ key_line (codes "BUILD-ID") note ++ key_line (codes "KERNELOFFSET") note
+    ++ count_line found
 
 -- the files agree with the note: something is the same, and nothing differs
 abbrev pub agree : List Finding → Bool

@@ -8,10 +8,11 @@ use std::process::Abort;
 use std::test::Fail;
 
 // A line of the note before the usual ones, the status, and what standard output takes, where `|` ends a line.
-const CASES: &str = "SIZE(item)=64 : 0 : OSRELEASE -|BUILD-ID -|same 1 differ 0 unknown 1|
-OFFSET(item.key)=33 : 1 : differ OFFSET(item.key)=33 btf 32|OSRELEASE -|BUILD-ID -|same 0 differ 1 unknown 1|
-SYMBOL(my_ring)=ffffffff8000b128 : 1 : differ SYMBOL(my_ring)=ffffffff8000b128 map ffffffff8000b120|OSRELEASE -|BUILD-ID -|same 0 differ 1 unknown 1|
-OSRELEASE=6.1.0 : 1 : OSRELEASE 6.1.0|BUILD-ID -|same 0 differ 0 unknown 1|
+const CASES: &str =
+    "SIZE(item)=64 : 0 : OSRELEASE -|BUILD-ID -|KERNELOFFSET 0|same 1 differ 0 unknown 1|
+OFFSET(item.key)=33 : 1 : differ OFFSET(item.key)=33 btf 32|OSRELEASE -|BUILD-ID -|KERNELOFFSET 0|same 0 differ 1 unknown 1|
+SYMBOL(my_ring)=ffffffff8000b128 : 1 : differ SYMBOL(my_ring)=ffffffff8000b128 map ffffffff8000b120|OSRELEASE -|BUILD-ID -|KERNELOFFSET 0|same 0 differ 1 unknown 1|
+OSRELEASE=6.1.0 : 1 : OSRELEASE 6.1.0|BUILD-ID -|KERNELOFFSET 0|same 0 differ 0 unknown 1|
 PAGESIZE=8192 : 2 : ";
 
 // The dump whose note begins with a line.

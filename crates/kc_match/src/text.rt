@@ -86,7 +86,8 @@ fn push_counts(text: &mut Vec<u8>, findings: &[Finding<'_>]) -> Result<(), NoMem
     push(text, b"\n")
 }
 
-/// The text of what is found of a note: the lines that differ, the kernel's release and its build, and the counts.
+/// The text of what is found of a note: the lines that differ, the kernel's release, its build and how far KASLR moved it, and
+/// the counts.
 pub fn match_text(alloc: Global, note: &[u8], findings: &[Finding<'_>]) -> Result<Vec<u8>, NoMemory>
     ensures { IfOk result (λ text. text.items ≡ match_text note.now (map finding_view findings.now)) }
 {
@@ -94,6 +95,7 @@ pub fn match_text(alloc: Global, note: &[u8], findings: &[Finding<'_>]) -> Resul
     push_findings(&mut text, findings)?;
     push_key(&mut text, note, b"OSRELEASE")?;
     push_key(&mut text, note, b"BUILD-ID")?;
+    push_key(&mut text, note, b"KERNELOFFSET")?;
     push_counts(&mut text, findings)?;
     Ok(text)
 }

@@ -16,7 +16,7 @@ pub enum Slot {
     Map,
     /// The plan of an audit.
     Plan,
-    /// A report to be checked.
+    /// A certificate, or a report to be checked.
     Report,
     /// The types of a module.
     Module,

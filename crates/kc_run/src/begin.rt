@@ -40,8 +40,9 @@ pub fn container_of(link: u64, node: u64) -> u64
     node.wrapping_sub(link)
 }
 
-// A null pointer at an address, where one must lead on.
-pub(crate) fn null_pointer(alloc: Global, asked: &Asked, place: Place, at: u64) -> WalkStop
+/// A null pointer at a virtual address, where one must lead on: the violation of N that the pointer's first word shows. It is out of
+/// memory where none is left for the place.
+pub fn null_pointer(alloc: Global, asked: &Asked, place: Place, at: u64) -> WalkStop
     ensures { IsBroken result (null_pointer asked.now place at) }
 {
     let mut places = Places::new(alloc);

@@ -11,7 +11,7 @@ mod nest;
 mod roots;
 mod walk;
 
-pub use begin::{container_of, is_optional, path_of};
+pub use begin::{container_of, is_optional, null_pointer, path_of};
 pub use checks::look_checks;
 pub use counts::{count_walk, no_walks};
 pub use each::run_each;

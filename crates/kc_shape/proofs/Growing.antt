@@ -20,7 +20,7 @@ use Rattle.kc_laws.specs.Trials.{passed_is}
 use Rattle.kc_rb.specs.Faults.{or_else}
 use Rattle.kc_shape.specs.Trees.{entered, headed, is_first, is_tree, is_tree_of, listed, popped, pre, turn}
 use Rattle.kc_rb.specs.Nodes.{Good, NodesAreGood}
-use Rattle.kc_shape.proofs.Claiming.{Takes, claims, only_claims, takes_on}
+use Rattle.kc_shape.specs.Claiming.{Takes, claims, only_claims, takes_on}
 
 -- trees one after another
 abbrev pub pres : List Tree → List ℕ

@@ -1,7 +1,8 @@
-mod Claiming
+mod Collecting
 mod Drops
 mod Growing
 mod Meeting
 mod Pacing
 mod Planting
+mod Single
 mod Tested

@@ -16,7 +16,7 @@ use Rattle.kc_found.specs.RbFinite.{Tree, Leaf, Node, inorder, IsRb, IsFirst, Rb
 use Rattle.kc_found.specs.RbTrees.{Reads, RbCourse, blacks, bound_of, course_of, differs, head_at, head_claims, head_site, is_red, key_fault, keys_at, left_spot, leftmost_claims, link_fault, links_at, links_of, node_site, reads_of, right_spot, root_spot, site_with, where_ok, broken_by}
 use Rattle.kc_found.specs.Trials.{Trial, passed, claimed_in, IsUnbroken}
 use Rattle.kc_found.specs.Violations.{Violation, missed}
-use Rattle.kc_shape.proofs.Claiming.{Takes, claims, distinct_takes, from_claims, only_claims, takes_distinct, takes_on, takes_parts}
+use Rattle.kc_shape.specs.Claiming.{Takes, claims, distinct_takes, from_claims, only_claims, takes_distinct, takes_on, takes_parts}
 use Rattle.kc_rb.specs.Faults.{or_else}
 use Rattle.kc_shape.specs.Laws.{OnlyTreesPass, TreesPass}
 use Rattle.kc_shape.specs.Trees.{entered, headed, is_first, is_tree, is_tree_of, listed, popped, pre, turn}

@@ -17,7 +17,7 @@ use Rattle.kc_laws.specs.Lists.{not_true, turned, turned_some}
 use Rattle.kc_shape.specs.declared.words.Linking.{Linking}
 use Rattle.kc_shape.specs.Laws.{HashChainsAreTested, RingsAreTested}
 use Rattle.kc_shape.specs.Rings.{Want, all_met, are_nodes, hash_linking, hash_wants, is_hash_chain, is_node, is_ring, last_or, led_back, met_by, node_wants, ring_linking, ring_wants, then_on}
-use Rattle.kc_shape.proofs.Claiming.{Takes, distinct_takes, takes_distinct, takes_first, takes_more}
+use Rattle.kc_shape.specs.Claiming.{Takes, distinct_takes, takes_distinct, takes_first, takes_more}
 
 -- the physical addresses of words, where they can be read
 abbrev wanted_pas : Reader → List Want → List ℕ

@@ -34,3 +34,7 @@ abbrev pub TreesPass : Type 0
 TreesPass =
     (image : Image) (shape : RbShape) (start : ℕ) (ms : List ℕ) (t : RbTree (reads_of image) shape start ms)
     → (is_tree image shape start (pre t.tree) ≡ true) × (turn [] (pre t.tree) ≡ ms)
+
+-- so a tree's numbers are the only ones that pass
+abbrev pub TreesPassOnce : Type 0
+TreesPassOnce = (image : Image) (shape : RbShape) (start : ℕ) (ns ms : List ℕ) → is_tree image shape start ns ≡ true → is_tree image shape start ms ≡ true → ns ≡ ms

@@ -1,4 +1,6 @@
 pub mod Answers
+pub mod Claiming
+pub mod Collected
 pub mod Laws
 pub mod Rings
 pub mod Trees

@@ -15,8 +15,8 @@ pub enum Halt {
     NoMemory,
 }
 
-// What a stop of a walk means to a test.
-pub(crate) fn halt_of(stop: WalkStop) -> Halt
+/// What a stop of a walk means to a test: a violation, that the list is unfit.
+pub fn halt_of(stop: WalkStop) -> Halt
     ensures { result ≡ halt_of stop }
 {
     match stop {

@@ -1,7 +1,7 @@
 // A ring, a hash chain and a red-black tree over a few words.
 ghost use Rattle.std.specs.Prelude.{◌≡◌, ◌<◌};
 
-use crate::{test_chain, test_ring, test_tree, turned};
+use crate::{collect_tree, test_chain, test_ring, test_tree, turned};
 use kc_found::{HShape, ListShape, ListSpace, Origin, RbShape, VWord, Walked};
 use kc_word::Steps;
 use std::alloc::{AllocError, Global};
@@ -72,6 +72,17 @@ fn list_of(alloc: Global, numbers: &[u64]) -> Result<Walked, AllocError> {
     Ok(list)
 }
 
+const TREE: RbShape = RbShape {
+    parent_color: 0,
+    right: 8,
+    left: 16,
+    root: 0,
+    leftmost: None,
+    link: 0,
+    key: None,
+    unique: false,
+};
+
 // What the three tests answer on these lists.
 fn answers<L: Ledger>(alloc: Global, lists: [&[u64]; 3], blank: Blank) -> Result<String, AllocError>
     requires name { blank.name ≡ L.name }
@@ -90,19 +101,23 @@ fn answers<L: Ledger>(alloc: Global, lists: [&[u64]; 3], blank: Blank) -> Result
     };
     let nodes = list_of(alloc, lists[1])?;
     let second = test_chain(alloc, &mut space, &chain, 4000, &nodes, &mut steps);
-    let tree = RbShape {
-        parent_color: 0,
-        right: 8,
-        left: 16,
-        root: 0,
-        leftmost: None,
-        link: 0,
-        key: None,
-        unique: false,
-    };
     let numbers = list_of(alloc, lists[2])?;
-    let third = test_tree(alloc, &mut space, &tree, 7000, &numbers, &mut steps);
+    let third = test_tree(alloc, &mut space, &TREE, 7000, &numbers, &mut steps);
     format!(in alloc; "{first:?} {second:?} {third:?}")
+}
+
+// The numbers of the tree, by its nodes from left to right.
+fn numbers_by<L: Ledger>(alloc: Global, nodes: &Walked, blank: Blank) -> Result<Walked, AllocError>
+    requires name { blank.name ≡ L.name }
+    requires parts { blank.parts ≡ L.parts }
+    requires some { 0 < L.parts }
+{
+    let mut space = space_of(alloc)?;
+    let mut steps = Steps::<L>::new(blank);
+    match collect_tree(alloc, &mut space, &TREE, 7000, nodes, &mut steps) {
+        Ok(numbers) => Ok(numbers),
+        Err(_) => Err(AllocError),
+    }
 }
 
 #[test]
@@ -115,5 +130,7 @@ fn lists_are_shapes_or_not(rt: HostRuntime) -> Result<(), Fail> {
     let numbers = list_of(alloc, &[7104, 7204, 0, 0, 7304, 0, 0])?;
     let nodes = turned(alloc, &numbers).map_err(|_| AllocError)?;
     assert_eq!(rt; nodes.as_slice(), [7204, 7104, 7304].as_slice());
+    let collected = numbers_by::<Brand>(alloc, &nodes, Blank::new(1))?;
+    assert_eq!(rt; collected.as_slice(), numbers.as_slice());
     Ok(())
 }

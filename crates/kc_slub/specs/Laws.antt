@@ -4,9 +4,11 @@ use Rattle.kc_memory.specs.Bits.{Number}
 use Rattle.kc_memory.specs.Image.{Image}
 use Rattle.kc_memory.specs.Places.{AllStandIn}
 use Rattle.kc_found.specs.declared.asked.Asked.{Asked}
+use Rattle.kc_found.specs.declared.free.FreeLed.{FreeLed}
 use Rattle.kc_found.specs.declared.free.Grid.{Grid}
 use Rattle.kc_found.specs.FiniteLists.{FreeChain}
-use Rattle.kc_found.specs.FreeLists.{IsGrid, free_list, low_word, number_in}
+use Rattle.kc_found.specs.FreeLists.{IsGrid, free_chain, free_list, low_word, number_in}
+use Rattle.kc_found.specs.Going.{IsChain}
 use Rattle.kc_found.specs.Violations.{Violation, places_by}
 use Rattle.kc_view.specs.declared.slub.SlubShape.{SlubShape}
 use Rattle.kc_view.specs.Caches.{cache_slabs}
@@ -18,6 +20,11 @@ FreeListsAreWalked =
     (image : Image) (grid : Grid) (first : Number) (asked : Asked) (os : List ℕ) → IsGrid grid
     → (FreeChain (number_in image) grid (low_word first.value) os → free_list image grid first asked ≡ Ok os)
     × (free_list image grid first asked ≡ Ok os → FreeChain (number_in image) grid (low_word first.value) os)
+
+-- a free list is a chain, whose sites each take a word of the memory
+abbrev pub FreeListsAreChains : Type 0
+FreeListsAreChains =
+    (image : Image) (grid : Grid) (asked : Asked) (first : FreeLed) → IsChain image.physical (free_chain (number_in image) grid asked first)
 
 -- what a free list's violation shows is true of the dump, where that is what shows the slab's own pointer
 abbrev pub FreePlacesStand : Type 0

@@ -128,8 +128,13 @@ fn led_by(led: &FreeLed) -> Option<Scalar>
     if led.is_first { None } else { Some(led.by) }
 }
 
-// Enters the object that a pointer leads to, and gives its own pointer.
-fn enter_object<S: Space, L: Ledger>(
+/// Enters the object that a pointer leads to, and gives its own pointer: rule U5 of the pointer that leads there, and then the free
+/// pointer is read and its words are taken.
+///
+/// # Errors
+///
+/// The first violation, a failure of the space, whose count of faults then rose, or out of memory.
+pub fn enter_object<S: Space, L: Ledger>(
     alloc: Global,
     space: &mut S,
     grid: &Grid,
@@ -156,8 +161,8 @@ fn enter_object<S: Space, L: Ledger>(
     enter_number(alloc, space, asked, claims, at, led_by(led), steps)
 }
 
-// What leads on from an object, by its pointer.
-fn free_next(grid: &Grid, led: &FreeLed, number: Scalar) -> FreeLed
+/// What leads on from an object, by its pointer.
+pub fn free_next(grid: &Grid, led: &FreeLed, number: Scalar) -> FreeLed
     ensures { result ≡ free_next grid.now led.now number }
 {
     FreeLed {

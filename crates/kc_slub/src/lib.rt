@@ -11,7 +11,7 @@ mod walk;
 mod walks;
 
 pub use counted::free_walk_counted;
-pub use free::{decode, free_walk};
+pub use free::{decode, enter_object, free_next, free_walk};
 pub use kept::Kept;
 pub use laws::{know_caches, know_free_lists};
 pub use walk::{cache_walk, cache_walk_by};

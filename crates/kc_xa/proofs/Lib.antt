@@ -9,6 +9,7 @@ pub mod Rows
 pub mod SameWords
 pub mod Shaping
 pub mod Showing
+pub mod Sites
 pub mod SlotWords
 pub mod Spending
 pub mod Standing

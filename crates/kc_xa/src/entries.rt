@@ -37,8 +37,8 @@ pub(crate) fn kind_of(chunk: u64, entry: u64) -> XaEntry
     XaEntry::Bad
 }
 
-// Does nothing. A node has 16 or 64 slots.
-pub(crate) fn know_chunk(shape: &XaShape)
+/// Does nothing. A node has 16 or 64 slots.
+pub fn know_chunk(shape: &XaShape)
     ensures is { IsChunk shape.now.chunk }
     ensures small { shape.now.chunk ≤ 64 }
     ensures some { 2 ≤ shape.now.chunk }
@@ -46,8 +46,8 @@ pub(crate) fn know_chunk(shape: &XaShape)
     let _chunk = shape.chunk;
 }
 
-// What a word of an xarray holds.
-pub(crate) fn entry_of(shape: &XaShape, word: &VWord) -> XaEntry
+/// What a word of an xarray holds.
+pub fn entry_of(shape: &XaShape, word: &VWord) -> XaEntry
     ensures { result ≡ Rattle.kc_found.specs.XaEntries.kind shape.now.chunk word.now.value }
 {
     kind_of(shape.chunk, word.value)
@@ -73,8 +73,8 @@ fn may_name(chunk: u64, slots: &Items<VWord>, slot: u64) -> bool
     }
 }
 
-// The index of a slot, where it is below 2^64.
-pub(crate) fn index_of(base: u64, slot: u64, shift: u64) -> Option<u64>
+/// The index of a slot, where it is below 2^64, by the index of its node's slot 0 and the node's shift.
+pub fn index_of(base: u64, slot: u64, shift: u64) -> Option<u64>
     requires small { shift ≤ 60 }
     requires slot { slot < 64 }
     ensures { result ≡ fit (base + slot * 2 ^ shift) }
@@ -87,8 +87,8 @@ pub(crate) fn index_of(base: u64, slot: u64, shift: u64) -> Option<u64>
     }
 }
 
-// The first rule that an entry in a slot breaks.
-pub(crate) fn slot_fault(
+/// The first rule that an entry in a slot breaks: X7, X8 or X9.
+pub fn slot_fault(
     chunk: u64,
     slots: &Items<VWord>,
     shift: u64,
@@ -117,8 +117,8 @@ pub(crate) fn slot_fault(
     }
 }
 
-// The first rule that the head's entry breaks.
-pub(crate) fn head_fault(kind: XaEntry) -> Option<Rule>
+/// The first rule that the head's entry breaks: X7.
+pub fn head_fault(kind: XaEntry) -> Option<Rule>
     ensures { result ≡ Rattle.kc_found.specs.XaEntries.head_fault kind }
 {
     match kind {

@@ -1,5 +1,6 @@
 // What the definitions of walks say, for a reader to believe and a caller to learn.
 ghost use Rattle.kc_xa.specs.Laws.{IndexesRise, XarrayOrViolation, XarrayPlacesStand, XarraysAreWalked};
+ghost use Rattle.kc_xa.specs.Nodes.{EntriesAreGood, HeadsAreGood, NodesAreGood};
 
 use kc_found::know_places;
 
@@ -14,3 +15,11 @@ pub fn know_xarrays()
 {
     know_places();
 }
+
+/// Does nothing. No trial of a node, of a slot's entry or of the head's breaks a rule exactly where the definition of a finite
+/// xarray has it so.
+pub fn know_nodes()
+    ensures nodes { NodesAreGood }
+    ensures entries { EntriesAreGood }
+    ensures heads { HeadsAreGood }
+{}

@@ -15,8 +15,14 @@ use kc_word::Steps;
 use std::alloc::Global;
 use std::sync::ledger::Ledger;
 
-// Opens the node that the entry `led` leads to, with the index of its first slot.
-pub(crate) fn open_node<S: Space, L: Ledger>(
+/// Opens the node that the entry `led` leads to, with the index of its first slot: its words are read and taken, and its own rules
+/// X1 to X6 hold.
+///
+/// # Errors
+///
+/// The first violation there, exactly where there is one; a failure of the space, whose count of faults then rose; or out of
+/// memory.
+pub fn open_node<S: Space, L: Ledger>(
     alloc: Global,
     space: &mut S,
     shape: &XaShape,

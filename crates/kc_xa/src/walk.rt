@@ -22,8 +22,12 @@ use kc_word::Steps;
 use std::alloc::Global;
 use std::sync::ledger::Ledger;
 
-// The word `xa_head`.
-fn read_head<S: Space, L: Ledger>(
+/// The word `xa_head`.
+///
+/// # Errors
+///
+/// The violation that it can't be read, a failure of the space, whose count of faults then rose, or out of memory.
+pub fn read_head<S: Space, L: Ledger>(
     alloc: Global,
     space: &mut S,
     shape: &XaShape,

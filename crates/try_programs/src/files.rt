@@ -22,6 +22,7 @@ pub struct CaseFiles {
     plan: Vec<u8>,
     /// `z.mod`.
     pub split: Vec<u8>,
+    cert: Vec<u8>,
     missing: Vec<String>,
 }
 
@@ -141,6 +142,20 @@ fn plan_text(alloc: Global, lines: &str, texts: &Texts) -> Result<Vec<u8>, Alloc
     Ok(text)
 }
 
+// The certificate: its `cert` lines and the text of a `cert_end` line, after which no newline stands, or so many zeros.
+fn cert_text(alloc: Global, lines: &str) -> Result<Vec<u8>, AllocError> {
+    let mut text = Vec::new(alloc);
+    for line in lines.lines() {
+        match line.split_once(' ').unwrap_or((line, "")) {
+            ("cert", value) => push_line(&mut text, value)?,
+            ("cert_end", value) => text.extend_from_slice(value.as_bytes())?,
+            ("cert_size", length) => return vec![in alloc; 0; small(length)],
+            _ => {}
+        }
+    }
+    Ok(text)
+}
+
 impl CaseFiles {
     /// The files that the lines of a case tell: those of so many made items, or else the usual ones with what is changed of them.
     /// `without` a name, that file isn't there.
@@ -162,6 +177,7 @@ impl CaseFiles {
             map: map_text(alloc, lines)?,
             plan: plan_text(alloc, lines, texts)?,
             split: split_file(alloc, lines)?,
+            cert: cert_text(alloc, lines)?,
             missing,
         })
     }
@@ -180,6 +196,7 @@ impl CaseFiles {
             map: Vec::from_slice(alloc, files.map.as_slice())?,
             plan: Vec::from_slice(alloc, files.plan.as_slice())?,
             split: Vec::new(alloc),
+            cert: Vec::new(alloc),
             missing: Vec::new(alloc),
         })
     }
@@ -197,6 +214,7 @@ impl CaseFiles {
             ("z.map", &self.map),
             ("z.plan", &self.plan),
             ("z.mod", &self.split),
+            ("z.cert", &self.cert),
         ] {
             if !self.is_missing(name) {
                 store.add(name, bytes)?;

@@ -13,6 +13,7 @@
 //!   `planned` is a plan by its name. `types_size`, `map_size`, `plan_size` and `plan_spaces` are lengths of files of zeros or spaces.
 //! - `module` are numbers of a module's types, in decimal or behind `0x`, and `names` names behind them; `module_bytes`, `module_length` and
 //!   `module_size` are as those of the types.
+//! - `cert` are lines of a certificate, `cert_end` is text after them that no newline ends, and `cert_size` is the length of a file of zeros.
 //! - `made` are the files of so many made items, and `spine` makes a spine of their tree.
 //! - `status`, `out`, `err` and `usage` are what is wanted, and `call` is a call of the store, and then of the sinks, in its order.
 #![tactic(auto)]
@@ -31,7 +32,7 @@ use crate::trying::{try_calls, try_each, try_lengths};
 use std::io;
 
 // The files of cases of kaudit.
-const KAUDIT: [&str; 26] = [
+const KAUDIT: [&str; 28] = [
     "pages",
     "segments",
     "stops",
@@ -58,6 +59,8 @@ const KAUDIT: [&str; 26] = [
     "modules",
     "failing",
     "loops",
+    "certificates",
+    "certified",
 ];
 
 // Those of kmatch.

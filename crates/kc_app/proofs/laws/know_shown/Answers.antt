@@ -1,6 +1,6 @@
 use Rattle.kc_app.proofs.Ends.{checks_end, checks_stand, roots_are_told}
 use Rattle.kc_app.proofs.ModuleEnds.{module_checks_end}
-use Rattle.kc_app.proofs.Stands.{shown_stand}
+use Rattle.kc_app.proofs.Replies.{shown_stand}
 use Rattle.kc_app.proofs.laws.know_shown.Goals as goal
 
 pub returns-clause-shown : goal.returns-clause-shown
@@ -18,3 +18,6 @@ returns-clause-ends c = checks_end (checks_stand c.know_verdicts.ensures.clean c
 
 pub returns-clause-module_ends : goal.returns-clause-module_ends
 returns-clause-module_ends c = module_checks_end (checks_stand c.know_verdicts.ensures.clean c.know_verdicts.ensures.first)
+
+pub returns-clause-texts : goal.returns-clause-texts
+returns-clause-texts c = c.know_texts.ensures

@@ -1,18 +1,18 @@
 use Rattle.std.proofs.Common.{map}
 use Rattle.std.specs.String.{string_bytes}
-use Rattle.kc_ends.specs.Ending.{fails, parts, tells}
-use Rattle.kc_app.specs.Commands.{command, usage_text}
-use Rattle.kc_app.specs.Shown.{shown_written}
+use Rattle.kc_app.specs.Program.{usage_text}
 use Rattle.kc_app.proofs.Calls.{done_at, few}
+use Rattle.kc_app.proofs.CertEnds.{answer_certifies, answer_rechecks}
 use Rattle.kc_app.proofs.Ends.{answer_ends, answer_prints, answer_true}
+use Rattle.kc_app.proofs.Fitted.{failed_by, part_by, told_by, unopened_by}
 use Rattle.kc_app.proofs.ModuleEnds.{module_answer_ends, module_answer_prints}
 use Rattle.kc_app.proofs.Selftests.{answers_or_memory}
 use Rattle.kc_app.proofs.top.kaudit.Goals as goal
 
 pub returns-clause-told : goal.returns-clause-told
 returns-clause-told g c =
-    tells usage_text shown_written (command (map string_bytes c.args.words.now)) (g.S.Store.files c.args.store.now) c.run-outcome.result _ _ c.finish.result (g.O.Sink.taken c.args.out.now) (g.O.Sink.taken c.finish.new.out) (g.E.Sink.taken c.args.err.now) (g.E.Sink.taken c.finish.new.err)
-    c.run-outcome.ensures.output c.finish.ensures.told
+    told_by (map string_bytes c.args.words.now) (g.S.Store.files c.args.store.now) c.run_any-outcome.result _ _ c.finish.result (g.O.Sink.taken c.args.out.now) (g.O.Sink.taken c.finish.new.out) (g.E.Sink.taken c.args.err.now) (g.E.Sink.taken c.finish.new.err)
+    c.run_any-outcome.ensures.output c.finish.ensures.told
 
 pub returns-clause-stands : goal.returns-clause-stands
 returns-clause-stands g c =
@@ -39,24 +39,39 @@ returns-clause-shown g c =
     answer_true c.know_shown.ensures.shown (map string_bytes c.args.words.now) (g.S.Store.files c.args.store.now) c.finish.result (g.O.Sink.taken c.args.out.now) (g.O.Sink.taken c.finish.new.out) (g.E.Sink.taken c.args.err.now) (g.E.Sink.taken c.finish.new.err)
     (returns-clause-told g c)
 
+pub returns-clause-certified : goal.returns-clause-certified
+returns-clause-certified g c =
+    answer_certifies c.know_shown.ensures.checked (map string_bytes c.args.words.now) (g.S.Store.files c.args.store.now) c.finish.result (g.O.Sink.taken c.args.out.now) (g.O.Sink.taken c.finish.new.out) (g.E.Sink.taken c.args.err.now) (g.E.Sink.taken c.finish.new.err)
+    (returns-clause-told g c)
+
+pub returns-clause-rechecked : goal.returns-clause-rechecked
+returns-clause-rechecked g c =
+    answer_rechecks c.know_shown.ensures.texts (map string_bytes c.args.words.now) (g.S.Store.files c.args.store.now) c.finish.result (g.O.Sink.taken c.args.out.now) (g.O.Sink.taken c.finish.new.out) (g.E.Sink.taken c.args.err.now) (g.E.Sink.taken c.finish.new.err)
+    (returns-clause-told g c)
+
+pub returns-clause-unopened : goal.returns-clause-unopened
+returns-clause-unopened g c =
+    unopened_by (map string_bytes c.args.words.now) (g.S.Store.files c.args.store.now) c.run_any-outcome.result _ _ c.finish.result (g.O.Sink.taken c.args.out.now) (g.O.Sink.taken c.finish.new.out) (g.E.Sink.taken c.args.err.now) (g.E.Sink.taken c.finish.new.err)
+    c.run_any-outcome.ensures.output c.finish.ensures.told
+
 pub returns-clause-out_part : goal.returns-clause-out_part
 returns-clause-out_part g c =
-    parts usage_text shown_written (command (map string_bytes c.args.words.now)) (g.S.Store.files c.args.store.now) c.run-outcome.result _ _ c.finish.result (g.O.Sink.faults c.args.out.now) (g.O.Sink.faults c.finish.new.out) (g.O.Sink.taken c.args.out.now) (g.O.Sink.taken c.finish.new.out)
-    c.run-outcome.ensures.output c.finish.ensures.out_part
+    part_by (map string_bytes c.args.words.now) (g.S.Store.files c.args.store.now) c.run_any-outcome.result _ _ c.finish.result (g.O.Sink.faults c.args.out.now) (g.O.Sink.faults c.finish.new.out) (g.O.Sink.taken c.args.out.now) (g.O.Sink.taken c.finish.new.out)
+    c.run_any-outcome.ensures.output c.finish.ensures.out_part
 
 pub returns-clause-err_failed : goal.returns-clause-err_failed
 returns-clause-err_failed g c =
-    fails usage_text shown_written (command (map string_bytes c.args.words.now)) (g.S.Store.files c.args.store.now) c.run-outcome.result _ _ c.finish.result (g.S.Store.faults c.args.store.now) (g.S.Store.faults c.run-outcome.new.store) (g.O.Sink.faults c.args.out.now) (g.O.Sink.faults c.finish.new.out) (g.E.Sink.taken c.args.err.now) (g.E.Sink.taken c.finish.new.err)
-    c.run-outcome.ensures.output c.run-outcome.ensures.cause c.finish.ensures.err_failed
+    failed_by (map string_bytes c.args.words.now) (g.S.Store.files c.args.store.now) c.run_any-outcome.result _ _ c.finish.result (g.S.Store.faults c.args.store.now) (g.S.Store.faults c.run_any-outcome.new.store) (g.O.Sink.faults c.args.out.now) (g.O.Sink.faults c.finish.new.out) (g.E.Sink.taken c.args.err.now) (g.E.Sink.taken c.finish.new.err)
+    c.run_any-outcome.ensures.output c.run_any-outcome.ensures.cause c.finish.ensures.err_failed
 
 pub returns-clause-selftest_complete : goal.returns-clause-selftest_complete
 returns-clause-selftest_complete g c named out err =
-    answers_or_memory c.finish.result c.run-outcome.result (c.run-outcome.ensures.selftest_sure named) c.finish.ensures.store_failed c.finish.ensures.sink_failed out err
+    answers_or_memory c.finish.result c.run_any-outcome.result (c.run_any-outcome.ensures.selftest_sure named) c.finish.ensures.store_failed c.finish.ensures.sink_failed out err
 
 pub returns-clause-layout : goal.returns-clause-layout
-returns-clause-layout g c = λ layout. few g.S.Store.faults g.S.Store.asked c.run-outcome.result c.args.store.now c.run-outcome.new.store (c.run-outcome.ensures.layout layout)
+returns-clause-layout g c = λ layout. few g.S.Store.faults g.S.Store.asked c.run_any-outcome.result c.args.store.now c.run_any-outcome.new.store (c.run_any-outcome.ensures.layout layout)
 
 pub returns-clause-layout_done : goal.returns-clause-layout_done
 returns-clause-layout_done g c = λ layout.
-    done_at g.S.Store.faults g.S.Store.asked usage_text c.run-outcome.result c.args.store.now c.run-outcome.new.store c.finish.result (g.O.Sink.taken c.args.out.now) (g.O.Sink.taken c.finish.new.out) (g.E.Sink.taken c.args.err.now) (g.E.Sink.taken c.finish.new.err)
-    (c.run-outcome.ensures.layout layout) c.finish.ensures.told
+    done_at g.S.Store.faults g.S.Store.asked usage_text c.run_any-outcome.result c.args.store.now c.run_any-outcome.new.store c.finish.result (g.O.Sink.taken c.args.out.now) (g.O.Sink.taken c.finish.new.out) (g.E.Sink.taken c.args.err.now) (g.E.Sink.taken c.finish.new.err)
+    (c.run_any-outcome.ensures.layout layout) c.finish.ensures.told

@@ -4,7 +4,6 @@ use Rattle.kc_plan.specs.Planned.{audit_seen}
 use Rattle.kc_plan.specs.Views.{plan_seen}
 use Rattle.kc_cert.specs.Answers.{progress}
 use Rattle.kc_cert.specs.Certificates.{roots_judged}
-use Rattle.kc_cert.specs.Size.{size}
 use Rattle.kc_cert.proofs.Judging.{roots_go, roots_halt}
 use Rattle.kc_cert.proofs.against.enter_roots.Goals as goal
 

@@ -1,15 +1,16 @@
-use Rattle.std.proofs.Common.{arith, ◌∙◌, length, refl, sym, ap, List, ℕ, slice_get, drop, ◌+◌}
+use Rattle.std.proofs.Common.{arith, subst, ◌∙◌, length, refl, sym, ap, List, ℕ, slice_get, ◌+◌}
 use Rattle.std.proofs.lemmas.List.{length-map}
+use Rattle.std.proofs.lemmas.Option.{get_or_from_slice_get}
+use Rattle.kc_plan.specs.Inside.{IsInside}
 use Rattle.kc_memory.specs.Stays.{stays_on}
 use Rattle.kc_view.specs.Typed.{Typed}
-use Rattle.kc_layout.specs.HopList.{hop_list}
 use Rattle.kc_plan.specs.Planned.{audit_seen}
 use Rattle.kc_plan.specs.Views.{plan_seen}
-use Rattle.kc_run_laws.specs.Runs.{between_goes, between_here, hops_few, pointers_cost}
+use Rattle.kc_run_laws.specs.Runs.{between_goes, between_here}
 use Rattle.kc_cert.specs.Answers.{progress}
 use Rattle.kc_cert.proofs.Few.{each_few}
-use Rattle.kc_cert.proofs.Judging.{elements_judged, enter_breaks, enter_goes, enter_misses, enter_skips, looked, node_judged, none_left, step_goes, step_halts, turn_begins, turn_ends, turn_goes, turn_halts, under}
-use Rattle.kc_cert.proofs.Spending.{below_pays, halt_pays, nodes_short, size_at, step_pays}
+use Rattle.kc_cert.proofs.Judging.{elements_judged, enter_breaks, enter_goes, enter_misses, enter_skips, looked, node_judged, step_goes, step_halts, turn_goes, turn_halts, under}
+use Rattle.kc_cert.proofs.Spending.{below_pays, few_nodes, halt_pays, size_at, step_pays}
 use Rattle.kc_cert.proofs.nest.+nested.Goals as goal
 
 pub enter-returns-in-Ok-At-clause-judged : goal.enter-returns-in-Ok-At-clause-judged
@@ -47,7 +48,10 @@ enter-look-requires g t c κs within = (
             c.requires.counted,
             (
               c.audit-audit.ensures.later,
-              each_few (plan_seen c.args.known.now.plan.now) c.args.base.now.audit c.args.base.now.audit (audit_seen c.audit-audit.result.now) c.audit-audit.ensures.seen (rw (sym (length-map c.args.known.now.plan.now.audits audit_seen)) at c.audit-audit.ensures.later) c.args.known.now.plan.now.once (omega (arith, length-map c.args.known.now.plan.now.audits audit_seen, c.args.known.now.plan.now.few)),
+              (
+                each_few (plan_seen c.args.known.now.plan.now) c.args.base.now.audit c.args.base.now.audit (audit_seen c.audit-audit.result.now) c.audit-audit.ensures.seen (rw (sym (length-map c.args.known.now.plan.now.audits audit_seen)) at c.audit-audit.ensures.later) c.args.known.now.plan.now.once (omega (arith, length-map c.args.known.now.plan.now.audits audit_seen, c.args.known.now.plan.now.few)),
+                (subst (IsInside (length c.args.known.now.btf.now.records)) (get_or_from_slice_get c.args.known.now.plan.now.audits c.args.base.now.audit c.audit-audit.result.now c.audit-audit.result.now c.audit-audit.ensures.at) (c.requires.types c.args.base.now.audit c.audit-audit.result.now c.requires.inside)).kind,
+              ),
             ),
           ),
         ),
@@ -64,7 +68,7 @@ look-returns-in-Err-test_step-clause-judged g t c =
 pub look-returns-in-Err-test_step-clause-steps : goal.look-returns-in-Err-test_step-clause-steps
 look-returns-in-Err-test_step-clause-steps g t c =
     halt_pays c.args.steps.now c.test_step.new.steps _ _ _ _ c.in-Err-test_step.ensures.steps (size_at c.args.known.now.cert.now c.args.cursor.now.at c.get-step.result.now c.get-step.ensures)
-    (nodes_short c.args.audit.now.kind c.get-step.result.now.lists c.in-Ok.nodes c.in-Ok.ensures)
+    (few_nodes c.know_walked.ensures.long c.args.audit.now.kind c.get-step.result.now.lists c.in-Ok.nodes c.in-Ok.ensures)
 
 pub look-loop-i-init : goal.look-loop-i-init
 look-loop-i-init g t c = (
@@ -74,7 +78,7 @@ look-loop-i-init g t c = (
   c.in-Ok-test_step.ensures.cause,
   c.count_walk.ensures.size,
   step_pays c.args.steps.now c.test_step.new.steps _ _ _ _ _ (ap (λ (xs : List ℕ). length xs) c.nodes.view_is) c.in-Ok-test_step.ensures.steps (size_at c.args.known.now.cert.now c.args.cursor.now.at c.get-step.result.now c.get-step.ensures)
-      (nodes_short c.args.audit.now.kind c.get-step.result.now.lists c.in-Ok.nodes c.in-Ok.ensures),
+      (few_nodes c.know_walked.ensures.long c.args.audit.now.kind c.get-step.result.now.lists c.in-Ok.nodes c.in-Ok.ensures),
 )
 
 pub look-returns-in-Err-look_below-clause-judged : goal.look-returns-in-Err-look_below-clause-judged

@@ -1,6 +1,6 @@
 -- Words that are taken one after the other, as trials of nothing else.
 use Rattle.std.proofs.Common.{◌≡◌, ℕ, nat_eq, Bool, true, false, List, [], ◌∷◌, ◌++◌, None, refl, sym, ◌∙◌, ap, subst}
-use Rattle.std.specs.Prelude.{Result, Ok, Err, if◌then◌else◌}
+use Rattle.std.specs.Prelude.{Result, Ok, Err, OnOk, if◌then◌else◌}
 use Rattle.std.specs.List.{IsDistinct}
 use Rattle.kc_memory.specs.declared.rule.Rule.TheVariants.{A}
 use Rattle.kc_found.specs.Taken.{is_taken, with_word}
@@ -39,12 +39,15 @@ takes_distinct ws t = subst (IsDistinct nat_eq) (claims_are ws) (passed_is {X = 
 pub distinct_takes : (ws : List ℕ) → IsDistinct nat_eq ws → Takes [] ws
 distinct_takes ws d = passes {X = ℕ} (claims ws) (claims_whole ws) (subst (IsDistinct nat_eq) (sym (claims_are ws)) d)
 
--- a test, and what goes on behind it
-abbrev tested : Bool → Violation → List ℕ → ℕ → List (Trial ℕ) → Result (List ℕ) Violation
+-- a test, and what goes on after it
+abbrev tested : {X : Type 0} → Bool → Violation → List ℕ → ℕ → List (Trial X) → Result (List ℕ) Violation
 tested b v taken w ts = and_then (if b then Err v else Ok (with_word taken w)) (λ more. passed more ts)
 
-goes : (b : Bool) (v : Violation) (taken more : List ℕ) (w : ℕ) (ts : List (Trial ℕ)) → tested b v taken w ts ≡ Ok more → (b ≡ false) × (passed (with_word taken w) ts ≡ Ok more)
-goes true v taken more w ts e = absurd (cc)
+no_err : (v : Violation) (more : List ℕ) → ◌≡◌ {A = Result (List ℕ) Violation} (Err v) (Ok more) → ⊥
+no_err v more e = subst (λ (r : Result (List ℕ) Violation). OnOk r ⊥) e tt
+
+goes : {X : Type 0} (b : Bool) (v : Violation) (taken more : List ℕ) (w : ℕ) (ts : List (Trial X)) → tested b v taken w ts ≡ Ok more → (b ≡ false) × (passed (with_word taken w) ts ≡ Ok more)
+goes true v taken more w ts e = absurd (no_err v more e)
 goes false v taken more w ts e = (refl, e)
 
 pub takes_more : (taken ws : List ℕ) (w : ℕ) → is_taken taken w ≡ false → Takes (with_word taken w) ws → Takes taken (w ∷ ws)
@@ -65,16 +68,16 @@ takes_parts taken (x ∷ xs) ys t =
     (rest.0, ap (λ b. tested b again taken x (claims xs)) first.0 ∙ rest.1, rest.2)
 
 -- trials that pass take their words
-pub only_claims : (taken : List ℕ) (ts : List (Trial ℕ)) (more : List ℕ) → passed taken ts ≡ Ok more → passed taken (claims (claimed_in ts)) ≡ Ok more
+pub only_claims : {X : Type 0} (taken : List ℕ) (ts : List (Trial X)) (more : List ℕ) → passed taken ts ≡ Ok more → passed taken (claims (claimed_in ts)) ≡ Ok more
 only_claims taken [] more e = e
 only_claims taken (Claim w v ∷ ts) more e =
     let parts = goes (is_taken taken w) v taken more w ts e in
     ap (λ b. tested b again taken w (claims (claimed_in ts))) parts.0 ∙ only_claims (with_word taken w) ts more parts.1
-only_claims taken (Break v ∷ ts) more e = absurd (cc)
+only_claims taken (Break v ∷ ts) more e = absurd (no_err v more e)
 only_claims taken (Meet x ∷ ts) more e = only_claims taken ts more e
 
 -- and trials that break no rule pass where their words are taken
-pub from_claims : (taken : List ℕ) (ts : List (Trial ℕ)) (more : List ℕ) → IsUnbroken ts → passed taken (claims (claimed_in ts)) ≡ Ok more → passed taken ts ≡ Ok more
+pub from_claims : {X : Type 0} (taken : List ℕ) (ts : List (Trial X)) (more : List ℕ) → IsUnbroken ts → passed taken (claims (claimed_in ts)) ≡ Ok more → passed taken ts ≡ Ok more
 from_claims taken [] more u e = e
 from_claims taken (Claim w v ∷ ts) more u e =
     let parts = goes (is_taken taken w) again taken more w (claims (claimed_in ts)) e in

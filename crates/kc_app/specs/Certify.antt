@@ -1,0 +1,39 @@
+-- `certify`: a certificate of the structures of a kernel, by a plan.
+use Rattle.std.specs.Prelude.{ℕ, List, [], ◌∷◌, codes, Option, Some, None}
+use Rattle.kc_outside.specs.declared.store.Slot.TheVariants as slot
+use Rattle.kc_found.specs.declared.verdict.Verdict.{Verdict}
+use Rattle.kc_found.specs.declared.verdict.Verdict.TheVariants.{Clean, Broken}
+use Rattle.kc_plan.specs.Verdicts.{verdict}
+use Rattle.kc_input.specs.Made.{◌>>=◌, Made, gives}
+use Rattle.kc_ends.specs.Asked.{Asked}
+use Rattle.kc_app.specs.Check.{Audited, Files, audited, check_asked, names_of, verdict_shown}
+use Rattle.kc_app.specs.Form.{Form}
+use Rattle.kc_app.specs.Reply.{Reply, CertificateOf, Shows}
+
+-- a certificate where the verdict is clean, and else what `check` shows of the verdict
+abbrev pub certified_by : Audited → Verdict → Reply
+certified_by all (Clean counts) = CertificateOf all.image all.audits
+certified_by all (Broken v) = Shows (verdict_shown all.image (names_of all.audits) (Broken v))
+
+-- the verdict is that on all audits, of each version of the plan
+abbrev pub certified : Audited → Reply
+certified all = certified_by all (verdict all.image all.audits)
+
+-- what `certify` makes of its files
+abbrev pub certify_made : Option (List ℕ) → Option (List ℕ) → Option (List ℕ) → Option (List ℕ) → Made Reply
+certify_made dump btf map plan = do
+  all ← audited dump btf map plan
+  gives (certified all)
+
+abbrev pub certify_asked : Files → Asked Reply
+certify_asked f = record {
+  named = (check_asked f).named;
+  made = λ files. certify_made (files slot.Dump) (files slot.Btf) (files slot.Map) (files slot.Plan);
+}
+
+abbrev pub certify_asks : List (List ℕ) → Option (Asked Reply)
+certify_asks (dump ∷ btf ∷ map ∷ plan ∷ []) = Some (certify_asked (record { dump = dump; btf = btf; map = map; plan = plan }))
+certify_asks _ = None
+
+abbrev pub certify_form : Form Reply
+certify_form = record { name = codes "certify"; words = codes "DUMP BTF MAP PLAN" ∷ []; asks = certify_asks }

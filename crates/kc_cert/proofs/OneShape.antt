@@ -1,0 +1,55 @@
+-- No structure has two shapes.
+use Rattle.std.proofs.Common.{◌≡◌, ℕ, Bool, true, List, [], ◌∷◌, refl, sym, ◌∙◌, ap, subst}
+use Rattle.std.specs.Prelude.{Result, Ok, Err}
+use Rattle.kc_memory.specs.Image.{Image}
+use Rattle.kc_found.specs.declared.asked.Asked.{Asked}
+use Rattle.kc_found.specs.Violations.{Violation}
+use Rattle.kc_plan.specs.declared.kind.Kind.{Kind}
+use Rattle.kc_plan.specs.declared.kind.Kind.TheVariants.{Ring, Hlist, Rbtree, Xarray, Slub, Tasks}
+use Rattle.kc_plan.specs.Seen.{nodes_of}
+use Rattle.kc_entries.specs.Laws.{XarraysPassOnce}
+use Rattle.kc_entries.specs.Entries.{is_xarray}
+use Rattle.kc_given.specs.Laws.{CacheListsAreTested, TaskListsAreTested}
+use Rattle.kc_shape.specs.Laws.{TreesPassOnce}
+use Rattle.kc_shape.specs.Trees.{is_tree}
+use Rattle.kc_chains.specs.CachesBy.{cache_lists}
+use Rattle.kc_chains.specs.TasksBy.{task_lists}
+use Rattle.kc_cert.specs.Complete.{ShapesAreWalked}
+use Rattle.kc_cert.specs.Shapes.{is_shape, nodes_in, one_list}
+use Rattle.kc_cert.specs.Single.{ShapesAreOne}
+
+-- what came, where something did
+abbrev value_or : {A : Type 0} → A → Result A Violation → A
+value_or x (Ok y) = y
+value_or x (Err e) = x
+
+ok_is : {A : Type 0} (r : Result A Violation) (x y : A) → r ≡ Ok x → r ≡ Ok y → x ≡ y
+ok_is {A} r x y e f = ap (λ (s : Result A Violation). value_or x s) (sym e ∙ f)
+
+-- a single list that passes
+one_is : (test : List ℕ → Bool) (lists : List (List ℕ)) → one_list test lists ≡ true → (ns : List ℕ) × (lists ≡ ns ∷ []) × (test ns ≡ true)
+one_is test [] e = absurd (cc)
+one_is test (ns ∷ []) e = (ns, refl, e)
+one_is test (ns ∷ more ∷ others) e = absurd (cc)
+
+-- two of them, where no two lists pass
+two_are : (test : List ℕ → Bool) (lists others : List (List ℕ)) → one_list test lists ≡ true → one_list test others ≡ true → ((ns ms : List ℕ) → test ns ≡ true → test ms ≡ true → ns ≡ ms) → lists ≡ others
+two_are test lists others e f once =
+    let a = one_is test lists e in
+    let b = one_is test others f in
+    a.1 ∙ ap (λ ns. ns ∷ []) (once a.0 b.0 a.2 b.2) ∙ sym b.1
+
+pub shapes_once : ShapesAreWalked → TreesPassOnce → XarraysPassOnce → CacheListsAreTested → TaskListsAreTested → ShapesAreOne
+unfolding is_shape
+shapes_once walked trees xarrays caches tasks i (Ring shape) n start lists others e f =
+    two_are _ lists others e f (λ ns ms x y. ok_is (nodes_of i (Ring shape) n start) ns ms (walked i (Ring shape) n start (ns ∷ []) x) (walked i (Ring shape) n start (ms ∷ []) y))
+shapes_once walked trees xarrays caches tasks i (Hlist shape) n start lists others e f =
+    two_are _ lists others e f (λ ns ms x y. ok_is (nodes_of i (Hlist shape) n start) ns ms (walked i (Hlist shape) n start (ns ∷ []) x) (walked i (Hlist shape) n start (ms ∷ []) y))
+shapes_once walked trees xarrays caches tasks i (Rbtree shape) n start lists others e f = two_are (is_tree i shape start) lists others e f (trees i shape start)
+shapes_once walked trees xarrays caches tasks i (Xarray shape) n start lists others e f = two_are (is_xarray i shape start) lists others e f (xarrays i shape start)
+shapes_once walked trees xarrays caches tasks i (Slub shape) n start lists others e f =
+    let asked : Asked = record { audit = n; start = start } in
+    ok_is (cache_lists i shape asked) lists others ((caches i shape asked lists).0 e) ((caches i shape asked others).0 f)
+shapes_once walked trees xarrays caches tasks i (Tasks shape) n start lists others e f =
+    let asked : Asked = record { audit = n; start = start } in
+    ok_is (task_lists i shape asked) lists others ((tasks i shape asked lists).0 e) ((tasks i shape asked others).0 f)

@@ -1,0 +1,10 @@
+mod Growing
+mod Leading
+mod Lowering
+mod Planting
+mod Pointing
+mod Sharing
+mod Single
+mod Standing
+mod Tracing
+mod Whole

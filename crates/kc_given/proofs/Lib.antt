@@ -1,0 +1,9 @@
+mod Same
+mod FreeTests
+mod CachesTake
+mod TasksTake
+mod Keeping
+mod CachesKeep
+mod TasksKeep
+mod GivenLaws
+mod Telling

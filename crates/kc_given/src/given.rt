@@ -1,0 +1,120 @@
+// Chains whose lists are given.
+ghost use Rattle.std.specs.Prelude.{◌≡◌, drop, false, ⊤, IfOk};
+ghost use Rattle.kc_memory.specs.Translation.{vword};
+ghost use Rattle.kc_found.specs.Violations.{is_of_reading};
+ghost use Rattle.kc_found.specs.Walks.{OnBroken, OnWalkFault};
+ghost use Rattle.kc_chains.specs.Given.{free_given, misfit, ring_given};
+ghost use Rattle.kc_shape.specs.Rings.{is_ring};
+ghost use Rattle.kc_given.specs.Ends.{ended};
+ghost use Rattle.kc_given.specs.Tests.{is_free_list};
+
+use crate::free::test_free_list;
+use kc_chains::{Chains, Rings};
+use kc_found::{
+    Asked, Found, Grid, Items, ListShape, Places, Rule, Scalar, Space, WalkStop, Walked, low_word,
+};
+use kc_shape::{Halt, test_ring};
+use kc_word::{NoMemory, Steps};
+use std::alloc::Global;
+use std::sync::ledger::Ledger;
+
+/// Chains come by lists that are given: each takes the next one, where that is its own. A chain without its list is told as a violation
+/// that no word shows.
+#[derive(Drop)]
+pub struct GivenLists<'l> {
+    /// The lists, in the order in which the chains are asked for.
+    pub lists: &'l Items<Walked>,
+    /// How many of them were taken.
+    pub at: usize,
+}
+
+// Another list of the same addresses.
+fn copy_of(alloc: Global, list: &Walked) -> Result<Walked, WalkStop>
+    ensures copied { IfOk result (λ copy. copy ≡ list.now) }
+    ensures broken { OnBroken result ⊥ }
+    ensures no_fault { OnWalkFault result ⊥ }
+{
+    let mut copy = Walked::new(alloc);
+    for at in list.as_slice() {
+        match copy.push(*at) {
+            Ok(()) => {}
+            Err(NoMemory) => return Err(WalkStop::NoMemory),
+        }
+    }
+    Ok(copy)
+}
+
+// How a walk ends at a chain that isn't its list.
+fn ended(alloc: Global, asked: &Asked, rule: Rule, at: u64, halt: Halt) -> WalkStop
+    requires { is_of_reading rule ≡ false }
+    ensures { result ≡ ended asked.now rule at halt }
+{
+    match halt {
+        Halt::Unfit => WalkStop::Broken(Found {
+            audit: asked.audit,
+            start: asked.start,
+            rule,
+            at,
+            expected: None,
+            stop: None,
+            places: Places::new(alloc),
+        }),
+        Halt::Fault => WalkStop::Fault,
+        Halt::NoMemory => WalkStop::NoMemory,
+    }
+}
+
+impl Rings for GivenLists<'_> {
+    ghost lists = { λ g. drop g.at g.lists.now };
+
+    ghost paid = { ⊤ };
+
+    ghost ring_by = { λ i. ring_given (is_ring (vword i)) };
+
+    fn ring<S: Space, L: Ledger>(
+        &mut self,
+        alloc: Global,
+        space: &mut S,
+        asked: &Asked,
+        shape: &ListShape,
+        head: u64,
+        steps: &mut Steps<L>,
+    ) -> Result<Walked, WalkStop> {
+        let lists = self.lists;
+        if self.at >= lists.len() {
+            return Err(ended(alloc, asked, Rule::L1, head, Halt::Unfit));
+        }
+        let nodes = lists.get(self.at);
+        self.at += 1;
+        match test_ring(alloc, space, shape, head, nodes, steps) {
+            Ok(()) => copy_of(alloc, nodes),
+            Err(halt) => Err(ended(alloc, asked, Rule::L1, head, halt)),
+        }
+    }
+}
+
+impl Chains for GivenLists<'_> {
+    ghost free_by = { λ i. free_given (is_free_list i) };
+
+    fn free<S: Space, L: Ledger>(
+        &mut self,
+        alloc: Global,
+        space: &mut S,
+        asked: &Asked,
+        grid: &Grid,
+        first: Scalar,
+        steps: &mut Steps<L>,
+    ) -> Result<Walked, WalkStop> {
+        let lists = self.lists;
+        let at = low_word(&first);
+        if self.at >= lists.len() {
+            return Err(ended(alloc, asked, Rule::U5, at, Halt::Unfit));
+        }
+        let objects = lists.get(self.at);
+        self.at += 1;
+        match test_free_list(alloc, space, grid, first, objects, steps) {
+            Ok(()) => copy_of(alloc, objects),
+            Err(halt) => Err(ended(alloc, asked, Rule::U5, at, halt)),
+        }
+    }
+}
