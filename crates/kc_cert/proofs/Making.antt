@@ -15,7 +15,7 @@ use Rattle.kc_rb.specs.Laws.{TreesAreWalked}
 use Rattle.kc_plan.specs.declared.kind.Kind.TheVariants.{Xarray}
 use Rattle.kc_plan.specs.Events.{Event, Walk, Wrong, first_wrong}
 use Rattle.kc_plan.specs.Planned.{AuditAt}
-use Rattle.kc_plan.specs.Seen.{PathEnd, EndsAt, NullAt, at_element, below, checks_seen, container_of, entered, in_turn, is_optional, entries_in, nodes_of, null_pointer, path_end, path_of, roots, seen, walked, world}
+use Rattle.kc_plan.specs.Seen.{PathEnd, EndsAt, NullAt, at_element, below, checks_seen, container_of, entered, in_turn, is_optional, nodes_of, null_pointer, path_end, path_of, roots, seen, walked, world}
 use Rattle.kc_plan.specs.Verdicts.{verdict}
 use Rattle.kc_run.specs.Tally.{added, tally, zeros}
 use Rattle.kc_run_laws.specs.Runs.{ends_broken, ends_clean}
@@ -24,7 +24,7 @@ use Rattle.kc_cert.specs.Certified.{at}
 use Rattle.kc_cert.specs.Certificates.{Judge, Judged, after_walk, all_hold, answer_of, below_judged, checks_hold, each_judged, entry_judged, fits, judged, nodes_judged, walk_judged}
 use Rattle.kc_found.specs.declared.xarrays.XaItem.{XaItem}
 use Rattle.kc_found.specs.XaLayouts.{XaLayout}
-use Rattle.kc_found.specs.XaSites.{xa_judged}
+use Rattle.kc_found.specs.XaSites.{entries_in, xa_judged}
 use Rattle.kc_entries.specs.Entries.{is_xarray, pointers}
 use Rattle.kc_entries.specs.Laws.{WalksPass, met_pointers}
 use Rattle.kc_given.specs.Laws.{CachesHaveLists, TasksHaveLists}

@@ -19,7 +19,8 @@ use Rattle.kc_plan.specs.declared.kind.Kind.TheVariants.{Ring, Hlist, Rbtree, Xa
 use Rattle.kc_plan.specs.Checks.{checked, numbers_of, value_of}
 use Rattle.kc_plan.specs.Events.{Event, Walk, Wrong, first_wrong}
 use Rattle.kc_plan.specs.Planned.{AuditAt, CheckAt}
-use Rattle.kc_plan.specs.Seen.{PathEnd, EndsAt, NullAt, at_element, below, checks_seen, container_of, entered, entries_in, in_turn, is_optional, nodes_of, number_at, path_end, path_of, roots, seen, walked, world}
+use Rattle.kc_found.specs.XaSites.{entries_in}
+use Rattle.kc_plan.specs.Seen.{PathEnd, EndsAt, NullAt, at_element, below, checks_seen, container_of, entered, in_turn, is_optional, nodes_of, number_at, path_end, path_of, roots, seen, walked, world}
 use Rattle.kc_plan.specs.Verdicts.{IsClean, verdict}
 use Rattle.kc_run.specs.Laws.{CleanWhereStanding}
 use Rattle.kc_run.specs.Tally.{TalliesAs, added, tally, zeros}

@@ -16,7 +16,7 @@ use Rattle.kc_found.specs.Violations.{Violation}
 use Rattle.kc_list.specs.Laws.{HashChainsAreWalked, RingsAreWalked}
 use Rattle.kc_plan.specs.declared.kind.Kind.{Kind}
 use Rattle.kc_plan.specs.declared.kind.Kind.TheVariants.{Ring, Hlist, Rbtree, Xarray, Slub, Tasks}
-use Rattle.kc_plan.specs.Seen.{entries_in, nodes_of}
+use Rattle.kc_plan.specs.Seen.{nodes_of}
 use Rattle.kc_shape.specs.declared.halt.Halt.{Halt}
 use Rattle.kc_shape.specs.declared.halt.Halt.TheVariants as halts
 use Rattle.kc_shape.specs.Collected.{CollectsTree}
@@ -33,7 +33,7 @@ use Rattle.kc_entries.specs.Laws.{WalksPass}
 use Rattle.kc_found.specs.declared.xarrays.XaItem.{XaItem}
 use Rattle.kc_found.specs.Trials.{and_then}
 use Rattle.kc_found.specs.XaLayouts.{XaLayout}
-use Rattle.kc_found.specs.XaSites.{xa_judged}
+use Rattle.kc_found.specs.XaSites.{entries_in, xa_judged}
 use Rattle.kc_given.specs.Laws.{CacheListsAreKept, TaskListsAreKept}
 use Rattle.kc_view.specs.declared.slub.SlubShape.{SlubShape}
 use Rattle.kc_view.specs.declared.tasks.TaskShape.{TaskShape}

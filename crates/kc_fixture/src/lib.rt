@@ -12,4 +12,4 @@ pub use btf::Types;
 pub use bytes::{lines_behind, number, push_line, push_numbers, put_bytes, set_bytes};
 pub use dump::{NOTE, core_file, core_with_note, set_word};
 pub use symbols::MAP;
-pub use types::btf_file;
+pub use types::{btf_file, btf_with_pids};

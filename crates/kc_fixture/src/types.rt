@@ -4,8 +4,20 @@ use std::alloc::{AllocError, Global};
 
 /// The file of types: 32 records behind a header of 24 bytes, and then the names.
 pub fn btf_file(alloc: Global) -> Result<Vec<u8>, AllocError> {
+    file_of(alloc, &[TYPES, TASK, ITEM])
+}
+
+/// The file of types of the same kernel with process ids: a task has two further members, and seven types come after
+/// the 32.
+pub fn btf_with_pids(alloc: Global) -> Result<Vec<u8>, AllocError> {
+    file_of(alloc, &[TYPES, TASK_WITH_PIDS, ITEM, PIDS])
+}
+
+fn file_of(alloc: Global, parts: &[&str]) -> Result<Vec<u8>, AllocError> {
     let mut types = Types::new(alloc)?;
-    types.add(TYPES)?;
+    for part in parts {
+        types.add(part)?;
+    }
     types.file(alloc)
 }
 
@@ -81,8 +93,21 @@ const TYPES: &str = "1 unsigned long = int 8 64
 28 signal_struct = struct 16
   thread_head = 6 0
 29 = ptr 28
-30 = ptr 31
-31 task_struct = struct 104
+30 = ptr 31";
+
+const TASK: &str = "31 task_struct = struct 104
+  stack = 5 0
+  tasks = 6 64
+  pid = 4 192
+  tgid = 4 224
+  real_parent = 30 256
+  children = 6 320
+  sibling = 6 448
+  group_leader = 30 576
+  signal = 29 640
+  thread_node = 6 704";
+
+const TASK_WITH_PIDS: &str = "31 task_struct = struct 128
   stack = 5 0
   tasks = 6 64
   pid = 4 192
@@ -93,9 +118,29 @@ const TYPES: &str = "1 unsigned long = int 8 64
   group_leader = 30 576
   signal = 29 640
   thread_node = 6 704
-32 item = struct 64
+  pid_links = 33 832
+  thread_pid = 34 960";
+
+const ITEM: &str = "32 item = struct 64
   link = 6 0
   hnode = 8 128
   key = 4 256
   small = 4 288 3
   rb = 11 320";
+
+const PIDS: &str = "33 = array 0 8 3 1
+34 = ptr 36
+35 = array 0 10 3 1
+36 pid = struct 16
+  count = 4 0
+  level = 3 32
+  tasks = 35 64
+  numbers = 38 128
+37 upid = struct 16
+  nr = 4 0
+  ns = 5 64
+38 = array 0 37 3 0
+39 idr = struct 24
+  idr_rt = 18 0
+  idr_base = 3 128
+  idr_next = 3 160";

@@ -3,6 +3,7 @@
 use Rattle.std.specs.Prelude.{◌≡◌, ℕ, ◌+◌, ◌-◌, ◌<◌, ◌≤◌, ◌^◌, true, nat_eq, IsTrue, List, [], ◌∷◌, ◌++◌, map, Option, Some, None, Ok, ⊤}
 use Rattle.std.specs.List.{IsDistinct}
 use Rattle.kc_memory.specs.declared.words.VWord.{VWord}
+use Rattle.kc_memory.specs.Image.{Image}
 use Rattle.kc_found.specs.declared.xarrays.XaEntry.{XaEntry}
 use Rattle.kc_found.specs.declared.xarrays.XaEntry.TheVariants.{Nothing, Pointer, Odd, Node, Zero, Sibling, Bad}
 use Rattle.kc_found.specs.declared.xarrays.XaHolder.{XaHolder}
@@ -13,7 +14,7 @@ use Rattle.kc_found.specs.Nodes.{at_offset}
 use Rattle.kc_found.specs.XaEntries.{kind, names}
 use Rattle.kc_found.specs.XaLayouts.{XaLayout}
 use Rattle.kc_found.specs.XaNodes.{XaCourse, xa_words, is_shift, is_slot, parent_wanted, is_count, is_odd_count, byte_in}
-use Rattle.kc_found.specs.XaSites.{index_of, xa_node}
+use Rattle.kc_found.specs.XaSites.{entries, index_of, xa_course, xa_node}
 
 -- The slots of a node from one on: none; one with no node in it, and those after it; or one with a node, that node's
 -- slots, and those after it.
@@ -140,3 +141,8 @@ NoXArray c = (walked : List XaItem) → XArray c walked → ⊥
 abbrev pub RisesFrom : ℕ → List XaItem → Type 0
 RisesFrom low [] = ⊤
 RisesFrom low (x ∷ xs) = (low ≤ x.index) × RisesFrom (x.index + 1) xs
+
+-- some addresses are the pointers of an xarray that starts here, by rising index. Which audit asks doesn't bear on it.
+abbrev pub XArrayOf : Image → XaLayout → ℕ → List ℕ → Type 0
+XArrayOf image shape start nodes =
+    (items : List XaItem) × XArray (xa_course image shape (record { audit = 0; start = start })) items × (entries items ≡ nodes)

@@ -1,6 +1,6 @@
 -- The sites of an xarray: its head, and then each node before what hangs in its slots, a lower slot first. Source: the
 -- kernel's include/linux/xarray.h, `xa_to_node`, and lib/xarray.c, `get_offset`; the order is this project's.
-use Rattle.std.specs.Prelude.{ℕ, zero, suc, ◌+◌, ◌-◌, ◌*◌, ◌^◌, List, [], ◌∷◌, ◌++◌, Option, Some, None, Result, Ok, Err}
+use Rattle.std.specs.Prelude.{ℕ, zero, suc, ◌+◌, ◌-◌, ◌*◌, ◌^◌, List, [], ◌∷◌, ◌++◌, map, Option, Some, None, Result, Ok, Err}
 use Rattle.kc_memory.specs.declared.words.VWord.{VWord}
 use Rattle.kc_memory.specs.declared.rule.Rule.{Rule}
 use Rattle.kc_memory.specs.Held.{word_count}
@@ -93,3 +93,11 @@ xa_course image shape asked = record { read = vword image; shape = shape; asked 
 abbrev pub xa_judged : Image → XaLayout → ℕ → ℕ → Result (List XaItem) Violation
 xa_judged image shape audit start =
     judged (xa_trials (xa_course image shape (record { audit = audit; start = start })) (word_count image.physical + 1))
+
+-- the pointers of an xarray, which are its elements
+abbrev pub entries : List XaItem → List ℕ
+entries items = map (λ (i : XaItem). i.entry) items
+
+abbrev pub entries_in : Result (List XaItem) Violation → Result (List ℕ) Violation
+entries_in (Ok items) = Ok (entries items)
+entries_in (Err v) = Err v

@@ -2,7 +2,7 @@
 
 /// A rule that a dump breaks. M1 to M6 stop the reading of a virtual address (Intel SDM volume 3A, chapter
 /// "Paging"). The others are about what the words hold: any pointers and words (N, K, A), lists and hash
-/// chains (L1, H1), red-black trees (R), xarrays (X), slab caches (U), tasks (T), and checks (C).
+/// chains (L1, H1), red-black trees (R), xarrays (X), slab caches (U), tasks (T), process ids (G), and checks (C).
 #[derive(Clone, Copy, Debug, PartialEq, Eq)]
 pub enum Rule {
     /// The address isn't a multiple of 8.
@@ -86,6 +86,10 @@ pub enum Rule {
     T6,
     /// The leader of a thread group isn't among its threads.
     T7,
+    /// The number of a process id isn't the index at which the table has it.
+    G1,
+    /// A task on the chain of a process id names another one.
+    G2,
     /// A check of the plan gives 0.
     C,
 }

@@ -1,5 +1,5 @@
 -- What the audits of a plan come upon in a dump, in their order.
-use Rattle.std.specs.Prelude.{ℕ, suc, ◌+◌, ◌-◌, ◌%◌, ◌^◌, Bool, false, nat_eq, if◌then◌else◌, List, [], ◌∷◌, ◌++◌, map, length, None, Result, Ok, Err}
+use Rattle.std.specs.Prelude.{ℕ, suc, ◌+◌, ◌-◌, ◌%◌, ◌^◌, Bool, false, nat_eq, if◌then◌else◌, List, [], ◌∷◌, ◌++◌, length, None, Result, Ok, Err}
 use Rattle.kc_memory.specs.declared.rule.Rule.TheVariants.{N}
 use Rattle.kc_memory.specs.declared.words.Place.{Place}
 use Rattle.kc_memory.specs.Bits.{Number}
@@ -10,12 +10,11 @@ use Rattle.kc_layout.specs.Ends.{ByteAt, NumberAt}
 use Rattle.kc_view.specs.Pointers.{pointer, target, value_at}
 use Rattle.kc_view.specs.Typed.{bytes_on}
 use Rattle.kc_found.specs.declared.asked.Asked.{Asked}
-use Rattle.kc_found.specs.declared.xarrays.XaItem.{XaItem}
 use Rattle.kc_found.specs.HashChains.{hash_walk}
 use Rattle.kc_found.specs.RbTrees.{tree_walk}
 use Rattle.kc_found.specs.Rings.{ring_walk}
 use Rattle.kc_found.specs.Violations.{Violation, missed}
-use Rattle.kc_found.specs.XaSites.{xa_judged}
+use Rattle.kc_found.specs.XaSites.{entries_in, xa_judged}
 use Rattle.kc_view.specs.Caches.{cache_slabs}
 use Rattle.kc_view.specs.TaskLists.{task_list}
 use Rattle.kc_plan.specs.declared.kind.Kind.{Kind}
@@ -40,14 +39,6 @@ unfoldable pub path_end : Image → ℕ → List ℕ → ℕ → Result PathEnd 
 path_end image at [] byte = Ok (EndsAt (bytes_on at byte))
 path_end image at (offset ∷ offsets) byte =
     and_then (pointer image at offset) (λ p. unless_null (bytes_on at offset) p (λ next. path_end image next offsets byte))
-
--- the pointers of an xarray, which are its elements
-abbrev pub entries : List XaItem → List ℕ
-entries items = map (λ (i : XaItem). i.entry) items
-
-abbrev pub entries_in : Result (List XaItem) Violation → Result (List ℕ) Violation
-entries_in (Ok items) = Ok (entries items)
-entries_in (Err v) = Err v
 
 -- the nodes of the structure of a kind that an audit walks from a start, or the first violation
 unfoldable pub nodes_of : Image → Kind → ℕ → ℕ → Result (List ℕ) Violation

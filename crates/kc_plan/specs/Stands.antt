@@ -4,25 +4,17 @@ use Rattle.std.specs.List.{AllByRecursion}
 use Rattle.kc_memory.specs.Image.{Image}
 use Rattle.kc_memory.specs.Stopped.{Stopped}
 use Rattle.kc_memory.specs.Translation.{vword}
-use Rattle.kc_found.specs.declared.xarrays.XaItem.{XaItem}
 use Rattle.kc_found.specs.FiniteLists as lists
-use Rattle.kc_found.specs.FiniteXarrays.{XArray}
+use Rattle.kc_found.specs.FiniteXarrays.{XArrayOf}
 use Rattle.kc_found.specs.RbFinite.{RbTree}
 use Rattle.kc_found.specs.RbTrees.{reads_of}
-use Rattle.kc_found.specs.XaLayouts.{XaLayout}
-use Rattle.kc_found.specs.XaSites.{xa_course}
 use Rattle.kc_view.specs.FiniteCaches as caches
 use Rattle.kc_view.specs.FiniteTasks as tasks
 use Rattle.kc_plan.specs.declared.kind.Kind.{Kind}
 use Rattle.kc_plan.specs.declared.kind.Kind.TheVariants.{Ring, Hlist, Rbtree, Xarray, Slub, Tasks}
 use Rattle.kc_plan.specs.Checks.{CheckHolds, numbers_of}
 use Rattle.kc_plan.specs.Planned.{AuditAt, CheckAt}
-use Rattle.kc_plan.specs.Seen.{PathEnd, EndsAt, NullAt, container_of, entries, is_optional, number_at, path_end, path_of, roots}
-
--- some addresses are the pointers of an xarray that starts here, by rising index. Which audit asks doesn't bear on it.
-abbrev pub XArrayOf : Image → XaLayout → ℕ → List ℕ → Type 0
-XArrayOf image shape start nodes =
-    (items : List XaItem) × XArray (xa_course image shape (record { audit = 0; start = start })) items × (entries items ≡ nodes)
+use Rattle.kc_plan.specs.Seen.{PathEnd, EndsAt, NullAt, container_of, is_optional, number_at, path_end, path_of, roots}
 
 -- some nodes make up the structure of a kind that starts here
 unfoldable pub Holds : Image → Kind → ℕ → List ℕ → Type 0

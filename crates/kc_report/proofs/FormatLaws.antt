@@ -4,7 +4,7 @@ use Rattle.std.proofs.lemmas.List.Elements.{All-nil, All-cons, All-head, All-tai
 use Rattle.std.proofs.lemmas.Bool.{lt-ltb}
 use Rattle.std.proofs.lemmas.Bool.Decides.{nat_tests}
 use Rattle.kc_memory.specs.declared.rule.Rule.{Rule}
-use Rattle.kc_memory.specs.declared.rule.Rule.TheVariants.{M1, M2, M3, M4, M5, M6, N, K, A, L1, H1, R1, R2, R3, R4, R5, R6, X1, X2, X3, X4, X5, X6, X7, X8, X9, U1, U2, U3, U4, U5, U6, U7, T1, T2, T3, T4, T5, T6, T7, C}
+use Rattle.kc_memory.specs.declared.rule.Rule.TheVariants.{M1, M2, M3, M4, M5, M6, N, K, A, L1, H1, R1, R2, R3, R4, R5, R6, X1, X2, X3, X4, X5, X6, X7, X8, X9, U1, U2, U3, U4, U5, U6, U7, T1, T2, T3, T4, T5, T6, T7, G1, G2, C}
 use Rattle.kc_memory.specs.declared.words.Origin.{Origin}
 use Rattle.kc_memory.specs.declared.words.Origin.TheVariants.{File, Tail}
 use Rattle.kc_memory.specs.declared.words.Place.{Place}
@@ -200,10 +200,12 @@ code-again T4 rest = refl
 code-again T5 rest = refl
 code-again T6 rest = refl
 code-again T7 rest = refl
+code-again G1 rest = refl
+code-again G2 rest = refl
 code-again C rest = refl
 
 code-law : IsFormat code_format
-code-law = one-law (λ (c : Coded). rule_code c.0) (coded M1) (coded M2 ∷ coded M3 ∷ coded M4 ∷ coded M5 ∷ coded M6 ∷ coded N ∷ coded K ∷ coded A ∷ coded L1 ∷ coded H1 ∷ coded R1 ∷ coded R2 ∷ coded R3 ∷ coded R4 ∷ coded R5 ∷ coded R6 ∷ coded X1 ∷ coded X2 ∷ coded X3 ∷ coded X4 ∷ coded X5 ∷ coded X6 ∷ coded X7 ∷ coded X8 ∷ coded X9 ∷ coded U1 ∷ coded U2 ∷ coded U3 ∷ coded U4 ∷ coded U5 ∷ coded U6 ∷ coded U7 ∷ coded T1 ∷ coded T2 ∷ coded T3 ∷ coded T4 ∷ coded T5 ∷ coded T6 ∷ coded T7 ∷ coded C ∷ []) (λ c rest among. code-again c.0 rest)
+code-law = one-law (λ (c : Coded). rule_code c.0) (coded M1) (coded M2 ∷ coded M3 ∷ coded M4 ∷ coded M5 ∷ coded M6 ∷ coded N ∷ coded K ∷ coded A ∷ coded L1 ∷ coded H1 ∷ coded R1 ∷ coded R2 ∷ coded R3 ∷ coded R4 ∷ coded R5 ∷ coded R6 ∷ coded X1 ∷ coded X2 ∷ coded X3 ∷ coded X4 ∷ coded X5 ∷ coded X6 ∷ coded X7 ∷ coded X8 ∷ coded X9 ∷ coded U1 ∷ coded U2 ∷ coded U3 ∷ coded U4 ∷ coded U5 ∷ coded U6 ∷ coded U7 ∷ coded T1 ∷ coded T2 ∷ coded T3 ∷ coded T4 ∷ coded T5 ∷ coded T6 ∷ coded T7 ∷ coded G1 ∷ coded G2 ∷ coded C ∷ []) (λ c rest among. code-again c.0 rest)
 
 coded_among : (c : Coded) → IsAmong c coded_rules
 coded_among c = (code-law.takes (rule_code c.0 ++ []) [] c (code-again c.0 [])).0

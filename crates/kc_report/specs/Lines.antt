@@ -1,7 +1,7 @@
 -- The lines that answers and reports share.
 use Rattle.std.specs.Prelude.{ℕ, ◌+◌, Bool, true, false, if◌then◌else◌, List, [], ◌∷◌, ◌++◌, codes, Option, Some, None}
 use Rattle.kc_memory.specs.declared.rule.Rule.{Rule}
-use Rattle.kc_memory.specs.declared.rule.Rule.TheVariants.{M1, M2, M3, M4, M5, M6, N, K, A, L1, H1, R1, R2, R3, R4, R5, R6, X1, X2, X3, X4, X5, X6, X7, X8, X9, U1, U2, U3, U4, U5, U6, U7, T1, T2, T3, T4, T5, T6, T7, C}
+use Rattle.kc_memory.specs.declared.rule.Rule.TheVariants.{M1, M2, M3, M4, M5, M6, N, K, A, L1, H1, R1, R2, R3, R4, R5, R6, X1, X2, X3, X4, X5, X6, X7, X8, X9, U1, U2, U3, U4, U5, U6, U7, T1, T2, T3, T4, T5, T6, T7, G1, G2, C}
 use Rattle.kc_memory.specs.declared.words.Origin.{Origin}
 use Rattle.kc_memory.specs.declared.words.Origin.TheVariants.{File, Tail}
 use Rattle.kc_memory.specs.declared.words.Place.{Place}
@@ -51,6 +51,8 @@ rule_code T4 = codes "T4"
 rule_code T5 = codes "T5"
 rule_code T6 = codes "T6"
 rule_code T7 = codes "T7"
+rule_code G1 = codes "G1"
+rule_code G2 = codes "G2"
 rule_code C = codes "C"
 
 -- the rule, and the address that it is about

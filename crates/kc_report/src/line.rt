@@ -53,6 +53,8 @@ pub fn rule_code(rule: Rule) -> &'static [u8]
         Rule::T5 => b"T5",
         Rule::T6 => b"T6",
         Rule::T7 => b"T7",
+        Rule::G1 => b"G1",
+        Rule::G2 => b"G2",
         Rule::C => b"C",
     }
 }

@@ -40,7 +40,7 @@ impl Written for Coded {
 }
 
 // The rules, in the order in which they are tried.
-const CODES: [Coded; 41] = [
+const CODES: [Coded; 43] = [
     Coded(Rule::M1),
     Coded(Rule::M2),
     Coded(Rule::M3),
@@ -81,6 +81,8 @@ const CODES: [Coded; 41] = [
     Coded(Rule::T5),
     Coded(Rule::T6),
     Coded(Rule::T7),
+    Coded(Rule::G1),
+    Coded(Rule::G2),
     Coded(Rule::C),
 ];
 

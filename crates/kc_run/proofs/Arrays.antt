@@ -14,8 +14,8 @@ use Rattle.kc_found.specs.XaEntries.{kind}
 use Rattle.kc_found.specs.XaLayouts.{XaLayout}
 use Rattle.kc_found.specs.XaNodes.{XaCourse}
 use Rattle.kc_found.specs.XaSites.{index_of, xa_judged, xa_node}
-use Rattle.kc_plan.specs.Seen.{entries, entries_in}
-use Rattle.kc_plan.specs.Stands.{XArrayOf}
+use Rattle.kc_found.specs.XaSites.{entries, entries_in}
+use Rattle.kc_found.specs.FiniteXarrays.{XArrayOf}
 use Rattle.kc_xa.specs.Laws.{XarraysAreWalked, XarrayPlacesStand}
 
 -- one pointer more

@@ -3,7 +3,7 @@ ghost use Rattle.std.specs.Prelude.{◌≡◌, IfOk};
 ghost use Rattle.kc_memory.specs.Stays.{SpaceStays};
 ghost use Rattle.kc_found.specs.Walks.{CountsWalkFaults, IsNamed, WalksAs};
 ghost use Rattle.kc_found.specs.XaSites.{xa_judged};
-ghost use Rattle.kc_plan.specs.Seen.{entries, entries_in};
+ghost use Rattle.kc_found.specs.XaSites.{entries, entries_in};
 
 use kc_found::{Asked, Space, WalkStop, Walked, XaShape, XaWalked};
 use kc_word::{NoMemory, Steps};

@@ -2,9 +2,11 @@ pub mod Caches
 pub mod Elements
 pub mod Fields
 pub mod FiniteCaches
+pub mod FinitePids
 pub mod FiniteTasks
 pub mod Laws
 pub mod Paths
+pub mod PidTables
 pub mod Pointers
 pub mod Steps
 pub mod TaskLists

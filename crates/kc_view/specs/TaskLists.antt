@@ -24,8 +24,8 @@ abbrev pub tasks_on : Image → Asked → TaskShape → ℕ → ℕ → Result (
 tasks_on image asked shape head offset =
     and_then (started_at asked.start (ring_walk image shape.list asked.audit head)) (λ ns. Ok (map (task_of offset) ns))
 
--- each of some tasks passes, or the first violation
-unfoldable pub all_pass : (ℕ → Result ⊤ Violation) → List ℕ → Result ⊤ Violation
+-- each of some things passes, or the first violation
+unfoldable pub all_pass : {A : Type 0} → (A → Result ⊤ Violation) → List A → Result ⊤ Violation
 all_pass go [] = Ok tt
 all_pass go (t ∷ ts) = and_then (go t) (λ _. all_pass go ts)
 

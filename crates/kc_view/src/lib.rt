@@ -3,6 +3,7 @@
 
 mod fields;
 mod laws;
+mod pids;
 mod pointers;
 mod slub;
 mod tasks;
@@ -12,6 +13,7 @@ mod view;
 
 pub use fields::{FieldNumber, field_of, started_at};
 pub use laws::know_values;
+pub use pids::PidShape;
 pub use slub::{Base, SlabObjects, SlubBases, SlubShape};
 pub use tasks::{TaskShape, ThreadGroup};
 pub use view::{Led, View};

@@ -1,5 +1,5 @@
 use Rattle.std.proofs.Common.{◌≡◌, take}
-use Rattle.kc_plan.specs.Seen.{entries}
+use Rattle.kc_found.specs.XaSites.{entries}
 use Rattle.kc_run.proofs.entries.entries_of.Given as goal
 
 abbrev pub invariant-loop-i : goal.invariant-loop-i
