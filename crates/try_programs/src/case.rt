@@ -1,5 +1,6 @@
 // A case: the words of a program, its files, and how it is to end.
 use crate::files::CaseFiles;
+use crate::pids::put_pids;
 use crate::spine::put_spine;
 use crate::texts::Texts;
 use kc_fixture::{push_line, set_bytes, set_word};
@@ -123,6 +124,7 @@ impl Case {
         match name {
             "put" => set_word(&mut self.files.dump, hex(at), hex(rest)),
             "spine" => put_spine(&mut self.files.dump, hex(at).min(100_000)),
+            "pids" => put_pids(&mut self.files.dump),
             "selves" => put_selves(&mut self.files.dump, hex(at), hex(rest)),
             "bytes" => put_pairs(&mut self.files.dump, small(at), rest),
             "types" => put_pairs(&mut self.files.types, small(at), rest),

@@ -2,9 +2,11 @@
 ghost use Rattle.std.specs.Prelude.{◌≤◌};
 
 use crate::case::{hex, small};
+use crate::pids::TABLE;
 use crate::texts::Texts;
 use kc_fixture::{
-    MAP, NOTE, Types, btf_file, core_with_note, lines_behind, push_line, push_numbers,
+    MAP, NOTE, Types, btf_file, btf_with_pids, core_with_note, lines_behind, push_line,
+    push_numbers,
 };
 use kc_gen::make;
 use kc_outside::MemStore;
@@ -59,6 +61,7 @@ fn types_file(alloc: Global, lines: &str) -> Result<Vec<u8>, AllocError> {
                 count = count.saturating_add(1);
             }
             ("typefile", pairs) => return bytes_of(alloc, pairs),
+            ("pids", _) => return btf_with_pids(alloc),
             ("types_size", length) => return vec![in alloc; 0; small(length)],
             _ => {}
         }
@@ -112,6 +115,7 @@ fn map_text(alloc: Global, lines: &str) -> Result<Vec<u8>, AllocError> {
     for line in lines.lines() {
         match line.split_once(' ').unwrap_or((line, "")) {
             ("row", row) => push_line(&mut text, row)?,
+            ("pids", _) => push_line(&mut text, TABLE)?,
             ("map_size", length) => return vec![in alloc; 0; small(length)],
             _ => {}
         }

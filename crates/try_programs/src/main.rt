@@ -14,6 +14,7 @@
 //! - `module` are numbers of a module's types, in decimal or behind `0x`, and `names` names behind them; `module_bytes`, `module_length` and
 //!   `module_size` are as those of the types.
 //! - `cert` are lines of a certificate, `cert_end` is text after them that no newline ends, and `cert_size` is the length of a file of zeros.
+//! - `pids` is the usual kernel with process ids: its types, its map, and a table with one.
 //! - `made` are the files of so many made items, and `spine` makes a spine of their tree.
 //! - `status`, `out`, `err` and `usage` are what is wanted, and `call` is a call of the store, and then of the sinks, in its order.
 #![tactic(auto)]
@@ -21,6 +22,7 @@
 mod case;
 mod files;
 mod noting;
+mod pids;
 mod running;
 mod spine;
 mod texts;
@@ -32,7 +34,7 @@ use crate::trying::{try_calls, try_each, try_lengths};
 use std::io;
 
 // The files of cases of kaudit.
-const KAUDIT: [&str; 28] = [
+const KAUDIT: [&str; 29] = [
     "pages",
     "segments",
     "stops",
@@ -54,6 +56,7 @@ const KAUDIT: [&str; 28] = [
     "ways",
     "slabs",
     "tasks",
+    "pids",
     "checks",
     "plans",
     "modules",

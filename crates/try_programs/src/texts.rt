@@ -2,8 +2,8 @@
 use std::{fs, io};
 
 // The plans that cases name, each a file.
-const PLANS: [&str; 10] = [
-    "ring", "tree", "ids", "hash", "nest", "kin", "way", "all", "caches", "mitem",
+const PLANS: [&str; 11] = [
+    "ring", "tree", "ids", "hash", "nest", "kin", "way", "all", "caches", "mitem", "pids",
 ];
 
 /// A plan with its name.
