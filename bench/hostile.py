@@ -37,12 +37,12 @@ HERE = os.path.dirname(os.path.abspath(__file__))
 DATA = os.path.join(HERE, "..", "crates", "kaudit", "data")
 SPECIAL = (0, 1, 2, 3, 7, 8, 0xFF, 0xFFF, 0x1000, 0xFFFF, 0x7FFFFFFF, 0xFFFFFFFF, 1 << 63, TOP - 1, TOP - 8, TOP - 4096,
            0xDEAD000000000100, 0xDEAD000000000122, 0xDEAD4EAD00000000, 0x6B6B6B6B6B6B6B6B, 0x800000000000, 1030, 1026, 402)
-NAMES = ("my_ring", "my_hl", "my_rb", "my_xa", "init_task", "slab_caches", "an_item", "far_ring", "a_slab", "nobody")
-STRUCTS = ("item", "kmem_cache", "slab", "task_struct", "list_head", "rb_node", "xa_node", "signal_struct", "page", "nothing", "")
+NAMES = ("my_ring", "my_hl", "my_rb", "my_xa", "init_task", "slab_caches", "an_item", "far_ring", "a_slab", "my_idr", "nobody")
+STRUCTS = ("item", "kmem_cache", "slab", "task_struct", "list_head", "rb_node", "xa_node", "signal_struct", "page", "pid", "idr", "nothing", "")
 PATHS = ("link", "hnode", "key", "small", "rb", "link.next->prev", "signal->thread_head", "signal", "children", "tasks", "sibling", "node",
          "node[0]->partial", "list", "slab_list", "", "rb.rb_left", "key.key", "->x", "node[9]", "real_parent->real_parent->pid", "slots")
 CHECKS = ("key == 7", "key < 1000", "small != 3", "pid >= 0", "signal != 0", "size", "object_size <= size", "inuse <= objects", "0", "1",
-          "signal->thread_head.next != 0", "real_parent->pid + 1 > 0", "key - small & 3 | 1", "!(key == 0 - 20)", "link.next->prev != 0")
+          "signal->thread_head.next != 0", "real_parent->pid + 1 > 0", "key - small & 3 | 1", "!(key == 0 - 20)", "link.next->prev != 0", "level == 0", "count >= 0 && tasks[0].first != 1")
 LINE = re.compile(r"refused [a-z]+( .*)?\n|store failed\n|sink failed\n|memory refused\n|(usage: .*\n)+")
 WHOLE_TEXT = r"clean\n(audit [\w-]{1,64} walks (0|[1-9]\d*) elements (0|[1-9]\d*)\n)*"
 WORDS = r"(place (-|[0-9a-f]{16}) [0-9a-f]{16} ([0-9a-f]{16}|tail) [0-9a-f]{16}\n)*"
@@ -153,9 +153,9 @@ def quoted(text):
 
 
 def some_audit(rng, name, nested, each):
-    kind = rng.choice(("ring", "hlist", "rbtree", "xarray", "slub", "tasks", "ring", "rbtree"))
+    kind = rng.choice(("ring", "hlist", "rbtree", "xarray", "slub", "tasks", "pids", "ring", "rbtree"))
     usual = {"ring": ("my_ring", "link"), "hlist": ("my_hl", "hnode"), "rbtree": ("my_rb", "rb"), "xarray": ("my_xa", None),
-             "slub": (None, None), "tasks": ("init_task", None)}[kind]
+             "slub": (None, None), "tasks": ("init_task", None), "pids": ("my_idr", None)}[kind]
     odd = rng.random() < 0.08
     keys = [("name", quoted(name)), ("kind", quoted(kind))]
     if nested:
@@ -207,6 +207,7 @@ WHOLE = b"".join(
         (("name", '"array"'), ("kind", '"xarray"'), ("root", '"my_xa"')),
     )]
 )
+PIDS = b'[[audit]]\nname = "pids"\nkind = "pids"\nroot = "my_idr"\n'
 
 
 def shuffled(rng, plan):
@@ -217,9 +218,9 @@ def shuffled(rng, plan):
     if not nested:
         rng.shuffle(audits)
         return head + b"".join(b"[[audit]]\n" + text for text in audits)
-    groups = [[0], [1, 2], [3], [4], [5], [6]]
+    groups = [[0], [1, 2], *([k] for k in range(3, len(audits)))]
     rng.shuffle(groups)
-    kept = groups[: rng.randrange(1, 7)]
+    kept = groups[: rng.randrange(1, len(groups) + 1)]
     return head + b"".join(b"[[audit]]\n" + audits[k] for group in kept for k in group)
 
 
@@ -232,8 +233,10 @@ class Case:
     def __init__(self, seed, btf):
         rng = self.rng = random.Random(seed)
         kernel = made.Made(rng)
-        self.files = {"z.core": bytearray(kernel.core()), "z.btf": bytearray(btf), "z.map": bytearray(made.MAP),
-                      "z.toml": bytearray(shuffled(rng, WHOLE))}
+        has_pids = rng.random() < 0.7
+        self.types = made.with_pids(btf) if has_pids else btf
+        self.files = {"z.core": bytearray(kernel.core()), "z.btf": bytearray(self.types), "z.map": bytearray(made.MAP),
+                      "z.toml": bytearray(shuffled(rng, WHOLE + PIDS if has_pids else WHOLE))}
         self.plan_kept = True
         how = rng.random()
         if how < 0.45:
@@ -333,7 +336,7 @@ def compared(case, status, out, err):
     if words != ["check", *case.files]:
         return None, False
     told = second.verdict(f["z.core"], f["z.btf"], f["z.map"], f["z.toml"])
-    if err.startswith("refused plan") and (told[0] == 2 and told[2] == "refused plan\n" or not case.plan_kept or f["z.btf"] != BTF):
+    if err.startswith("refused plan") and (told[0] == 2 and told[2] == "refused plan\n" or not case.plan_kept or f["z.btf"] != case.types):
         return None, False
     if err.startswith("refused plan") and case.files["z.map"] != made.MAP:
         return None, False

@@ -1,5 +1,6 @@
-"""Makes small kernels at random, for scripts that try kaudit: a dump with page tables, rings, a hash chain, a tree, an xarray, slab caches
-and tasks that stand by their rules, over the types of the made dump in crates/kaudit/data. Words can then be changed.
+"""Makes small kernels at random, for scripts that try kaudit: a dump with page tables, rings, a hash chain, a tree, an xarray, slab caches,
+tasks and a table of process ids that stand by their rules, over the types of the made dump in crates/kaudit/data, or these with process ids
+(`with_pids`). Words can then be changed.
 """
 import struct
 
@@ -13,8 +14,37 @@ NOTE = (
 MAP = (
     b"ffffffff8000b000 D init_task\nffffffff8000b100 D slab_caches\nffffffff8000b110 D my_xa\nffffffff8000b120 D my_ring\n"
     b"ffffffff8000b130 D my_rb\nffffffff8000b140 D my_hl\nffff888000011000 D an_item\nffffea00000003c0 D a_slab\n"
-    b"ffff888000020000 D far_ring\n"
+    b"ffff888000020000 D far_ring\nffffffff8000b200 D my_idr\n"
 )
+
+
+def with_pids(btf):
+    """The types with those of process ids: two members more of `task_struct`, and seven types after the last."""
+    types, names = btf[24 : 24 + struct.unpack_from("<I", btf, 12)[0]], bytearray(btf[24 + struct.unpack_from("<I", btf, 16)[0] :])
+
+    def name(text):
+        at = names.find(b"\0" + text + b"\0")
+        if at < 0:
+            at = len(names) - 1
+            names.extend(text + b"\0")
+        return at + 1
+
+    def struct_of(text, size, members):
+        rows = b"".join(struct.pack("<III", name(m), kind, bit) for m, kind, bit in members)
+        return struct.pack("<III", name(text), 4 << 24 | len(members), size) + rows
+
+    def array(kind, count):
+        return struct.pack("<IIIIII", 0, 3 << 24, 0, kind, 3, count)
+
+    at = types.index(struct.pack("<II", name(b"task_struct"), 4 << 24 | 10))
+    task = struct.pack("<III", name(b"task_struct"), 4 << 24 | 12, 128) + types[at + 12 : at + 132]
+    task += struct.pack("<IIIIII", name(b"pid_links"), 33, 832, name(b"thread_pid"), 34, 960)
+    more = array(8, 1) + struct.pack("<III", 0, 2 << 24, 36) + array(10, 1)
+    more += struct_of(b"pid", 16, ((b"count", 4, 0), (b"level", 3, 32), (b"tasks", 35, 64), (b"numbers", 38, 128)))
+    more += struct_of(b"upid", 16, ((b"nr", 4, 0), (b"ns", 5, 64))) + array(37, 0)
+    more += struct_of(b"idr", 24, ((b"idr_rt", 18, 0), (b"idr_base", 3, 128), (b"idr_next", 3, 160)))
+    types = types[:at] + task + types[at + 132 :] + more
+    return btf[:8] + struct.pack("<IIII", 0, len(types), len(types), len(names)) + types + bytes(names)
 
 
 def image(pa):
@@ -40,6 +70,7 @@ class Made:
         self.chain(items)
         self.tree(items)
         self.xarray(items)
+        self.pids()
 
     def put(self, pa, word):
         struct.pack_into("<Q", self.memory, pa, word % TOP)
@@ -107,26 +138,30 @@ class Made:
         for va in items:
             index = self.rng.choice((self.rng.randrange(20), self.rng.randrange(300), self.rng.randrange(1 << 20), self.rng.randrange(TOP)))
             entries[index] = va if self.rng.random() < 0.8 else self.rng.randrange(1 << 30) * 2 + 1
-        self.put(0xB118, 0)
+        self.array_of(0xB110, entries)
+
+    def array_of(self, at, entries):
+        """An xarray at a physical address, with these entries by their indexes."""
+        self.put(at + 8, 0)
         if entries and (len(entries) > 1 or 0 not in entries):
             shift = 0
             while max(entries) >> shift + 4:
                 shift += 4
-            self.put(0xB118, self.xa_node(entries, shift, 0, 0) + 2)
+            self.put(at + 8, self.xa_node(at, entries, shift, 0, 0) + 2)
         elif entries:
-            self.put(0xB118, entries[0])
+            self.put(at + 8, entries[0])
 
-    def xa_node(self, entries, shift, parent, offset):
+    def xa_node(self, at, entries, shift, parent, offset):
         pa, va = self.room()
         slots = {}
         for index, entry in entries.items():
             slots.setdefault(index >> shift & 15, {})[index & (1 << shift) - 1] = entry
         held = [0] * 16
         for slot, below in slots.items():
-            held[slot] = self.xa_node(below, shift - 4, va, slot) + 2 if shift else below[0]
+            held[slot] = self.xa_node(at, below, shift - 4, va, slot) + 2 if shift else below[0]
         self.memory[pa : pa + 4] = bytes((shift, offset, len(slots), sum(e & 1 for e in held)))
         self.put(pa + 8, parent)
-        self.put(pa + 16, image(0xB110))
+        self.put(pa + 16, image(at))
         for slot, entry in enumerate(held):
             self.put(pa + 24 + 8 * slot, entry)
         return va
@@ -193,6 +228,35 @@ class Made:
             children[parent].append(va)
         for va in threads:
             self.ring(va + 40, children[va], 56)
+        self.threads = threads
+
+    def pids(self):
+        """A table that has some of the tasks by their numbers, some without a task, and now and then a slot that is reserved."""
+        entries = {}
+        for va in self.threads:
+            pid = struct.unpack_from("<i", self.memory, self.at(va) + 24)[0]
+            if self.rng.random() < 0.9:
+                entries[pid] = self.pid(pid, [va])
+        for _ in range(self.rng.choice((0, 0, 1, 3))):
+            number = self.rng.choice((self.rng.randrange(300), self.rng.randrange(1 << 22)))
+            entries.setdefault(number, self.pid(number, []))
+        self.array_of(0xB200, entries)
+        head = self.get(0xB208)
+        if head & 3 == 2 and self.rng.random() < 0.3:
+            count = self.at(head - 2) + 2
+            self.memory[count] = min(16, self.memory[count] + self.rng.randrange(1, 3))
+
+    def pid(self, number, tasks):
+        pa, va = self.room()
+        self.memory[pa + 16 : pa + 20] = struct.pack("<i", number)
+        led = va + 8
+        for task in tasks:
+            self.put(self.at(led), task + 104)
+            self.put(self.at(task) + 112, led)
+            self.put(self.at(task) + 120, va)
+            led = task + 104
+        self.put(self.at(led), 0)
+        return va
 
     def core(self, damaged=()):
         """The file: one segment, or a second one that holds some pages again. Now and then a segment has a tail that the file leaves out."""
