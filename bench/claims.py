@@ -20,6 +20,7 @@ TABLES = "docs/DEFINITIONS.md"
 PROGRAMS = {
     "kaudit": [("crates/kc_app/src/top.rt", "kaudit"), ("crates/kc_app/src/laws.rt", "know_shown")],
     "kmatch": [("crates/kc_match/src/top.rt", "kmatch")],
+    "kwhy": [("crates/kc_why/src/top.rt", "kwhy")],
 }
 
 # What laws say of a definition, so that nobody has to read it: the law's words are counted in its place.
@@ -31,10 +32,10 @@ NOT_CLEAN = {"audited_shown", "refusal_line", "ShownStand", "word_form", "layout
 NOT_CLEAN |= {"certify_form", "recheck_form", "CertifyEnds", "RecheckEnds", "Proves", "cert_text", "TextsTold"}
 
 # The crates that make counters of steps.
-MAKE_BLANKS = {"kc_app", "try_walks", "try_files"}
+MAKE_BLANKS = {"kc_app", "kc_why", "try_walks", "try_files"}
 
 # The crates whose purpose is to state the laws of others: they alone cite another's lemmas.
-STATE_LAWS = {"kc_laws", "kc_run_laws"}
+STATE_LAWS = {"kc_laws", "kc_run_laws", "kc_recheck_laws"}
 
 BORROWED = re.compile(r"\bRattle\.(kc_\w+)\.proofs\.")
 

@@ -9,9 +9,9 @@ use Rattle.kc_outside.specs.Texts.{with_piece}
 use Rattle.kc_found.specs.declared.verdict.Verdict.{Verdict}
 use Rattle.kc_found.specs.declared.verdict.Verdict.TheVariants.{Clean, Broken}
 use Rattle.kc_plan.specs.Verdicts.{verdict}
-use Rattle.kc_cert.specs.declared.certificate.CertStep.{CertStep}
-use Rattle.kc_cert.specs.Certificates.{answer}
-use Rattle.kc_cert.specs.CertTexts.{IsCertificate, IsNoCertificate, TextsTold, cert_in}
+use Rattle.kc_cert_text.specs.declared.certificate.CertStep.{CertStep}
+use Rattle.kc_recheck.specs.Certificates.{answer}
+use Rattle.kc_cert_text.specs.CertTexts.{IsCertificate, IsNoCertificate, TextsTold, cert_in}
 use Rattle.kc_input.specs.declared.refusal.Refusal.{Refusal}
 use Rattle.kc_input.specs.declared.refusal.Refusal.TheVariants.{Certificate, TooLong}
 use Rattle.kc_input.specs.Lines.{refusal_line}

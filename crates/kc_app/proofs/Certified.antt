@@ -6,15 +6,15 @@ use Rattle.kc_outside.specs.Counts.{Rose}
 use Rattle.kc_outside.specs.Files.{Files as Told}
 use Rattle.kc_found.specs.declared.verdict.Verdict.TheVariants as verdicts
 use Rattle.kc_plan.specs.Verdicts.{verdict_places}
-use Rattle.kc_cert.specs.declared.certificate.CertAnswer.{CertAnswer}
-use Rattle.kc_cert.specs.declared.certificate.CertStep.{CertStep}
-use Rattle.kc_cert.specs.declared.certificate.CertStop.{CertStop}
-use Rattle.kc_cert.specs.declared.certificate.CertStop.TheVariants.{Broken, Fault, NoMemory}
-use Rattle.kc_cert.specs.declared.certificate.RecheckStop.{RecheckStop}
-use Rattle.kc_cert.specs.declared.certificate.RecheckStop.TheVariants as stops
-use Rattle.kc_cert.specs.Answers.{CountsRecheckFaults}
-use Rattle.kc_cert.specs.Certificates.{answer}
-use Rattle.kc_cert.specs.Certified.{Certifies, CertifiesAs, CountsCertifyFaults}
+use Rattle.kc_recheck.specs.declared.against.CertAnswer.{CertAnswer}
+use Rattle.kc_cert_text.specs.declared.certificate.CertStep.{CertStep}
+use Rattle.kc_certify.specs.declared.issue.CertStop.{CertStop}
+use Rattle.kc_certify.specs.declared.issue.CertStop.TheVariants.{Broken, Fault, NoMemory}
+use Rattle.kc_recheck.specs.declared.against.RecheckStop.{RecheckStop}
+use Rattle.kc_recheck.specs.declared.against.RecheckStop.TheVariants as stops
+use Rattle.kc_recheck.specs.Answers.{CountsRecheckFaults}
+use Rattle.kc_recheck.specs.Certificates.{answer}
+use Rattle.kc_certify.specs.Certified.{Certifies, CertifiesAs, CountsCertifyFaults}
 use Rattle.kc_input.specs.declared.halt.Halt.{Halt}
 use Rattle.kc_input.specs.declared.halt.Halt.TheVariants.{Refused, Store, Memory}
 use Rattle.kc_input.specs.Halts.{OnStore, UnlessStore}

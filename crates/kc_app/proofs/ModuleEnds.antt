@@ -3,7 +3,7 @@ use Rattle.std.proofs.Common.{◌≡◌, ℕ, List, Option, Some, None, IfSome}
 use Rattle.std.specs.Bool.{OnTrue}
 use Rattle.kc_outside.specs.declared.store.Slot.TheVariants.{Dump, Btf, Map, Plan, Module}
 use Rattle.kc_outside.specs.Files.{Files as Told}
-use Rattle.kc_cert.specs.declared.certificate.CertStep.{CertStep}
+use Rattle.kc_cert_text.specs.declared.certificate.CertStep.{CertStep}
 use Rattle.kc_ends.specs.declared.status.Status.{Status}
 use Rattle.kc_ends.specs.Ends.{IsTold, IsWritten}
 use Rattle.kc_ends.specs.Output.{word_files}

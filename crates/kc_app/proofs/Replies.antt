@@ -10,8 +10,8 @@ use Rattle.kc_memory.specs.Places.{AllStandIn}
 use Rattle.kc_found.specs.declared.verdict.Verdict.{Verdict}
 use Rattle.kc_found.specs.declared.verdict.Verdict.TheVariants.{Clean, Broken}
 use Rattle.kc_plan.specs.Verdicts.{verdict, verdict_places}
-use Rattle.kc_cert.specs.declared.certificate.CertStep.{CertStep}
-use Rattle.kc_cert.specs.Certificates.{answer}
+use Rattle.kc_cert_text.specs.declared.certificate.CertStep.{CertStep}
+use Rattle.kc_recheck.specs.Certificates.{answer}
 use Rattle.kc_input.specs.Made.{◌>>=◌, Made, gives}
 use Rattle.kc_ends.specs.Asked.{Asked}
 use Rattle.kc_ends.specs.Output.{Ends, output_of}

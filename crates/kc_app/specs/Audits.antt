@@ -4,7 +4,7 @@ use Rattle.kc_btf.specs.Btf.{Types}
 use Rattle.kc_notes.specs.declared.info.Info.{Info}
 use Rattle.kc_syms.specs.Rows.{RowText, addresses}
 use Rattle.kc_plan.specs.Planned.{PlanAt}
-use Rattle.kc_plan.specs.Kernels.{Kernel}
+use Rattle.kc_kinds.specs.Kernels.{Kernel}
 use Rattle.kc_plan.specs.Plans.{plan}
 use Rattle.kc_input.specs.declared.refusal.Refusal.TheVariants as refusal
 use Rattle.kc_input.specs.Made.{Made, checked}

@@ -4,9 +4,9 @@ use Rattle.kc_outside.specs.declared.store.Slot.TheVariants.{Dump, Btf, Map, Pla
 use Rattle.kc_outside.specs.Files.{Files as Told}
 use Rattle.kc_outside.specs.Texts.{with_piece}
 use Rattle.kc_plan.specs.Verdicts.{verdict}
-use Rattle.kc_cert.specs.declared.certificate.CertStep.{CertStep}
-use Rattle.kc_cert.specs.Certificates.{answer}
-use Rattle.kc_cert.specs.CertTexts.{IsCertificate, IsNoCertificate, cert_text}
+use Rattle.kc_cert_text.specs.declared.certificate.CertStep.{CertStep}
+use Rattle.kc_recheck.specs.Certificates.{answer}
+use Rattle.kc_cert_text.specs.CertTexts.{IsCertificate, IsNoCertificate, cert_text}
 use Rattle.kc_input.specs.declared.refusal.Refusal.TheVariants.{Certificate, TooLong}
 use Rattle.kc_input.specs.Lines.{refusal_line}
 use Rattle.kc_input.specs.Made.{Made}

@@ -2,14 +2,14 @@
 use Rattle.std.specs.Prelude.{◌≡◌, ⊤, ℕ, List, [], Result, Ok, Err}
 use Rattle.kc_found.specs.declared.verdict.Verdict.TheVariants as verdicts
 use Rattle.kc_plan.specs.Verdicts.{verdict_places}
-use Rattle.kc_cert.specs.declared.certificate.CertAnswer.{CertAnswer}
-use Rattle.kc_cert.specs.declared.certificate.CertStep.{CertStep}
-use Rattle.kc_cert.specs.declared.certificate.CertStop.{CertStop}
-use Rattle.kc_cert.specs.declared.certificate.CertStop.TheVariants.{Broken, Fault, NoMemory}
-use Rattle.kc_cert.specs.declared.certificate.RecheckStop.{RecheckStop}
-use Rattle.kc_cert.specs.declared.certificate.RecheckStop.TheVariants as stops
-use Rattle.kc_cert.specs.Certified.{NamesAudit}
-use Rattle.kc_cert.specs.CertTexts.{IsCertificate, cert_text}
+use Rattle.kc_recheck.specs.declared.against.CertAnswer.{CertAnswer}
+use Rattle.kc_cert_text.specs.declared.certificate.CertStep.{CertStep}
+use Rattle.kc_certify.specs.declared.issue.CertStop.{CertStop}
+use Rattle.kc_certify.specs.declared.issue.CertStop.TheVariants.{Broken, Fault, NoMemory}
+use Rattle.kc_recheck.specs.declared.against.RecheckStop.{RecheckStop}
+use Rattle.kc_recheck.specs.declared.against.RecheckStop.TheVariants as stops
+use Rattle.kc_certify.specs.Certified.{NamesAudit}
+use Rattle.kc_cert_text.specs.CertTexts.{IsCertificate, cert_text}
 use Rattle.kc_input.specs.declared.halt.Halt.{Halt}
 use Rattle.kc_input.specs.declared.halt.Halt.TheVariants as halts
 use Rattle.kc_ends.specs.declared.answer.Answer.{Answer}

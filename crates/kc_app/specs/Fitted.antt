@@ -2,7 +2,7 @@
 use Rattle.std.specs.Prelude.{◌≡◌, ⊤, ℕ, List, Option, Some, None, Result, Ok, Err}
 use Rattle.kc_outside.specs.declared.store.Slot.{Slot}
 use Rattle.kc_outside.specs.Files.{Files}
-use Rattle.kc_cert.specs.declared.certificate.CertStep.{CertStep}
+use Rattle.kc_cert_text.specs.declared.certificate.CertStep.{CertStep}
 use Rattle.kc_input.specs.declared.halt.Halt.{Halt}
 use Rattle.kc_input.specs.Made.{Halts, Made, gives}
 use Rattle.kc_ends.specs.declared.answer.Answer.{Answer}

@@ -5,7 +5,7 @@ use Rattle.kc_outside.specs.declared.store.Slot.TheVariants.{Dump, Btf, Map, Pla
 use Rattle.kc_outside.specs.Files.{Files as Told}
 use Rattle.kc_outside.specs.Texts.{with_piece}
 use Rattle.kc_input.specs.Made.{Made, gives}
-use Rattle.kc_cert.specs.declared.certificate.CertStep.{CertStep}
+use Rattle.kc_cert_text.specs.declared.certificate.CertStep.{CertStep}
 use Rattle.kc_ends.specs.declared.status.Status.{Status}
 use Rattle.kc_ends.specs.declared.status.Status.TheVariants as status
 use Rattle.kc_app.specs.Check.{Audited, Files, TellsRoots, TellsStanding, audited, audited_shown}

@@ -3,7 +3,7 @@ use Rattle.std.specs.Prelude.{◌≡◌, ⊤, ℕ, List, Option, Some, None, IfS
 use Rattle.kc_outside.specs.declared.store.Slot.{Slot}
 use Rattle.kc_outside.specs.Files.{Files}
 use Rattle.kc_outside.specs.Texts.{with_piece}
-use Rattle.kc_cert.specs.declared.certificate.CertStep.{CertStep}
+use Rattle.kc_cert_text.specs.declared.certificate.CertStep.{CertStep}
 use Rattle.kc_ends.specs.declared.status.Status.{Status}
 use Rattle.kc_ends.specs.Ends.{ErrFailed, IsTold, TookPart}
 use Rattle.kc_ends.specs.Output.{Output, Usage, Ends, output_of, word_files, written, written_files}

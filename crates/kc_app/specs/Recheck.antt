@@ -1,9 +1,9 @@
 -- `recheck`: whether a certificate fits the structures of a kernel, by a plan.
 use Rattle.std.specs.Prelude.{ℕ, List, [], ◌∷◌, ◌++◌, codes, Option, Some, None}
 use Rattle.kc_outside.specs.declared.store.Slot.TheVariants as slot
-use Rattle.kc_cert.specs.declared.certificate.CertStep.{CertStep}
-use Rattle.kc_cert.specs.Certificates.{answer}
-use Rattle.kc_cert.specs.CertTexts.{cert_in}
+use Rattle.kc_cert_text.specs.declared.certificate.CertStep.{CertStep}
+use Rattle.kc_recheck.specs.Certificates.{answer}
+use Rattle.kc_cert_text.specs.CertTexts.{cert_in}
 use Rattle.kc_input.specs.declared.refusal.Refusal.TheVariants.{Certificate}
 use Rattle.kc_input.specs.Inputs.{cert_bytes_in}
 use Rattle.kc_input.specs.Made.{◌>>=◌, Made, checked, gives}

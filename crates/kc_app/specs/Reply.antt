@@ -3,11 +3,11 @@ use Rattle.std.specs.Prelude.{◌≡◌, ⊤, ℕ, List, [], ◌++◌, codes, de
 use Rattle.kc_memory.specs.Image.{Image}
 use Rattle.kc_found.specs.declared.verdict.AuditCount.{AuditCount}
 use Rattle.kc_plan.specs.Planned.{AuditAt}
-use Rattle.kc_cert.specs.declared.certificate.CertAnswer.{CertAnswer}
-use Rattle.kc_cert.specs.declared.certificate.CertAnswer.TheVariants.{Yes, No}
-use Rattle.kc_cert.specs.declared.certificate.CertStep.{CertStep}
-use Rattle.kc_cert.specs.Certificates.{answer}
-use Rattle.kc_cert.specs.CertTexts.{IsCertificate, cert_text}
+use Rattle.kc_recheck.specs.declared.against.CertAnswer.{CertAnswer}
+use Rattle.kc_recheck.specs.declared.against.CertAnswer.TheVariants.{Yes, No}
+use Rattle.kc_cert_text.specs.declared.certificate.CertStep.{CertStep}
+use Rattle.kc_recheck.specs.Certificates.{answer}
+use Rattle.kc_cert_text.specs.CertTexts.{IsCertificate, cert_text}
 use Rattle.kc_input.specs.Made.{◌>>=◌, Made, gives}
 use Rattle.kc_ends.specs.declared.status.Status.{Status}
 use Rattle.kc_ends.specs.declared.status.Status.TheVariants.{Done, Broken}

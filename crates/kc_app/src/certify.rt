@@ -7,7 +7,7 @@ ghost use Rattle.kc_outside.specs.Files.{content};
 ghost use Rattle.kc_phys.specs.Stored.{AreInside};
 ghost use Rattle.kc_plan.specs.Inside.{AreInside as TypesAreInside};
 ghost use Rattle.kc_plan.specs.Views.{plan_seen};
-ghost use Rattle.kc_cert.specs.Certified.{CertifiesAs, CountsCertifyFaults, NamesAudit};
+ghost use Rattle.kc_certify.specs.Certified.{CertifiesAs, CountsCertifyFaults, NamesAudit};
 ghost use Rattle.kc_input.specs.Halts.{NotRefused, OnStore, UnlessStore};
 ghost use Rattle.kc_input.specs.Paging.{IsTable};
 ghost use Rattle.kc_ends.specs.Answers.{StayBehind};

@@ -1,5 +1,5 @@
 // What the definition of the output says.
-ghost use Rattle.kc_cert.specs.CertTexts.{TextsTold};
+ghost use Rattle.kc_cert_text.specs.CertTexts.{TextsTold};
 ghost use Rattle.kc_app.specs.Check.{ChecksStand, RootsTold};
 ghost use Rattle.kc_app.specs.Headline.{ChecksEnd};
 ghost use Rattle.kc_app.specs.ModuleHeadline.{ModuleChecksEnd};

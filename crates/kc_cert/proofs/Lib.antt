@@ -1,14 +1,3 @@
-mod CertLaws
-mod Copying
-mod Drops
-mod Few
-mod Judging
 mod Making
 mod OneShape
-mod Passing
-mod Right
-mod Shaping
 mod Single
-mod Spending
-mod TimesLoops
-mod Unrolling

@@ -12,36 +12,33 @@ use Rattle.kc_found.specs.Trials.{and_then}
 use Rattle.kc_found.specs.Violations.{Violation}
 use Rattle.kc_list.specs.Laws.{HashChainsAreWalked, RingsAreWalked}
 use Rattle.kc_rb.specs.Laws.{TreesAreWalked}
-use Rattle.kc_plan.specs.declared.kind.Kind.TheVariants.{Xarray}
+use Rattle.kc_kinds.specs.declared.kind.Kind.TheVariants.{Xarray}
 use Rattle.kc_plan.specs.Events.{Event, Walk, Wrong, first_wrong}
 use Rattle.kc_plan.specs.Planned.{AuditAt}
-use Rattle.kc_plan.specs.Seen.{PathEnd, EndsAt, NullAt, at_element, below, checks_seen, container_of, entered, in_turn, is_optional, nodes_of, null_pointer, path_end, path_of, roots, seen, walked, world}
+use Rattle.kc_plan.specs.Seen.{PathEnd, EndsAt, NullAt, at_element, below, checks_seen, container_of, entered, in_turn, is_optional, null_pointer, path_end, path_of, roots, seen, walked, world}
+use Rattle.kc_kinds.specs.Structures.{nodes_of}
 use Rattle.kc_plan.specs.Verdicts.{verdict}
 use Rattle.kc_run.specs.Tally.{added, tally, zeros}
 use Rattle.kc_run_laws.specs.Runs.{ends_broken, ends_clean}
-use Rattle.kc_cert.specs.declared.certificate.CertStep.{CertStep}
-use Rattle.kc_cert.specs.Certified.{at}
-use Rattle.kc_cert.specs.Certificates.{Judge, Judged, after_walk, all_hold, answer_of, below_judged, checks_hold, each_judged, entry_judged, fits, judged, nodes_judged, walk_judged}
+use Rattle.kc_cert_text.specs.declared.certificate.CertStep.{CertStep}
+use Rattle.kc_fits.specs.Fits.{all_hold, checks_hold, fits}
+use Rattle.kc_recheck.specs.Certificates.{Judge, Judged, after_walk, answer_of, at, below_judged, each_judged, entry_judged, judged, nodes_judged, walk_judged}
 use Rattle.kc_found.specs.declared.xarrays.XaItem.{XaItem}
 use Rattle.kc_found.specs.XaLayouts.{XaLayout}
 use Rattle.kc_found.specs.XaSites.{entries_in, xa_judged}
 use Rattle.kc_entries.specs.Entries.{is_xarray, pointers}
 use Rattle.kc_entries.specs.Laws.{WalksPass, met_pointers}
 use Rattle.kc_given.specs.Laws.{CachesHaveLists, TasksHaveLists}
+use Rattle.kc_pid_lists.specs.Laws.{PidsHaveLists}
 use Rattle.kc_shape.specs.Laws.{HashChainsAreTested, RingsAreTested, TreesPass}
-use Rattle.kc_cert.specs.Shapes.{is_shape, nodes_in}
+use Rattle.kc_fits.specs.Shapes.{is_shape, nodes_in}
 use Rattle.kc_shape.specs.Trees.{pre}
 use Rattle.kc_cert.specs.Complete.{AllShaped, HasShape, CleanIsCertified, ShapedKinds}
-use Rattle.kc_cert.proofs.Right.{checks_none, right_seen}
+use Rattle.kc_recheck_laws.specs.Judged.{both_true, checks_none, if_so, right_seen, step_fits, tally_parts}
 
 -- steps that are taken, whatever follows them
 abbrev MadeAt : Judge → List AuditCount → List AuditCount → Type 0
 MadeAt judge counts after = (more : List CertStep) × ((rest : List CertStep) → judge (at (more ++ rest) counts) ≡ Ok (at rest after))
-
-pub tally_parts : (before after : List AuditCount) (es us : List Event) → tally before (es ++ us) ≡ Ok after → (mid : List AuditCount) × (tally before es ≡ Ok mid) × (tally mid us ≡ Ok after)
-tally_parts before after [] us e = (before, refl, e)
-tally_parts before after (Walk n size ∷ es) us e = tally_parts (added before n size) after es us e
-tally_parts before after (Wrong v ∷ es) us e = let none : ⊥ = cc in absurd none
 
 -- each thing in turn makes its steps
 each_made : {X : Type 0} (judge : X → Judge) (see : X → List Event) (xs : List X) (counts after : List AuditCount) → ((x : X) (b c : List AuditCount) → tally b (see x) ≡ Ok c → MadeAt (judge x) b c) →
@@ -52,14 +49,6 @@ each_made judge see (x ∷ xs) counts after further e =
     let one = further x counts p.0 p.1 in
     let two = each_made judge see xs p.0 after further p.2 in
     (one.0 ++ two.0, λ rest. ap (λ (l : List CertStep). and_then (judge x (at l counts)) (each_judged judge xs)) (append_assoc one.0 two.0 rest) ∙ ap (λ (r : Judged). and_then r (each_judged judge xs)) (one.1 (two.0 ++ rest)) ∙ two.1 rest)
-
-pub both_true : (a b : Bool) → a ≡ true → b ≡ true → (a && b) ≡ true
-both_true true b x y = y
-both_true false b x y = absurd (cc)
-
-pub if_so : {A : Type 0} (b : Bool) (x y : A) → b ≡ true → (if b then x else y) ≡ x
-if_so true x y e = refl
-if_so false x y e = absurd (cc)
 
 -- the checks of an element, and what lies below
 element_made : (i : Image) (n : ℕ) (a : AuditAt) (start : ℕ) (judge : ℕ → ℕ → Judge) (see : ℕ → ℕ → List Event) (element : ℕ) (counts after : List AuditCount) → ((m x : ℕ) (b c : List AuditCount) → tally b (see m x) ≡ Ok c → MadeAt (judge m x) b c) →
@@ -78,13 +67,6 @@ all_made i n a start judge see [] counts after further e = refl
 all_made i n a start judge see (node ∷ nodes) counts after further e =
     let p = tally_parts counts after (at_element (world i) n a start see (container_of a.link node)) (in_turn (λ node. at_element (world i) n a start see (container_of a.link node)) nodes) e in
     both_true (checks_hold i n a start (container_of a.link node)) (all_hold i n a start nodes) (element_made i n a start judge see (container_of a.link node) counts p.0 further p.1).0 (all_made i n a start judge see nodes p.0 after further p.2)
-
--- a walk makes a step
-pub step_fits : (i : Image) (n : ℕ) (a : AuditAt) (start : ℕ) (lists : List (List ℕ)) → is_shape i a.kind n start lists ≡ true → all_hold i n a start (nodes_in a.kind lists) ≡ true → fits i n a start (record { audit = n; start = start; lists = lists }) ≡ true
-unfolding fits
-step_fits i n a start lists shape hold =
-    both_true (nat_eq n n && nat_eq start start) (is_shape i a.kind n start lists && all_hold i n a start (nodes_in a.kind lists)) (both_true (nat_eq n n) (nat_eq start start) (eq-eqb n n refl) (eq-eqb start start refl))
-    (both_true (is_shape i a.kind n start lists) (all_hold i n a start (nodes_in a.kind lists)) shape hold)
 
 walk_made : (i : Image) (n : ℕ) (a : AuditAt) (start : ℕ) (judge : ℕ → ℕ → Judge) (see : ℕ → ℕ → List Event) (counts after : List AuditCount) (r : Result (List ℕ) Violation) → HasShape i a.kind → nodes_of i a.kind n start ≡ r →
     ((m x : ℕ) (b c : List AuditCount) → tally b (see m x) ≡ Ok c → MadeAt (judge m x) b c) → tally counts (walked (world i) n a start see r) ≡ Ok after → MadeAt (λ p. walk_judged i n a start judge p.counts p.left) counts after
@@ -145,13 +127,14 @@ unfolding is_shape
 array_shaped i shape n start nodes (Ok items) law e = let w = law items refl in let same : met_pointers items ≡ nodes = cc in (w.0 ∷ [], w.1, sym w.2 ∙ same)
 array_shaped i shape n start nodes (Err v) law e = let none : ⊥ = cc in absurd none
 
-pub shaped : RingsAreTested → HashChainsAreTested → TreesPass → RingsAreWalked → HashChainsAreWalked → TreesAreWalked → WalksPass → CachesHaveLists → TasksHaveLists → ShapedKinds
+pub shaped : RingsAreTested → HashChainsAreTested → TreesPass → RingsAreWalked → HashChainsAreWalked → TreesAreWalked → WalksPass → CachesHaveLists → TasksHaveLists → PidsHaveLists → ShapedKinds
 unfolding is_shape nodes_of
-shaped rings chains trees ring_walks chain_walks tree_walks arrays caches tasks i = record {
+shaped rings chains trees ring_walks chain_walks tree_walks arrays caches tasks pids i = record {
   rings = λ shape n start ns is. (ns ∷ [], (rings i shape start ns).0 ((ring_walks i shape n start ns).1 is), refl);
   chains = λ shape n start ns is. (ns ∷ [], (chains i shape start ns).0 ((chain_walks i shape n start ns).1 is), refl);
   trees = λ shape n start ns is. let t : RbTree (reads_of i) shape start ns = (tree_walks i shape n start ns).1 is in let r = trees i shape start ns t in (pre t.tree ∷ [], r.0, r.1);
   arrays = λ shape n start ns is. array_shaped i shape n start ns (xa_judged i shape n start) (λ items e. arrays i shape n start items e) is;
   caches = λ shape n start ns is. caches i shape n n start ns is;
   tasks = λ shape n start ns is. tasks i shape n n start ns is;
+  pids = λ shape n start ns is. pids i shape n n start ns is;
 }

@@ -4,18 +4,19 @@ use Rattle.std.specs.Prelude.{Result, Ok, Err}
 use Rattle.kc_memory.specs.Image.{Image}
 use Rattle.kc_found.specs.declared.asked.Asked.{Asked}
 use Rattle.kc_found.specs.Violations.{Violation}
-use Rattle.kc_plan.specs.declared.kind.Kind.{Kind}
-use Rattle.kc_plan.specs.declared.kind.Kind.TheVariants.{Ring, Hlist, Rbtree, Xarray, Slub, Tasks}
-use Rattle.kc_plan.specs.Seen.{nodes_of}
+use Rattle.kc_kinds.specs.declared.kind.Kind.{Kind}
+use Rattle.kc_kinds.specs.declared.kind.Kind.TheVariants.{Ring, Hlist, Rbtree, Xarray, Slub, Tasks, Pids}
+use Rattle.kc_kinds.specs.Structures.{nodes_of}
 use Rattle.kc_entries.specs.Laws.{XarraysPassOnce}
 use Rattle.kc_entries.specs.Entries.{is_xarray}
 use Rattle.kc_given.specs.Laws.{CacheListsAreTested, TaskListsAreTested}
+use Rattle.kc_pid_lists.specs.Laws.{PidListsAreOne}
 use Rattle.kc_shape.specs.Laws.{TreesPassOnce}
 use Rattle.kc_shape.specs.Trees.{is_tree}
 use Rattle.kc_chains.specs.CachesBy.{cache_lists}
 use Rattle.kc_chains.specs.TasksBy.{task_lists}
-use Rattle.kc_cert.specs.Complete.{ShapesAreWalked}
-use Rattle.kc_cert.specs.Shapes.{is_shape, nodes_in, one_list}
+use Rattle.kc_fits.specs.Walked.{ShapesAreWalked}
+use Rattle.kc_fits.specs.Shapes.{is_shape, nodes_in, one_list}
 use Rattle.kc_cert.specs.Single.{ShapesAreOne}
 
 -- what came, where something did
@@ -39,17 +40,18 @@ two_are test lists others e f once =
     let b = one_is test others f in
     a.1 ∙ ap (λ ns. ns ∷ []) (once a.0 b.0 a.2 b.2) ∙ sym b.1
 
-pub shapes_once : ShapesAreWalked → TreesPassOnce → XarraysPassOnce → CacheListsAreTested → TaskListsAreTested → ShapesAreOne
+pub shapes_once : ShapesAreWalked → TreesPassOnce → XarraysPassOnce → CacheListsAreTested → TaskListsAreTested → PidListsAreOne → ShapesAreOne
 unfolding is_shape
-shapes_once walked trees xarrays caches tasks i (Ring shape) n start lists others e f =
+shapes_once walked trees xarrays caches tasks pids i (Ring shape) n start lists others e f =
     two_are _ lists others e f (λ ns ms x y. ok_is (nodes_of i (Ring shape) n start) ns ms (walked i (Ring shape) n start (ns ∷ []) x) (walked i (Ring shape) n start (ms ∷ []) y))
-shapes_once walked trees xarrays caches tasks i (Hlist shape) n start lists others e f =
+shapes_once walked trees xarrays caches tasks pids i (Hlist shape) n start lists others e f =
     two_are _ lists others e f (λ ns ms x y. ok_is (nodes_of i (Hlist shape) n start) ns ms (walked i (Hlist shape) n start (ns ∷ []) x) (walked i (Hlist shape) n start (ms ∷ []) y))
-shapes_once walked trees xarrays caches tasks i (Rbtree shape) n start lists others e f = two_are (is_tree i shape start) lists others e f (trees i shape start)
-shapes_once walked trees xarrays caches tasks i (Xarray shape) n start lists others e f = two_are (is_xarray i shape start) lists others e f (xarrays i shape start)
-shapes_once walked trees xarrays caches tasks i (Slub shape) n start lists others e f =
+shapes_once walked trees xarrays caches tasks pids i (Rbtree shape) n start lists others e f = two_are (is_tree i shape start) lists others e f (trees i shape start)
+shapes_once walked trees xarrays caches tasks pids i (Xarray shape) n start lists others e f = two_are (is_xarray i shape start) lists others e f (xarrays i shape start)
+shapes_once walked trees xarrays caches tasks pids i (Slub shape) n start lists others e f =
     let asked : Asked = record { audit = n; start = start } in
     ok_is (cache_lists i shape asked) lists others ((caches i shape asked lists).0 e) ((caches i shape asked others).0 f)
-shapes_once walked trees xarrays caches tasks i (Tasks shape) n start lists others e f =
+shapes_once walked trees xarrays caches tasks pids i (Tasks shape) n start lists others e f =
     let asked : Asked = record { audit = n; start = start } in
     ok_is (task_lists i shape asked) lists others ((tasks i shape asked lists).0 e) ((tasks i shape asked others).0 f)
+shapes_once walked trees xarrays caches tasks pids i (Pids shape) n start lists others e f = pids i shape (record { audit = n; start = start }) lists others e f

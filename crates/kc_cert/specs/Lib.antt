@@ -1,9 +1,2 @@
-pub mod Answers
-pub mod CertTexts
-pub mod Certificates
-pub mod Certified
 pub mod Complete
-pub mod Readings
-pub mod Shapes
 pub mod Single
-pub mod Size

@@ -2,12 +2,12 @@
 use Rattle.std.specs.Prelude.{◌≡◌, ℕ, true, List}
 use Rattle.kc_memory.specs.Image.{Image}
 use Rattle.kc_found.specs.declared.verdict.AuditCount.{AuditCount}
-use Rattle.kc_plan.specs.declared.kind.Kind.{Kind}
+use Rattle.kc_kinds.specs.declared.kind.Kind.{Kind}
 use Rattle.kc_plan.specs.Planned.{AuditAt}
-use Rattle.kc_cert.specs.declared.certificate.CertAnswer.TheVariants.{Yes}
-use Rattle.kc_cert.specs.declared.certificate.CertStep.{CertStep}
-use Rattle.kc_cert.specs.Certificates.{answer}
-use Rattle.kc_cert.specs.Shapes.{is_shape}
+use Rattle.kc_recheck.specs.declared.against.CertAnswer.TheVariants.{Yes}
+use Rattle.kc_cert_text.specs.declared.certificate.CertStep.{CertStep}
+use Rattle.kc_recheck.specs.Certificates.{answer}
+use Rattle.kc_fits.specs.Shapes.{is_shape}
 
 -- a structure has one shape
 abbrev pub ShapesAreOne : Type 0

@@ -2,24 +2,12 @@
 //! against a dump without a search.
 #![tactic(auto)]
 
-mod against;
-mod certificate;
-mod collect;
-mod fits;
-mod issue;
 mod laws;
-mod nest;
-mod pass;
-mod read;
-mod shape;
-mod write;
 
-pub use against::recheck;
-pub use certificate::{CertAnswer, CertStep, CertStop, Certificate, Lists, RecheckStop};
-pub use issue::certify;
-pub use laws::{know_complete, know_single, know_texts};
-pub use read::{CertRead, read_cert};
-pub use write::cert_text;
+pub use kc_cert_text::{CertRead, CertStep, Certificate, Lists, cert_text, know_texts, read_cert};
+pub use kc_certify::{CertStop, certify};
+pub use kc_recheck::{CertAnswer, RecheckStop, recheck};
+pub use laws::{know_complete, know_single};
 
 #[cfg(test)]
 mod tests;

@@ -1,18 +1,21 @@
-// Certificates that are read, written and cut short, one that is held against a few words, and one that is made of them.
-ghost use Rattle.std.specs.Prelude.{◌≡◌, ◌<◌, length};
+// Certificates that are read, written and cut short, one that is held against a few words, one that is made of them, and some that
+// are held against a long ring, whose reads are counted.
+ghost use Rattle.std.specs.Prelude.{◌≡◌, ◌<◌, length, None, []};
+ghost use Rattle.std.proofs.Common.{lit≤};
 ghost use Rattle.kc_plan.specs.Inside.{AreInside};
 
 use crate::{
-    CertAnswer, CertRead, CertStop, Certificate, RecheckStop, cert_text, certify, read_cert,
-    recheck,
+    CertAnswer, CertRead, CertStep, CertStop, Certificate, Lists, RecheckStop, cert_text, certify,
+    read_cert, recheck,
 };
 use kc_btf::Btf;
 use kc_fixture::{MAP, btf_file};
-use kc_found::{Counts, ListSpace, Origin, VWord};
+use kc_found::{Counts, ListSpace, Origin, Space, VWord, Walked};
+use kc_memory::{Miss, Rule, Stop};
 use kc_notes::Info;
 use kc_plan::{Plan, read_plan};
 use kc_syms::Symbols;
-use kc_word::Steps;
+use kc_word::{NoMemory, Steps};
 use std::alloc::{AllocError, Global};
 use std::marker::Brand;
 use std::sync::ledger::{Blank, Ledger};
@@ -135,11 +138,11 @@ fn yes_text(alloc: Global, counts: &Counts) -> Result<String, AllocError> {
     Ok(text)
 }
 
-fn answer<L: Ledger>(
+fn answer<S: Space, L: Ledger>(
     alloc: Global,
     plan: &Plan,
     btf: &Btf,
-    space: &mut ListSpace,
+    space: &mut S,
     cert: &Certificate,
     blank: Blank,
 ) -> Result<String, AllocError>
@@ -214,8 +217,151 @@ fn steps_fit_or_not(rt: HostRuntime) -> Result<(), Fail> {
         let text = format!(in alloc; "certificate {count}\n{first}{second}")?;
         let cert = read_cert(alloc, text.as_bytes())?;
         let mut space = space_of(alloc, (at, value))?;
-        let found = answer::<Brand>(alloc, &plan, &btf, &mut space, &cert, Blank::new(1))?;
+        let found = answer::<ListSpace, Brand>(
+            alloc,
+            &plan,
+            &btf,
+            &mut space,
+            &cert,
+            Blank::new(1),
+        )?;
         assert_eq!(rt; found.as_str(), wanted, "{count} {at:x}={value:x}");
+    }
+    Ok(())
+}
+
+const RING_PLAN: &str = "version = 1
+[[audit]]
+name = 'r'
+kind = 'ring'
+root = 'my_ring'
+element = 'item'
+link = 'link'
+";
+
+// How many nodes the long ring has, where its head is, and its first node; each node takes 16 bytes.
+const NODES: u64 = 100_000;
+
+const HEAD: u64 = IMAGE + 0xb120;
+
+const FIRST: u64 = DIRECT + 0x10_0000;
+
+// A ring of many nodes. It counts the words that are read.
+#[derive(Drop)]
+struct LongRing {
+    reads: u64,
+}
+
+impl Space for LongRing {
+    ghost image = { λ r. None };
+
+    ghost files = { λ r. None };
+
+    ghost faults = { λ r. 0 };
+
+    ghost through = { λ r. [] };
+
+    ghost most = { λ r. 1 };
+
+    ghost most_some = { λ r. lit≤ tt };
+
+    ghost most_small = { λ r. lit≤ tt };
+
+    fn word<L: Ledger>(&mut self, va: u64, _: &mut Steps<L>) -> Result<VWord, Stop> {
+        self.reads = self.reads.saturating_add(1);
+        let pa = va & 0xffff_ffff_ffff;
+        match linked(va) {
+            Some(value) => Ok(VWord {
+                va,
+                pa,
+                off: Origin::File(pa),
+                value,
+            }),
+            None => Err(Stop::Miss(Miss {
+                va,
+                rule: Rule::M6,
+                level: 0,
+                pa: 0,
+                entry: None,
+            })),
+        }
+    }
+}
+
+// What a word of the ring holds: the address of the node after it, or before it.
+fn linked(va: u64) -> Option<u64> {
+    if va == HEAD {
+        return Some(FIRST);
+    }
+    if va == HEAD + 8 {
+        return Some(node(NODES - 1));
+    }
+    let at = va.checked_sub(FIRST)?;
+    let number = at / 16;
+    match at % 16 {
+        0 if number < NODES => Some(node(number + 1)),
+        8 if number == 0 => Some(HEAD),
+        8 if number < NODES => Some(node(number - 1)),
+        _ => None,
+    }
+}
+
+// The address of a node by its number, and the head's after the last.
+fn node(number: u64) -> u64 {
+    if number < NODES {
+        FIRST.saturating_add(number.saturating_mul(16))
+    } else {
+        HEAD
+    }
+}
+
+// A certificate of so many steps, each of so many nodes of the long ring.
+fn ring_cert(alloc: Global, steps: u64, nodes: u64) -> Result<Certificate, NoMemory> {
+    let mut cert = Certificate::new(alloc);
+    for _ in 0..steps {
+        let mut lists = Lists::new(alloc);
+        lists.push(ring_list(alloc, nodes)?)?;
+        cert.push(CertStep {
+            audit: 0,
+            start: HEAD,
+            lists,
+        })?;
+    }
+    Ok(cert)
+}
+
+fn ring_list(alloc: Global, nodes: u64) -> Result<Walked, NoMemory> {
+    let mut list = Walked::new(alloc);
+    for number in 0..nodes {
+        list.push(node(number))?;
+    }
+    Ok(list)
+}
+
+// How many steps a certificate has, and how many nodes each; the answer, and how many words were read.
+const PAID: [(u64, u64, &str); 4] = [
+    (0, 0, "no 1, 0 reads"),
+    (1, 0, "no 1, 1 reads"),
+    (1, 2, "no 1, 2 reads"),
+    (1, NODES, "yes 1 100000, 200002 reads"),
+];
+
+#[test]
+fn reads_are_paid_by_the_certificate(rt: HostRuntime) -> Result<(), Fail> {
+    let alloc = rt.alloc();
+    let btf = Btf::read(alloc, btf_file(alloc)?)?;
+    let symbols = Symbols::read(alloc, MAP.as_bytes())?;
+    let Ok(plan) = read_plan(alloc, RING_PLAN.as_bytes(), &btf, &symbols, &INFO) else {
+        assert!(rt; false, "refused");
+        return Ok(());
+    };
+    for (steps, nodes, wanted) in PAID {
+        let cert = ring_cert(alloc, steps, nodes)?;
+        let mut ring = LongRing { reads: 0 };
+        let found = answer::<LongRing, Brand>(alloc, &plan, &btf, &mut ring, &cert, Blank::new(1))?;
+        let reads = ring.reads;
+        let told = format!(in alloc; "{found}, {reads} reads")?;
+        assert_eq!(rt; told.as_str(), wanted);
     }
     Ok(())
 }

@@ -1,14 +1,15 @@
 -- Lists that are given and pass are taken.
 use Rattle.std.proofs.Common.{◌≡◌, ℕ, Bool, true, false, List, ◌∷◌, [], refl, ◌∙◌, sym, ap, subst}
 use Rattle.std.specs.Prelude.{Result, Ok, Err, OnOk, if◌then◌else◌}
-use Rattle.kc_memory.specs.declared.rule.Rule.TheVariants.{L1, U5}
+use Rattle.kc_memory.specs.declared.rule.Rule.TheVariants.{H1, L1, U5}
 use Rattle.kc_view.specs.Fields.{started_at}
 use Rattle.kc_view.specs.Steps.{started_ok}
 use Rattle.kc_found.specs.FreeLists.{low_word}
+use Rattle.kc_found.specs.HashChains.{hash_walk}
 use Rattle.kc_found.specs.Rings.{ring_walk}
 use Rattle.kc_found.specs.Violations.{Violation}
 use Rattle.kc_chains.specs.Chains.{Came, Lists}
-use Rattle.kc_chains.specs.Given.{GivenFreeAreTaken, GivenRingsAreTaken, misfit, taken_if}
+use Rattle.kc_chains.specs.Given.{GivenFreeAreTaken, GivenHashesAreTaken, GivenRingsAreTaken, misfit, taken_if}
 use Rattle.kc_chains.proofs.Taking.{firsts, seconds}
 
 no_err : {A E : Type 0} (e : E) (x : A) → ◌≡◌ {A = Result A E} (Err e) (Ok x) → ⊥
@@ -38,4 +39,10 @@ pub given_free : GivenFreeAreTaken
 given_free image test tests asked grid first os rest is = (
   (λ lists e. let t = taken_is (test grid first) (misfit asked U5 (low_word first.value)) lists rest os e in (t.0, (tests grid first asked os is).0 t.1)),
   (λ e. taken_by (test grid first) (misfit asked U5 (low_word first.value)) rest os ((tests grid first asked os is).1 e)),
+)
+
+pub given_hashes : GivenHashesAreTaken
+given_hashes image test tests asked shape head ns rest = (
+  (λ lists e. let t = taken_is (test shape head) (misfit asked H1 head) lists rest ns e in (t.0, ap (started_at asked.start) ((tests shape asked.audit head ns).0 t.1))),
+  (λ e. taken_by (test shape head) (misfit asked H1 head) rest ns ((tests shape asked.audit head ns).1 (started_ok asked.start (hash_walk image shape asked.audit head) ns e))),
 )

@@ -6,12 +6,15 @@ use Rattle.kc_memory.specs.Image.{Image}
 use Rattle.kc_view.specs.Fields.{started_at, unless}
 use Rattle.kc_found.specs.declared.asked.Asked.{Asked}
 use Rattle.kc_found.specs.declared.free.Grid.{Grid}
+use Rattle.kc_found.specs.declared.shapes.HShape.{HShape}
 use Rattle.kc_found.specs.declared.shapes.ListShape.{ListShape}
 use Rattle.kc_found.specs.FreeLists.{IsGrid, free_list}
+use Rattle.kc_found.specs.HashChains.{hash_walk}
 use Rattle.kc_found.specs.Rings.{ring_walk}
 use Rattle.kc_found.specs.Trials.{and_then, ok_after}
 use Rattle.kc_found.specs.Violations.{Violation}
-use Rattle.kc_chains.specs.Chains.{Came, FreeBy, Lists, RingBy, TakesFree, TakesRings, alone, free_kept, lists_of, ring_kept}
+use Rattle.kc_chains.specs.Chains.{Came, FreeBy, HashBy, Lists, RingBy, TakesFree, TakesHashes, TakesRings, alone, free_kept, hash_kept, lists_of, ring_kept}
+use Rattle.kc_chains.specs.TasksBy.{passed_by}
 
 -- a step, from the lists that are there
 abbrev pub By : Type 0 → Type 0
@@ -95,22 +98,30 @@ done_same {A} x = (
   (λ before after y e. ([], sym (seconds (x, before) (y, after) e) ∙ sym (append-nil before), λ rest. ap (λ (z : A). Ok (z, rest)) (firsts (x, before) (y, after) e))),
 )
 
--- a ring, and a free list
-pub ring_same : (image : Image) (ring : RingBy) → TakesRings image ring → (asked : Asked) (shape : ListShape) (head : ℕ) → Same (ring asked shape head) (ring_kept image asked shape head)
-ring_same image ring takes asked shape head = (
-  (λ lists rest ns e. let t = (takes asked shape head ns rest).0 lists e in (ns ∷ [], t.0, λ before. ap (λ q. and_then q (λ xs. Ok (xs, before ++ xs ∷ []))) t.1)),
+-- a chain whose list is the first of those that are there, beside its walk, whose list is kept
+abbrev pub Takes : By (List ℕ) → Result (List ℕ) Violation → Type 0
+Takes m r =
+    (ns : List ℕ) (rest : Lists)
+    → ((lists : Lists) → m lists ≡ Ok (ns, rest) → (lists ≡ ns ∷ rest) × (r ≡ Ok ns))
+    × (r ≡ Ok ns → m (ns ∷ rest) ≡ Ok (ns, rest))
+
+kept_same : (m : By (List ℕ)) (r : Result (List ℕ) Violation) → Takes m r → Same m (λ s. and_then r (λ ns. Ok (ns, s ++ ns ∷ [])))
+kept_same m r takes = (
+  (λ lists rest ns e. let t = (takes ns rest).0 lists e in (ns ∷ [], t.0, λ before. ap (λ q. and_then q (λ xs. Ok (xs, before ++ xs ∷ []))) t.1)),
   (λ before after ns e.
-      let o = ok_after (started_at asked.start (ring_walk image shape asked.audit head)) (λ xs. Ok (xs, before ++ xs ∷ [])) (ns, after) e in
-      (o.0 ∷ [], sym (seconds (o.0, before ++ o.0 ∷ []) (ns, after) o.2), λ rest. (takes asked shape head o.0 rest).1 o.1 ∙ ap (λ (z : List ℕ). Ok (z, rest)) (firsts (o.0, before ++ o.0 ∷ []) (ns, after) o.2))),
+      let o = ok_after r (λ xs. Ok (xs, before ++ xs ∷ [])) (ns, after) e in
+      (o.0 ∷ [], sym (seconds (o.0, before ++ o.0 ∷ []) (ns, after) o.2), λ rest. (takes o.0 rest).1 o.1 ∙ ap (λ (z : List ℕ). Ok (z, rest)) (firsts (o.0, before ++ o.0 ∷ []) (ns, after) o.2))),
 )
 
+-- a ring, a free list, and a hash chain
+pub ring_same : (image : Image) (ring : RingBy) → TakesRings image ring → (asked : Asked) (shape : ListShape) (head : ℕ) → Same (ring asked shape head) (ring_kept image asked shape head)
+ring_same image ring takes asked shape head = kept_same (ring asked shape head) (started_at asked.start (ring_walk image shape asked.audit head)) (takes asked shape head)
+
 pub free_same : (image : Image) (free : FreeBy) → TakesFree image free → (asked : Asked) (grid : Grid) (first : Number) → IsGrid grid → Same (free asked grid first) (free_kept image asked grid first)
-free_same image free takes asked grid first is = (
-  (λ lists rest os e. let t = (takes asked grid first os rest is).0 lists e in (os ∷ [], t.0, λ before. ap (λ q. and_then q (λ xs. Ok (xs, before ++ xs ∷ []))) t.1)),
-  (λ before after os e.
-      let o = ok_after (free_list image grid first asked) (λ xs. Ok (xs, before ++ xs ∷ [])) (os, after) e in
-      (o.0 ∷ [], sym (seconds (o.0, before ++ o.0 ∷ []) (os, after) o.2), λ rest. (takes asked grid first o.0 rest is).1 o.1 ∙ ap (λ (z : List ℕ). Ok (z, rest)) (firsts (o.0, before ++ o.0 ∷ []) (os, after) o.2))),
-)
+free_same image free takes asked grid first is = kept_same (free asked grid first) (free_list image grid first asked) (λ os rest. takes asked grid first os rest is)
+
+pub hash_same : (image : Image) (hash : HashBy) → TakesHashes image hash → (asked : Asked) (shape : HShape) (head : ℕ) → Same (hash asked shape head) (hash_kept image asked shape head)
+hash_same image hash takes asked shape head = kept_same (hash asked shape head) (started_at asked.start (hash_walk image shape asked.audit head)) (takes asked shape head)
 
 -- what comes by lists that are used up are what the walk gives, which keeps them
 pub used_up : {A : Type 0} (m k : By A) (lists : Lists) (x : A) → Same m k → m lists ≡ Ok (x, []) → (lists_of (k []) ≡ Ok lists) × (alone (k []) ≡ Ok x)
@@ -132,3 +143,95 @@ made_up {A} m k lists same e =
     let w = came_whole (k []) lists e in
     let t = same.1 [] lists w.0 w.1 in
     (w.0, ap m (t.1 ∙ sym (append-nil t.0)) ∙ t.2 [], ap (λ (q : Came A). alone q) w.1)
+
+-- a step that comes to nothing but lists
+abbrev pub Pass : Type 0
+Pass = Lists → Result Lists Violation
+
+abbrev pub PassFollows : Pass → Pass → Type 0
+PassFollows m k = (lists rest : Lists) → m lists ≡ Ok rest → (taken : Lists) × (lists ≡ taken ++ rest) × ((before : Lists) → k before ≡ Ok (before ++ taken))
+
+abbrev pub PassGives : Pass → Pass → Type 0
+PassGives m k = (before after : Lists) → k before ≡ Ok after → (taken : Lists) × (after ≡ before ++ taken) × ((rest : Lists) → m (taken ++ rest) ≡ Ok rest)
+
+abbrev pub PassSame : Pass → Pass → Type 0
+PassSame m k = PassFollows m k × PassGives m k
+
+pub pass_done : PassSame (λ s. Ok s) (λ s. Ok s)
+pass_done = (
+  (λ lists rest e. ([], ap (lists_in []) e, λ before. ap Ok (sym (append-nil before)))),
+  (λ before after e. ([], sym (ap (lists_in []) e) ∙ sym (append-nil before), λ rest. refl)),
+)
+
+pub reads_pass : {X : Type 0} (r : Result X Violation) (f g : X → Pass) → ((x : X) → PassSame (f x) (g x)) → PassSame (λ s. and_then r (λ x. f x s)) (λ s. and_then r (λ x. g x s))
+reads_pass (Ok x) f g next = next x
+reads_pass (Err v) f g next = ((λ lists rest e. absurd (no_err v rest e)), (λ before after e. absurd (no_err v after e)))
+
+-- a step that comes with lists, and then one that comes to nothing but lists
+pub then_pass : {A : Type 0} (m k : By A) (f g : A → Pass) → Same m k → ((x : A) → PassSame (f x) (g x)) → PassSame (λ s. and_then (m s) (λ r. f r.0 r.1)) (λ s. and_then (k s) (λ r. g r.0 r.1))
+then_pass m k f g first next = (
+  (λ lists rest e.
+      let o = ok_after (m lists) (λ r. f r.0 r.1) rest e in
+      let a = first.0 lists o.0.1 o.0.0 o.1 in
+      let b = (next o.0.0).0 o.0.1 rest o.2 in (
+        a.0 ++ b.0,
+        a.1 ∙ ap (λ ls. a.0 ++ ls) b.1 ∙ sym (append_assoc a.0 b.0 rest),
+        λ before. ap (λ q. and_then q (λ r. g r.0 r.1)) (a.2 before) ∙ b.2 (before ++ a.0) ∙ ap Ok (append_assoc before a.0 b.0),
+      )),
+  (λ before after e.
+      let o = ok_after (k before) (λ r. g r.0 r.1) after e in
+      let a = first.1 before o.0.1 o.0.0 o.1 in
+      let b = (next o.0.0).1 o.0.1 after o.2 in (
+        a.0 ++ b.0,
+        b.1 ∙ ap (λ ls. ls ++ b.0) a.1 ∙ append_assoc before a.0 b.0,
+        λ rest. ap (λ ls. and_then (m ls) (λ r. f r.0 r.1)) (append_assoc a.0 b.0 rest) ∙ ap (λ q. and_then q (λ r. f r.0 r.1)) (a.2 (b.0 ++ rest)) ∙ b.2 rest,
+      )),
+)
+
+-- two that come to nothing but lists
+pub pass_pass : (m k f g : Pass) → PassSame m k → PassSame f g → PassSame (λ s. and_then (m s) f) (λ s. and_then (k s) g)
+pass_pass m k f g first next = (
+  (λ lists rest e.
+      let o = ok_after (m lists) f rest e in
+      let a = first.0 lists o.0 o.1 in
+      let b = next.0 o.0 rest o.2 in (
+        a.0 ++ b.0,
+        a.1 ∙ ap (λ ls. a.0 ++ ls) b.1 ∙ sym (append_assoc a.0 b.0 rest),
+        λ before. ap (λ q. and_then q g) (a.2 before) ∙ b.2 (before ++ a.0) ∙ ap Ok (append_assoc before a.0 b.0),
+      )),
+  (λ before after e.
+      let o = ok_after (k before) g after e in
+      let a = first.1 before o.0 o.1 in
+      let b = next.1 o.0 after o.2 in (
+        a.0 ++ b.0,
+        b.1 ∙ ap (λ ls. ls ++ b.0) a.1 ∙ append_assoc before a.0 b.0,
+        λ rest. ap (λ ls. and_then (m ls) f) (append_assoc a.0 b.0 rest) ∙ ap (λ q. and_then q f) (a.2 (b.0 ++ rest)) ∙ b.2 rest,
+      )),
+)
+
+-- a step that comes to nothing but lists, and what came before
+pub pass_with : {A : Type 0} (m k : Pass) (x : A) → PassSame m k → Same (λ s. and_then (m s) (λ more. Ok (x, more))) (λ s. and_then (k s) (λ more. Ok (x, more)))
+pass_with {A} m k x same = (
+  (λ lists rest y e.
+      let o = ok_after (m lists) (λ more. Ok (x, more)) (y, rest) e in
+      let p = (done_same x).0 o.0 rest y o.2 in
+      let a = same.0 lists o.0 o.1 in (
+        a.0 ++ p.0,
+        a.1 ∙ ap (λ ls. a.0 ++ ls) p.1 ∙ sym (append_assoc a.0 p.0 rest),
+        λ before. ap (λ q. and_then q (λ more. Ok (x, more))) (a.2 before) ∙ p.2 (before ++ a.0) ∙ ap (λ ls. Ok (y, ls)) (append_assoc before a.0 p.0),
+      )),
+  (λ before after y e.
+      let o = ok_after (k before) (λ more. Ok (x, more)) (y, after) e in
+      let p = (done_same x).1 o.0 after y o.2 in
+      let a = same.1 before o.0 o.1 in (
+        a.0 ++ p.0,
+        p.1 ∙ ap (λ ls. ls ++ p.0) a.1 ∙ append_assoc before a.0 p.0,
+        λ rest. ap (λ ls. and_then (m ls) (λ more. Ok (x, more))) (append_assoc a.0 p.0 rest) ∙ ap (λ q. and_then q (λ more. Ok (x, more))) (a.2 (p.0 ++ rest)) ∙ p.2 rest,
+      )),
+)
+
+-- each of some things
+pub passed_same : {A : Type 0} (go kept : A → Pass) → ((t : A) → PassSame (go t) (kept t)) → (ts : List A) → PassSame (passed_by go ts) (passed_by kept ts)
+unfolding passed_by
+passed_same go kept each [] = pass_done
+passed_same go kept each (t ∷ ts) = pass_pass (go t) (kept t) (passed_by go ts) (passed_by kept ts) (each t) (passed_same go kept each ts)

@@ -1,5 +1,5 @@
--- How a walk of a slab cache or of tasks comes by the lists of its chains: the nodes of a ring, the objects of a free list. It goes
--- on from lists, and a chain's list leaves it with other lists.
+-- How a walk of a slab cache, of tasks or of process ids comes by the lists of its chains: the nodes of a ring, the objects of a free
+-- list, the nodes of a hash chain. It goes on from lists, and a chain's list leaves it with other lists.
 use Rattle.std.specs.Prelude.{◌≡◌, ℕ, ◌+◌, ◌*◌, ◌≤◌, ◌∷◌, ◌++◌, [], List, length, Result, Ok, Err}
 use Rattle.kc_memory.specs.Bits.{Number}
 use Rattle.kc_memory.specs.Image.{Image}
@@ -7,8 +7,10 @@ use Rattle.kc_view.specs.Fields.{started_at}
 use Rattle.kc_found.specs.declared.asked.Asked.{Asked}
 use Rattle.kc_found.specs.declared.found.WalkStop.{WalkStop}
 use Rattle.kc_found.specs.declared.free.Grid.{Grid}
+use Rattle.kc_found.specs.declared.shapes.HShape.{HShape}
 use Rattle.kc_found.specs.declared.shapes.ListShape.{ListShape}
 use Rattle.kc_found.specs.FreeLists.{IsGrid, free_list}
+use Rattle.kc_found.specs.HashChains.{hash_walk}
 use Rattle.kc_found.specs.Rings.{ring_walk}
 use Rattle.kc_found.specs.Trials.{and_then}
 use Rattle.kc_found.specs.Violations.{Violation}
@@ -28,6 +30,10 @@ RingBy = Asked → ListShape → ℕ → Lists → Came (List ℕ)
 abbrev pub FreeBy : Type 0
 FreeBy = Asked → Grid → Number → Lists → Came (List ℕ)
 
+-- the hash chain with a head, from these lists
+abbrev pub HashBy : Type 0
+HashBy = Asked → HShape → ℕ → Lists → Came (List ℕ)
+
 -- without the lists
 abbrev pub alone : {A : Type 0} → Came A → Result A Violation
 alone r = and_then r (λ p. Ok p.0)
@@ -43,12 +49,18 @@ ring_walked image asked shape head lists = and_then (started_at asked.start (rin
 abbrev pub free_walked : Image → FreeBy
 free_walked image asked grid first lists = and_then (free_list image grid first asked) (λ os. Ok (os, lists))
 
+abbrev pub hash_walked : Image → HashBy
+hash_walked image asked shape head lists = and_then (started_at asked.start (hash_walk image shape asked.audit head)) (λ ns. Ok (ns, lists))
+
 -- a chain is walked, and its list is kept behind those that were kept
 abbrev pub ring_kept : Image → RingBy
 ring_kept image asked shape head lists = and_then (started_at asked.start (ring_walk image shape asked.audit head)) (λ ns. Ok (ns, lists ++ ns ∷ []))
 
 abbrev pub free_kept : Image → FreeBy
 free_kept image asked grid first lists = and_then (free_list image grid first asked) (λ os. Ok (os, lists ++ os ∷ []))
+
+abbrev pub hash_kept : Image → HashBy
+hash_kept image asked shape head lists = and_then (started_at asked.start (hash_walk image shape asked.audit head)) (λ ns. Ok (ns, lists ++ ns ∷ []))
 
 -- the lists apart, a chain's list is that of its walk
 abbrev pub WalksRings : Image → RingBy → Type 0
@@ -57,6 +69,10 @@ WalksRings image ring =
 
 abbrev pub WalksFree : Image → FreeBy → Type 0
 WalksFree image free = (asked : Asked) (grid : Grid) (first : Number) (lists : Lists) → alone (free asked grid first lists) ≡ free_list image grid first asked
+
+abbrev pub WalksHashes : Image → HashBy → Type 0
+WalksHashes image hash =
+    (asked : Asked) (shape : HShape) (head : ℕ) (lists : Lists) → alone (hash asked shape head lists) ≡ started_at asked.start (hash_walk image shape asked.audit head)
 
 -- how many lists there are and numbers in them, together
 abbrev pub size : Lists → ℕ
@@ -87,3 +103,9 @@ TakesFree image free =
     (asked : Asked) (grid : Grid) (first : Number) (os : List ℕ) (rest : Lists) → IsGrid grid
     → ((lists : Lists) → free asked grid first lists ≡ Ok (os, rest) → (lists ≡ os ∷ rest) × (free_list image grid first asked ≡ Ok os))
     × (free_list image grid first asked ≡ Ok os → free asked grid first (os ∷ rest) ≡ Ok (os, rest))
+
+abbrev pub TakesHashes : Image → HashBy → Type 0
+TakesHashes image hash =
+    (asked : Asked) (shape : HShape) (head : ℕ) (ns : List ℕ) (rest : Lists)
+    → ((lists : Lists) → hash asked shape head lists ≡ Ok (ns, rest) → (lists ≡ ns ∷ rest) × (started_at asked.start (hash_walk image shape asked.audit head) ≡ Ok ns))
+    × (started_at asked.start (hash_walk image shape asked.audit head) ≡ Ok ns → hash asked shape head (ns ∷ rest) ≡ Ok (ns, rest))

@@ -1,5 +1,5 @@
 -- The walk of the task list, by a way to come by the nodes of its rings. It is that of kc_view, whose rings are walked.
-use Rattle.std.specs.Prelude.{ℕ, List, [], ◌∷◌, ◌++◌, map, Result, Ok, ⊤}
+use Rattle.std.specs.Prelude.{ℕ, List, [], ◌∷◌, ◌++◌, map, Result, Ok}
 use Rattle.kc_memory.specs.declared.rule.Rule.TheVariants.{T5}
 use Rattle.kc_memory.specs.Image.{Image}
 use Rattle.kc_view.specs.declared.tasks.TaskShape.{TaskShape}
@@ -29,8 +29,8 @@ thread_by image ring asked shape g thread lists =
     and_then (children_by image ring asked shape thread lists) (λ more.
     and_then (stack_checked image asked shape thread) (λ _. Ok more)))
 
--- each of some tasks passes, or the first violation
-unfoldable pub passed_by : (ℕ → Lists → Result Lists Violation) → List ℕ → Lists → Result Lists Violation
+-- each of some things passes, or the first violation
+unfoldable pub passed_by : {A : Type 0} → (A → Lists → Result Lists Violation) → List A → Lists → Result Lists Violation
 passed_by go [] lists = Ok lists
 passed_by go (t ∷ ts) lists = and_then (go t lists) (λ more. passed_by go ts more)
 

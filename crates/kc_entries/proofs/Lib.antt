@@ -1,9 +1,10 @@
+mod Gathering
 mod Growing
 mod Leading
 mod Lowering
+mod Meeting
 mod Planting
 mod Pointing
-mod Sharing
 mod Single
 mod Standing
 mod Tracing

@@ -48,11 +48,11 @@ fits_at : (b : Bool) (n : ℕ) → b ≡ true → unwrap_or (if b then Some n el
 fits_at true n e = refl
 fits_at false n e = absurd (cc)
 
-fits : (n : ℕ) → n < 2 ^ 64 → unwrap_or (fit n) 0 ≡ n
+pub fits : (n : ℕ) → n < 2 ^ 64 → unwrap_or (fit n) 0 ≡ n
 fits n lt = fits_at (nat_lt n (2 ^ 64)) n (lt-ltb n (2 ^ 64) lt)
 
 -- the index of a slot with a node
-index_is : (chunk : ℕ) (o : XaNode) (i : ℕ) (k : XaEntry) → k ≡ Node → MayStand chunk o i k → unwrap_or (fit (index_of o i)) 0 ≡ index_of o i
+pub index_is : (chunk : ℕ) (o : XaNode) (i : ℕ) (k : XaEntry) → k ≡ Node → MayStand chunk o i k → unwrap_or (fit (index_of o i)) 0 ≡ index_of o i
 index_is chunk o i k e h = fits (index_of o i) (subst (MayStand chunk o i) e h).0
 
 regroup : (p b t r : List ℕ) → (p ++ b) ++ (t ++ r) ≡ (p ++ (b ++ t)) ++ r

@@ -36,11 +36,11 @@ and_so false b e = absurd (cc)
 pub last_first : (rest : List XaSpot) (s : XaSpot) → reverse (rest ++ s ∷ []) ≡ s ∷ reverse rest
 last_first rest s = reverse-append rest (s ∷ [])
 
-slots_first : (rest next spots : List XaSpot) → next ≡ rest ++ reverse spots → reverse next ≡ spots ++ reverse rest
+pub slots_first : (rest next spots : List XaSpot) → next ≡ rest ++ reverse spots → reverse next ≡ spots ++ reverse rest
 slots_first rest next spots e = ap reverse e ∙ reverse-append rest (reverse spots) ∙ ap (λ xs. xs ++ reverse rest) (reverse-reverse spots)
 
 -- one more slot is added to the stack
-drop_at : {X : Type 0} (xs : List X) (i : ℕ) (x : X) → slice_get xs i ≡ Some x → drop i xs ≡ x ∷ drop (i + 1) xs
+pub drop_at : {X : Type 0} (xs : List X) (i : ℕ) (x : X) → slice_get xs i ≡ Some x → drop i xs ≡ x ∷ drop (i + 1) xs
 drop_at [] i x is = absurd (let none : ⊥ = cc in none)
 drop_at (y ∷ ys) zero x is = let same : y ≡ x = cc in ap (λ z. z ∷ ys) same
 drop_at (y ∷ ys) (suc i) x is =

@@ -18,7 +18,7 @@ use Rattle.kc_entries.specs.Laws.{OnlyWalksPass, OnlyXarraysPass, WalksPass, Xar
 use Rattle.kc_entries.proofs.Growing.{grove}
 use Rattle.kc_entries.proofs.Planting.{planted}
 use Rattle.kc_entries.proofs.Pointing.{top_pointers}
-use Rattle.kc_entries.proofs.Sharing.{course, same_xarray}
+use Rattle.kc_found.specs.AnyAudit.{course, same_xarray}
 use Rattle.kc_entries.proofs.Standing.{Stand, StandsAt, all_words, numbers}
 
 found_ok : {A : Type 0} (stop : Stopped → Violation) (r : Result A Stopped) (x : A) → found_by stop r ≡ Ok x → r ≡ Ok x

@@ -9,7 +9,7 @@ use Rattle.kc_found.specs.declared.xarrays.XaEntry.TheVariants.{Nothing, Pointer
 use Rattle.kc_found.specs.declared.xarrays.XaItem.{XaItem}
 use Rattle.kc_found.specs.declared.xarrays.XaNode.{XaNode}
 use Rattle.kc_found.specs.declared.xarrays.XaWords.{XaWords}
-use Rattle.kc_found.specs.FiniteXarrays.{Tree, End, Leaf, Down, Top, Bare, Root, holder_of}
+use Rattle.kc_found.specs.FiniteXarrays.{Tree, End, Leaf, Down, Top, Bare, Root, holder_of, item_of}
 use Rattle.kc_found.specs.Nodes.{at_offset}
 use Rattle.kc_found.specs.Taken.{with_word}
 use Rattle.kc_found.specs.Trials.{Trial, passed}
@@ -92,6 +92,33 @@ is_pointer n = not (nat_eq n 0) && nat_eq (n % 4) 0
 abbrev pub pointers : List ℕ → List ℕ
 pointers [] = []
 pointers (n ∷ ns) = if is_pointer n then n ∷ pointers ns else pointers ns
+
+-- the positions of the slots of the node that a position leads to, if it leads to one
+abbrev pub spots_behind : Result XaWords Violation → (XaWords → List XaSpot) → List XaSpot
+spots_behind (Ok n) go = go n
+spots_behind (Err v) go = []
+
+abbrev pub spots_next : XaCourse → XaSpot → List XaSpot
+spots_next c s = if is_node (kind c.shape.chunk s.word.value) then spots_behind (words_behind c s.word) (spots_below c s) else []
+
+-- the pointer at a position, with its index
+abbrev pub item_at : ℕ → XaSpot → List XaItem
+item_at chunk s = item_of (kind chunk s.word.value) s.index s.word
+
+-- the pointers at these positions, with all below them, over as many entries as there are numbers
+abbrev pub items_at : XaCourse → List XaSpot → List ℕ → List XaItem
+items_at c [] ns = []
+items_at c (s ∷ ss) [] = []
+items_at c (s ∷ ss) (n ∷ ns) = item_at c.shape.chunk s ++ items_at c (spots_next c s ++ ss) ns
+
+abbrev pub headed_items : XaCourse → Result VWord Violation → List ℕ → List XaItem
+headed_items c (Err v) ns = []
+headed_items c (Ok h) ns = items_at c (head_spot c.shape.chunk h ∷ []) ns
+
+-- the pointers, with their indexes, of the xarray at an address that these numbers make up
+unfoldable pub items_in : Image → XaLayout → ℕ → List ℕ → List XaItem
+items_in image shape start ns =
+    let c = xa_course image shape (record { audit = 0; start = start }) in headed_items c (behind_entry c.read c.asked None (at_offset start shape.head)) ns
 
 -- the entries of slots from one on, with those of all nodes below
 abbrev pub entries : List VWord → Tree → List ℕ

@@ -5,7 +5,7 @@ use Rattle.kc_found.specs.declared.xarrays.XaItem.{XaItem}
 use Rattle.kc_found.specs.FiniteXarrays.{XArray}
 use Rattle.kc_found.specs.XaLayouts.{XaLayout}
 use Rattle.kc_found.specs.XaSites.{xa_course, xa_judged}
-use Rattle.kc_entries.specs.Entries.{is_xarray, pointers, top_entries}
+use Rattle.kc_entries.specs.Entries.{is_xarray, items_in, pointers, top_entries}
 
 -- the pointers that a walk met
 abbrev pub met_pointers : List XaItem → List ℕ
@@ -42,3 +42,7 @@ PointersAreFew = (ns : List ℕ) → length (pointers ns) ≤ length ns
 -- no two lists of numbers are the entries of one xarray
 abbrev pub XarraysPassOnce : Type 0
 XarraysPassOnce = (image : Image) (shape : XaLayout) (start : ℕ) (ns ms : List ℕ) → is_xarray image shape start ns ≡ true → is_xarray image shape start ms ≡ true → ns ≡ ms
+
+-- the pointers, with their indexes, of numbers that pass are those of the walk
+abbrev pub ItemsAreWalked : Type 0
+ItemsAreWalked = (image : Image) (shape : XaLayout) (start : ℕ) (ns : List ℕ) → is_xarray image shape start ns ≡ true → (audit : ℕ) → xa_judged image shape audit start ≡ Ok (items_in image shape start ns)

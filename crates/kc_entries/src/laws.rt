@@ -1,5 +1,5 @@
 // What the test of an xarray says, for a reader to believe and a caller to learn.
-ghost use Rattle.kc_entries.specs.Laws.{OnlyWalksPass, OnlyXarraysPass, PointersAreFew, WalksPass, XarraysPass, XarraysPassOnce};
+ghost use Rattle.kc_entries.specs.Laws.{ItemsAreWalked, OnlyWalksPass, OnlyXarraysPass, PointersAreFew, WalksPass, XarraysPass, XarraysPassOnce};
 
 use kc_xa::{know_nodes, know_xarrays};
 
@@ -12,6 +12,7 @@ pub fn know_entries()
     ensures all_walks { WalksPass }
     ensures few { PointersAreFew }
     ensures one_xarray { XarraysPassOnce }
+    ensures items { ItemsAreWalked }
 {
     know_nodes();
     know_xarrays();

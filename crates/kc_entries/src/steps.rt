@@ -1,11 +1,11 @@
 // The steps along a list of entries, whether it is tested or made: the head, and what follows a position.
-ghost use Rattle.std.specs.Prelude.{◌≡◌, ℕ, ◌+◌, ◌*◌, ◌≤◌, ◌<◌, List, [], ◌∷◌, ◌++◌, length, reverse, OnOk, IfOk, IfErr};
+ghost use Rattle.std.specs.Prelude.{◌≡◌, ℕ, ◌+◌, ◌*◌, ◌≤◌, ◌<◌, List, [], ◌∷◌, ◌++◌, length, reverse, OnOk, IfOk, IfErr, IfSome};
 ghost use Rattle.std.specs.List.{AllByRecursion};
 ghost use Rattle.kc_memory.specs.Stays.{SpaceStays};
 ghost use Rattle.kc_found.specs.XaSites.{xa_course};
 ghost use Rattle.kc_shape.specs.Answers.{CountsTestFaults};
 ghost use Rattle.kc_entries.specs.Answers.{PassesAs};
-ghost use Rattle.kc_entries.specs.Entries.{is_xarray, listed};
+ghost use Rattle.kc_entries.specs.Entries.{is_xarray, items_at, items_in, listed, spots_next};
 ghost use Rattle.kc_entries.specs.Falling.{IsSound, weights, weight};
 
 use crate::spots::{XaSpot, head_spot, push_slots, push_spot};
@@ -30,6 +30,7 @@ pub(crate) fn enter_head<S: Space, L: Ledger>(
     requires none { claims.old ≡ [] }
     requires empty { pending.old.items ≡ [] }
     ensures passes { PassesAs (λ i ns. is_xarray i shape.now start ns) (λ i ns. listed (xa_course i shape.now (record { audit = 0; start = start })) claims.new (reverse pending.new.items) ns) (S.image space.old) result }
+    ensures items { OnOk result (IfSome (S.image space.old) (λ i. (ns : List ℕ) → items_in i shape.now start ns ≡ items_at (xa_course i shape.now (record { audit = 0; start = start })) (reverse pending.new.items) ns)) }
     ensures sound { OnOk result (AllByRecursion (IsSound shape.now.chunk) pending.new.items) }
     ensures steps { steps.new ≤ steps.old + 6 }
 
@@ -79,6 +80,7 @@ pub(crate) fn pass_spot<S: Space, L: Ledger>(
     requires spot { IsSound shape.now.chunk spot.now }
     requires pending { AllByRecursion (IsSound shape.now.chunk) pending.old.items }
     ensures passes { PassesAs (λ i ns. listed (xa_course i shape.now asked.now) claims.old (spot.now ∷ reverse pending.old.items) (spot.now.word.value ∷ ns)) (λ i ns. listed (xa_course i shape.now asked.now) claims.new (reverse pending.new.items) ns) (S.image space.old) result }
+    ensures next { OnOk result (IfSome (S.image space.old) (λ i. reverse pending.new.items ≡ spots_next (xa_course i shape.now asked.now) spot.now ++ reverse pending.old.items)) }
     ensures sound { OnOk result (AllByRecursion (IsSound shape.now.chunk) pending.new.items) }
     ensures falls { OnOk result (weights pending.new.items < weight spot.now + weights pending.old.items) }
     ensures steps { steps.new ≤ steps.old + 420 }

@@ -1,8 +1,8 @@
 // An xarray over a few words, and lists of its entries.
 ghost use Rattle.std.specs.Prelude.{◌≡◌, ◌<◌};
 
-use crate::{list_xarray, pointers_in, test_xarray};
-use kc_found::{ListSpace, Origin, VWord, Walked, XaShape};
+use crate::{list_xarray, pointers_in, test_xarray, xarray_items};
+use kc_found::{ListSpace, Origin, VWord, Walked, XaItem, XaShape, XaWalked};
 use kc_shape::Halt;
 use kc_word::Steps;
 use std::alloc::{AllocError, Global};
@@ -24,6 +24,18 @@ const WORDS: [(u64, u64); 7] = [
 
 // The entries of the xarray.
 const ENTRIES: [u64; 17] = [8002, 0, 5000, 7, 6000, 0, 0, 0, 0, 0, 0, 0, 0, 0, 0, 0, 0];
+
+// Its pointers, with their indexes.
+const ITEMS: [XaItem; 2] = [
+    XaItem {
+        index: 1,
+        entry: 5000,
+    },
+    XaItem {
+        index: 3,
+        entry: 6000,
+    },
+];
 
 const SHAPE: XaShape = XaShape {
     head: 8,
@@ -86,6 +98,17 @@ fn answer<L: Ledger>(alloc: Global, list: &Walked, blank: Blank) -> Result<bool,
     }
 }
 
+// The pointers among the entries of a list, with their indexes.
+fn items<L: Ledger>(alloc: Global, list: &Walked, blank: Blank) -> Result<XaWalked, AllocError>
+    requires name { blank.name ≡ L.name }
+    requires parts { blank.parts ≡ L.parts }
+    requires some { 0 < L.parts }
+{
+    let mut space = space_of(alloc)?;
+    let mut steps = Steps::<L>::new(blank);
+    xarray_items(alloc, &mut space, &SHAPE, 1000, list, &mut steps).map_err(|_| AllocError)
+}
+
 // The list that is made.
 fn made<L: Ledger>(alloc: Global, blank: Blank) -> Result<Walked, AllocError>
     requires name { blank.name ≡ L.name }
@@ -114,5 +137,7 @@ fn entries_are_an_xarray_or_not(rt: HostRuntime) -> Result<(), Fail> {
     assert_eq!(rt; list.as_slice(), ENTRIES.as_slice());
     let found = pointers_in(alloc, &list).map_err(|_| AllocError)?;
     assert_eq!(rt; found.as_slice(), [5000, 6000].as_slice());
+    let items = items::<Brand>(alloc, &list, Blank::new(1))?;
+    assert_eq!(rt; items.as_slice(), ITEMS.as_slice());
     Ok(())
 }

@@ -10,6 +10,7 @@ pub use Rattle.kc_memory.specs.Space
 pub use Rattle.kc_memory.specs.Stays
 pub use Rattle.kc_memory.specs.Stopped
 pub use Rattle.kc_memory.specs.Translation
+pub mod AnyAudit
 pub mod Chains
 pub mod Counts
 pub mod FiniteLists

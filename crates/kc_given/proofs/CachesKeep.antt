@@ -25,7 +25,7 @@ use Rattle.kc_chains.specs.CachesBy.{cache_by, counts_by, free_by, knode_by, lis
 use Rattle.kc_chains.specs.Chains.{Lists}
 use Rattle.kc_chains.specs.Given.{free_given, ring_given}
 use Rattle.kc_given.specs.Laws.{asked_by}
-use Rattle.kc_given.proofs.Keeping.{Keeps, holds_keeps, if_keeps, missed_keeps, read_keeps, same_keeps, taken_keeps, then_keeps, unless_keeps}
+use Rattle.kc_given.specs.Keeping.{Keeps, holds_keeps, if_keeps, missed_keeps, read_keeps, same_keeps, taken_keeps, then_keeps, unless_keeps}
 
 base_keeps : (image : Image) (a b : Asked) (base : Base) → Keeps (base_of image a base) (base_of image b base)
 base_keeps image a b (Is n) = same_keeps (Ok n)

@@ -20,7 +20,7 @@ use Rattle.kc_found.specs.Trials.{ok_after}
 use Rattle.kc_chains.specs.CachesBy.{cache_by, knode_by, list_by, node_by, nodes_by, slab_by, slabs_by}
 use Rattle.kc_chains.specs.Chains.{Came, FreeBy, Lists, RingBy}
 use Rattle.kc_given.specs.Apart.{cache_nodes, nodes_apart}
-use Rattle.kc_given.proofs.Same.{ok_is}
+use Rattle.kc_given.specs.Same.{ok_is}
 
 -- a chain's list is the first one
 abbrev pub RingsTake : RingBy → Type 0

@@ -25,7 +25,7 @@ use Rattle.kc_shape.specs.declared.halt.Halt.{Halt}
 use Rattle.kc_shape.specs.declared.halt.Halt.TheVariants.{Unfit}
 use Rattle.kc_shape.specs.Answers.{TellsAs, halt_of}
 use Rattle.kc_given.specs.Tests.{is_free_list, nobody}
-use Rattle.kc_given.proofs.Same.{false_by, free_list_is, no_err, ok_is}
+use Rattle.kc_given.specs.Same.{false_by, free_list_is, no_err, ok_is}
 
 at_site : {S : Type 0} (k : ChainOf S) (left : ℕ) (s : S) → k.ends s ≡ false → chain_trials k (suc left) s ≡ k.site s ++ from_there (k.next s) (λ t. Meet (k.element s) ∷ chain_trials k left t)
 unfolding chain_trials

@@ -1,8 +1,6 @@
-mod Same
 mod FreeTests
 mod CachesTake
 mod TasksTake
-mod Keeping
 mod CachesKeep
 mod TasksKeep
 mod GivenLaws

@@ -16,7 +16,7 @@ use Rattle.kc_chains.specs.Chains.{Came, Lists}
 use Rattle.kc_chains.specs.Given.{ring_given}
 use Rattle.kc_chains.specs.TasksBy.{children_by, gathered_by, leader_by, passed_by, tasks_all_by, tasks_by, thread_by, threads_by}
 use Rattle.kc_given.specs.Laws.{asked_by}
-use Rattle.kc_given.proofs.Keeping.{Keeps, holds_keeps, if_keeps, missed_keeps, read_keeps, same_keeps, stop_keeps, taken_keeps, then_keeps, unless_keeps}
+use Rattle.kc_given.specs.Keeping.{Keeps, all_keep, holds_keeps, if_keeps, missed_keeps, passed_keep, read_keeps, same_keeps, stop_keeps, taken_keeps, then_keeps, unless_keeps}
 
 abbrev RingTest : Type 0
 RingTest = ListShape → ℕ → List ℕ → Bool
@@ -24,11 +24,6 @@ RingTest = ListShape → ℕ → List ℕ → Bool
 tasks_keep : (ring : RingTest) (a b : Asked) (shape : TaskShape) (head offset : ℕ) (lists : Lists) → Keeps (tasks_by (ring_given ring) a shape head offset lists) (tasks_by (ring_given ring) b shape head offset lists)
 tasks_keep ring a b shape head offset lists =
     then_keeps (ring_given ring a shape.list head lists) (ring_given ring b shape.list head lists) _ _ (taken_keeps (ring shape.list head) _ _ lists) (λ r. same_keeps _)
-
-all_keep : (go on : ℕ → Result ⊤ Violation) → ((t : ℕ) → Keeps (go t) (on t)) → (ts : List ℕ) → Keeps (all_pass go ts) (all_pass on ts)
-unfolding all_pass
-all_keep go on each [] = same_keeps (Ok tt)
-all_keep go on each (t ∷ ts) = then_keeps (go t) (on t) _ _ (each t) (λ _. all_keep go on each ts)
 
 children_keep : (image : Image) (ring : RingTest) (a b : Asked) (shape : TaskShape) (owner : ℕ) (lists : Lists) → Keeps (children_by image (ring_given ring) a shape owner lists) (children_by image (ring_given ring) b shape owner lists)
 children_keep image ring a b shape owner lists =
@@ -56,11 +51,6 @@ thread_keeps image ring a b shape g thread lists =
     then_keeps (shared_checked image a shape g thread) (shared_checked image b shape g thread) _ _ (shared_keeps image a b shape g thread)
     (λ _. then_keeps (children_by image (ring_given ring) a shape thread lists) (children_by image (ring_given ring) b shape thread lists) _ _ (children_keep image ring a b shape thread lists)
     (λ more. then_keeps (stack_checked image a shape thread) (stack_checked image b shape thread) _ _ (stack_keeps image a b shape thread) (λ _. same_keeps (Ok more))))
-
-passed_keep : (go on : ℕ → Lists → Result Lists Violation) → ((t : ℕ) (lists : Lists) → Keeps (go t lists) (on t lists)) → (ts : List ℕ) (lists : Lists) → Keeps (passed_by go ts lists) (passed_by on ts lists)
-unfolding passed_by
-passed_keep go on each [] lists = same_keeps (Ok lists)
-passed_keep go on each (t ∷ ts) lists = then_keeps (go t lists) (on t lists) _ _ (each t lists) (λ more. passed_keep go on each ts more)
 
 among_keeps : (image : Image) (a b : Asked) (shape : TaskShape) (g : ThreadGroup) (threads : List ℕ) → Keeps (among_checked image a shape g threads) (among_checked image b shape g threads)
 among_keeps image a b shape g threads =

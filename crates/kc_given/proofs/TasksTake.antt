@@ -16,7 +16,7 @@ use Rattle.kc_chains.specs.Chains.{Came, Lists, RingBy}
 use Rattle.kc_chains.specs.TasksBy.{children_by, gathered_by, leader_by, passed_by, tasks_all_by, tasks_by, thread_by}
 use Rattle.kc_given.specs.Apart.{nodes_apart, task_nodes}
 use Rattle.kc_given.proofs.CachesTake.{Gives, Passes, RingsTake, give_all, give_both, give_first, parts_are, pass_over}
-use Rattle.kc_given.proofs.Same.{ok_is}
+use Rattle.kc_given.specs.Same.{ok_is}
 
 tasks_take : (ring : RingBy) → RingsTake ring → (asked : Asked) (shape : TaskShape) (head offset : ℕ) (lists rest : Lists) (tasks : List ℕ) → tasks_by ring asked shape head offset lists ≡ Ok (tasks, rest) →
     (ns : List ℕ) × (tasks ≡ map (task_of offset) ns) × (lists ≡ ns ∷ rest)

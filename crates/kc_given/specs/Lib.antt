@@ -1,4 +1,6 @@
 pub mod Apart
 pub mod Ends
+pub mod Keeping
 pub mod Laws
+pub mod Same
 pub mod Tests

@@ -3,17 +3,18 @@ ghost use Rattle.std.specs.Prelude.{◌≡◌, drop, false, ⊤, IfOk};
 ghost use Rattle.kc_memory.specs.Translation.{vword};
 ghost use Rattle.kc_found.specs.Violations.{is_of_reading};
 ghost use Rattle.kc_found.specs.Walks.{OnBroken, OnWalkFault};
-ghost use Rattle.kc_chains.specs.Given.{free_given, misfit, ring_given};
-ghost use Rattle.kc_shape.specs.Rings.{is_ring};
+ghost use Rattle.kc_chains.specs.Given.{free_given, hash_given, misfit, ring_given};
+ghost use Rattle.kc_shape.specs.Rings.{is_hash_chain, is_ring};
 ghost use Rattle.kc_given.specs.Ends.{ended};
 ghost use Rattle.kc_given.specs.Tests.{is_free_list};
 
 use crate::free::test_free_list;
-use kc_chains::{Chains, Rings};
+use kc_chains::{Chains, HashChains, Rings};
 use kc_found::{
-    Asked, Found, Grid, Items, ListShape, Places, Rule, Scalar, Space, WalkStop, Walked, low_word,
+    Asked, Found, Grid, HShape, Items, ListShape, Places, Rule, Scalar, Space, WalkStop, Walked,
+    low_word,
 };
-use kc_shape::{Halt, test_ring};
+use kc_shape::{Halt, test_chain, test_ring};
 use kc_word::{NoMemory, Steps};
 use std::alloc::Global;
 use std::sync::ledger::Ledger;
@@ -115,6 +116,35 @@ impl Chains for GivenLists<'_> {
         match test_free_list(alloc, space, grid, first, objects, steps) {
             Ok(()) => copy_of(alloc, objects),
             Err(halt) => Err(ended(alloc, asked, Rule::U5, at, halt)),
+        }
+    }
+}
+
+impl HashChains for GivenLists<'_> {
+    ghost lists = { λ g. drop g.at g.lists.now };
+
+    ghost paid = { ⊤ };
+
+    ghost hash_by = { λ i. hash_given (is_hash_chain (vword i)) };
+
+    fn hash_chain<S: Space, L: Ledger>(
+        &mut self,
+        alloc: Global,
+        space: &mut S,
+        asked: &Asked,
+        shape: &HShape,
+        head: u64,
+        steps: &mut Steps<L>,
+    ) -> Result<Walked, WalkStop> {
+        let lists = self.lists;
+        if self.at >= lists.len() {
+            return Err(ended(alloc, asked, Rule::H1, head, Halt::Unfit));
+        }
+        let nodes = lists.get(self.at);
+        self.at += 1;
+        match test_chain(alloc, space, shape, head, nodes, steps) {
+            Ok(()) => copy_of(alloc, nodes),
+            Err(halt) => Err(ended(alloc, asked, Rule::H1, head, halt)),
         }
     }
 }

@@ -12,7 +12,7 @@ pub use free::test_free_list;
 pub use given::GivenLists;
 pub use laws::know_given_lists;
 pub use nodes::{cache_nodes, task_nodes};
-pub use whole::{test_cache, test_tasks};
+pub use whole::{all_taken, test_cache, test_tasks};
 
 #[cfg(test)]
 mod tests;

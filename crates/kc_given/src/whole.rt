@@ -19,8 +19,12 @@ use kc_word::Steps;
 use std::alloc::Global;
 use std::sync::ledger::Ledger;
 
-// Whether no list is left.
-fn all_taken(given: &GivenLists<'_>) -> Result<(), Halt>
+/// Whether no list is left.
+///
+/// # Errors
+///
+/// `Unfit` exactly where one is.
+pub fn all_taken(given: &GivenLists<'_>) -> Result<(), Halt>
     ensures taken { OnOk result (drop given.now.at given.now.lists.now ≡ []) }
     ensures left { IfErr result (λ halt. (halt ≡ Halt.Unfit) × (1 ≤ length (drop given.now.at given.now.lists.now))) }
 {

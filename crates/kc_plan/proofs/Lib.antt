@@ -1,10 +1,8 @@
-pub mod BitsLemmas
 pub mod DocumentLemmas
 pub mod LinkLaws
 pub mod LinkLemmas
 pub mod ListLemmas
 pub mod PlanLaws
-pub mod SlabLemmas
 pub mod StepLemmas
 mod SymbolLaws
 pub mod WrittenLaws

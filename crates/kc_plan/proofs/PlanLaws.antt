@@ -11,22 +11,22 @@ use Rattle.kc_layout.specs.Ends.{BitsAt, ByteAt, located}
 use Rattle.kc_btf.specs.Btf.{Types}
 use Rattle.kc_text.specs.Readers.{is_name}
 use Rattle.toml.specs.Data.{Members}
-use Rattle.kc_keys.specs.declared.fault.PRule.TheVariants.{P9, P11}
+use Rattle.kc_keys.specs.declared.fault.PRule.TheVariants.{P9, P10, P11}
 use Rattle.kc_keys.specs.declared.fault.PlanFault.{PlanFault}
 use Rattle.kc_keys.specs.declared.fault.PlanKey.TheVariants as key
 use Rattle.kc_plan.specs.declared.item.PlanWords.{PlanWords}
 use Rattle.kc_plan.specs.declared.item.Link.{Link}
-use Rattle.kc_plan.specs.declared.kind.Kind.{Kind}
+use Rattle.kc_kinds.specs.declared.kind.Kind.{Kind}
 use Rattle.kc_plan.specs.declared.planned.Audit.{Audit}
-use Rattle.kc_plan.specs.declared.shape.Row.{Row}
+use Rattle.kc_kinds.specs.declared.row.Row.{Row}
 use Rattle.kc_plan.specs.Audits.{AuditText, StartText}
 use Rattle.kc_plan.specs.Kept.{are_between, are_later, have_names, named_once, times_named}
-use Rattle.kc_plan.specs.Kernels.{Kernel, address_in}
+use Rattle.kc_kinds.specs.Kernels.{Kernel, address_in}
 use Rattle.kc_plan.specs.Links.{links_for}
 use Rattle.kc_plan.specs.CheckTexts.{checks_for}
 use Rattle.kc_plan.specs.Planned.{AuditAt, CheckAt, StartAt, audit_seen, audits_seen, is_from}
 use Rattle.kc_plan.specs.Planned.StartAt.{RootAt, FromAt}
-use Rattle.kc_plan.specs.Plans.{addressed, all_planned, begun, children, element_above, element_at, first_byte, from_at, key_for, kind_in, link_for, needs_in, plan_of, planned, root_at, root_for, struct_at, type_named}
+use Rattle.kc_plan.specs.Plans.{addressed, all_planned, begun, children, element_above, element_at, first_byte, from_at, is_headless, key_for, kind_in, link_for, needs_in, plan_of, planned, root_at, root_for, struct_at, type_named}
 use Rattle.kc_plan.specs.Steps.{written_for}
 use Rattle.kc_plan.specs.Values.{◌>>=◌, at, refuse_if}
 use Rattle.kc_plan.specs.Views.{audit_text, audit_texts, plan_text}
@@ -85,6 +85,7 @@ one_planned kernel links before n text audit e =
     let needs : Row = needs_in kernel text in
     let above : Option ℕ = element_above links before n in
     let tested : Result ⊤ PlanFault = at (Some n) key.Kind (refuse_if (not needs.clear) P9) in
+    let headed : Result ⊤ PlanFault = at (Some n) key.Root (refuse_if (is_headless needs text.start) P10) in
     let made : StartAt → Option ℕ → ℕ → Kind → List CheckAt → AuditAt = λ start element link kind checks. record { name = text.name; kind = kind; start = start; element = element; link = link; checks = checks; each = children links n } in
     let with_kind : StartAt → Option ℕ → ℕ → Kind → Result AuditAt PlanFault = λ start element link kind. checks_for kernel.types n element text.parts.checks >>= λ checks. Ok (made start element link kind checks) in
     let with_bits : StartAt → Option ℕ → ℕ → Option BitsAt → Result AuditAt PlanFault = λ start element link bits. at (Some n) key.Kind (ok_or (kind_in kernel text link bits) P11) >>= λ kind. with_kind start element link kind in
@@ -92,9 +93,10 @@ one_planned kernel links before n text audit e =
     let with_element : StartAt → Option ℕ → Result AuditAt PlanFault = λ start element. link_for kernel.types needs n element text.parts.link >>= λ link. with_link start element link in
     let with_start : StartAt → Result AuditAt PlanFault = λ start. at (Some n) key.Element (element_at kernel.types needs.element text.parts.element) >>= λ element. with_element start element in
     let with_root : Option ℕ → Result AuditAt PlanFault = λ root. begun kernel.types needs n above text.start root >>= λ start. with_start start in
-    let root = bound (root_for kernel n text.start.root) (λ root. tested >>= λ clear. with_root root) audit e in
-    let clear = bound tested (λ clear. with_root root.0) audit root.2 in
-    let start = bound (begun kernel.types needs n above text.start root.0) with_start audit clear.2 in
+    let root = bound (root_for kernel n text.start.root) (λ root. tested >>= λ clear. headed >>= λ named. with_root root) audit e in
+    let clear = bound tested (λ clear. headed >>= λ named. with_root root.0) audit root.2 in
+    let named = bound headed (λ named. with_root root.0) audit clear.2 in
+    let start = bound (begun kernel.types needs n above text.start root.0) with_start audit named.2 in
     let element = bound (at (Some n) key.Element (element_at kernel.types needs.element text.parts.element)) (with_element start.0) audit start.2 in
     let link = bound (link_for kernel.types needs n element.0 text.parts.link) (with_link start.0 element.0) audit element.2 in
     let bits = bound (key_for kernel.types n element.0 text.parts.tree.key) (with_bits start.0 element.0 link.0) audit link.2 in

@@ -4,7 +4,7 @@ use Rattle.std.specs.Prelude.{is_some, ⊤}
 use Rattle.toml.specs.Data.{Data}
 use Rattle.kc_keys.specs.declared.fault.PRule.{PRule}
 use Rattle.kc_keys.specs.declared.fault.PlanKey.{PlanKey}
-use Rattle.kc_plan.specs.declared.keys.Need.TheVariants.{Allowed}
+use Rattle.kc_kinds.specs.declared.needs.Need.TheVariants.{Allowed}
 use Rattle.kc_plan.specs.Values.{◌>>=◌, at, asked, refuse_if, some_of, value_of}
 
 -- a step and what follows it

@@ -9,11 +9,11 @@ use Rattle.kc_text.specs.Readers.{is_name}
 use Rattle.kc_keys.specs.declared.fault.PRule.TheVariants.{P3, P4, P5}
 use Rattle.kc_keys.specs.declared.fault.PlanFault.{PlanFault}
 use Rattle.kc_keys.specs.declared.fault.PlanKey.TheVariants as key
-use Rattle.kc_plan.specs.declared.keys.Need.TheVariants.{Allowed}
-use Rattle.kc_plan.specs.declared.kinds.Sort.{Sort}
+use Rattle.kc_kinds.specs.declared.needs.Need.TheVariants.{Allowed}
+use Rattle.kc_kinds.specs.declared.kinds.Sort.{Sort}
 use Rattle.kc_plan.specs.Audits.{AuditText, PartText, PlanText, StartText, all_keys, audit_for, audits_for, is_among, kind_for, name_for, parts_for, start_for}
 use Rattle.kc_plan.specs.Keys.{audit_keys, is_one_of, top_keys}
-use Rattle.kc_plan.specs.Kinds.{needs_of}
+use Rattle.kc_kinds.specs.Kinds.{needs_of}
 use Rattle.kc_plan.specs.Steps.{tables_for, tail_for, version_for, written_for}
 use Rattle.kc_plan.specs.Values.{◌>>=◌, asked, at, flag_for, has, refuse_if, required, text_for, value_at}
 use Rattle.kc_plan.proofs.StepLemmas.{allowed_is, at_ok, bound, same_ok, tested}

@@ -1,6 +1,6 @@
 -- An audit of a plan as it is written, or the first fault of its table.
 use Rattle.std.specs.Prelude.{ℕ, nat_lt, List, [], ◌∷◌, ◌++◌, Bool, true, false, not, ◌&&◌, ◌||◌, length, Option, Some, None, option_and_then, Result, Ok}
-use Rattle.std.specs.Option.{option_map_or}
+use Rattle.std.specs.Option.{ok_or, option_map_or}
 use Rattle.std.specs.Str.{bytes_eq}
 use Rattle.toml.specs.Data.{Data, Members, no_members, member, as_str, as_array}
 use Rattle.kc_word.specs.declared.plain.Tail.{Tail}
@@ -10,12 +10,12 @@ use Rattle.kc_keys.specs.declared.fault.PRule.TheVariants.{P3, P4, P5}
 use Rattle.kc_keys.specs.declared.fault.PlanFault.{PlanFault}
 use Rattle.kc_keys.specs.declared.fault.PlanKey.{PlanKey}
 use Rattle.kc_keys.specs.declared.fault.PlanKey.TheVariants.{Name, Kind, Root, RootType, RootPath, From, Optional, Element, Link, Key, Unique, Cached, Check, Each, Other}
-use Rattle.kc_plan.specs.declared.keys.Need.{Need}
-use Rattle.kc_plan.specs.declared.keys.Need.TheVariants.{Required, Allowed, Barred}
-use Rattle.kc_plan.specs.declared.keys.Needs.{Needs}
-use Rattle.kc_plan.specs.declared.kinds.Sort.{Sort}
+use Rattle.kc_kinds.specs.declared.needs.Need.{Need}
+use Rattle.kc_kinds.specs.declared.needs.Need.TheVariants.{Required, Allowed, Barred}
+use Rattle.kc_kinds.specs.declared.needs.Needs.{Needs}
+use Rattle.kc_kinds.specs.declared.kinds.Sort.{Sort}
 use Rattle.kc_plan.specs.Keys.{audit_keys, is_one_of}
-use Rattle.kc_plan.specs.Kinds.{needs_of, sort_of}
+use Rattle.kc_kinds.specs.Kinds.{needs_of, sort_of}
 use Rattle.kc_plan.specs.Values.{◌>>=◌, all_read, at, flag_for, has, refuse_if, required, text_for, value_at, value_of}
 
 -- where an audit begins, as it is written
@@ -67,7 +67,7 @@ is_among name (audit ∷ audits) = bytes_eq audit.name name || is_among name aud
 unfoldable pub kind_for : Option ℕ → Members → Result Sort PlanFault
 kind_for n table = do
   text ← at n Kind (required as_str (value_at Kind table))
-  at n Kind (sort_of text)
+  at n Kind (ok_or (sort_of text) P4)
 
 -- its name, which no earlier audit has
 unfoldable pub name_for : List AuditText → Option ℕ → Members → Result (List ℕ) PlanFault

@@ -5,7 +5,7 @@ use Rattle.kc_expr.specs.Exprs.{tree_of}
 use Rattle.kc_expr.specs.Tree.{Tree}
 use Rattle.kc_layout.specs.Ends.{ByteAt, NumberAt}
 use Rattle.kc_layout.specs.Views.{byte_view, number_view}
-use Rattle.kc_plan.specs.declared.kind.Kind.{Kind}
+use Rattle.kc_kinds.specs.declared.kind.Kind.{Kind}
 use Rattle.kc_plan.specs.declared.planned.Audit.{Audit}
 use Rattle.kc_plan.specs.declared.planned.Check.{Check}
 use Rattle.kc_plan.specs.declared.planned.Start.{Start}

@@ -1,5 +1,5 @@
 -- The plan of bytes over a kernel's types and symbols, or its first fault.
-use Rattle.std.specs.Prelude.{ℕ, List, [], ◌∷◌, ◌++◌, length, not, ◌==◌, Option, Some, None, unwrap_or, option_and_then, slice_get, Result, Ok, Err, if◌then◌else◌}
+use Rattle.std.specs.Prelude.{ℕ, List, [], ◌∷◌, ◌++◌, length, not, ◌&&◌, ◌==◌, Bool, is_some, Option, Some, None, unwrap_or, option_and_then, slice_get, Result, Ok, Err, if◌then◌else◌}
 use Rattle.std.specs.Option.{ok_or}
 use Rattle.kc_btf.specs.Btf.{Types}
 use Rattle.kc_layout.specs.declared.fault.PathFault.{PathFault}
@@ -11,16 +11,16 @@ use Rattle.kc_keys.specs.declared.fault.PRule.TheVariants.{P9, P10, P11}
 use Rattle.kc_keys.specs.declared.fault.PlanFault.{PlanFault}
 use Rattle.kc_keys.specs.declared.fault.PlanKey.TheVariants as key
 use Rattle.kc_plan.specs.declared.item.Link.{Link}
-use Rattle.kc_plan.specs.declared.kind.Kind.{Kind}
-use Rattle.kc_plan.specs.declared.shape.Row.{Row}
+use Rattle.kc_kinds.specs.declared.kind.Kind.{Kind}
+use Rattle.kc_kinds.specs.declared.row.Row.{Row}
 use Rattle.kc_plan.specs.Audits.{AuditText, StartText}
 use Rattle.kc_plan.specs.CheckTexts.{checks_for}
-use Rattle.kc_plan.specs.Kernels.{Kernel, address_in}
-use Rattle.kc_plan.specs.Kinds.{row, shape}
+use Rattle.kc_kinds.specs.Kernels.{Kernel, address_in}
+use Rattle.kc_kinds.specs.Kinds.{row, shape}
 use Rattle.kc_plan.specs.Links.{above_of, links_for}
 use Rattle.kc_plan.specs.Planned.{AuditAt, PlanAt, StartAt}
 use Rattle.kc_plan.specs.Planned.StartAt.{RootAt, FromAt}
-use Rattle.kc_plan.specs.Shapes.{is_struct}
+use Rattle.kc_kinds.specs.Members.{is_struct}
 use Rattle.kc_plan.specs.Steps.{document, parsed, written_for}
 use Rattle.kc_plan.specs.Values.{◌>>=◌, at, refuse_if}
 
@@ -44,13 +44,17 @@ first_byte ty = record { hops = []; byte = 0; ty = ty }
 
 -- where a root audit begins. Without a type the symbol is the head itself. Where its struct is missing, the audit is
 -- refused later: a ring at its `link` at the latest, by P10, since its nodes have that struct too, and the other kinds
--- at their `kind` at the latest, by P11.
+-- at their `kind` at the latest, by P11; or before, as headless.
 abbrev pub root_at : Types → Row → ℕ → ℕ → Option (List ℕ) → List ℕ → Result StartAt PlanFault
 root_at types needs n address None path = Ok (RootAt address (unwrap_or needs.head 0) (first_byte (unwrap_or needs.head 0)))
 root_at types needs n address (Some name) path = do
   ty ← at (Some n) key.RootType (type_named types name)
   to ← at (Some n) key.RootPath (struct_at types needs.head (located types ty path))
   Ok (RootAt address ty to)
+
+-- a root audit, whose symbol is the head itself, is of a kind that asks for the head's struct at once, and lacks it
+abbrev pub is_headless : Row → StartText → Bool
+is_headless needs start = not needs.named && (is_some start.root && not (is_some start.root_type))
 
 -- where a path leads from the element of the audit above
 abbrev pub from_at : Types → Row → Option ℕ → List ℕ → Result ByteAt PRule
@@ -134,6 +138,7 @@ unfoldable pub planned : Kernel → List Link → List AuditAt → ℕ → Audit
 planned kernel links before n audit = do
   root ← root_for kernel n audit.start.root
   clear ← at (Some n) key.Kind (refuse_if (not (needs_in kernel audit).clear) P9)
+  headed ← at (Some n) key.Root (refuse_if (is_headless (needs_in kernel audit) audit.start) P10)
   start ← begun kernel.types (needs_in kernel audit) n (element_above links before n) audit.start root
   element ← at (Some n) key.Element (element_at kernel.types (needs_in kernel audit).element audit.parts.element)
   link ← link_for kernel.types (needs_in kernel audit) n element audit.parts.link

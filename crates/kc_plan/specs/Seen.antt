@@ -10,15 +10,9 @@ use Rattle.kc_layout.specs.Ends.{ByteAt, NumberAt}
 use Rattle.kc_view.specs.Pointers.{pointer, target, value_at}
 use Rattle.kc_view.specs.Typed.{bytes_on}
 use Rattle.kc_found.specs.declared.asked.Asked.{Asked}
-use Rattle.kc_found.specs.HashChains.{hash_walk}
-use Rattle.kc_found.specs.RbTrees.{tree_walk}
-use Rattle.kc_found.specs.Rings.{ring_walk}
 use Rattle.kc_found.specs.Violations.{Violation, missed}
-use Rattle.kc_found.specs.XaSites.{entries_in, xa_judged}
-use Rattle.kc_view.specs.Caches.{cache_slabs}
-use Rattle.kc_view.specs.TaskLists.{task_list}
-use Rattle.kc_plan.specs.declared.kind.Kind.{Kind}
-use Rattle.kc_plan.specs.declared.kind.Kind.TheVariants.{Ring, Hlist, Rbtree, Xarray, Slub, Tasks}
+use Rattle.kc_kinds.specs.declared.kind.Kind.{Kind}
+use Rattle.kc_kinds.specs.Structures.{nodes_of}
 use Rattle.kc_plan.specs.Checks.{checked, numbers_of}
 use Rattle.kc_plan.specs.Events.{Event, Walk, Wrong}
 use Rattle.kc_plan.specs.Planned.{AuditAt, CheckAt, StartAt}
@@ -39,15 +33,6 @@ unfoldable pub path_end : Image → ℕ → List ℕ → ℕ → Result PathEnd 
 path_end image at [] byte = Ok (EndsAt (bytes_on at byte))
 path_end image at (offset ∷ offsets) byte =
     and_then (pointer image at offset) (λ p. unless_null (bytes_on at offset) p (λ next. path_end image next offsets byte))
-
--- the nodes of the structure of a kind that an audit walks from a start, or the first violation
-unfoldable pub nodes_of : Image → Kind → ℕ → ℕ → Result (List ℕ) Violation
-nodes_of image (Ring shape) audit start = ring_walk image shape audit start
-nodes_of image (Hlist shape) audit start = hash_walk image shape audit start
-nodes_of image (Rbtree shape) audit start = tree_walk image shape audit start
-nodes_of image (Xarray shape) audit start = entries_in (xa_judged image shape audit start)
-nodes_of image (Slub shape) audit start = cache_slabs image shape (record { audit = audit; start = start })
-nodes_of image (Tasks shape) audit start = task_list image shape (record { audit = audit; start = start })
 
 -- the number of a field of an element
 abbrev pub number_at : Image → ℕ → NumberAt → Result Number Stopped

@@ -3,27 +3,10 @@ use Rattle.std.specs.Prelude.{◌≡◌, ℕ, suc, nat_eq, IsTrue, List, [], ◌
 use Rattle.std.specs.List.{AllByRecursion}
 use Rattle.kc_memory.specs.Image.{Image}
 use Rattle.kc_memory.specs.Stopped.{Stopped}
-use Rattle.kc_memory.specs.Translation.{vword}
-use Rattle.kc_found.specs.FiniteLists as lists
-use Rattle.kc_found.specs.FiniteXarrays.{XArrayOf}
-use Rattle.kc_found.specs.RbFinite.{RbTree}
-use Rattle.kc_found.specs.RbTrees.{reads_of}
-use Rattle.kc_view.specs.FiniteCaches as caches
-use Rattle.kc_view.specs.FiniteTasks as tasks
-use Rattle.kc_plan.specs.declared.kind.Kind.{Kind}
-use Rattle.kc_plan.specs.declared.kind.Kind.TheVariants.{Ring, Hlist, Rbtree, Xarray, Slub, Tasks}
+use Rattle.kc_kinds.specs.Structures.{Holds}
 use Rattle.kc_plan.specs.Checks.{CheckHolds, numbers_of}
 use Rattle.kc_plan.specs.Planned.{AuditAt, CheckAt}
 use Rattle.kc_plan.specs.Seen.{PathEnd, EndsAt, NullAt, container_of, is_optional, number_at, path_end, path_of, roots}
-
--- some nodes make up the structure of a kind that starts here
-unfoldable pub Holds : Image → Kind → ℕ → List ℕ → Type 0
-Holds image (Ring shape) start nodes = lists.Ring (vword image) shape start nodes
-Holds image (Hlist shape) start nodes = lists.HChain (vword image) shape start nodes
-Holds image (Rbtree shape) start nodes = RbTree (reads_of image) shape start nodes
-Holds image (Xarray shape) start nodes = XArrayOf image shape start nodes
-Holds image (Slub shape) start nodes = caches.Slub image shape start nodes
-Holds image (Tasks shape) start nodes = tasks.Tasks image shape start nodes
 
 -- each of these checks holds of an element
 abbrev pub ChecksHold : Image → List CheckAt → ℕ → Type 0

@@ -10,7 +10,7 @@ use Rattle.kc_keys.specs.declared.fault.PRule.{PRule}
 use Rattle.kc_keys.specs.declared.fault.PRule.TheVariants.{P1, P2, P3, P4, P8}
 use Rattle.kc_keys.specs.declared.fault.PlanFault.{PlanFault}
 use Rattle.kc_keys.specs.declared.fault.PlanKey.TheVariants as key
-use Rattle.kc_plan.specs.declared.keys.Need.TheVariants.{Allowed}
+use Rattle.kc_kinds.specs.declared.needs.Need.TheVariants.{Allowed}
 use Rattle.kc_plan.specs.Audits.{PlanText, all_keys, audits_for}
 use Rattle.kc_plan.specs.Keys.{is_one_of, top_keys}
 use Rattle.kc_plan.specs.Values.{◌>>=◌, all_read, at, refuse_if, required, text_for, value_at}

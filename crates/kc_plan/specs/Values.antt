@@ -6,8 +6,8 @@ use Rattle.kc_keys.specs.declared.fault.PRule.{PRule}
 use Rattle.kc_keys.specs.declared.fault.PRule.TheVariants.{P3, P4}
 use Rattle.kc_keys.specs.declared.fault.PlanKey.{PlanKey}
 use Rattle.kc_keys.specs.declared.fault.PlanFault.{PlanFault}
-use Rattle.kc_plan.specs.declared.keys.Need.{Need}
-use Rattle.kc_plan.specs.declared.keys.Need.TheVariants.{Required, Allowed, Barred}
+use Rattle.kc_kinds.specs.declared.needs.Need.{Need}
+use Rattle.kc_kinds.specs.declared.needs.Need.TheVariants.{Required, Allowed, Barred}
 use Rattle.kc_keys.specs.Keys.{spelled}
 
 infixl 10 ◌>>=◌

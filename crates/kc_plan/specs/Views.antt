@@ -1,5 +1,5 @@
 -- What contracts see of a plan and its audits, and of both as they are written.
-use Rattle.std.specs.Prelude.{ℕ, List, map, option_map, String}
+use Rattle.std.specs.Prelude.{ℕ, List, map, String}
 use Rattle.std.specs.BTreeMap.{BTreeMap}
 use Rattle.std.specs.Option.{option_copied}
 use Rattle.std.specs.Borrow.{Bor}
@@ -7,23 +7,19 @@ use Rattle.std.specs.Global.{Global, Vec}
 use Rattle.toml.specs.Data.{Members}
 use Rattle.toml.specs.View.{table_view}
 use Rattle.toml.specs.declared.value.Value.{Value}
-use Rattle.kc_layout.specs.Views.{bits_view}
 use Rattle.kc_syms.specs.Symbols.{symbol}
-use Rattle.kc_plan.specs.declared.known.Known.{Known}
 use Rattle.kc_btf.specs.Btf.{Types}
 use Rattle.kc_notes.specs.declared.info.Info.{Info}
 use Rattle.kc_syms.specs.declared.symbols.Symbols.{Symbols}
 use Rattle.kc_plan.specs.declared.plan.Plan.{Plan}
 use Rattle.kc_plan.specs.Planned.{AuditAt, PlanAt, audits_seen}
-use Rattle.kc_plan.specs.Kernels.{Kernel}
+use Rattle.kc_kinds.specs.Kernels.{Kernel}
 use Rattle.kc_plan.specs.declared.item.AuditWords.{AuditWords}
 use Rattle.kc_plan.specs.declared.item.Link.{Link}
 use Rattle.kc_plan.specs.declared.item.PartWords.{PartWords}
 use Rattle.kc_plan.specs.declared.item.PlanWords.{PlanWords}
 use Rattle.kc_plan.specs.declared.item.StartWords.{StartWords}
 use Rattle.kc_plan.specs.declared.item.TreeWords.{TreeWords}
-use Rattle.kc_plan.specs.declared.shape.Own.{Own}
-use Rattle.kc_plan.specs.Shapes.{OwnAt}
 use Rattle.kc_plan.specs.Audits.{AuditText, PartText, PlanText, StartText, TreeText}
 
 abbrev pub text : Bor (List ℕ) → List ℕ
@@ -67,12 +63,6 @@ plan_text plan = record { version = plan.version; tail = plan.tail; audits = aud
 
 abbrev pub links_in : Vec Link → List Link
 links_in links = links.items
-
-abbrev pub kernel : Known → Kernel
-kernel known = record { types = known.btf.now; symbols = symbol known.symbols.now; kaslr = known.kaslr; five = known.five }
-
-abbrev pub own_seen : Own → OwnAt
-own_seen own = record { link = own.link; key = option_map bits_view own.key; unique = own.unique; cached = own.cached }
 
 abbrev pub plan_seen : Plan → List AuditAt
 plan_seen plan = audits_seen plan.audits

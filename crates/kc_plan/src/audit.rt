@@ -7,13 +7,13 @@ ghost use Rattle.kc_plan.specs.Audits.{is_among, kind_for, name_for, is_untyped,
 ghost use Rattle.kc_plan.specs.Views.{text, tree_text, part_text, audit_text, audit_texts, tables_in};
 
 use crate::item::{AuditWords, PartWords, TreeWords};
-use crate::keys::{AUDIT_KEYS, Need, Needs};
-use crate::kinds::{Sort, needs_of, sort_of};
+use crate::keys::AUDIT_KEYS;
 use crate::start::start_of;
 use crate::value::{
     flag_at, has, has_only, names_at, put, refuse_if, required_text, stop, text_at,
 };
 use kc_keys::{PRule, PlanKey, PlanStop};
+use kc_kinds::{Need, Needs, Sort, needs_of, sort_of};
 use kc_text::is_name;
 use std::alloc::Global;
 use toml::Table;
@@ -38,8 +38,8 @@ fn kind_of(table: &Table, audit: Option<u32>) -> Result<Sort, PlanStop>
 {
     let text = required_text(table, audit, PlanKey::Kind)?;
     match sort_of(text) {
-        Ok(sort) => Ok(sort),
-        Err(rule) => Err(stop(rule, audit, PlanKey::Kind)),
+        Some(sort) => Ok(sort),
+        None => Err(stop(PRule::P4, audit, PlanKey::Kind)),
     }
 }
 

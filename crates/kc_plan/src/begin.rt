@@ -5,22 +5,22 @@ ghost use Rattle.kc_layout.specs.Ends.{located};
 ghost use Rattle.kc_layout.specs.Views.{byte_view, bits_view};
 ghost use Rattle.kc_keys.specs.declared.fault.PlanKey.TheVariants as key;
 ghost use Rattle.kc_plan.specs.Answers.{Gives};
-ghost use Rattle.kc_plan.specs.Plans.{struct_at, type_named, addressed, root_at, from_at, root_for, begun, element_at, link_for, key_for, first_byte};
-ghost use Rattle.kc_plan.specs.Kinds.{IsRow};
+ghost use Rattle.kc_plan.specs.Plans.{struct_at, type_named, addressed, root_at, from_at, root_for, is_headless, begun, element_at, link_for, key_for, first_byte};
+ghost use Rattle.kc_kinds.specs.Rows.{IsRow};
 ghost use Rattle.kc_plan.specs.Inside.{StartsInside};
 ghost use Rattle.kc_plan.specs.Planned.{start_seen};
 ghost use Rattle.kc_plan.specs.Values.{at};
-ghost use Rattle.kc_plan.specs.Views.{kernel, start_text};
+ghost use Rattle.kc_kinds.specs.Kernels.{kernel};
+ghost use Rattle.kc_plan.specs.Views.{start_text};
 ghost use Rattle.kc_syms.specs.Addresses.{common_of};
 ghost use Rattle.kc_syms.specs.Symbols.{symbol};
 
 use crate::item::StartWords;
-use crate::known::Known;
 use crate::planned::Start;
-use crate::shape::{Row, is_struct};
 use crate::value::stop;
 use kc_btf::Btf;
 use kc_keys::{PRule, PlanKey, PlanStop};
+use kc_kinds::{Known, Row, is_struct};
 use kc_layout::{Hops, Located, locate, resolve};
 use kc_syms::Symbols;
 use kc_word::Bits;
@@ -133,6 +133,13 @@ fn from_at(
         Some(element) => struct_at(btf, needs.head, element, path, audit, PlanKey::From),
         None => Err(stop(PRule::P10, Some(audit), PlanKey::From)),
     }
+}
+
+// Whether a root audit, whose symbol is the head itself, is of a kind that asks for the head's struct at once, and lacks it.
+pub(crate) fn is_headless(needs: &Row, start: StartWords<'_>) -> bool
+    ensures { result ≡ is_headless needs.now (start_text start.entry) }
+{
+    !needs.named && start.root.is_some() && start.root_type.is_none()
 }
 
 // The address of the symbol of a root audit.

@@ -8,9 +8,10 @@ ghost use Rattle.kc_plan.specs.Views.{plan_text, tables_seen};
 
 use crate::audit::audits_of;
 use crate::item::PlanWords;
-use crate::keys::{Need, TOP_KEYS};
+use crate::keys::TOP_KEYS;
 use crate::value::{has_only, refuse_if, required_number, stop, tables_at, text_at};
 use kc_keys::{PRule, PlanFault, PlanKey, PlanStop};
+use kc_kinds::Need;
 use kc_word::Tail;
 use std::alloc::Global;
 use toml::Table;

@@ -2,7 +2,7 @@
 ghost use Rattle.std.specs.Prelude.{◌≤◌, length, IsTrue};
 ghost use Rattle.kc_plan.specs.Kept.{is_version};
 
-use crate::kinds::Sort;
+use kc_kinds::Sort;
 use kc_word::Tail;
 
 // Where an audit begins.

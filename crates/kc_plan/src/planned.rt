@@ -3,9 +3,9 @@ ghost use Rattle.std.specs.Prelude.{◌≡◌, ◌≤◌, length};
 ghost use Rattle.kc_expr.specs.Exprs.{tree_of};
 ghost use Rattle.kc_expr.specs.Values.{fields_of};
 
-use crate::kind::Kind;
 use kc_expr::Expr;
 use kc_found::{Items, Name};
+use kc_kinds::Kind;
 use kc_layout::{Field, Located};
 
 /// The audits of a plan, in its order.

@@ -1,26 +1,24 @@
 // A plan, read whole.
 ghost use Rattle.std.specs.Prelude.{◌≡◌, ◌≤◌, [], length, map, IfOk, IfSome};
+ghost use Rattle.kc_kinds.specs.Kernels.{kernel};
 ghost use Rattle.kc_plan.specs.Answers.{Gives};
-ghost use Rattle.kc_plan.specs.Kinds.{AreRows};
 ghost use Rattle.kc_plan.specs.Inside.{IsInside, AreInside};
 ghost use Rattle.kc_plan.specs.Plans.{children, element_of, element_above, planned, all_planned, plan_of, plan};
 ghost use Rattle.kc_plan.specs.Planned.{audit_seen, audits_seen};
-ghost use Rattle.kc_plan.specs.Views.{kernel, kernel_of, audit_text, plan_whole};
+ghost use Rattle.kc_plan.specs.Views.{kernel_of, audit_text, plan_whole};
 
-use crate::begin::{begun, element_at, key_at, link_at, root_of};
+use crate::begin::{begun, element_at, is_headless, key_at, link_at, root_of};
 use crate::checks::checks_of;
 use crate::document::{document_of, plan_in};
 use crate::item::{AuditWords, Link};
-use crate::kinds::{Rows, row_of, rows_of, shape_of};
-use crate::known::Known;
 use crate::link::{above_of, links_of};
 use crate::plan::Plan;
 use crate::planned::{Audit, AuditList, Numbers};
-use crate::shape::Own;
 use crate::value::{refuse_if, stop};
 use kc_btf::Btf;
 use kc_found::{Items, Name};
 use kc_keys::{PRule, PlanKey, PlanStop};
+use kc_kinds::{Known, Own, row_of, shape_of};
 use kc_layout::Names;
 use kc_notes::Info;
 use kc_syms::Symbols;
@@ -77,22 +75,22 @@ fn element_above(btf: &Btf, links: &[Link], before: &AuditList, number: u32) -> 
 fn planned(
     alloc: Global,
     known: &Known<'_>,
-    rows: &Rows,
     links: &[Link],
     before: &AuditList,
     number: u32,
     audit: &AuditWords<'_>,
 ) -> Result<Audit, PlanStop>
-    requires rows { AreRows (kernel known.now) rows.now }
     requires before { AreInside (length known.now.btf.now.records) before.now }
     ensures exact { Gives audit_seen result (planned (kernel known.now) links.now (audits_seen before.now) number (audit_text audit.now)) }
     ensures inside { IfOk result (IsInside (length known.now.btf.now.records)) }
 {
     let tree = audit.parts.tree;
-    let needs = row_of(known, rows, audit.sort, tree.cached);
+    let needs = row_of(known, audit.sort, tree.cached);
     let above = element_above(known.btf, links, before, number);
     let root = root_of(known, number, audit.start.root)?;
     refuse_if(!needs.clear, PRule::P9, Some(number), PlanKey::Kind)?;
+    let headless = is_headless(&needs, audit.start);
+    refuse_if(headless, PRule::P10, Some(number), PlanKey::Root)?;
     let start = begun(known, &needs, number, above, root, audit.start)?;
     let element = element_at(known, &needs, number, audit.parts.element)?;
     let link = link_at(known.btf, &needs, number, element, audit.parts.link)?;
@@ -124,11 +122,9 @@ fn planned(
 fn all_planned(
     alloc: Global,
     known: &Known<'_>,
-    rows: &Rows,
     links: &[Link],
     audits: &[AuditWords<'_>],
 ) -> Result<AuditList, PlanStop>
-    requires rows { AreRows (kernel known.now) rows.now }
     requires few { length audits.now ≤ 256 }
     ensures exact { Gives audits_seen result (all_planned (kernel known.now) links.now [] (map audit_text audits.now)) }
     ensures inside { IfOk result (AreInside (length known.now.btf.now.records)) }
@@ -136,7 +132,7 @@ fn all_planned(
     let mut planned_so_far = Items::new(alloc);
     for audit in audits {
         let number = planned_so_far.len() as u32;
-        let one = planned(alloc, known, rows, links, &planned_so_far, number, audit)?;
+        let one = planned(alloc, known, links, &planned_so_far, number, audit)?;
         planned_so_far.push(one)?;
     }
     Ok(planned_so_far)
@@ -154,8 +150,7 @@ fn plan_of(
     ensures inside { IfOk result (AreInside (length known.now.btf.now.records)) }
 {
     let links = links_of(alloc, audits)?;
-    let rows = rows_of(known);
-    all_planned(alloc, known, &rows, &links, audits)
+    all_planned(alloc, known, &links, audits)
 }
 
 /// The plan that a file's bytes are, in TOML, over the types and symbols of a kernel. `info.kaslr` is how far
@@ -163,7 +158,7 @@ fn plan_of(
 ///
 /// The plan has `version`, 1 for one verdict on all audits or 2 for one on each root audit, and `audit`, an array of tables, and may have `tail`, which is `absent` or `zero`: how the
 /// memory that a segment has and the file leaves out is read. It is absent without the key. Each audit has a `name` and a `kind` (`ring`,
-/// `hlist`, `rbtree`, `xarray`, `slub` or `tasks`), and begins at the symbol `root`, with a `root_type` and a `root_path` where the symbol isn't the
+/// `hlist`, `rbtree`, `xarray`, `slub`, `tasks` or `pids`), and begins at the symbol `root`, with a `root_type` and a `root_path` where the symbol isn't the
 /// head itself, or at a path `from` the element of the one audit that names it in `each`, passed over at a
 /// null pointer where it is `optional`. `element` is the type of the elements, and `link` the path in them to
 /// the node. Audits count from 0.

@@ -6,9 +6,9 @@ ghost use Rattle.kc_plan.specs.Audits.{start_for};
 ghost use Rattle.kc_plan.specs.Views.{start_text};
 
 use crate::item::StartWords;
-use crate::keys::Need;
 use crate::value::{flag_at, has, refuse_if, text_at};
 use kc_keys::{PRule, PlanKey, PlanStop};
+use kc_kinds::Need;
 use toml::Table;
 
 // Where the audit of a table begins: at a symbol, or at a symbol's type and a path in it, or at a path from

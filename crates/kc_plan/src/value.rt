@@ -12,8 +12,8 @@ ghost use Rattle.kc_plan.specs.Steps.{tables};
 ghost use Rattle.kc_plan.specs.Values.{all_read, at, asked, refuse_if, required, has, value_at, text_for, flag_for};
 ghost use Rattle.kc_plan.specs.Views.{text, texts, tables_seen};
 
-use crate::keys::Need;
 use kc_keys::{PRule, PlanFault, PlanKey, PlanStop, spelling};
+use kc_kinds::Need;
 use kc_word::NoMemory;
 use std::alloc::Global;
 use toml::value::Array;

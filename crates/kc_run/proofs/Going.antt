@@ -26,7 +26,8 @@ use Rattle.kc_found.specs.Walks.{IsBroken, IsStopped, WalksAs}
 use Rattle.kc_plan.specs.Events.{Event, Wrong}
 use Rattle.kc_plan.specs.Kept.{are_between, are_later}
 use Rattle.kc_plan.specs.Planned.{AuditAt}
-use Rattle.kc_plan.specs.Seen.{PathEnd, EndsAt, NullAt, at_element, below, checks_seen, container_of, entered, in_turn, is_optional, nodes_of, null_pointer, path_end, path_of, root_of, roots, seen, walked, world}
+use Rattle.kc_kinds.specs.Structures.{nodes_of}
+use Rattle.kc_plan.specs.Seen.{PathEnd, EndsAt, NullAt, at_element, below, checks_seen, container_of, entered, in_turn, is_optional, null_pointer, path_end, path_of, root_of, roots, seen, walked, world}
 use Rattle.kc_run.specs.Tally.{TalliesAs, added, tally}
 use Rattle.kc_run.proofs.Counting.{tally_goes, tally_stops}
 use Rattle.kc_run.proofs.Unrolling.{unrolled}

@@ -13,8 +13,8 @@ use Rattle.kc_found.specs.Chains.{chain_sites, chain_trials}
 use Rattle.kc_found.specs.Rings.{ring_chain}
 use Rattle.kc_found.specs.Trials.{Reader, judged}
 use Rattle.kc_found.specs.Violations.{Violation, breaks, missed}
-use Rattle.kc_plan.specs.declared.kind.Kind.{Kind}
-use Rattle.kc_plan.specs.declared.kind.Kind.TheVariants.{Ring, Hlist, Rbtree, Xarray, Slub, Tasks}
+use Rattle.kc_kinds.specs.declared.kind.Kind.{Kind}
+use Rattle.kc_kinds.specs.declared.kind.Kind.TheVariants.{Ring}
 use Rattle.kc_expr.specs.Tree.Tree.{field}
 use Rattle.kc_plan.specs.Checks.{fails}
 use Rattle.kc_plan.specs.Planned.{AuditAt, CheckAt}
@@ -43,11 +43,7 @@ path ws at (offset ∷ offsets) byte = on_from (bytes_on at offset) (look ws (by
 
 abbrev nodes : List VWord → Kind → ℕ → ℕ → Result (List ℕ) Violation
 nodes ws (Ring shape) n start = judged (chain_sites (ring_chain (look ws) shape (record { audit = n; start = start })) 12)
-nodes ws (Hlist shape) n start = Ok []
-nodes ws (Rbtree shape) n start = Ok []
-nodes ws (Xarray shape) n start = Ok []
-nodes ws (Slub shape) n start = Ok []
-nodes ws (Tasks shape) n start = Ok []
+nodes ws _ n start = Ok []
 
 -- a field of one word, which no pointer leads to
 abbrev one_word : VWord → Number

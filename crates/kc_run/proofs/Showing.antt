@@ -15,15 +15,17 @@ use Rattle.kc_view.specs.Typed.{bytes_on}
 use Rattle.kc_memory.specs.Translation.{and_then}
 use Rattle.kc_found.specs.declared.asked.Asked.{Asked}
 use Rattle.kc_found.specs.Violations.{Violation}
-use Rattle.kc_plan.specs.declared.kind.Kind.{Kind}
-use Rattle.kc_plan.specs.declared.kind.Kind.TheVariants.{Ring, Hlist, Rbtree, Xarray, Slub, Tasks}
+use Rattle.kc_kinds.specs.declared.kind.Kind.{Kind}
+use Rattle.kc_kinds.specs.declared.kind.Kind.TheVariants.{Ring, Hlist, Rbtree, Xarray, Slub, Tasks, Pids}
 use Rattle.kc_plan.specs.Checks.{checked, numbers_of, value_of, words_of}
 use Rattle.kc_plan.specs.Events.{Event, Walk, Wrong, first_wrong, verdict_of}
 use Rattle.kc_plan.specs.Planned.{AuditAt, CheckAt}
-use Rattle.kc_plan.specs.Seen.{PathEnd, EndsAt, NullAt, world, nodes_of, path_end, path_of, is_optional, unless_null, container_of, in_turn, below, checks_seen, number_at, at_element, walked, entered, seen, roots, all_seen}
+use Rattle.kc_kinds.specs.Structures.{nodes_of}
+use Rattle.kc_plan.specs.Seen.{PathEnd, EndsAt, NullAt, world, path_end, path_of, is_optional, unless_null, container_of, in_turn, below, checks_seen, number_at, at_element, walked, entered, seen, roots, all_seen}
 use Rattle.kc_plan.specs.Roots.{reached_from, root_seen, verdict_among}
 use Rattle.kc_plan.specs.Verdicts.{verdict_places}
 use Rattle.kc_list.specs.Laws.{HashPlacesStand, RingPlacesStand}
+use Rattle.kc_pid.specs.Laws.{PidPlacesStand}
 use Rattle.kc_rb.specs.Laws.{TreePlacesStand}
 use Rattle.kc_slub.specs.Laws.{CachePlacesStand}
 use Rattle.kc_task.specs.Laws.{TaskPlacesStand}
@@ -84,6 +86,7 @@ pub record PlaceLaws : Type 0 where
   pub arrays : XarrayPlacesStand
   pub caches : CachePlacesStand
   pub tasks : TaskPlacesStand
+  pub pids : PidPlacesStand
 
 nodes_show : PlaceLaws → (image : Image) (kind : Kind) (n start : ℕ) (v : Violation) → nodes_of image kind n start ≡ Err v → AllStandIn image v.places
 unfolding nodes_of
@@ -93,6 +96,7 @@ nodes_show laws image (Rbtree shape) n start v is = laws.trees image shape n sta
 nodes_show laws image (Xarray shape) n start v is = array_shows laws.arrays image shape n start v is
 nodes_show laws image (Slub shape) n start v is = laws.caches image shape n start v is
 nodes_show laws image (Tasks shape) n start v is = laws.tasks image shape n start v is
+nodes_show laws image (Pids shape) n start v is = laws.pids image shape n start v is
 
 -- the numbers of fields
 NumbersShow : Image → Result (List Number) Stopped → Type 0

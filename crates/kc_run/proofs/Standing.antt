@@ -10,15 +10,17 @@ use Rattle.kc_found.specs.declared.verdict.Verdict.{Verdict}
 use Rattle.kc_found.specs.Violations.{Violation}
 use Rattle.kc_expr.specs.Values.{is_true}
 use Rattle.kc_list.specs.Laws.{HashChainsAreWalked, RingsAreWalked}
-use Rattle.kc_plan.specs.declared.kind.Kind.{Kind}
-use Rattle.kc_plan.specs.declared.kind.Kind.TheVariants.{Ring, Hlist, Rbtree, Xarray, Slub, Tasks}
+use Rattle.kc_kinds.specs.declared.kind.Kind.{Kind}
+use Rattle.kc_kinds.specs.declared.kind.Kind.TheVariants.{Ring, Hlist, Rbtree, Xarray, Slub, Tasks, Pids}
 use Rattle.kc_plan.specs.Checks.{CheckHolds, checked, numbers_of, value_of}
 use Rattle.kc_plan.specs.Events.{Event, Walk, Wrong, first_wrong, verdict_of}
 use Rattle.kc_plan.specs.Planned.{AuditAt, CheckAt}
-use Rattle.kc_plan.specs.Seen.{PathEnd, EndsAt, NullAt, world, nodes_of, path_end, path_of, is_optional, container_of, in_turn, below, checks_seen, number_at, at_element, walked, entered, seen, roots, all_seen}
-use Rattle.kc_plan.specs.Stands.{Holds, ElementStands, WalkStands, EnterStands, PlanStands, Stands}
+use Rattle.kc_kinds.specs.Structures.{nodes_of, Holds}
+use Rattle.kc_plan.specs.Seen.{PathEnd, EndsAt, NullAt, world, path_end, path_of, is_optional, container_of, in_turn, below, checks_seen, number_at, at_element, walked, entered, seen, roots, all_seen}
+use Rattle.kc_plan.specs.Stands.{ElementStands, WalkStands, EnterStands, PlanStands, Stands}
 use Rattle.kc_plan.specs.Roots.{reached_from, root_seen, verdict_among}
 use Rattle.kc_plan.specs.Verdicts.{IsClean, verdict}
+use Rattle.kc_pid.specs.Laws.{PidsAreWalked}
 use Rattle.kc_rb.specs.Laws.{TreesAreWalked}
 use Rattle.kc_slub.specs.Laws.{CachesAreWalked}
 use Rattle.kc_task.specs.Laws.{TasksAreWalked}
@@ -191,6 +193,7 @@ pub record WalkLaws : Type 0 where
   pub arrays : XarraysAreWalked
   pub caches : CachesAreWalked
   pub tasks : TasksAreWalked
+  pub pids : PidsAreWalked
 
 kinds_of : WalkLaws → (image : Image) → Kinds image
 unfolding nodes_of Holds
@@ -203,6 +206,7 @@ kinds_of laws image = record { sound = sound; complete = complete }
     sound (Xarray shape) n start nodes is = array_sound laws.arrays image shape n start nodes is
     sound (Slub shape) n start nodes is = (laws.caches image shape n start nodes).1 is
     sound (Tasks shape) n start nodes is = (laws.tasks image shape n start nodes).1 is
+    sound (Pids shape) n start nodes is = (laws.pids image shape n start nodes).1 is
 
     complete : (kind : Kind) (n start : ℕ) (nodes : List ℕ) → Holds image kind start nodes → nodes_of image kind n start ≡ Ok nodes
     complete (Ring shape) n start nodes holds = (laws.rings image shape n start nodes).0 holds
@@ -211,6 +215,7 @@ kinds_of laws image = record { sound = sound; complete = complete }
     complete (Xarray shape) n start nodes holds = array_complete laws.arrays image shape n start nodes holds
     complete (Slub shape) n start nodes holds = (laws.caches image shape n start nodes).0 holds
     complete (Tasks shape) n start nodes holds = (laws.tasks image shape n start nodes).0 holds
+    complete (Pids shape) n start nodes holds = (laws.pids image shape n start nodes).0 holds
 
 pub clean_where_standing : WalkLaws → CleanWhereStanding
 clean_where_standing laws image plan =

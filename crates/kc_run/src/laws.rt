@@ -3,6 +3,7 @@ ghost use Rattle.kc_run.specs.Laws.{CleanRootsStand, CleanWhereStanding, FirstOf
 
 use kc_list::know_lists;
 use kc_memory::know_numbers;
+use kc_pid::know_pids;
 use kc_rb::know_trees;
 use kc_slub::know_caches;
 use kc_task::know_tasks;
@@ -24,6 +25,7 @@ pub fn know_verdicts()
     know_xarrays();
     know_caches();
     know_tasks();
+    know_pids();
     know_numbers();
     know_values();
 }

@@ -2,9 +2,11 @@
 ghost use Rattle.std.specs.Prelude.{◌≡◌, ◌<◌, length, IsTrue};
 ghost use Rattle.kc_memory.specs.Stays.{SpaceStays};
 ghost use Rattle.kc_found.specs.Walks.{CountsWalkFaults};
-ghost use Rattle.kc_plan.specs.Inside.{AreInside, KindInside};
+ghost use Rattle.kc_kinds.specs.Inside.{KindInside};
+ghost use Rattle.kc_plan.specs.Inside.{AreInside};
 ghost use Rattle.kc_plan.specs.Kept.{are_between};
-ghost use Rattle.kc_plan.specs.Seen.{at_element, nodes_of, seen, walked, world};
+ghost use Rattle.kc_kinds.specs.Structures.{nodes_of};
+ghost use Rattle.kc_plan.specs.Seen.{at_element, seen, walked, world};
 ghost use Rattle.kc_plan.specs.Planned.{audit_seen};
 ghost use Rattle.kc_plan.specs.Views.{plan_seen};
 ghost use Rattle.kc_run.specs.Tally.{NamesBelow, TalliesAs};

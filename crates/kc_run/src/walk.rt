@@ -2,13 +2,14 @@
 ghost use Rattle.std.specs.Prelude.{length};
 ghost use Rattle.kc_memory.specs.Stays.{SpaceStays};
 ghost use Rattle.kc_found.specs.Walks.{CountsWalkFaults, IsNamed, WalksAs};
-ghost use Rattle.kc_plan.specs.Inside.{KindInside};
-ghost use Rattle.kc_plan.specs.Seen.{nodes_of};
+ghost use Rattle.kc_kinds.specs.Inside.{KindInside};
+ghost use Rattle.kc_kinds.specs.Structures.{nodes_of};
 
 use crate::entries::xarray;
 use kc_btf::Btf;
 use kc_found::{Asked, Space, WalkStop, Walked};
 use kc_list::{hchain, ring};
+use kc_pid::pids_walk;
 use kc_plan::Kind;
 use kc_rb::rb_walk;
 use kc_slub::cache_walk;
@@ -18,7 +19,7 @@ use std::alloc::Global;
 use std::sync::ledger::Ledger;
 
 // The nodes of a structure, or its first violation.
-#[tactic(auto, unfolding(kc_plan::specs::Seen::nodes_of))]
+#[tactic(auto, unfolding(kc_kinds::specs::Structures::nodes_of))]
 pub(crate) fn walk<S: Space, L: Ledger>(
     alloc: Global,
     btf: &Btf,
@@ -43,5 +44,6 @@ pub(crate) fn walk<S: Space, L: Ledger>(
         Kind::Xarray(shape) => xarray(alloc, space, shape, asked, steps),
         Kind::Slub(shape) => cache_walk(alloc, space, btf, shape, asked.start, asked.audit, steps),
         Kind::Tasks(shape) => tasks_walk(alloc, space, btf, shape, asked.start, asked.audit, steps),
+        Kind::Pids(shape) => pids_walk(alloc, space, btf, shape, asked.start, asked.audit, steps),
     }
 }

@@ -17,7 +17,8 @@ use Rattle.kc_found.specs.Walks.{IsBroken, IsStopped, WalksAs}
 use Rattle.kc_plan.specs.Events.{Event}
 use Rattle.kc_plan.specs.Kept.{are_later}
 use Rattle.kc_plan.specs.Planned.{AuditAt}
-use Rattle.kc_plan.specs.Seen.{below, in_turn, is_optional, nodes_of, null_pointer, path_of, root_of, roots, seen, world}
+use Rattle.kc_kinds.specs.Structures.{nodes_of}
+use Rattle.kc_plan.specs.Seen.{below, in_turn, is_optional, null_pointer, path_of, root_of, roots, seen, world}
 use Rattle.kc_run.specs.Tally.{TalliesAs}
 use Rattle.kc_run.proofs.Going as going
 

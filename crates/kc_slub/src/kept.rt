@@ -1,12 +1,12 @@
 // Chains that are walked, and whose lists are kept.
 ghost use Rattle.std.specs.Prelude.{◌≡◌, ◌∷◌, ◌++◌, [], IfOk, OnOk};
 ghost use Rattle.kc_found.specs.Walks.{OnBroken, OnWalkFault};
-ghost use Rattle.kc_chains.specs.Chains.{free_kept, ring_kept};
+ghost use Rattle.kc_chains.specs.Chains.{free_kept, hash_kept, ring_kept};
 
 use crate::free::free_walk;
-use kc_chains::{Chains, Rings};
-use kc_found::{Asked, Grid, Items, ListShape, Scalar, Space, WalkStop, Walked};
-use kc_list::ring;
+use kc_chains::{Chains, HashChains, Rings};
+use kc_found::{Asked, Grid, HShape, Items, ListShape, Scalar, Space, WalkStop, Walked};
+use kc_list::{hchain, ring};
 use kc_view::started_at;
 use kc_word::{NoMemory, Steps};
 use std::alloc::Global;
@@ -89,5 +89,30 @@ impl Chains for Kept {
         };
         keep(alloc, &mut self.lists, &objects)?;
         Ok(objects)
+    }
+}
+
+impl HashChains for Kept {
+    ghost lists = { λ k. k.lists };
+
+    ghost paid = { ⊥ };
+
+    ghost hash_by = { hash_kept };
+
+    fn hash_chain<S: Space, L: Ledger>(
+        &mut self,
+        alloc: Global,
+        space: &mut S,
+        asked: &Asked,
+        shape: &HShape,
+        head: u64,
+        steps: &mut Steps<L>,
+    ) -> Result<Walked, WalkStop> {
+        let chain = match hchain(alloc, space, shape, head, asked.audit, steps) {
+            Ok(chain) => chain,
+            Err(stop) => return Err(started_at(stop, asked.start)),
+        };
+        keep(alloc, &mut self.lists, &chain)?;
+        Ok(chain)
     }
 }

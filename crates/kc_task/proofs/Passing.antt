@@ -1,4 +1,4 @@
--- One task of a list after another.
+-- One task of a list after another, and the threads that are gathered.
 use Rattle.std.proofs.Common.{◌≡◌, ℕ, suc, ◌+◌, List, [], ◌∷◌, ◌++◌, drop, take, length, Option, None, Some, refl, sym, ◌∙◌, ap, add-one, append_assoc, append-nil}
 use Rattle.std.specs.Prelude.{Result, Ok, Err, IfSome, slice_get, map, ◌≤◌, ⊤}
 use Rattle.std.proofs.lemmas.Option.{slice_get_within, get_or_from_slice_get}
@@ -10,12 +10,10 @@ use Rattle.kc_found.specs.declared.found.WalkStop.TheVariants as ends
 use Rattle.kc_found.specs.Trials.{and_then}
 use Rattle.kc_found.specs.Violations.{Violation}
 use Rattle.kc_found.specs.Walks.{WalksAs}
-use Rattle.kc_view.specs.TaskLists.{all_pass, task_of}
+use Rattle.kc_view.specs.TaskLists.{task_of}
 use Rattle.kc_chains.specs.Chains.{Came, Lists, alone}
-use Rattle.kc_chains.specs.TasksBy.{gathered_by, passed_by}
-
-here : (ns : List ℕ) (k n : ℕ) → slice_get ns k ≡ Some n → drop k ns ≡ n ∷ drop (suc k) ns
-here ns k n e = drop-cons ns k 0 (slice_get_within ns k n e) ∙ ap (λ m. m ∷ drop (suc k) ns) (get_or_from_slice_get ns k n 0 e)
+use Rattle.kc_chains.specs.Passing.{here}
+use Rattle.kc_chains.specs.TasksBy.{gathered_by}
 
 pub one_more : (ns : List ℕ) (k n : ℕ) → slice_get ns k ≡ Some n → take (k + 1) ns ≡ take k ns ++ n ∷ []
 one_more ns k n e = rw add-one (take-suc ns k 0 (slice_get_within ns k n e) ∙ ap (λ m. take k ns ++ m ∷ []) (get_or_from_slice_get ns k n 0 e))
@@ -26,71 +24,6 @@ map_append f (x ∷ xs) ys = ap (λ zs. f x ∷ zs) (map_append f xs ys)
 
 pub one_task_more : (offset : ℕ) (ns : List ℕ) (k n : ℕ) → slice_get ns k ≡ Some n → map (task_of offset) (take (k + 1) ns) ≡ map (task_of offset) (take k ns) ++ task_of offset n ∷ []
 one_task_more offset ns k n e = ap (map (task_of offset)) (one_more ns k n e) ∙ map_append (task_of offset) (take k ns) (n ∷ [])
-
--- the tasks that have to pass, one by one
-pass_at : (go : ℕ → Result ⊤ Violation) (ts : List ℕ) (k t : ℕ) → slice_get ts k ≡ Some t → all_pass go (drop k ts) ≡ and_then (go t) (λ _. all_pass go (drop (suc k) ts))
-unfolding all_pass
-pass_at go ts k t is = ap (all_pass go) (here ts k t is)
-
-pass_none : (go : ℕ → Result ⊤ Violation) → all_pass go [] ≡ Ok tt
-unfolding all_pass
-pass_none go = refl
-
--- what is left to look at, of all
-abbrev pub PassLeft : Option Image → (Image → ℕ → Result ⊤ Violation) → List ℕ → ℕ → Type 0
-PassLeft image go ts k = IfSome image (λ i. all_pass (go i) ts ≡ all_pass (go i) (drop k ts))
-
-pub pass_begin : (image : Option Image) (go : Image → ℕ → Result ⊤ Violation) (ts : List ℕ) → PassLeft image go ts 0
-pass_begin None go ts = tt
-pass_begin (Some i) go ts = refl
-
-pub pass_stop : {U V : Type 0} (u : U → ⊤) (v : V → ⊤) (image : Option Image) (go : Image → ℕ → Result ⊤ Violation) (ts : List ℕ) (k t : ℕ) (stop : WalkStop) →
-    PassLeft image go ts k → slice_get ts k ≡ Some t → WalksAs u (λ i. go i t) image (Err stop) → WalksAs v (λ i. all_pass (go i) ts) image (Err stop)
-pass_stop u v None go ts k t stop left is e = tt
-pass_stop u v (Some i) go ts k t (ends.Broken f) left is e = left ∙ pass_at (go i) ts k t is ∙ ap (λ r. and_then r (λ _. all_pass (go i) (drop (suc k) ts))) e
-pass_stop u v (Some i) go ts k t ends.Fault left is e = tt
-pass_stop u v (Some i) go ts k t ends.NoMemory left is e = tt
-
-pub pass_go : {U : Type 0} (u : U → ⊤) (image : Option Image) (go : Image → ℕ → Result ⊤ Violation) (ts : List ℕ) (k next t : ℕ) (x : U) → suc k ≡ next →
-    PassLeft image go ts k → slice_get ts k ≡ Some t → WalksAs u (λ i. go i t) image (Ok x) → PassLeft image go ts next
-pass_go u None go ts k next t x on left is e = tt
-pass_go u (Some i) go ts k next t x on left is e = rw (← on) (left ∙ pass_at (go i) ts k t is ∙ ap (λ r. and_then r (λ _. all_pass (go i) (drop (suc k) ts))) e)
-
-pub pass_end : {V : Type 0} (v : V → ⊤) (image : Option Image) (go : Image → ℕ → Result ⊤ Violation) (ts : List ℕ) (k : ℕ) (x : V) →
-    PassLeft image go ts k → length ts ≤ k → WalksAs v (λ i. all_pass (go i) ts) image (Ok x)
-pass_end v None go ts k x left all = tt
-pass_end v (Some i) go ts k x left all = left ∙ ap (all_pass (go i)) (drop_of_length-le ts all) ∙ pass_none (go i)
-
--- the tasks that have to pass by a way to come by rings, one by one
-left_at : (go : ℕ → Lists → Result Lists Violation) (ts : List ℕ) (lists : Lists) (k t : ℕ) → slice_get ts k ≡ Some t → passed_by go (drop k ts) lists ≡ and_then (go t lists) (λ more. passed_by go (drop (suc k) ts) more)
-unfolding passed_by
-left_at go ts lists k t is = ap (λ xs. passed_by go xs lists) (here ts k t is)
-
-left_none : (go : ℕ → Lists → Result Lists Violation) (lists : Lists) → passed_by go [] lists ≡ Ok lists
-unfolding passed_by
-left_none go lists = refl
-
--- what is left to look at, of all: the lists before, and those now
-abbrev pub ListsLeft : Option Image → (Image → ℕ → Lists → Result Lists Violation) → List ℕ → Lists → Lists → ℕ → Type 0
-ListsLeft image go ts before lists k = IfSome image (λ i. passed_by (go i) ts before ≡ passed_by (go i) (drop k ts) lists)
-
-pub left_stop : {U V : Type 0} (u : U → Lists) (v : V → Lists) (image : Option Image) (go : Image → ℕ → Lists → Result Lists Violation) (ts : List ℕ) (before lists : Lists) (k t : ℕ) (stop : WalkStop) →
-    ListsLeft image go ts before lists k → slice_get ts k ≡ Some t → WalksAs u (λ i. go i t lists) image (Err stop) → WalksAs v (λ i. passed_by (go i) ts before) image (Err stop)
-left_stop u v None go ts before lists k t stop left is e = tt
-left_stop u v (Some i) go ts before lists k t (ends.Broken f) left is e = left ∙ left_at (go i) ts lists k t is ∙ ap (λ r. and_then r (λ more. passed_by (go i) (drop (suc k) ts) more)) e
-left_stop u v (Some i) go ts before lists k t ends.Fault left is e = tt
-left_stop u v (Some i) go ts before lists k t ends.NoMemory left is e = tt
-
-pub left_go : {U : Type 0} (u : U → Lists) (image : Option Image) (go : Image → ℕ → Lists → Result Lists Violation) (ts : List ℕ) (before lists : Lists) (k next t : ℕ) (x : U) → suc k ≡ next →
-    ListsLeft image go ts before lists k → slice_get ts k ≡ Some t → WalksAs u (λ i. go i t lists) image (Ok x) → ListsLeft image go ts before (u x) next
-left_go u None go ts before lists k next t x on left is e = tt
-left_go u (Some i) go ts before lists k next t x on left is e =
-    rw (← on) (left ∙ left_at (go i) ts lists k t is ∙ ap (λ r. and_then r (λ more. passed_by (go i) (drop (suc k) ts) more)) e)
-
-pub left_end : {V : Type 0} (v : V → Lists) (image : Option Image) (go : Image → ℕ → Lists → Result Lists Violation) (ts : List ℕ) (before : Lists) (k : ℕ) (x : V) →
-    ListsLeft image go ts before (v x) k → length ts ≤ k → WalksAs v (λ i. passed_by (go i) ts before) image (Ok x)
-left_end v None go ts before k x left all = tt
-left_end v (Some i) go ts before k x left all = left ∙ ap (λ xs. passed_by (go i) xs (v x)) (drop_of_length-le ts all) ∙ left_none (go i) (v x)
 
 -- the leaders whose threads are gathered, one by one
 abbrev added : List ℕ → Came (List ℕ) → Came (List ℕ)

@@ -24,21 +24,9 @@ use Rattle.kc_list.specs.Laws.{RingsAreWalked}
 use Rattle.kc_laws.specs.Lists.{first_of, some_word}
 use Rattle.kc_view.specs.declared.tasks.ThreadGroup.{ThreadGroup}
 use Rattle.kc_view.specs.FiniteTasks.{AreGroups, AreOn, IsGroup, IsStack, IsThread, NoTasks, Tasks}
+use Rattle.kc_chains.specs.Passing.{passed, passing}
 use Rattle.kc_task.specs.Laws.{HeadIsRead, TasksAreWalked}
 use Rattle.kc_view.specs.TaskLists.{all_pass, among_checked, children_checked, end_checked, gathered, group_of, is_among, leader_checked, shared_checked, stack_checked, stack_end, task_list, task_of, tasks_on, tgid_checked, thread_checked, thread_head, threads_checked}
-
--- each of some tasks
-passed : (go : ℕ → Result ⊤ Violation) (P : ℕ → Type 0) (ts : List ℕ) → ((t : ℕ) → go t ≡ Ok tt → P t) → all_pass go ts ≡ Ok tt → AllByRecursion P ts
-unfolding all_pass
-passed go P [] each e = tt
-passed go P (t ∷ ts) each e =
-    let s = ok_after (go t) (λ _. all_pass go ts) tt e in
-    (each t s.1, passed go P ts each s.2)
-
-passing : (go : ℕ → Result ⊤ Violation) (P : ℕ → Type 0) (ts : List ℕ) → ((t : ℕ) → P t → go t ≡ Ok tt) → AllByRecursion P ts → all_pass go ts ≡ Ok tt
-unfolding all_pass
-passing go P [] each a = refl
-passing go P (t ∷ ts) each a = then_is (go t) (λ _. all_pass go ts) tt tt (each t a.0) (passing go P ts each a.1)
 
 -- the tasks on a ring
 on_ring : RingsAreWalked → (image : Image) (asked : Asked) (shape : TaskShape) (head offset : ℕ) (tasks : List ℕ) → tasks_on image asked shape head offset ≡ Ok tasks → AreOn image shape head offset tasks

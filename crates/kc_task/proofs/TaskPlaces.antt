@@ -15,6 +15,7 @@ use Rattle.kc_found.specs.Rings.{ring_walk}
 use Rattle.kc_found.specs.Violations.{Violation, breaks}
 use Rattle.kc_list.specs.Laws.{RingPlacesStand}
 use Rattle.kc_view.specs.declared.tasks.ThreadGroup.{ThreadGroup}
+use Rattle.kc_chains.specs.Passing.{all_show}
 use Rattle.kc_task.specs.Laws.{TaskPlacesStand}
 use Rattle.kc_view.specs.TaskLists.{all_pass, among_checked, children_checked, end_checked, gathered, group_of, is_among, leader_checked, shared_checked, stack_checked, stack_end, task_list, task_of, tasks_on, tgid_checked, thread_checked, thread_head}
 
@@ -27,11 +28,6 @@ record Told : Type 0 where
 either : {A : Type 0} (image : Image) (b : Bool) (r q : Result A Violation) → Shows image r → Shows image q → Shows image (if b then r else q)
 either image true r q here there = here
 either image false r q here there = there
-
-all_show : (image : Image) (go : ℕ → Result ⊤ Violation) (ts : List ℕ) → ((t : ℕ) → Shows image (go t)) → Shows image (all_pass go ts)
-unfolding all_pass
-all_show image go [] each = tt
-all_show image go (t ∷ ts) each = then_shows image (go t) (λ _. all_pass go ts) (each t) (λ x is. all_show image go ts each)
 
 gathered_shows : (image : Image) (go : ℕ → Result (List ℕ) Violation) (ls : List ℕ) → ((l : ℕ) → Shows image (go l)) → Shows image (gathered go ls)
 unfolding gathered

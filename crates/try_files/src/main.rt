@@ -1,5 +1,5 @@
 //! Tries the cases of the readers of files and of texts that stand in `data/`, a file each subject: what is read, or why not. The head of a
-//! file says what its cases give, of plans the head of `plans.rt`. In a text that a case gives, a `\` begins a byte that is written otherwise,
+//! file says what its cases give, of plans the heads of `plans.rt` and `pid_plans.rt`. In a text that a case gives, a `\` begins a byte that is written otherwise,
 //! and at the end of a line it says that the line isn't ended.
 #![tactic(auto)]
 
@@ -7,6 +7,7 @@ mod bytes;
 mod checks;
 mod cores;
 mod layouts;
+mod pid_plans;
 mod plan_text;
 mod plans;
 mod reports;
@@ -28,6 +29,7 @@ enum Reader {
     Symbols,
     Checks,
     Plans,
+    PidPlans,
     Reports,
     ReportCuts,
 }
@@ -43,6 +45,7 @@ impl Subject for Reader {
             Reader::Symbols => symbols::map_answer(alloc, case),
             Reader::Checks => checks::check_answer(alloc, case),
             Reader::Plans => plans::plan_answer(alloc, case),
+            Reader::PidPlans => pid_plans::pid_plan_answer(alloc, case),
             Reader::Reports => reports::report_answer(alloc, case),
             Reader::ReportCuts => reports::report_cuts_answer(alloc, case),
         }
@@ -50,7 +53,7 @@ impl Subject for Reader {
 }
 
 // The files of cases.
-const FILES: [(&str, Reader); 15] = [
+const FILES: [(&str, Reader); 16] = [
     ("cores", Reader::Cores),
     ("notes", Reader::Notes),
     ("note_values", Reader::NoteValues),
@@ -64,6 +67,7 @@ const FILES: [(&str, Reader); 15] = [
     ("plans", Reader::Plans),
     ("plan_slabs", Reader::Plans),
     ("plan_checks", Reader::Plans),
+    ("plan_pids", Reader::PidPlans),
     ("reports", Reader::Reports),
     ("report_cuts", Reader::ReportCuts),
 ];

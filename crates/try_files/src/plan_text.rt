@@ -1,7 +1,7 @@
 // Plans as texts.
 use kc_layout::{Field, Located};
 use kc_plan::{Audit, Check, Kind, Plan, Start};
-use kc_view::{Base, SlubShape, TaskShape};
+use kc_view::{Base, PidShape, SlubShape, TaskShape};
 use kc_word::Tail;
 use std::alloc::{AllocError, Global};
 
@@ -119,6 +119,18 @@ fn push_tasks(text: &mut String, shape: &TaskShape) -> Result<(), AllocError> {
     )
 }
 
+// Adds process ids: the offset of the xarray and the xarray, the number, the head of tasks, the words of chains, and of a
+// task the node and the address of its process id.
+fn push_pids(text: &mut String, shape: &PidShape) -> Result<(), AllocError> {
+    let chain = &shape.chain;
+    write!(text, " pids {} {:?} nr", shape.idr_rt, shape.xa)?;
+    push_field(text, &shape.nr)?;
+    write!(text, " tasks {} chain", shape.tasks)?;
+    write!(text, " {} {} {}", chain.first, chain.next, chain.pprev)?;
+    write!(text, " links {} thread_pid", shape.links)?;
+    push_field(text, &shape.thread_pid)
+}
+
 // Adds the fields of a check.
 fn push_check(text: &mut String, check: &Check) -> Result<(), AllocError> {
     text.push_str(" check")?;
@@ -140,6 +152,7 @@ fn push_kind(text: &mut String, kind: &Kind) -> Result<(), AllocError> {
         Kind::Xarray(shape) => write!(text, " xarray {shape:?}"),
         Kind::Slub(shape) => push_slub(text, shape),
         Kind::Tasks(shape) => push_tasks(text, shape),
+        Kind::Pids(shape) => push_pids(text, shape),
     }
 }
 

@@ -64,7 +64,8 @@ fn types_with(alloc: Global, words: &str) -> Result<Vec<u8>, AllocError> {
     Ok(types)
 }
 
-fn fault_text(alloc: Global, fault: &PlanFault) -> Result<String, AllocError> {
+/// The rule of a fault, its audit and its key.
+pub fn fault_text(alloc: Global, fault: &PlanFault) -> Result<String, AllocError> {
     let mut text = format!(in alloc; "{:?}", fault.rule)?;
     if let Some(audit) = fault.audit {
         write!(&mut text, " {audit}")?;

@@ -161,12 +161,13 @@ fn cert_text(alloc: Global, lines: &str) -> Result<Vec<u8>, AllocError> {
 }
 
 impl CaseFiles {
-    /// The files that the lines of a case tell: those of so many made items, or else the usual ones with what is changed of them.
+    /// The files that the lines of a case tell: those of so many made items, with a certificate, or else the usual ones with what is
+    /// changed of them.
     /// `without` a name, that file isn't there.
     pub fn read(alloc: Global, lines: &str, texts: &Texts) -> Result<CaseFiles, AllocError> {
         for line in lines.lines() {
             if let Some(count) = line.strip_prefix("made ") {
-                return CaseFiles::made(alloc, count_of(count));
+                return CaseFiles::made(alloc, count_of(count), lines);
             }
         }
         let mut missing = Vec::new(alloc);
@@ -186,8 +187,8 @@ impl CaseFiles {
         })
     }
 
-    // The files of so many made items.
-    fn made(alloc: Global, count: u32) -> Result<CaseFiles, AllocError>
+    // The files of so many made items, and the certificate of the lines.
+    fn made(alloc: Global, count: u32, lines: &str) -> Result<CaseFiles, AllocError>
         requires some { 1 ≤ count }
         requires few { count ≤ 100000 }
     {
@@ -200,7 +201,7 @@ impl CaseFiles {
             map: Vec::from_slice(alloc, files.map.as_slice())?,
             plan: Vec::from_slice(alloc, files.plan.as_slice())?,
             split: Vec::new(alloc),
-            cert: Vec::new(alloc),
+            cert: cert_text(alloc, lines)?,
             missing: Vec::new(alloc),
         })
     }

@@ -6,7 +6,7 @@ use crate::walk::Walks;
 use anyhow::{Result, bail};
 use kc_btf::Btf;
 use kc_cases::Case;
-use kc_fixture::{MAP, btf_file};
+use kc_fixture::{MAP, btf_with_pids};
 use kc_found::{Counts, Found, ListSpace, Origin, Verdict};
 use kc_notes::Info;
 use kc_plan::{Plan, PlanStop, read_plan};
@@ -26,7 +26,7 @@ impl Walks for Audits {
         case: &Case<'_>,
         steps: &mut Steps<L>,
     ) -> Result<String> {
-        let btf = Btf::read(alloc, btf_file(alloc)?)?;
+        let btf = Btf::read(alloc, btf_with_pids(alloc)?)?;
         let plan = plan_of(alloc, case, &btf)?;
         let mut space = memory_of(alloc, case)?;
         match run(alloc, &plan, &btf, &mut space, steps) {
@@ -48,7 +48,8 @@ pub fn plan_of(alloc: Global, case: &Case<'_>, btf: &Btf) -> Result<Plan>
         .file
         .section(format!(in alloc; "plan {name}")?.as_str())?;
     let text = format!(in alloc; "{plan}\n{more}")?;
-    let symbols = Symbols::read(alloc, MAP.as_bytes())?;
+    let map = format!(in alloc; "{MAP}ffffffff80014000 D my_idr\n")?;
+    let symbols = Symbols::read(alloc, map.as_bytes())?;
     match read_plan(alloc, text.as_bytes(), btf, &symbols, &INFO) {
         Ok(plan) => Ok(plan),
         Err(PlanStop::Fault(_)) => bail!("refused"),

@@ -1,7 +1,7 @@
 use Rattle.std.proofs.Common.{◌≡◌, List, refl, rules, Err}
 use Rattle.kc_outside.specs.declared.store.Slot.TheVariants.{Dump, Btf, Map, Plan, Report}
 use Rattle.kc_outside.specs.Files.{content}
-use Rattle.kc_cert.specs.declared.certificate.CertStep.{CertStep}
+use Rattle.kc_cert_text.specs.declared.certificate.CertStep.{CertStep}
 use Rattle.kc_app.specs.declared.held.Held.{Held}
 use Rattle.kc_ends.specs.declared.answer.Answer.{Answer}
 use Rattle.kc_app.specs.Check.{audited}

@@ -1,4 +1,4 @@
-use Rattle.kc_chains.proofs.Giving.{given_free, given_rings}
+use Rattle.kc_chains.proofs.Giving.{given_free, given_hashes, given_rings}
 use Rattle.kc_chains.proofs.laws.know_given.Goals as goal
 
 pub returns-clause-rings : goal.returns-clause-rings
@@ -6,3 +6,6 @@ returns-clause-rings c = given_rings
 
 pub returns-clause-free : goal.returns-clause-free
 returns-clause-free c = given_free
+
+pub returns-clause-hashes : goal.returns-clause-hashes
+returns-clause-hashes c = given_hashes

@@ -1,3 +1,4 @@
+use Rattle.kc_entries.proofs.Meeting.{items_are_walked}
 use Rattle.kc_entries.proofs.Pointing.{pointers_few}
 use Rattle.kc_entries.proofs.Single.{xarrays_once}
 use Rattle.kc_entries.proofs.Whole.{only_walks, only_xarrays, walks_pass, xarrays_pass}
@@ -20,3 +21,6 @@ returns-clause-few c = pointers_few
 
 pub returns-clause-one_xarray : goal.returns-clause-one_xarray
 returns-clause-one_xarray c = xarrays_once
+
+pub returns-clause-items : goal.returns-clause-items
+returns-clause-items c = items_are_walked c.know_nodes.ensures.nodes c.know_xarrays.ensures.walked (only_xarrays c.know_nodes.ensures.nodes c.know_nodes.ensures.entries c.know_nodes.ensures.heads)

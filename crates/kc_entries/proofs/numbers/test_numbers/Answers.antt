@@ -1,6 +1,7 @@
 use Rattle.std.proofs.Common.{refl, rules, arith, sym, ◌∙◌}
 use Rattle.std.proofs.lemmas.List.{nil_from_length}
 use Rattle.kc_memory.specs.Stays.{stays_on}
+use Rattle.kc_entries.proofs.Gathering.{Whole, gathers_from, gathers_on, gathers_out, memory_tells}
 use Rattle.kc_entries.proofs.Lowering.{sound_pop}
 use Rattle.kc_entries.proofs.Tracing.{Tested, paces_from, paces_on, paces_out, paces_short, paces_stop, runs_out, strays}
 use Rattle.kc_entries.proofs.numbers.test_numbers.Goals as goal
@@ -12,6 +13,7 @@ loop-i-init g c = (
   refl,
   omega arith,
   c.requires,
+  gathers_from (g.S.Space.image c.args.space.now) c.args.shape.now c.args.asked.now c.args.pending.now.items c.args.numbers.now c.new-items.result c.new-items.ensures,
 )
 
 pub returns-in-None-clause-test : goal.returns-in-None-clause-test
@@ -29,27 +31,32 @@ pub pass_spot-requires-clause-pending : goal.pass_spot-requires-clause-pending
 pass_spot-requires-clause-pending g c = (sound_pop c.args.shape.now.chunk c.loop-i.pending.items c.pop.new.self.items c.in-Some.spot c.in-Some.ensures.items c.loop-i.invariant.4).0
 
 pub returns-in-Err-clause-test : goal.returns-in-Err-clause-test
-returns-in-Err-clause-test g c =
-    paces_stop _ _ (g.S.Space.image c.args.space.now) c.args.shape.now c.args.asked.now (Tested c.args.shape.now c.args.asked.now c.args.claims.now c.args.pending.now.items c.args.numbers.now) c.loop-i.claims c.pass_spot.new.claims c.loop-i.pending.items c.pop.new.self.items c.pass_spot.new.pending.items c.in-Some.spot c.args.numbers.now c.loop-i.i c.get-number.result.now c.in-Err.halt
-    c.get-number.ensures c.in-Some.ensures.items (search rules) (rw c.loop-i.invariant.1.same_image at c.in-Err.ensures.passes) c.loop-i.invariant.0
+returns-in-Err-clause-test g c = memory_tells _ _ (g.S.Space.image c.args.space.now) c.in-Err.halt c.in-Err.ensures.memory
+
+pub returns-in-Err-pass_spot-clause-test : goal.returns-in-Err-pass_spot-clause-test
+returns-in-Err-pass_spot-clause-test g c =
+    paces_stop _ _ (g.S.Space.image c.args.space.now) c.args.shape.now c.args.asked.now (Tested c.args.shape.now c.args.asked.now c.args.claims.now c.args.pending.now.items c.args.numbers.now) c.loop-i.claims c.pass_spot.new.claims c.loop-i.pending.items c.pop.new.self.items c.pass_spot.new.pending.items c.in-Some.spot c.args.numbers.now c.loop-i.i c.get-number.result.now c.in-Err-pass_spot.halt
+    c.get-number.ensures c.in-Some.ensures.items (search rules) (rw c.loop-i.invariant.1.same_image at c.in-Err-pass_spot.ensures.passes) c.loop-i.invariant.0
 
 pub loop-i-preserved : goal.loop-i-preserved
 loop-i-preserved g c =
-    let steps = c.in-Ok.ensures.steps in
+    let steps = c.in-Ok-pass_spot.ensures.steps in
     let before = c.loop-i.invariant.3 in (
-      paces_on (g.S.Space.image c.args.space.now) c.args.shape.now c.args.asked.now (Tested c.args.shape.now c.args.asked.now c.args.claims.now c.args.pending.now.items c.args.numbers.now) c.loop-i.claims c.pass_spot.new.claims c.loop-i.pending.items c.pop.new.self.items c.pass_spot.new.pending.items c.in-Some.spot c.args.numbers.now c.loop-i.i c.get-number.result.now c.in-Ok.field-0
-          c.get-number.ensures c.in-Some.ensures.items (search rules) (rw c.loop-i.invariant.1.same_image at c.in-Ok.ensures.passes) c.loop-i.invariant.0,
-      stays_on g.S.Space.image g.S.Space.files g.S.Space.through g.S.Space.most c.args.space.now c.loop-i.space c.pass_spot.new.space c.loop-i.invariant.1 c.in-Ok.ensures.stays,
-      c.in-Ok.ensures.cause ∙ c.loop-i.invariant.2,
+      paces_on (g.S.Space.image c.args.space.now) c.args.shape.now c.args.asked.now (Tested c.args.shape.now c.args.asked.now c.args.claims.now c.args.pending.now.items c.args.numbers.now) c.loop-i.claims c.pass_spot.new.claims c.loop-i.pending.items c.pop.new.self.items c.pass_spot.new.pending.items c.in-Some.spot c.args.numbers.now c.loop-i.i c.get-number.result.now c.in-Ok-pass_spot.field-0
+          c.get-number.ensures c.in-Some.ensures.items (search rules) (rw c.loop-i.invariant.1.same_image at c.in-Ok-pass_spot.ensures.passes) c.loop-i.invariant.0,
+      stays_on g.S.Space.image g.S.Space.files g.S.Space.through g.S.Space.most c.args.space.now c.loop-i.space c.pass_spot.new.space c.loop-i.invariant.1 c.in-Ok-pass_spot.ensures.stays,
+      c.in-Ok-pass_spot.ensures.cause ∙ c.loop-i.invariant.2,
       omega (arith, steps, before),
-      c.in-Ok.ensures.sound,
+      c.in-Ok-pass_spot.ensures.sound,
+      gathers_on (g.S.Space.image c.args.space.now) c.args.shape.now c.args.asked.now (Whole c.args.shape.now c.args.asked.now c.args.pending.now.items c.args.numbers.now) c.loop-i.pending.items c.pop.new.self.items c.pass_spot.new.pending.items c.in-Some.spot c.args.numbers.now c.loop-i.i c.get-number.result.now c.loop-i.items c.push_pointer.new.items
+          c.get-number.ensures c.in-Some.ensures.items c.in-Ok.ensures.added (rw c.loop-i.invariant.1.same_image at c.in-Ok-pass_spot.ensures.next) c.loop-i.invariant.5,
     )
 
 pub returns-then-len-eq0-clause-test : goal.returns-then-len-eq0-clause-test
 returns-then-len-eq0-clause-test g c =
     let end = c.loop-i-test.false in
     let count = c.len-i-end.ensures in
-    paces_out (g.S.Space.image c.args.space.now) c.args.shape.now c.args.asked.now (Tested c.args.shape.now c.args.asked.now c.args.claims.now c.args.pending.now.items c.args.numbers.now) c.loop-i.claims c.loop-i.pending.items c.args.numbers.now c.loop-i.i tt (omega (arith, end, count)) (nil_from_length _ (sym c.loop-i.pending.ok.0 ∙ sym c.len.ensures ∙ c.if-len-eq0.true)) c.loop-i.invariant.0
+    paces_out (g.S.Space.image c.args.space.now) c.args.shape.now c.args.asked.now (Tested c.args.shape.now c.args.asked.now c.args.claims.now c.args.pending.now.items c.args.numbers.now) c.loop-i.claims c.loop-i.pending.items c.args.numbers.now c.loop-i.i c.loop-i.items (omega (arith, end, count)) (nil_from_length _ (sym c.loop-i.pending.ok.0 ∙ sym c.len.ensures ∙ c.if-len-eq0.true)) c.loop-i.invariant.0
 
 pub returns-else-len-eq0-clause-test : goal.returns-else-len-eq0-clause-test
 returns-else-len-eq0-clause-test g c =
@@ -58,3 +65,9 @@ returns-else-len-eq0-clause-test g c =
     let waiting = sym c.loop-i.pending.ok.0 ∙ sym c.len.ensures in
     let some = c.if-len-eq0.false in
     paces_short _ (g.S.Space.image c.args.space.now) c.args.shape.now c.args.asked.now (Tested c.args.shape.now c.args.asked.now c.args.claims.now c.args.pending.now.items c.args.numbers.now) c.loop-i.claims c.loop-i.pending.items c.args.numbers.now c.loop-i.i (omega (arith, end, count)) (omega (arith, waiting, some)) c.loop-i.invariant.0
+
+pub returns-then-len-eq0-clause-items : goal.returns-then-len-eq0-clause-items
+returns-then-len-eq0-clause-items g c =
+    let end = c.loop-i-test.false in
+    let count = c.len-i-end.ensures in
+    gathers_out (g.S.Space.image c.args.space.now) c.args.shape.now c.args.asked.now (Whole c.args.shape.now c.args.asked.now c.args.pending.now.items c.args.numbers.now) c.loop-i.pending.items c.args.numbers.now c.loop-i.i c.loop-i.items (omega (arith, end, count)) c.loop-i.invariant.5

@@ -2,6 +2,7 @@ use Rattle.std.proofs.Common.{◌≡◌, ◌≤◌, ◌+◌, ◌*◌, drop}
 use Rattle.std.specs.List.{AllByRecursion}
 use Rattle.kc_memory.specs.Stays.{SpaceStays}
 use Rattle.kc_entries.specs.Falling.{IsSound}
+use Rattle.kc_entries.proofs.Gathering.{Gathers, Whole}
 use Rattle.kc_entries.proofs.Tracing.{Paced, Tested}
 use Rattle.kc_entries.proofs.numbers.test_numbers.Given as goal
 
@@ -12,3 +13,4 @@ invariant-loop-i g l =
     × (g.S.Space.faults l.space ≡ g.S.Space.faults l.fn.space)
     × (l.steps ≤ l.fn.steps + 420 * l.i)
     × AllByRecursion (IsSound l.shape.chunk) l.pending.items
+    × Gathers (g.S.Space.image l.fn.space) l.shape l.asked (Whole l.shape l.asked l.fn.pending.items l.numbers) l.pending.items (drop l.i l.numbers) l.items

@@ -1,4 +1,5 @@
 use Rattle.std.proofs.Common.{◌≡◌, ◌++◌, ◌∷◌, []}
+use Rattle.kc_entries.proofs.Gathering.{head_gathers}
 use Rattle.kc_entries.proofs.Lowering.{head_sound, on_ok}
 use Rattle.kc_entries.proofs.Tracing.{claim_halts, head_answers, head_halts}
 use Rattle.kc_entries.proofs.steps.enter_head.Goals as goal
@@ -18,3 +19,7 @@ returns-clause-passes g c =
 pub returns-clause-sound : goal.returns-clause-sound
 returns-clause-sound g c =
     on_ok c.push_spot.result _ _ (λ (e : c.push_spot.new.pending.items ≡ c.args.pending.now.items ++ c.head_spot.result ∷ []). head_sound c.args.shape.now.chunk c.in-Ok.head c.args.pending.now.items c.push_spot.new.pending.items c.head_spot.result c.requires.empty c.head_spot.ensures e) c.push_spot.ensures.added
+
+pub returns-clause-items : goal.returns-clause-items
+returns-clause-items g c =
+    head_gathers (g.S.Space.image c.args.space.now) c.args.shape.now c.args.start c.args.pending.now.items c.push_spot.new.pending.items c.in-Ok.head c.head_spot.result c.push_spot.result c.requires.empty c.in-Ok.ensures.word c.head_spot.ensures c.push_spot.ensures.added

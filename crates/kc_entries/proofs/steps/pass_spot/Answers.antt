@@ -3,6 +3,7 @@ use Rattle.std.specs.Prelude.{reverse}
 use Rattle.kc_found.specs.declared.xarrays.XaNode.{XaNode}
 use Rattle.kc_entries.specs.Entries.{is_node, slot_spots}
 use Rattle.kc_entries.specs.Falling.{level}
+use Rattle.kc_entries.proofs.Gathering.{leaf_spots, node_spots}
 use Rattle.kc_entries.proofs.Lowering.{leaf_falls, level_some, node_falls, node_steps_few, on_ok, shift_falls, shift_low, sound_push}
 use Rattle.kc_entries.proofs.Tracing.{fault_halts, leaf_goes, node_answers, node_halts}
 use Rattle.kc_entries.proofs.steps.pass_spot.Goals as goal
@@ -60,3 +61,12 @@ returns-in-Err-clause-steps g c =
     let all = node_steps_few (g.S.Space.most c.args.space.now) c.args.shape.now.chunk most c.know_chunk.ensures.small in
     let steps = c.in-Err.ensures.steps in
     omega (arith, all, steps)
+
+pub returns-then-not-is_node-clause-next : goal.returns-then-not-is_node-clause-next
+returns-then-not-is_node-clause-next g c =
+    leaf_spots (g.S.Space.image c.args.space.now) c.args.shape.now c.args.asked.now c.args.spot.now c.args.pending.now.items (ap is_node (sym c.entry_of.ensures) ∙ sym c.is_node.ensures ∙ c.if-not-is_node.true)
+
+pub returns-clause-next : goal.returns-clause-next
+returns-clause-next g c =
+    node_spots (g.S.Space.image c.args.space.now) c.args.shape.now c.args.asked.now c.args.spot.now c.args.pending.now.items c.push_slots.new.pending.items c.in-Ok.node c.push_slots.result
+    (ap is_node (sym c.entry_of.ensures) ∙ sym c.is_node.ensures ∙ c.if-not-is_node.false) c.in-Ok.ensures.opened c.push_slots.ensures.added

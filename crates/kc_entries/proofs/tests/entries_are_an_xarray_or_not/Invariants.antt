@@ -5,3 +5,6 @@ ghosts-answer g a = record { name = a.blank.name; parts = a.blank.parts }
 
 abbrev pub ghosts-made : goal.ghosts-made
 ghosts-made g a = record { name = a.blank.name; parts = a.blank.parts }
+
+abbrev pub ghosts-items : goal.ghosts-items
+ghosts-items g a = record { name = a.blank.name; parts = a.blank.parts }

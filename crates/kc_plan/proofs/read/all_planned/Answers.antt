@@ -9,9 +9,10 @@ use Rattle.kc_plan.specs.declared.planned.Audit.{Audit}
 use Rattle.kc_plan.specs.Audits.{AuditText}
 use Rattle.kc_plan.specs.Inside.{IsInside}
 use Rattle.kc_plan.specs.Planned.{AuditAt, audit_seen, audits_seen}
-use Rattle.kc_plan.specs.Kernels.{Kernel}
+use Rattle.kc_kinds.specs.Kernels.{Kernel}
 use Rattle.kc_plan.specs.Plans.{all_planned, planned}
-use Rattle.kc_plan.specs.Views.{audit_text, kernel}
+use Rattle.kc_kinds.specs.Kernels.{kernel}
+use Rattle.kc_plan.specs.Views.{audit_text}
 use Rattle.kc_plan.proofs.read.all_planned.Goals as goal
 
 -- an audit more

@@ -2,7 +2,8 @@ use Rattle.std.proofs.Common.{◌≡◌, [], drop, length, map}
 use Rattle.kc_plan.specs.Inside.{AreInside}
 use Rattle.kc_plan.specs.Planned.{audits_seen}
 use Rattle.kc_plan.specs.Plans.{all_planned}
-use Rattle.kc_plan.specs.Views.{audit_text, kernel}
+use Rattle.kc_kinds.specs.Kernels.{kernel}
+use Rattle.kc_plan.specs.Views.{audit_text}
 use Rattle.kc_plan.proofs.read.all_planned.Given as goal
 
 -- the audits so far, and then those that are left

@@ -11,6 +11,7 @@ returns-clause-clean c = clean_where_standing (record {
   arrays = c.know_xarrays.ensures.walked;
   caches = c.know_caches.ensures.walked;
   tasks = c.know_tasks.ensures.walked;
+  pids = c.know_pids.ensures.walked;
 })
 
 pub returns-clause-roots : goal.returns-clause-roots
@@ -21,6 +22,7 @@ returns-clause-roots c = clean_roots_stand (record {
   arrays = c.know_xarrays.ensures.walked;
   caches = c.know_caches.ensures.walked;
   tasks = c.know_tasks.ensures.walked;
+  pids = c.know_pids.ensures.walked;
 })
 
 pub returns-clause-first : goal.returns-clause-first
@@ -36,6 +38,7 @@ returns-clause-places c = verdicts_stand (record {
   arrays = c.know_xarrays.ensures.places;
   caches = c.know_caches.ensures.places;
   tasks = c.know_tasks.ensures.places;
+  pids = c.know_pids.ensures.places;
 })
 
 pub returns-clause-root_places : goal.returns-clause-root_places
@@ -48,4 +51,5 @@ returns-clause-root_places c = root_verdicts_stand (record {
   arrays = c.know_xarrays.ensures.places;
   caches = c.know_caches.ensures.places;
   tasks = c.know_tasks.ensures.places;
+  pids = c.know_pids.ensures.places;
 })

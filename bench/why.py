@@ -1,0 +1,201 @@
+"""Compares what kwhy prints of addresses of a dump with a second reader's answer, and measures a run.
+
+    bench/why.py KWHY FOLDER [ADDRESS ..]
+
+FOLDER has the files vmcore, btf and System.map (or z.core, z.btf and z.map); the addresses are in hex, and else are made from the map and
+the page tables at random. The second reader is `second.py`'s core and page tables, and shares no code with the program.
+"""
+import mmap
+import os
+import random
+import sys
+
+import child
+from second import IMAGE, TOP, Broken, Core, Info, Memory, Refused, address, dec_of, symbols, vmcoreinfo
+
+RUNS = 5
+PATTERNS = (0x5A, 0x6B, 0xA5, 0xAA, 0xBB, 0xCC)
+POISON = (0xDEAD000000000100, 0xDEAD000000000122)
+FILLS = ("zero", "pattern", "text")
+
+
+def entries(memory, va):
+    """The level and the place of each entry that the walk reads, and the size of the page, if it maps one."""
+    top = 47 if memory.levels == 4 else 56
+    if va >> top not in (0, (1 << 64 - top) - 1):
+        return [], None
+    found, table = [], memory.table
+    for level in range(memory.levels, 0, -1):
+        shift = 12 + 9 * (level - 1)
+        place = memory.entry_place(table + 8 * (va >> shift & 511))
+        if place[3] is None:
+            return found, None
+        found.append((level, place))
+        plain = place[3] & ~memory.mask
+        if level == 1 or plain >> 7 & 1:
+            return found, 1 << shift
+        if not plain & 1:
+            return found, None
+        table = plain & 0x000FFFFFFFFFF000
+    return found, None
+
+
+def phys_base(core):
+    """The value of the first line of the key."""
+    head = b"NUMBER(phys_base)="
+    return next(dec_of(line[len(head) :]) for line in vmcoreinfo(core).split(b"\n") if line.startswith(head))
+
+
+def origin_text(origin):
+    return origin if origin == "tail" else f"{origin:016x}"
+
+
+def meaning(va, value):
+    """What a word says by itself."""
+    data = value.to_bytes(8, "little")
+    if value == 0:
+        return "zero"
+    if value == va:
+        return "self"
+    if value in POISON:
+        return "unlisted"
+    if len(set(data)) == 1 and data[0] in PATTERNS:
+        return "pattern"
+    if all(0x20 <= c <= 0x7E for c in data):
+        return "text"
+    return "small" if value < 1 << 16 else "number"
+
+
+class Why:
+    """A dump and its map."""
+
+    def __init__(self, core, map_):
+        self.core = Core(core)
+        info = Info(self.core)
+        self.memory = Memory(self.core, info.table, info.levels, info.mask)
+        rows = symbols(map_)
+        self.end = address(rows, "_end", info.kaslr) if b"_end" in rows else None
+        self.base, self.phys_base = self.direct_base(rows, info), phys_base(self.core)
+        # in the order of the file, so that the first of several at one address is found first
+        self.rows = []
+        for line in map_.splitlines():
+            listed = int(line[:16], 16)
+            if listed >= IMAGE:
+                self.rows.append(((listed + info.kaslr) % TOP, line[19:].decode()))
+
+    def direct_base(self, rows, info):
+        """Where the direct map begins: the kernel's variable, or else the fixed address."""
+        try:
+            variable = address(rows, "page_offset_base", info.kaslr)
+        except Refused:
+            return None
+        if variable is None:
+            return 0xFF11000000000000 if info.levels == 5 else 0xFFFF888000000000
+        place, _ = self.seen(variable)
+        return place[3] if place else None
+
+    def aliases(self, place):
+        """The lines of other addresses of the same word."""
+        others = [] if self.base is None else [(self.base + place[1]) % TOP]
+        for at in others + [(IMAGE + place[1] - self.phys_base) % TOP]:
+            other, _ = self.seen(at) if at % 8 == 0 else (None, None)
+            if at != place[0] and other and other[1] == place[1]:
+                yield f"alias {at:016x}"
+
+    def symbol(self, at):
+        if self.end is None or not IMAGE <= at < self.end:
+            return None
+        below = [row for row in self.rows if row[0] <= at]
+        if not below:
+            return None
+        most = max(row[0] for row in below)
+        name = next(row[1] for row in below if row[0] == most)
+        return f"{name}+{at - most}"
+
+    def seen(self, va):
+        """The place of a word, or the text of what stopped its reading."""
+        try:
+            return self.memory.place(va), None
+        except Broken as stop:
+            level, pa = stop.stop or (0, 0)
+            return None, f"stopped {stop.rule} {level} {pa:016x}"
+
+    def said(self, va, value):
+        kind = meaning(va, value)
+        if kind == "text":
+            return f'text "{value.to_bytes(8, "little").decode()}"'
+        if kind == "small":
+            return f"small {value}"
+        symbol = self.symbol(value) if kind == "number" else None
+        return f"image {symbol}" if symbol else kind
+
+    def near(self, va):
+        place, stopped = self.seen(va)
+        return f"near {va:016x} " + (f"{place[3]:016x} {self.said(va, place[3])}" if place else stopped)
+
+    def fills(self, va, value):
+        """Whether the word at an address goes on with what one says that has this value."""
+        place, _ = self.seen(va)
+        kind = meaning(va, place[3]) if place else None
+        return kind in FILLS and kind == value[0] and (kind != "pattern" or place[3] == value[1])
+
+    def span(self, va, value):
+        kind, low, high = (meaning(va, value), value), va, va
+        while low % 4096 and self.fills(low - 8, kind):
+            low -= 8
+        while (high + 8) % 4096 and self.fills(high + 8, kind):
+            high += 8
+        return f"span {low:016x} {high + 7:016x}"
+
+    def text(self, at):
+        lines, va = [f"address {at:016x}"], at - at % 8
+        if self.symbol(at):
+            lines.append(f"symbol {self.symbol(at)}")
+        found, size = entries(self.memory, va)
+        for level, (_, pa, origin, value) in found:
+            lines.append(f"entry {level} {pa:016x} {origin_text(origin)} {value:016x}")
+        place, stopped = self.seen(va)
+        if place or " M6 " in stopped:
+            lines.append(f"page {size}")
+        if not place:
+            return "\n".join(lines + [stopped, ""])
+        lines.append(f"place {va:016x} {place[1]:016x} {origin_text(place[2])} {place[3]:016x}")
+        lines += self.aliases(place)
+        lines += [self.near((va + 8 * k) % TOP) for k in range(-4, 5)]
+        if meaning(va, place[3]) in FILLS:
+            lines.append(self.span(va, place[3]))
+        return "\n".join(lines + [""])
+
+
+def made(why, count):
+    """Addresses of symbols, of words that are there, and others, by a fixed seed."""
+    rng, some = random.Random(43), []
+    for _ in range(count):
+        some.append(rng.choice(why.rows)[0] + rng.randrange(64))
+        offset, start, size = rng.choice(why.core.loads)
+        pa = start + rng.randrange(max(size, 1))
+        some += [0xFFFF888000000000 + pa, rng.randrange(TOP), 0xFFFFC90000000000 + rng.randrange(1 << 25), rng.randrange(1 << 32)]
+    return some
+
+
+def main():
+    kwhy, folder = os.path.abspath(sys.argv[1]), sys.argv[2]
+    whole = os.path.exists(f"{folder}/vmcore")
+    names = ["vmcore", "btf", "System.map"] if whole else ["z.core", "z.btf", "z.map"]
+    with open(f"{folder}/{names[0]}", "rb") as file:
+        core = mmap.mmap(file.fileno(), 0, access=mmap.ACCESS_READ)
+    why = Why(core, open(f"{folder}/{names[2]}", "rb").read())
+    given = [int(word, 16) for word in sys.argv[3:]] or made(why, 40)
+    for at in given:
+        status, out, err, _ = child.run([kwhy] + names + [f"{at:x}"], folder)
+        wanted = why.text(at)
+        assert (status, err) == (0, b""), (hex(at), status, err)
+        assert out.decode() == wanted, f"{at:016x}\n{out.decode()}wanted\n{wanted}"
+    print(len(given), "addresses")
+    command = [kwhy] + names + [f"{given[0]:x}"]
+    seconds = min(child.run(command, folder)[3] for _ in range(RUNS))
+    print(f"{seconds:.3f} s {child.most_memory(command, folder):.1f} MiB")
+
+
+if __name__ == "__main__":
+    main()

@@ -1,0 +1,2 @@
+mod CertLaws
+mod TimesLoops

@@ -1,8 +1,0 @@
-use Rattle.kc_entries.proofs.Tracing.{tells_halt, tells_through}
-use Rattle.kc_entries.proofs.numbers.test_xarray.Goals as goal
-
-pub returns-in-Err-clause-test : goal.returns-in-Err-clause-test
-returns-in-Err-clause-test g c = tells_halt _ _ (g.S.Space.image c.args.space.now) _ _ c.args.numbers.now c.in-Err.halt c.in-Err.ensures.passes
-
-pub returns-clause-test : goal.returns-clause-test
-returns-clause-test g c = tells_through (g.S.Space.image c.args.space.now) _ _ c.args.numbers.now c.in-Ok.field-0 c.test_numbers.result c.in-Ok.ensures.passes (rw c.in-Ok.ensures.stays.same_image at c.test_numbers.ensures.test)

@@ -1,0 +1,5 @@
+pub mod Checks
+mod Copying
+mod Holding
+mod Numbers
+mod Walks

@@ -1,0 +1,4 @@
+pub mod Fits
+pub mod Shapes
+pub mod Size
+pub mod Walked

@@ -1,0 +1,22 @@
+// What shapes have, for a reader to believe and a caller to learn.
+ghost use Rattle.kc_fits.specs.Walked.{ShapesAreLong, ShapesAreWalked};
+
+use kc_entries::know_entries;
+use kc_given::know_given_lists;
+use kc_list::know_lists;
+use kc_pid_lists::know_pid_lists;
+use kc_rb::know_trees;
+use kc_shape::know_shapes;
+
+/// Does nothing. Shapes are what is walked, and have no more nodes than numbers.
+pub fn know_walked()
+    ensures walked { ShapesAreWalked }
+    ensures long { ShapesAreLong }
+{
+    know_entries();
+    know_given_lists();
+    know_pid_lists();
+    know_shapes();
+    know_lists();
+    know_trees();
+}

@@ -1,0 +1,3 @@
+pub mod BitsLemmas
+pub mod PidLemmas
+pub mod SlabLemmas

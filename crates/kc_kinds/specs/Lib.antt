@@ -1,0 +1,13 @@
+pub mod Hlist
+pub mod Inside
+pub mod Kernels
+pub mod Kinds
+pub mod Members
+pub mod Pids
+pub mod Rbtree
+pub mod Ring
+pub mod Rows
+pub mod Slabs
+pub mod Structures
+pub mod Tasks
+pub mod Xarray

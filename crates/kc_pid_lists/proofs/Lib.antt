@@ -1,0 +1,3 @@
+mod ListLaws
+mod Making
+mod Telling

@@ -1,0 +1,8 @@
+//! Certificates against a dump: whether each step fits, one after the other. A shape is the certificate's, so what is read of the
+//! dump is paid by the certificate; nothing is searched.
+#![tactic(auto)]
+
+mod against;
+mod nest;
+
+pub use against::{CertAnswer, RecheckStop, recheck};

@@ -1,0 +1,5 @@
+pub mod NearestLemmas
+pub mod ReadLemmas
+pub mod EntryLemmas
+pub mod SightLaws
+pub mod NearestLaws

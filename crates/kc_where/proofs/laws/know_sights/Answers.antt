@@ -1,0 +1,13 @@
+use Rattle.kc_where.proofs.NearestLemmas.{symbols_are_rows}
+use Rattle.kc_where.proofs.NearestLaws.{symbols_are_nearest}
+use Rattle.kc_where.proofs.SightLaws.{sights_stand}
+use Rattle.kc_where.proofs.laws.know_sights.Goals as goal
+
+pub returns-clause-stand : goal.returns-clause-stand
+returns-clause-stand c = sights_stand c.know_places.ensures
+
+pub returns-clause-symbols : goal.returns-clause-symbols
+returns-clause-symbols c = symbols_are_rows
+
+pub returns-clause-nearest : goal.returns-clause-nearest
+returns-clause-nearest c = symbols_are_nearest

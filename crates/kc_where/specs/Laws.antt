@@ -1,0 +1,37 @@
+-- What is seen of an address is true of the dump.
+use Rattle.std.specs.Prelude.{◌≡◌, ℕ, ◌≤◌, ◌⊎◌, List, [], ◌∷◌, Option, Some, None, IfSome, Ok}
+use Rattle.std.specs.List.{AllByRecursion}
+use Rattle.kc_memory.specs.Image.{Image}
+use Rattle.kc_memory.specs.Places.{AllStandIn}
+use Rattle.kc_syms.specs.Rows.{RowText, rows}
+use Rattle.kc_where.specs.declared.aliases.Rules.{Rules}
+use Rattle.kc_where.specs.declared.symbol.ImageMap.{ImageMap}
+use Rattle.kc_where.specs.Nearest.{SymbolAt, below, image_end, image_symbol, nearest}
+use Rattle.kc_where.specs.Sights.{places, sight}
+use Rattle.kc_where.specs.Views.{image_symbols}
+
+-- each word stands in the dump, at the place where it is seen
+abbrev pub SightsStand : Type 0
+SightsStand = (image : Image) (rules : Rules) (address : ℕ) → AllStandIn image (places (sight image rules address))
+
+-- the symbols of a map that is read are those of its rows, by its bytes, how far KASLR moved the image, and where that ends
+abbrev pub SymbolsAreRows : Type 0
+SymbolsAreRows = (m : ImageMap) (listed : List RowText) (address : ℕ) → rows m.map.now ≡ Ok listed → m.end ≡ image_end m.kaslr listed → image_symbols m address ≡ image_symbol m.kaslr listed address
+
+-- a symbol is that of one of these rows, which isn't above an address
+abbrev pub IsOneOf : ℕ → ℕ → SymbolAt → List RowText → Type 0
+IsOneOf kaslr address s [] = ⊥
+IsOneOf kaslr address s (row ∷ rows) = (below kaslr address row.listed row.name ≡ Some s) ⊎ IsOneOf kaslr address s rows
+
+-- and no other one, which isn't above the address, is higher
+pub record IsNearest (kaslr address : ℕ) (s : SymbolAt) (rows : List RowText) : Type 0 where
+  pub one : IsOneOf kaslr address s rows
+  pub highest : AllByRecursion (λ (row : RowText). IfSome (below kaslr address row.listed row.name) (λ t. t.address ≤ s.address)) rows
+
+-- where there is none, each row's is above the address or not in the image
+abbrev pub NearestIs : ℕ → ℕ → List RowText → Option SymbolAt → Type 0
+NearestIs kaslr address rows None = AllByRecursion (λ (row : RowText). below kaslr address row.listed row.name ≡ None) rows
+NearestIs kaslr address rows (Some s) = IsNearest kaslr address s rows
+
+abbrev pub SymbolsAreNearest : Type 0
+SymbolsAreNearest = (kaslr address : ℕ) (rows : List RowText) → NearestIs kaslr address rows (nearest kaslr address rows)

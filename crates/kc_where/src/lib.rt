@@ -1,0 +1,26 @@
+//! What lies at an address of a dump: the entries of the page tables on the way to it, the words beside it and what they say,
+//! and the symbol that stands nearest.
+#![tactic(auto)]
+
+mod aliases;
+mod entries;
+mod laws;
+mod meaning;
+mod sight;
+mod span;
+mod stop;
+mod symbol;
+mod words;
+
+pub use aliases::{Aliases, Rules, read_aliases};
+pub use entries::{Entry, page_bytes, read_entries};
+pub use laws::know_sights;
+pub use meaning::{Meaning, meaning_of};
+pub use sight::{Sight, read_sight, word_start};
+pub use span::{Span, is_fill, span_of};
+pub use stop::LookStop;
+pub use symbol::{ImageMap, Symbol, nearest};
+pub use words::{Seen, read_words};
+
+#[cfg(test)]
+mod tests;

@@ -1,0 +1,24 @@
+use Rattle.std.proofs.Common.{List, ℕ, [], ap, ◌∙◌}
+use Rattle.std.specs.Result.{result_ok}
+use Rattle.kc_outside.specs.declared.store.Slot.TheVariants.{Dump}
+use Rattle.kc_outside.specs.Files.{content}
+use Rattle.kc_syms.specs.Symbols.{symbol}
+use Rattle.kc_input.specs.Paging.{by_info}
+use Rattle.kc_ends.specs.declared.answer.Answer.TheVariants as answer
+use Rattle.kc_ends.specs.declared.status.Status.TheVariants.{Done}
+use Rattle.kc_where.specs.declared.symbol.ImageMap.{ImageMap}
+use Rattle.kc_where.specs.Views.{image_symbols}
+use Rattle.kc_why.specs.Memory.{image_of}
+use Rattle.kc_why.proofs.WhyLemmas.{prints_why, rules_read, symbols_read}
+use Rattle.kc_why.proofs.files.answer.Goals as goal
+
+pub returns-clause-output : goal.returns-clause-output
+returns-clause-output g c =
+    let read = c.in_ok-symbols.ensures.made in
+    let m : ImageMap = record { map = c.args.map; kaslr = c.args.info.kaslr; end = c.ok.result } in
+    let end = c.ok.ensures.value ∙ ap result_ok c.address.ensures.exact in
+    prints_why (content (g.S.Store.files c.args.store.now) Dump (g.S.Store.opened c.args.store.now Dump)) (λ bytes. image_of bytes c.args.core.now.segments (by_info c.args.info))
+    c.args.address c.args.info c.args.map.now (image_symbols m) _ read.0 c.in_ok-sight.sight (answer.Done c.in_ok-why_text.field-0) read.1
+    (symbols_read c.know_sights.ensures.symbols m (symbol c.in_ok-symbols.symbols) read.0 read.1 read.2 end)
+    (rules_read c.args.info (symbol c.in_ok-symbols.symbols) read.0 c.address-2.result read.2 c.address-2.ensures.exact) c.in_ok-sight.ensures.sight
+    (ap (λ (o : List ℕ). record { out = o; err = []; status = Done }) c.in_ok-why_text.ensures)

@@ -1,0 +1,26 @@
+-- What the code's looks at memory are.
+use Rattle.std.specs.Prelude.{◌≡◌, ⊤, ℕ, Option, Some, None, Result, Ok, Err}
+use Rattle.kc_input.specs.declared.halt.Halt.{Halt}
+use Rattle.kc_input.specs.declared.halt.Halt.TheVariants.{Store, Memory}
+use Rattle.kc_memory.specs.Image.{Image}
+use Rattle.kc_where.specs.declared.aliases.Rules.{Rules}
+use Rattle.kc_where.specs.declared.sight.Sight.{Sight}
+use Rattle.kc_where.specs.declared.stop.LookStop.{LookStop}
+use Rattle.kc_where.specs.declared.stop.LookStop.TheVariants.{Fault, NoMemory}
+use Rattle.kc_where.specs.Sights.{sight}
+use Rattle.kc_where.specs.Views.{sight_view}
+
+-- a failure to read is one of the store
+abbrev pub halted : LookStop → Halt
+halted Fault = Store
+halted NoMemory = Memory
+
+-- short of a failure and of being out of memory, a sight is that of an address
+abbrev pub IsSight : {E : Type 0} → Image → Rules → ℕ → Result Sight E → Type 0
+IsSight image rules address (Ok s) = sight_view s ≡ sight image rules address
+IsSight image rules address (Err e) = ⊤
+
+-- where the memory is told
+abbrev pub SightsAs : {E : Type 0} → Option Image → Rules → ℕ → Result Sight E → Type 0
+SightsAs None rules address r = ⊤
+SightsAs (Some image) rules address r = IsSight image rules address r

@@ -1,0 +1,132 @@
+// The files of kwhy, and what is shown of an address.
+ghost use Rattle.std.specs.Prelude.{◌≡◌, ◌≤◌, ℕ, List, map, None, Some, option_map, IfOk};
+ghost use Rattle.std.specs.Option.{ForSome};
+ghost use Rattle.std.specs.String.{string_bytes};
+ghost use Rattle.kc_outside.specs.declared.store.Slot.{Slot};
+ghost use Rattle.kc_outside.specs.declared.store.Slot.TheVariants.{Dump, Map};
+ghost use Rattle.kc_outside.specs.Counts.{Rose};
+ghost use Rattle.kc_outside.specs.Files.{content};
+ghost use Rattle.kc_phys.specs.Stored.{AreInside};
+ghost use Rattle.kc_input.specs.Halts.{OnStore, UnlessStore};
+ghost use Rattle.kc_input.specs.Paging.{IsTable, by_info};
+ghost use Rattle.kc_input.specs.Slots.{RefusesIn};
+ghost use Rattle.kc_ends.specs.Answers.{OnNone, OnStoreIn, PrintsOf, PrintsOfBytes, Runs, StayBehind, UnlessStoreIn};
+ghost use Rattle.kc_ends.specs.Asked.{word_in};
+ghost use Rattle.kc_why.specs.Memory.{image_of};
+ghost use Rattle.kc_why.specs.Why.{question_view, shown_in, why_asked, why_asks, why_made, why_view, why_written};
+
+use crate::looking::look_at;
+use crate::text::why_text;
+use kc_elf::Core;
+use kc_ends::Answer;
+use kc_input::{Halt, read_dump, read_info, read_map, read_symbols, read_types};
+use kc_notes::Info;
+use kc_outside::Store;
+use kc_where::{ImageMap, Rules, know_sights};
+use kc_word::read_hex;
+use std::alloc::Global;
+
+/// What is asked: what lies at an address of a dump.
+#[derive(Clone, Copy)]
+pub struct Asks<'w> {
+    /// The name of the dump.
+    pub dump: &'w str,
+    /// The name of the file of types.
+    pub btf: &'w str,
+    /// The name of the map.
+    pub map: &'w str,
+    /// The virtual address.
+    pub address: u64,
+}
+
+// What the words ask.
+fn read(words: &[String]) -> Option<Asks<'_>>
+    ensures asked { option_map why_view result ≡ why_asks (map string_bytes words.now) }
+{
+    let [dump, btf, map, address] = words else {
+        return None;
+    };
+    Some(Asks {
+        dump: dump.as_str(),
+        btf: btf.as_str(),
+        map: map.as_str(),
+        address: read_hex(address.as_str().as_bytes())?,
+    })
+}
+
+/// Runs kwhy on the words behind its name: the first fault of the dump, the types or the map, else what is seen of the
+/// address. `None` where these aren't its words; the store isn't asked then.
+pub fn run<S: Store>(alloc: Global, store: &mut S, words: &[String]) -> Option<Result<Answer, Halt>>
+    requires { (slot : Slot) → ForSome (word_in (why_asks (map string_bytes words.now)) slot) (S.may store.old slot) }
+
+    ensures output { Runs why_written (why_asks (map string_bytes words.now)) (S.files store.old) result
+        (S.opened store.old) (S.opened store.new) }
+    ensures unasked { OnNone result (S.asked store.new ≡ S.asked store.old) }
+    ensures files { S.files store.new ≡ S.files store.old }
+    ensures later { S.faults store.old ≤ S.faults store.new }
+    ensures quiet { UnlessStoreIn result (S.faults store.new ≡ S.faults store.old) }
+    ensures cause { OnStoreIn result (Rose (S.faults store.old) (S.faults store.new)) }
+{
+    let asks = read(words)?;
+    Some(why(alloc, store, &asks))
+}
+
+// The answer to what is asked.
+fn why<S: Store>(alloc: Global, store: &mut S, asks: &Asks<'_>) -> Result<Answer, Halt>
+    requires dump { S.may store.old Dump asks.now.dump.now }
+    requires btf { S.may store.old Slot.Btf asks.now.btf.now }
+    requires map { S.may store.old Map asks.now.map.now }
+
+    ensures output { PrintsOf why_written
+        (λ files. why_made asks.now.address (files Dump asks.now.dump.now) (files Slot.Btf asks.now.btf.now)
+        (files Map asks.now.map.now)) (S.files store.old) result }
+    ensures unopened { StayBehind (why_asked (question_view asks.now)).named result (S.opened store.old)
+        (S.opened store.new) }
+    ensures files { S.files store.new ≡ S.files store.old }
+    ensures later { S.faults store.old ≤ S.faults store.new }
+    ensures quiet { UnlessStore result (S.faults store.new ≡ S.faults store.old) }
+    ensures cause { OnStore result (Rose (S.faults store.old) (S.faults store.new)) }
+{
+    let core = read_dump(alloc, store, asks.dump)?;
+    let info = read_info(&core)?;
+    let _types = read_types(alloc, store, asks.btf)?;
+    let map = read_map(alloc, store, asks.map)?;
+    answer(alloc, store, &core, info, &map, asks.address)
+}
+
+// The answer on an address of a dump that was read, by the bytes of a map.
+fn answer<S: Store>(
+    alloc: Global,
+    store: &mut S,
+    core: &Core,
+    info: Info,
+    map: &[u8],
+    address: u64,
+) -> Result<Answer, Halt>
+    requires table { IsTable info.table }
+    requires inside { AreInside (S.sizes store.old Dump) core.now.segments }
+
+    ensures output { PrintsOfBytes why_written
+        (λ bytes. shown_in (image_of bytes core.now.segments (by_info info)) address info map.now)
+        (content (S.files store.old) Dump (S.opened store.old Dump)) result }
+    ensures refused { RefusesIn Map result }
+    ensures files { S.files store.new ≡ S.files store.old }
+    ensures later { S.faults store.old ≤ S.faults store.new }
+    ensures quiet { UnlessStore result (S.faults store.new ≡ S.faults store.old) }
+    ensures cause { OnStore result (Rose (S.faults store.old) (S.faults store.new)) }
+{
+    let symbols = read_symbols(alloc, map)?;
+    let image = ImageMap {
+        map,
+        kaslr: info.kaslr,
+        end: symbols.address(b"_end", info.kaslr).ok(),
+    };
+    let rules = Rules {
+        direct: symbols.address(b"page_offset_base", info.kaslr),
+        phys_base: info.phys_base,
+        five: info.five,
+    };
+    let sight = look_at(alloc, store, core, info, &rules, address)?;
+    know_sights();
+    Ok(Answer::Done(why_text(alloc, &image, &sight)?))
+}

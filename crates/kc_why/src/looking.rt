@@ -1,0 +1,117 @@
+// One look at the memory of a dump.
+ghost use Rattle.std.specs.Prelude.{◌≡◌, ◌<◌, ◌≤◌, ◌%◌, ◌^◌, option_map};
+ghost use Rattle.kc_word.specs.declared.plain.Tail.TheVariants as Tail;
+ghost use Rattle.kc_outside.specs.declared.store.Slot.TheVariants.{Dump};
+ghost use Rattle.kc_outside.specs.Counts.{Rose};
+ghost use Rattle.kc_outside.specs.Files.{content};
+ghost use Rattle.kc_phys.specs.Stored.{AreInside};
+ghost use Rattle.kc_tlb.specs.Entries.{AreEmpty};
+ghost use Rattle.kc_input.specs.Halts.{NotRefused, OnStore, UnlessStore};
+ghost use Rattle.kc_input.specs.Paging.{IsTable, by_info};
+ghost use Rattle.kc_where.specs.Looks.{CountsLookFaults};
+ghost use Rattle.kc_why.specs.Looking.{SightsAs, halted};
+ghost use Rattle.kc_why.specs.Memory.{image_of};
+
+use kc_elf::Core;
+use kc_input::{Halt, paging_by};
+use kc_mem::Memory;
+use kc_notes::Info;
+use kc_outside::Store;
+use kc_phys::{Phys, Room};
+use kc_tlb::Tlb;
+use kc_where::{LookStop, Rules, Sight, read_entries, read_sight, word_start};
+use kc_word::{PageCfg, Steps, Tail};
+use std::alloc::Global;
+use std::marker::Brand;
+use std::sync::ledger::{Blank, Ledger};
+
+/// How many translations of pages are kept: a look is at three pages.
+const KEPT: usize = 8;
+
+// A failure to read the dump is one of the store.
+fn halted(stop: LookStop) -> Halt
+    ensures { result ≡ halted stop }
+{
+    match stop {
+        LookStop::Fault => Halt::Store,
+        LookStop::NoMemory => Halt::Memory,
+    }
+}
+
+/// What is seen of an address of the dump in slot Dump, whose segments and notes were read.
+///
+/// # Errors
+///
+/// A failed call of the store; no memory was left.
+pub fn look_at<S: Store>(
+    alloc: Global,
+    store: &mut S,
+    core: &Core,
+    info: Info,
+    rules: &Rules,
+    address: u64,
+) -> Result<Sight, Halt>
+    requires table { IsTable info.table }
+    requires inside { AreInside (S.sizes store.old Dump) core.now.segments }
+
+    ensures sight { SightsAs (option_map (λ bytes. image_of bytes core.now.segments (by_info info)) (content (S.files store.old) Dump (S.opened store.old Dump)))
+        rules.now address result }
+    ensures not_refused { NotRefused result }
+    ensures files { S.files store.new ≡ S.files store.old }
+    ensures later { S.faults store.old ≤ S.faults store.new }
+    ensures quiet { UnlessStore result (S.faults store.new ≡ S.faults store.old) }
+    ensures cause { OnStore result (Rose (S.faults store.old) (S.faults store.new)) }
+{
+    let room = Room::new(alloc, core.segments(), Tail::Absent)?;
+    let paging = paging_by(info);
+    let tlb = Tlb::new(alloc, paging, KEPT)?;
+    match look::<S, Brand>(
+        alloc,
+        store,
+        room,
+        tlb,
+        paging,
+        rules,
+        address,
+        Blank::new(1),
+    ) {
+        Ok(sight) => Ok(sight),
+        Err(stop) => Err(halted(stop)),
+    }
+}
+
+// The same over room for blocks and places for translations, with steps on a blank of the caller's.
+fn look<S: Store, L: Ledger>(
+    alloc: Global,
+    store: &mut S,
+    room: Room,
+    tlb: Tlb,
+    paging: PageCfg,
+    rules: &Rules,
+    address: u64,
+    blank: Blank,
+) -> Result<Sight, LookStop>
+    requires name { blank.name ≡ L.name }
+    requires parts { blank.parts ≡ L.parts }
+    requires some { 0 < L.parts }
+    requires paging { tlb.paging ≡ paging }
+    requires tail { room.tail ≡ Tail.Absent }
+    requires aligned { paging.table % 4096 ≡ 0 }
+    requires small { paging.table < 2 ^ 52 }
+    requires empty { AreEmpty tlb.places.items }
+    requires inside { AreInside (S.sizes store.old Dump) room.segments.items }
+
+    ensures sight { SightsAs (option_map (λ bytes. image_of bytes room.segments.items paging) (content (S.files store.old) Dump (S.opened store.old Dump)))
+        rules.now address result }
+    ensures files { S.files store.new ≡ S.files store.old }
+    ensures cause { CountsLookFaults result (S.faults store.old) (S.faults store.new) }
+{
+    let mut steps = Steps::<L>::new(blank);
+    let mut frames = Phys::over(store, room);
+    let entries = read_entries(alloc, &mut frames, &paging, word_start(address), &mut steps);
+    let mut memory = Memory::over(frames, tlb);
+    let sight = read_sight(alloc, &mut memory, address, rules, entries, &mut steps);
+    let frames = memory.into_frames();
+    let _store = frames.into_store();
+    sight
+}
