@@ -6,13 +6,12 @@ ghost use Rattle.kc_where.specs.Aliases.{alias_at, aliases, by_direct, by_image,
 ghost use Rattle.kc_where.specs.Looks.{CountsLookFaults, LooksAs};
 
 use crate::stop::LookStop;
+use crate::symbol::IMAGE_START;
 use crate::words::{Seen, read_word};
 use kc_memory::{Space, VWord};
 use kc_syms::SymFault;
 use kc_word::Steps;
 use std::sync::ledger::Ledger;
-
-const IMAGE_START: u64 = 0xffff_ffff_8000_0000;
 
 /// What the kernel's rules for addresses take from the dump's notes and the map.
 #[derive(Clone, Copy, Debug, PartialEq, Eq)]

@@ -1,6 +1,5 @@
 // The symbol that stands nearest below an address.
 ghost use Rattle.std.specs.Prelude.{◌≡◌, List, Ok, option_map};
-ghost use Rattle.kc_syms.specs.Addresses.{at_run};
 ghost use Rattle.kc_syms.specs.Rows.{RowText, lines, rows};
 ghost use Rattle.kc_where.specs.Nearest.{below, higher, nearest};
 ghost use Rattle.kc_where.specs.Views.{symbol_view};
@@ -10,7 +9,7 @@ use bstr::ByteSlice;
 use kc_word::read_hex;
 
 /// The kernel's image is linked to stand at this address and above.
-const IMAGE_START: u64 = 0xffff_ffff_8000_0000;
+pub(crate) const IMAGE_START: u64 = 0xffff_ffff_8000_0000;
 
 /// A symbol of a map.
 #[derive(Clone, Copy, Debug, PartialEq, Eq)]
@@ -21,22 +20,11 @@ pub struct Symbol<'m> {
     pub address: u64,
 }
 
-// Where a listed address is at run time.
-fn at_run(listed: u64, kaslr: u64) -> u64
-    ensures { result ≡ at_run kaslr listed }
-{
-    if listed >= IMAGE_START {
-        listed.wrapping_add(kaslr)
-    } else {
-        listed
-    }
-}
-
-// A symbol that is listed in the kernel's image, where it isn't above an address.
+// A symbol that is listed in the kernel's image, which KASLR moves, where it isn't above an address.
 fn below(listed: u64, name: &[u8], kaslr: u64, address: u64) -> Option<Symbol<'_>>
     ensures { option_map symbol_view result ≡ below kaslr address listed name.now }
 {
-    let at = at_run(listed, kaslr);
+    let at = listed.wrapping_add(kaslr);
     if listed >= IMAGE_START && at <= address {
         Some(Symbol { name, address: at })
     } else {
