@@ -1,5 +1,5 @@
 -- Fields that stand further on.
-use Rattle.std.proofs.Common.{◌≡◌, ◌<◌, ◌≤◌, ◌+◌, ◌*◌, ◌^◌, ℕ, Option, Some, option_map, ap, sym}
+use Rattle.std.proofs.Common.{◌≡◌, ◌<◌, ◌≤◌, ◌+◌, ◌*◌, ◌^◌, ℕ, Some, option_map, ap, sym}
 use Rattle.kc_word.specs.declared.bits.Bits.{Bits}
 use Rattle.kc_layout.specs.declared.place.Field.{Field}
 use Rattle.kc_kinds.specs.Pids.{moved}

@@ -1,6 +1,6 @@
 // The table of the kinds. A new kind has a variant here and in `Kind`, and a line in each function that matches on them:
 // its name, what it asks of the keys, what it needs of a kernel, and where its words stand.
-ghost use Rattle.std.specs.Prelude.{◌≡◌, ◌≤◌, length, IfSome};
+ghost use Rattle.std.specs.Prelude.{◌≡◌, length, IfSome};
 ghost use Rattle.kc_kinds.specs.Inside.{KindInside};
 ghost use Rattle.kc_kinds.specs.Kernels.{kernel};
 ghost use Rattle.kc_kinds.specs.Kinds.{sort_of, needs_of, keyed, row, shape};
@@ -43,22 +43,15 @@ pub enum Sort {
 pub fn sort_of(text: &str) -> Option<Sort>
     ensures { result ≡ sort_of text.now }
 {
-    if text == "ring" {
-        Some(Sort::Ring)
-    } else if text == "hlist" {
-        Some(Sort::Hlist)
-    } else if text == "rbtree" {
-        Some(Sort::Rbtree)
-    } else if text == "xarray" {
-        Some(Sort::Xarray)
-    } else if text == "slub" {
-        Some(Sort::Slub)
-    } else if text == "tasks" {
-        Some(Sort::Tasks)
-    } else if text == "pids" {
-        Some(Sort::Pids)
-    } else {
-        None
+    match text {
+        "ring" => Some(Sort::Ring),
+        "hlist" => Some(Sort::Hlist),
+        "rbtree" => Some(Sort::Rbtree),
+        "xarray" => Some(Sort::Xarray),
+        "slub" => Some(Sort::Slub),
+        "tasks" => Some(Sort::Tasks),
+        "pids" => Some(Sort::Pids),
+        _ => None,
     }
 }
 

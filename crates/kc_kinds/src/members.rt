@@ -1,6 +1,6 @@
 // What the kinds find in a kernel's types.
 ghost use Rattle.std.specs.Prelude.{◌≡◌, ◌≤◌, length, IfSome};
-ghost use Rattle.kc_kinds.specs.Members.{struct_named, array_in, byte_in, chunk_in, inner_in, is_struct, is_that, scalar_in, small_in, wide_in, word_in};
+ghost use Rattle.kc_kinds.specs.Members.{struct_named, array_in, byte_in, chunk_in, inner_in, is_struct, scalar_in, small_in, wide_in, word_in};
 ghost use Rattle.kc_found.specs.XaLayouts.{IsChunk};
 
 use crate::known::Known;

@@ -1,5 +1,5 @@
 -- The structures of a plan stand in a dump: each of them meets what its kind promises, all the way down.
-use Rattle.std.specs.Prelude.{◌≡◌, ℕ, suc, nat_eq, IsTrue, List, [], ◌∷◌, Result, Ok, Err, MatchBool, ⊤}
+use Rattle.std.specs.Prelude.{ℕ, suc, nat_eq, IsTrue, List, [], ◌∷◌, Result, Ok, Err, MatchBool, ⊤}
 use Rattle.std.specs.List.{AllByRecursion}
 use Rattle.kc_memory.specs.Image.{Image}
 use Rattle.kc_memory.specs.Stopped.{Stopped}
