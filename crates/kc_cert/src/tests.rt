@@ -1,6 +1,6 @@
 // Certificates that are read, written and cut short, one that is held against a few words, one that is made of them, and some that
 // are held against a long ring, whose reads are counted.
-ghost use Rattle.std.specs.Prelude.{◌≡◌, ◌<◌, length, None, []};
+ghost use Rattle.std.specs.Prelude.{◌≡◌, ◌<◌, length, IfSome, None, []};
 ghost use Rattle.std.proofs.Common.{lit≤};
 ghost use Rattle.kc_plan.specs.Inside.{AreInside};
 
@@ -96,6 +96,14 @@ const INFO: Info = Info {
     phys_base: 0,
 };
 
+// The plan of a text, over the types and symbols of the made dump.
+fn plan_of(alloc: Global, text: &str, btf: &Btf) -> Option<Plan>
+    ensures { IfSome result (λ plan. AreInside (length btf.now.records) plan.audits) }
+{
+    let symbols = Symbols::read(alloc, MAP.as_bytes()).ok()?;
+    read_plan(alloc, text.as_bytes(), btf, &symbols, &INFO).ok()
+}
+
 const TASK: &str = "step 0 start ffffffff8000b008 lists 1\nlist 1\nffff88800000d008\n";
 
 const THREADS: &str =
@@ -187,8 +195,7 @@ fn certified<L: Ledger>(
 fn a_certificate_is_made_of_a_clean_dump(rt: HostRuntime) -> Result<(), Fail> {
     let alloc = rt.alloc();
     let btf = Btf::read(alloc, btf_file(alloc)?)?;
-    let symbols = Symbols::read(alloc, MAP.as_bytes())?;
-    let Ok(plan) = read_plan(alloc, PLAN.as_bytes(), &btf, &symbols, &INFO) else {
+    let Some(plan) = plan_of(alloc, PLAN, &btf) else {
         assert!(rt; false, "refused");
         return Ok(());
     };
@@ -208,8 +215,7 @@ fn a_certificate_is_made_of_a_clean_dump(rt: HostRuntime) -> Result<(), Fail> {
 fn steps_fit_or_not(rt: HostRuntime) -> Result<(), Fail> {
     let alloc = rt.alloc();
     let btf = Btf::read(alloc, btf_file(alloc)?)?;
-    let symbols = Symbols::read(alloc, MAP.as_bytes())?;
-    let Ok(plan) = read_plan(alloc, PLAN.as_bytes(), &btf, &symbols, &INFO) else {
+    let Some(plan) = plan_of(alloc, PLAN, &btf) else {
         assert!(rt; false, "refused");
         return Ok(());
     };
@@ -350,8 +356,7 @@ const PAID: [(u64, u64, &str); 4] = [
 fn reads_are_paid_by_the_certificate(rt: HostRuntime) -> Result<(), Fail> {
     let alloc = rt.alloc();
     let btf = Btf::read(alloc, btf_file(alloc)?)?;
-    let symbols = Symbols::read(alloc, MAP.as_bytes())?;
-    let Ok(plan) = read_plan(alloc, RING_PLAN.as_bytes(), &btf, &symbols, &INFO) else {
+    let Some(plan) = plan_of(alloc, RING_PLAN, &btf) else {
         assert!(rt; false, "refused");
         return Ok(());
     };

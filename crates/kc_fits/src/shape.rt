@@ -99,14 +99,14 @@ pub fn nodes_in(alloc: Global, kind: &Kind, lists: &Lists) -> Result<Walked, NoM
 {
     match kind {
         Kind::Ring(_) | Kind::Hlist(_) => first_list(alloc, lists),
-        Kind::Rbtree(_) => {
-            let numbers = first_list(alloc, lists)?;
-            turned(alloc, &numbers)
-        }
-        Kind::Xarray(_) => {
-            let numbers = first_list(alloc, lists)?;
-            pointers_in(alloc, &numbers)
-        }
+        Kind::Rbtree(_) => match lists.as_slice() {
+            [numbers, ..] => turned(alloc, numbers),
+            [] => Ok(Walked::new(alloc)),
+        },
+        Kind::Xarray(_) => match lists.as_slice() {
+            [numbers, ..] => pointers_in(alloc, numbers),
+            [] => Ok(Walked::new(alloc)),
+        },
         Kind::Slub(shape) => cache_nodes(alloc, shape, lists),
         Kind::Tasks(shape) => task_nodes(alloc, shape, lists),
         Kind::Pids(_) => pid_nodes(alloc, lists),
