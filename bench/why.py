@@ -1,9 +1,11 @@
-"""Compares what kwhy prints of addresses of a dump with a second reader's answer, and measures a run.
+"""Compares what kwhy prints of addresses of a dump, and of the words that hold them, with a second reader's answers, and measures a run of
+each form.
 
     bench/why.py KWHY FOLDER [ADDRESS ..]
 
 FOLDER has the files vmcore, btf and System.map (or z.core, z.btf and z.map); the addresses are in hex, and else are made from the map and
-the page tables at random. The second reader is `second.py`'s core and page tables, and shares no code with the program.
+the page tables at random, and of words of the dump. The second reader is `second.py`'s core and page tables and a search of the file for
+eight bytes, and shares no code with the program.
 """
 import mmap
 import os
@@ -74,7 +76,7 @@ class Why:
         info = Info(self.core)
         self.memory = Memory(self.core, info.table, info.levels, info.mask)
         rows = symbols(map_)
-        self.end = address(rows, "_end", info.kaslr) if b"_end" in rows else None
+        self.end = self.image_end(rows, info)
         self.base, self.phys_base = self.direct_base(rows, info), phys_base(self.core)
         # in the order of the file, so that the first of several at one address is found first
         self.rows = []
@@ -82,6 +84,13 @@ class Why:
             listed = int(line[:16], 16)
             if listed >= IMAGE:
                 self.rows.append(((listed + info.kaslr) % TOP, line[19:].decode()))
+
+    def image_end(self, rows, info):
+        """Where the kernel's image ends, if the map's rows say one address."""
+        try:
+            return address(rows, "_end", info.kaslr) if b"_end" in rows else None
+        except Refused:
+            return None
 
     def direct_base(self, rows, info):
         """Where the direct map begins: the kernel's variable, or else the fixed address."""
@@ -166,6 +175,18 @@ class Why:
             lines.append(self.span(va, place[3]))
         return "\n".join(lines + [""])
 
+    def refs(self, value):
+        """The text of the words that hold a value, one segment after the other."""
+        wanted, data, lines = value.to_bytes(8, "little"), self.core.data, []
+        for offset, start, size in self.core.loads:
+            at = data.find(wanted, offset, offset + size)
+            while at >= 0:
+                pa = start + at - offset
+                if pa % 8 == 0:
+                    lines.append(f"place - {pa:016x} {at:016x} {value:016x}\n")
+                at = data.find(wanted, at + 1, offset + size)
+        return "".join(lines) + f"words {len(lines)}\n"
+
 
 def made(why, count):
     """Addresses of symbols, of words that are there, and others, by a fixed seed."""
@@ -178,6 +199,33 @@ def made(why, count):
     return some
 
 
+def made_values(why, count):
+    """Addresses of symbols, others, and twice as many that words of the dump hold, by a fixed seed."""
+    rng, some = random.Random(43), []
+    for _ in range(count):
+        some += [rng.choice(why.rows)[0], 0xFFFF888000000000 + 8 * rng.randrange(1 << 24)]
+    while len(some) < 4 * count:
+        offset, _, size = rng.choice(why.core.loads)
+        at = offset + 8 * rng.randrange(max(size // 8, 1))
+        value = int.from_bytes(why.core.data[at : at + 8], "little")
+        if value >> 47 == 0x1FFFF:
+            some.append(value)
+    return some
+
+
+def compare(command, words, folder, wanted):
+    """Whether a run of some words prints what is wanted."""
+    status, out, err, _ = child.run(command + words, folder)
+    assert (status, err) == (0, b""), (words, status, err)
+    assert out.decode() == wanted, f"{words}\n{out.decode()}wanted\n{wanted}"
+
+
+def measure(command, folder):
+    """The least time of a run, and its memory."""
+    seconds = min(child.run(command, folder)[3] for _ in range(RUNS))
+    return f"{seconds:.3f} s {child.most_memory(command, folder):.1f} MiB"
+
+
 def main():
     kwhy, folder = os.path.abspath(sys.argv[1]), sys.argv[2]
     whole = os.path.exists(f"{folder}/vmcore")
@@ -185,16 +233,14 @@ def main():
     with open(f"{folder}/{names[0]}", "rb") as file:
         core = mmap.mmap(file.fileno(), 0, access=mmap.ACCESS_READ)
     why = Why(core, open(f"{folder}/{names[2]}", "rb").read())
-    given = [int(word, 16) for word in sys.argv[3:]] or made(why, 40)
-    for at in given:
-        status, out, err, _ = child.run([kwhy] + names + [f"{at:x}"], folder)
-        wanted = why.text(at)
-        assert (status, err) == (0, b""), (hex(at), status, err)
-        assert out.decode() == wanted, f"{at:016x}\n{out.decode()}wanted\n{wanted}"
-    print(len(given), "addresses")
-    command = [kwhy] + names + [f"{given[0]:x}"]
-    seconds = min(child.run(command, folder)[3] for _ in range(RUNS))
-    print(f"{seconds:.3f} s {child.most_memory(command, folder):.1f} MiB")
+    given, command = [int(word, 16) for word in sys.argv[3:]], [kwhy] + names
+    addresses, values = given or made(why, 40), given or made_values(why, 8)
+    for at in addresses:
+        compare(command, [f"{at:x}"], folder, why.text(at))
+    for value in values:
+        compare(command, ["refs", f"{value:x}"], folder, why.refs(value))
+    print(len(addresses), "addresses", measure(command + [f"{addresses[0]:x}"], folder))
+    print(len(values), "values", measure(command + ["refs", f"{values[0]:x}"], folder))
 
 
 if __name__ == "__main__":

@@ -23,7 +23,7 @@ use Rattle.kc_where.specs.Sights.{Sight, sight}
 use Rattle.kc_where.specs.Views.{image_symbols, sight_view}
 use Rattle.kc_why.specs.Looking.{SightsAs}
 use Rattle.kc_why.specs.Text.{why_text}
-use Rattle.kc_why.specs.Why.{rules_by, shown_in, why_written}
+use Rattle.kc_why.specs.Why.{rules_by, seen_in, why_written}
 
 rows_checked : (r : Result (List RowText) ℕ) (listed : List RowText) → checked MapLine r ≡ Some (Ok listed) → r ≡ Ok listed
 rows_checked (Ok rows) listed e = cc
@@ -47,7 +47,7 @@ pub prints_why : (content : Option (List ℕ)) (memory : List ℕ → Image) (ad
     → rows_in map ≡ Some (Ok read) → ((a : ℕ) → symbols a ≡ image_symbol info.kaslr read a) → rules ≡ rules_by info read
     → SightsAs {E = Halt} (option_map memory content) rules address (Ok seen)
     → written_by answer ≡ record { out = why_text symbols (sight_view seen); err = []; status = Done }
-    → PrintsOfBytes why_written (λ bytes. shown_in (memory bytes) address info map) content (Ok answer)
+    → PrintsOfBytes why_written (λ bytes. seen_in (memory bytes) address info map) content (Ok answer)
 prints_why None memory address info map symbols rules read seen answer is same ruled sees written = tt
 prints_why (Some bytes) memory address info map symbols rules read seen answer is same ruled sees written =
     let one : symbols ≡ image_symbol info.kaslr read = λ i a. same a i in

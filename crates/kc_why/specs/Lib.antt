@@ -1,7 +1,9 @@
 pub mod Laws
 pub mod Looking
 pub mod Memory
+pub mod Searching
 pub mod Text
 pub mod Why
+pub mod WordText
 pub use Rattle.kc_ends.specs.Ends
 pub use Rattle.kc_ends.specs.Status

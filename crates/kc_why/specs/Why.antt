@@ -1,6 +1,8 @@
--- kwhy: what lies at an address of a dump.
-use Rattle.std.specs.Prelude.{ℕ, List, [], ◌∷◌, codes, Option, None, option_map}
+-- kwhy: what lies at an address of a dump, or which words of the dump hold it.
+use Rattle.std.specs.Prelude.{ℕ, if◌then◌else◌, List, [], ◌∷◌, codes, Option, None, option_map}
+use Rattle.std.specs.Str.{bytes_eq}
 use Rattle.kc_word.specs.Hex.{hex_number}
+use Rattle.kc_word.specs.declared.plain.Segment.{Segment}
 use Rattle.kc_outside.specs.declared.store.Slot.TheVariants as slot
 use Rattle.kc_outside.specs.Files.{Files as Told}
 use Rattle.kc_memory.specs.Image.{Image}
@@ -16,23 +18,42 @@ use Rattle.kc_ends.specs.declared.status.Status.TheVariants.{Done}
 use Rattle.kc_ends.specs.Asked.{Asked}
 use Rattle.kc_ends.specs.Output.{written_files}
 use Rattle.kc_ends.specs.Written.{Written}
+use Rattle.kc_refs.specs.Holding.{in_segments}
 use Rattle.kc_where.specs.declared.aliases.Rules.{Rules}
 use Rattle.kc_where.specs.Nearest.{SymbolAt, image_symbol}
 use Rattle.kc_where.specs.Sights.{sight}
 use Rattle.kc_why.specs.declared.files.Asks.{Asks}
+use Rattle.kc_why.specs.declared.files.Question.{Question}
+use Rattle.kc_why.specs.declared.files.Question.TheVariants.{Sight, Words}
 use Rattle.kc_why.specs.Memory.{bytes_of, image_of}
 use Rattle.kc_why.specs.Text.{why_text}
+use Rattle.kc_why.specs.WordText.{words_text}
 
--- what is shown: a memory, the kernel's rules for its addresses, an address, and the symbols of the kernel's image
-pub record Shown : Type 0 where
+-- what is seen: a memory, the kernel's rules for its addresses, an address, and the symbols of the kernel's image
+pub record Looked : Type 0 where
   pub image : Image
   pub rules : Rules
   pub address : ℕ
   pub symbols : ℕ → Option SymbolAt
 
--- what is written of it
+-- what is searched: the bytes of a dump, its segments, and a value
+pub record Searched : Type 0 where
+  pub bytes : List ℕ
+  pub segments : List Segment
+  pub value : ℕ
+
+-- what is shown: what is seen of an address, or where a value is written
+pub data Shown : Type 0 where
+  Sees : Looked → Shown
+  Finds : Searched → Shown
+
+-- its lines
+abbrev pub shown_text : Shown → List ℕ
+shown_text (Sees l) = why_text l.symbols (sight l.image l.rules l.address)
+shown_text (Finds s) = words_text s.value (in_segments s.value s.bytes s.segments)
+
 abbrev pub why_written : Shown → Written
-why_written s = record { out = why_text s.symbols (sight s.image s.rules s.address); err = []; status = Done }
+why_written s = record { out = shown_text s; err = []; status = Done }
 
 -- the kernel's rules, by the notes of its dump and by the rows of its map
 abbrev pub rules_by : Info → List RowText → Rules
@@ -42,52 +63,67 @@ rules_by told rows = record {
   five = told.five;
 }
 
-abbrev pub shown_by : Image → ℕ → Info → List RowText → Shown
-shown_by image address told rows = record { image = image; rules = rules_by told rows; address = address; symbols = image_symbol told.kaslr rows }
+abbrev pub looked_by : Image → ℕ → Info → List RowText → Looked
+looked_by image address told rows = record { image = image; rules = rules_by told rows; address = address; symbols = image_symbol told.kaslr rows }
 
--- what is shown of an address of a memory, by the bytes of a map
-abbrev pub shown_in : Image → ℕ → Info → List ℕ → Made Shown
-shown_in image address told map = rows_in map >>= (λ rows. gives (shown_by image address told rows))
+-- what is seen of an address of a memory, by the bytes of a map
+abbrev pub seen_in : Image → ℕ → Info → List ℕ → Made Shown
+seen_in image address told map = rows_in map >>= (λ rows. gives (Sees (looked_by image address told rows)))
+
+-- where a value is written in a dump; the map is read all the same
+abbrev pub found_in : List ℕ → List Segment → ℕ → List ℕ → Made Shown
+found_in bytes segments value map = rows_in map >>= (λ rows. gives (Finds (record { bytes = bytes; segments = segments; value = value })))
+
+-- what is shown of a dump's bytes and segments
+abbrev pub shown_in : Question → List ℕ → List Segment → Info → List ℕ → Made Shown
+shown_in (Sight address) bytes segments told map = seen_in (image_of bytes segments (by_info told)) address told map
+shown_in (Words value) bytes segments told map = found_in bytes segments value map
 
 -- the faults come in the order dump, types and map
-abbrev pub why_made : ℕ → Option (List ℕ) → Option (List ℕ) → Option (List ℕ) → Made Shown
-why_made address dump btf map = do
+abbrev pub why_made : Question → Option (List ℕ) → Option (List ℕ) → Option (List ℕ) → Made Shown
+why_made question dump btf map = do
   parts ← dump_parts dump
   told ← checked Notes (info parts.notes)
   types ← types_in btf
   listed ← map_in map
-  shown_in (image_of (bytes_of dump) parts.segments (by_info told)) address told listed
+  shown_in question (bytes_of dump) parts.segments told listed
 
--- what is asked: three files by their names, and an address
-pub record Question : Type 0 where
+-- what is asked of three files by their names
+pub record Asking : Type 0 where
   pub dump : List ℕ
   pub btf : List ℕ
   pub map : List ℕ
-  pub address : ℕ
+  pub question : Question
 
-abbrev pub why_asked : Question → Asked Shown
+abbrev pub why_asked : Asking → Asked Shown
 why_asked q = record {
   named = record { slot = slot.Dump; name = q.dump } ∷ record { slot = slot.Btf; name = q.btf }
       ∷ record { slot = slot.Map; name = q.map } ∷ [];
-  made = λ files. why_made q.address (files slot.Dump) (files slot.Btf) (files slot.Map);
+  made = λ files. why_made q.question (files slot.Dump) (files slot.Btf) (files slot.Map);
 }
 
--- the words after the program's name, where they are four and the last one writes a number in hex
+-- the words behind the map: a number in hex, with `refs` before it where the words that hold it are wanted
+abbrev pub question_of : List (List ℕ) → Option Question
+question_of (address ∷ []) = option_map Sight (hex_number address)
+question_of (form ∷ address ∷ []) = if bytes_eq form (codes "refs") then option_map Words (hex_number address) else None
+question_of _ = None
+
+-- the words after the program's name
 abbrev pub why_asks : List (List ℕ) → Option (Asked Shown)
-why_asks (dump ∷ btf ∷ map ∷ address ∷ []) =
-    option_map (λ a. why_asked (record { dump = dump; btf = btf; map = map; address = a })) (hex_number address)
+why_asks (dump ∷ btf ∷ map ∷ words) =
+    option_map (λ q. why_asked (record { dump = dump; btf = btf; map = map; question = q })) (question_of words)
 why_asks _ = None
 
 abbrev pub usage_text : List ℕ
-usage_text = codes "usage: kwhy DUMP BTF MAP ADDRESS\n"
+usage_text = codes "usage: kwhy DUMP BTF MAP ADDRESS\nusage: kwhy DUMP BTF MAP refs ADDRESS\n"
 
 -- what is written of words over a store's files
 abbrev pub written_of : List (List ℕ) → Told → Option Written
 written_of words files = written_files usage_text why_written (why_asks words) files
 
 -- as the code keeps it
-abbrev pub question_view : Asks → Question
-question_view a = record { dump = a.dump.now; btf = a.btf.now; map = a.map.now; address = a.address }
+abbrev pub asks_view : Asks → Asking
+asks_view a = record { dump = a.dump.now; btf = a.btf.now; map = a.map.now; question = a.question }
 
 abbrev pub why_view : Asks → Asked Shown
-why_view a = why_asked (question_view a)
+why_view a = why_asked (asks_view a)

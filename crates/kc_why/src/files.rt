@@ -1,5 +1,6 @@
 // The files of kwhy, and what is shown of an address.
-ghost use Rattle.std.specs.Prelude.{◌≡◌, ◌≤◌, ℕ, List, map, None, Some, option_map, IfOk};
+ghost use Rattle.std.specs.Prelude.{◌≡◌, ◌+◌, ◌≤◌, ◌^◌, ℕ, List, map, max, None, Some, option_map, IfOk};
+ghost use Rattle.std.specs.List.{All};
 ghost use Rattle.std.specs.Option.{ForSome};
 ghost use Rattle.std.specs.String.{string_bytes};
 ghost use Rattle.kc_outside.specs.declared.store.Slot.{Slot};
@@ -13,10 +14,11 @@ ghost use Rattle.kc_input.specs.Slots.{RefusesIn};
 ghost use Rattle.kc_ends.specs.Answers.{OnNone, OnStoreIn, PrintsOf, PrintsOfBytes, Runs, StayBehind, UnlessStoreIn};
 ghost use Rattle.kc_ends.specs.Asked.{word_in};
 ghost use Rattle.kc_why.specs.Memory.{image_of};
-ghost use Rattle.kc_why.specs.Why.{question_view, shown_in, why_asked, why_asks, why_made, why_view, why_written};
+ghost use Rattle.kc_why.specs.Why.{asks_view, found_in, question_of, seen_in, shown_in, why_asked, why_asks, why_made, why_view, why_written};
 
 use crate::looking::look_at;
 use crate::text::why_text;
+use crate::written::find_written;
 use kc_elf::Core;
 use kc_ends::Answer;
 use kc_input::{Halt, read_dump, read_info, read_map, read_symbols, read_types};
@@ -26,7 +28,16 @@ use kc_where::{ImageMap, Rules, know_sights};
 use kc_word::read_hex;
 use std::alloc::Global;
 
-/// What is asked: what lies at an address of a dump.
+/// What is asked of a dump.
+#[derive(Clone, Copy, Debug, PartialEq, Eq)]
+pub enum Question {
+    /// What lies at a virtual address.
+    Sight(u64),
+    /// Which words hold a value.
+    Words(u64),
+}
+
+/// A question to a dump, with its kernel's files.
 #[derive(Clone, Copy)]
 pub struct Asks<'w> {
     /// The name of the dump.
@@ -35,27 +46,40 @@ pub struct Asks<'w> {
     pub btf: &'w str,
     /// The name of the map.
     pub map: &'w str,
-    /// The virtual address.
-    pub address: u64,
+    /// What is asked.
+    pub question: Question,
+}
+
+// What the words behind the map ask.
+fn question_of(words: &[String]) -> Option<Question>
+    ensures { result ≡ question_of (map string_bytes words.now) }
+{
+    match words {
+        [address] => Some(Question::Sight(read_hex(address.as_str().as_bytes())?)),
+        [form, address] if form.as_str() == "refs" => {
+            Some(Question::Words(read_hex(address.as_str().as_bytes())?))
+        }
+        _ => None,
+    }
 }
 
 // What the words ask.
 fn read(words: &[String]) -> Option<Asks<'_>>
     ensures asked { option_map why_view result ≡ why_asks (map string_bytes words.now) }
 {
-    let [dump, btf, map, address] = words else {
+    let [dump, btf, map, question @ ..] = words else {
         return None;
     };
     Some(Asks {
         dump: dump.as_str(),
         btf: btf.as_str(),
         map: map.as_str(),
-        address: read_hex(address.as_str().as_bytes())?,
+        question: question_of(question)?,
     })
 }
 
 /// Runs kwhy on the words behind its name: the first fault of the dump, the types or the map, else what is seen of the
-/// address. `None` where these aren't its words; the store isn't asked then.
+/// address, or the words that hold it. `None` where these aren't its words; the store isn't asked then.
 pub fn run<S: Store>(alloc: Global, store: &mut S, words: &[String]) -> Option<Result<Answer, Halt>>
     requires { (slot : Slot) → ForSome (word_in (why_asks (map string_bytes words.now)) slot) (S.may store.old slot) }
 
@@ -78,9 +102,9 @@ fn why<S: Store>(alloc: Global, store: &mut S, asks: &Asks<'_>) -> Result<Answer
     requires map { S.may store.old Map asks.now.map.now }
 
     ensures output { PrintsOf why_written
-        (λ files. why_made asks.now.address (files Dump asks.now.dump.now) (files Slot.Btf asks.now.btf.now)
+        (λ files. why_made asks.now.question (files Dump asks.now.dump.now) (files Slot.Btf asks.now.btf.now)
         (files Map asks.now.map.now)) (S.files store.old) result }
-    ensures unopened { StayBehind (why_asked (question_view asks.now)).named result (S.opened store.old)
+    ensures unopened { StayBehind (why_asked (asks_view asks.now)).named result (S.opened store.old)
         (S.opened store.new) }
     ensures files { S.files store.new ≡ S.files store.old }
     ensures later { S.faults store.old ≤ S.faults store.new }
@@ -91,11 +115,38 @@ fn why<S: Store>(alloc: Global, store: &mut S, asks: &Asks<'_>) -> Result<Answer
     let info = read_info(&core)?;
     let _types = read_types(alloc, store, asks.btf)?;
     let map = read_map(alloc, store, asks.map)?;
-    answer(alloc, store, &core, info, &map, asks.address)
+    answer(alloc, store, &core, info, &map, asks.question)
 }
 
-// The answer on an address of a dump that was read, by the bytes of a map.
+// The answer to a question to a dump that was read, by the bytes of a map.
 fn answer<S: Store>(
+    alloc: Global,
+    store: &mut S,
+    core: &Core,
+    info: Info,
+    map: &[u8],
+    question: Question,
+) -> Result<Answer, Halt>
+    requires table { IsTable info.table }
+    requires inside { AreInside (S.sizes store.old Dump) core.now.segments }
+    requires below { All (λ s. s.paddr + max s.filesz s.memsz ≤ 2 ^ 64) core.now.segments }
+
+    ensures output { PrintsOfBytes why_written (λ bytes. shown_in question bytes core.now.segments info map.now)
+        (content (S.files store.old) Dump (S.opened store.old Dump)) result }
+    ensures refused { RefusesIn Map result }
+    ensures files { S.files store.new ≡ S.files store.old }
+    ensures later { S.faults store.old ≤ S.faults store.new }
+    ensures quiet { UnlessStore result (S.faults store.new ≡ S.faults store.old) }
+    ensures cause { OnStore result (Rose (S.faults store.old) (S.faults store.new)) }
+{
+    match question {
+        Question::Sight(address) => see(alloc, store, core, info, map, address),
+        Question::Words(value) => find(alloc, store, core, map, value),
+    }
+}
+
+// What is seen of an address of a dump.
+fn see<S: Store>(
     alloc: Global,
     store: &mut S,
     core: &Core,
@@ -107,7 +158,7 @@ fn answer<S: Store>(
     requires inside { AreInside (S.sizes store.old Dump) core.now.segments }
 
     ensures output { PrintsOfBytes why_written
-        (λ bytes. shown_in (image_of bytes core.now.segments (by_info info)) address info map.now)
+        (λ bytes. seen_in (image_of bytes core.now.segments (by_info info)) address info map.now)
         (content (S.files store.old) Dump (S.opened store.old Dump)) result }
     ensures refused { RefusesIn Map result }
     ensures files { S.files store.new ≡ S.files store.old }
@@ -129,4 +180,27 @@ fn answer<S: Store>(
     let sight = look_at(alloc, store, core, info, &rules, address)?;
     know_sights();
     Ok(Answer::Done(why_text(alloc, &image, &sight)?))
+}
+
+// The words of a dump that hold a value.
+fn find<S: Store>(
+    alloc: Global,
+    store: &mut S,
+    core: &Core,
+    map: &[u8],
+    value: u64,
+) -> Result<Answer, Halt>
+    requires inside { AreInside (S.sizes store.old Dump) core.now.segments }
+    requires below { All (λ s. s.paddr + max s.filesz s.memsz ≤ 2 ^ 64) core.now.segments }
+
+    ensures output { PrintsOfBytes why_written (λ bytes. found_in bytes core.now.segments value map.now)
+        (content (S.files store.old) Dump (S.opened store.old Dump)) result }
+    ensures refused { RefusesIn Map result }
+    ensures files { S.files store.new ≡ S.files store.old }
+    ensures later { S.faults store.old ≤ S.faults store.new }
+    ensures quiet { UnlessStore result (S.faults store.new ≡ S.faults store.old) }
+    ensures cause { OnStore result (Rose (S.faults store.old) (S.faults store.new)) }
+{
+    let _symbols = read_symbols(alloc, map)?;
+    Ok(Answer::Done(find_written(alloc, store, core, value)?))
 }

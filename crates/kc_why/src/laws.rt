@@ -1,11 +1,13 @@
 // What the definitions say.
-ghost use Rattle.kc_why.specs.Laws.{ShownStand};
+ghost use Rattle.kc_why.specs.Laws.{ShownStand, WrittenAreFound};
 
 use kc_where::know_sights;
 
-/// Does nothing. Each word that is shown of an address stands in the dump, at the place that is shown.
+/// Does nothing. Each word that is shown of an address, or as one that holds it, stands in the dump, at the place that is shown; and
+/// each word of the dump that holds it is shown.
 pub fn know_why()
     ensures stand { ShownStand }
+    ensures all { WrittenAreFound }
 {
     know_sights();
 }

@@ -1,4 +1,4 @@
-//! The program kwhy: what lies at an address of a dump.
+//! The program kwhy: what lies at an address of a dump, or which words of the dump hold it.
 #![tactic(auto)]
 
 mod files;
@@ -6,6 +6,7 @@ mod laws;
 mod looking;
 mod text;
 mod top;
+mod written;
 
 pub use laws::know_why;
 pub use top::kwhy;

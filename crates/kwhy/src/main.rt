@@ -1,4 +1,4 @@
-//! kwhy: what lies at an address of a dump.
+//! kwhy: what lies at an address of a dump, or which words of the dump hold it.
 #![tactic(auto)]
 
 use kc_ends::Status;

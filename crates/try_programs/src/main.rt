@@ -1,4 +1,4 @@
-//! Tries kaudit and kmatch on the cases of data/, over a store and sinks in memory that write down each call, and prints how many cases each file has. A case
+//! Tries kaudit, kmatch and kwhy on the cases of data/, over a store and sinks in memory that write down each call, and prints how many cases each file has. A case
 //! that ends otherwise than its file says is printed with what came in its place.
 //!
 //! A case is a paragraph; one that begins with `#` is a comment. Its lines give the words, what is changed of the usual files, and how the
@@ -69,6 +69,9 @@ const KAUDIT: [&str; 29] = [
 // Those of kmatch.
 const KMATCH: [&str; 2] = ["facts", "endings"];
 
+// Those of kwhy.
+const KWHY: [&str; 3] = ["sights", "written", "why_endings"];
+
 fn main(rt: HostRuntime) -> io::Result<()> {
     let texts = Texts::read(&rt)?;
     for name in KAUDIT {
@@ -81,9 +84,17 @@ fn main(rt: HostRuntime) -> io::Result<()> {
     try_each(&rt, &texts, "far_rings", Program::Kaudit)?;
     try_each(&rt, &texts, "calls", Program::Kaudit)?;
     try_each(&rt, &texts, "match_calls", Program::Kmatch)?;
+    for name in KWHY {
+        try_each(&rt, &texts, name, Program::Kwhy)?;
+    }
+    try_each(&rt, &texts, "why_calls", Program::Kwhy)?;
     for name in ["whole", "kin", "five"] {
         try_calls(&rt, &texts, name, Program::Kaudit)?;
         try_lengths(&rt, &texts, name, Program::Kaudit)?;
+    }
+    for name in ["seen", "found"] {
+        try_calls(&rt, &texts, name, Program::Kwhy)?;
+        try_lengths(&rt, &texts, name, Program::Kwhy)?;
     }
     Ok(())
 }

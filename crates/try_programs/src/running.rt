@@ -5,6 +5,7 @@ use kc_app::kaudit;
 use kc_match::kmatch;
 use kc_outside::MemSink;
 use kc_report::{read_report, text};
+use kc_why::kwhy;
 use kc_word::NoMemory;
 use std::alloc::Global;
 
@@ -13,6 +14,7 @@ use std::alloc::Global;
 pub enum Program {
     Kaudit,
     Kmatch,
+    Kwhy,
 }
 
 /// How a run ended, and the calls that it made.
@@ -60,6 +62,7 @@ impl Case {
             Program::Kmatch => {
                 u8::from(kmatch(alloc, &self.words, &mut store, &mut out, &mut err))
             }
+            Program::Kwhy => { u8::from(kwhy(alloc, &self.words, &mut store, &mut out, &mut err)) }
         };
         let (out, mut puts) = out.parts();
         let (err, lines) = err.parts();

@@ -10,7 +10,7 @@ use Rattle.kc_where.specs.declared.symbol.ImageMap.{ImageMap}
 use Rattle.kc_where.specs.Views.{image_symbols}
 use Rattle.kc_why.specs.Memory.{image_of}
 use Rattle.kc_why.proofs.WhyLemmas.{prints_why, rules_read, symbols_read}
-use Rattle.kc_why.proofs.files.answer.Goals as goal
+use Rattle.kc_why.proofs.files.see.Goals as goal
 
 pub returns-clause-output : goal.returns-clause-output
 returns-clause-output g c =
