@@ -20,7 +20,7 @@ TABLES = "docs/DEFINITIONS.md"
 PROGRAMS = {
     "kaudit": [("crates/kc_app/src/top.rt", "kaudit"), ("crates/kc_app/src/laws.rt", "know_shown")],
     "kmatch": [("crates/kc_match/src/top.rt", "kmatch")],
-    "kwhy": [("crates/kc_why/src/top.rt", "kwhy")],
+    "kwhy": [("crates/kc_why/src/top.rt", "kwhy"), ("crates/kc_why/src/laws.rt", "know_why")],
 }
 
 # What laws say of a definition, so that nobody has to read it: the law's words are counted in its place.

@@ -1,3 +1,4 @@
 pub mod TextLemmas
 pub mod WhyLemmas
 pub mod WrittenLaws
+pub mod LookLemmas

@@ -1,5 +1,7 @@
 pub mod Laws
 pub mod Looking
+pub mod Objects
+pub mod ObjectText
 pub mod Memory
 pub mod Searching
 pub mod Text

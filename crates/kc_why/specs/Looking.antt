@@ -4,23 +4,34 @@ use Rattle.kc_input.specs.declared.halt.Halt.{Halt}
 use Rattle.kc_input.specs.declared.halt.Halt.TheVariants.{Store, Memory}
 use Rattle.kc_memory.specs.Image.{Image}
 use Rattle.kc_where.specs.declared.aliases.Rules.{Rules}
-use Rattle.kc_where.specs.declared.sight.Sight.{Sight}
+use Rattle.kc_object.specs.declared.shape.ObjectShape.{ObjectShape}
 use Rattle.kc_where.specs.declared.stop.LookStop.{LookStop}
 use Rattle.kc_where.specs.declared.stop.LookStop.TheVariants.{Fault, NoMemory}
 use Rattle.kc_where.specs.Sights.{sight}
 use Rattle.kc_where.specs.Views.{sight_view}
+use Rattle.kc_why.specs.declared.objects.Sighted.{Sighted}
+use Rattle.kc_why.specs.Objects.{told_of}
 
 -- a failure to read is one of the store
 abbrev pub halted : LookStop → Halt
 halted Fault = Store
 halted NoMemory = Memory
 
--- short of a failure and of being out of memory, a sight is that of an address
-abbrev pub IsSight : {E : Type 0} → Image → Rules → ℕ → Result Sight E → Type 0
-IsSight image rules address (Ok s) = sight_view s ≡ sight image rules address
+-- short of a failure and of being out of memory, what is seen is the sight of an address
+abbrev pub IsSight : {E : Type 0} → Image → Rules → ℕ → Result Sighted E → Type 0
+IsSight image rules address (Ok s) = sight_view s.sight ≡ sight image rules address
 IsSight image rules address (Err e) = ⊤
 
 -- where the memory is told
-abbrev pub SightsAs : {E : Type 0} → Option Image → Rules → ℕ → Result Sight E → Type 0
+abbrev pub SightsAs : {E : Type 0} → Option Image → Rules → ℕ → Result Sighted E → Type 0
 SightsAs None rules address r = ⊤
 SightsAs (Some image) rules address r = IsSight image rules address r
+
+-- and what is told of an object is what holds the address
+abbrev pub IsTold : {E : Type 0} → Image → Option ObjectShape → ℕ → Result Sighted E → Type 0
+IsTold image shape address (Ok s) = s.told ≡ told_of image shape address
+IsTold image shape address (Err e) = ⊤
+
+abbrev pub TellsAs : {E : Type 0} → Option Image → Option ObjectShape → ℕ → Result Sighted E → Type 0
+TellsAs None shape address r = ⊤
+TellsAs (Some image) shape address r = IsTold image shape address r

@@ -1,10 +1,11 @@
 -- kwhy: what lies at an address of a dump, or which words of the dump hold it.
-use Rattle.std.specs.Prelude.{ℕ, if◌then◌else◌, List, [], ◌∷◌, codes, Option, None, option_map}
+use Rattle.std.specs.Prelude.{ℕ, if◌then◌else◌, List, [], ◌∷◌, ◌++◌, codes, Option, None, option_map}
 use Rattle.std.specs.Str.{bytes_eq}
 use Rattle.kc_word.specs.Hex.{hex_number}
 use Rattle.kc_word.specs.declared.plain.Segment.{Segment}
 use Rattle.kc_outside.specs.declared.store.Slot.TheVariants as slot
 use Rattle.kc_outside.specs.Files.{Files as Told}
+use Rattle.kc_btf.specs.Btf.{Types}
 use Rattle.kc_memory.specs.Image.{Image}
 use Rattle.kc_notes.specs.declared.info.Info.{Info}
 use Rattle.kc_notes.specs.Info.{info}
@@ -19,6 +20,8 @@ use Rattle.kc_ends.specs.Asked.{Asked}
 use Rattle.kc_ends.specs.Output.{written_files}
 use Rattle.kc_ends.specs.Written.{Written}
 use Rattle.kc_refs.specs.Holding.{in_segments}
+use Rattle.kc_object.specs.declared.shape.ObjectShape.{ObjectShape}
+use Rattle.kc_object.specs.Shapes.{object_shape}
 use Rattle.kc_where.specs.declared.aliases.Rules.{Rules}
 use Rattle.kc_where.specs.Nearest.{SymbolAt, image_symbol}
 use Rattle.kc_where.specs.Sights.{sight}
@@ -26,13 +29,17 @@ use Rattle.kc_why.specs.declared.files.Asks.{Asks}
 use Rattle.kc_why.specs.declared.files.Question.{Question}
 use Rattle.kc_why.specs.declared.files.Question.TheVariants.{Sight, Words}
 use Rattle.kc_why.specs.Memory.{bytes_of, image_of}
+use Rattle.kc_why.specs.Objects.{kernel_by, told_of}
+use Rattle.kc_why.specs.ObjectText.{object_lines}
 use Rattle.kc_why.specs.Text.{why_text}
 use Rattle.kc_why.specs.WordText.{words_text}
 
--- what is seen: a memory, the kernel's rules for its addresses, an address, and the symbols of the kernel's image
+-- what is seen: a memory, the kernel's rules for its addresses, where it has the words that tell objects, an address, and the symbols
+-- of the kernel's image
 pub record Looked : Type 0 where
   pub image : Image
   pub rules : Rules
+  pub shape : Option ObjectShape
   pub address : ℕ
   pub symbols : ℕ → Option SymbolAt
 
@@ -49,7 +56,7 @@ pub data Shown : Type 0 where
 
 -- its lines
 abbrev pub shown_text : Shown → List ℕ
-shown_text (Sees l) = why_text l.symbols (sight l.image l.rules l.address)
+shown_text (Sees l) = why_text l.symbols (sight l.image l.rules l.address) ++ object_lines (told_of l.image l.shape l.address)
 shown_text (Finds s) = words_text s.value (in_segments s.value s.bytes s.segments)
 
 abbrev pub why_written : Shown → Written
@@ -63,21 +70,27 @@ rules_by told rows = record {
   five = told.five;
 }
 
-abbrev pub looked_by : Image → ℕ → Info → List RowText → Looked
-looked_by image address told rows = record { image = image; rules = rules_by told rows; address = address; symbols = image_symbol told.kaslr rows }
+abbrev pub looked_by : Image → ℕ → Info → Types → List RowText → Looked
+looked_by image address told types rows = record {
+  image = image;
+  rules = rules_by told rows;
+  shape = object_shape (kernel_by types rows told);
+  address = address;
+  symbols = image_symbol told.kaslr rows;
+}
 
--- what is seen of an address of a memory, by the bytes of a map
-abbrev pub seen_in : Image → ℕ → Info → List ℕ → Made Shown
-seen_in image address told map = rows_in map >>= (λ rows. gives (Sees (looked_by image address told rows)))
+-- what is seen of an address of a memory, by the kernel's types and the bytes of a map
+abbrev pub seen_in : Image → ℕ → Info → Types → List ℕ → Made Shown
+seen_in image address told types map = rows_in map >>= (λ rows. gives (Sees (looked_by image address told types rows)))
 
 -- where a value is written in a dump; the map is read all the same
 abbrev pub found_in : List ℕ → List Segment → ℕ → List ℕ → Made Shown
 found_in bytes segments value map = rows_in map >>= (λ rows. gives (Finds (record { bytes = bytes; segments = segments; value = value })))
 
 -- what is shown of a dump's bytes and segments
-abbrev pub shown_in : Question → List ℕ → List Segment → Info → List ℕ → Made Shown
-shown_in (Sight address) bytes segments told map = seen_in (image_of bytes segments (by_info told)) address told map
-shown_in (Words value) bytes segments told map = found_in bytes segments value map
+abbrev pub shown_in : Question → List ℕ → List Segment → Info → Types → List ℕ → Made Shown
+shown_in (Sight address) bytes segments told types map = seen_in (image_of bytes segments (by_info told)) address told types map
+shown_in (Words value) bytes segments told types map = found_in bytes segments value map
 
 -- the faults come in the order dump, types and map
 abbrev pub why_made : Question → Option (List ℕ) → Option (List ℕ) → Option (List ℕ) → Made Shown
@@ -86,7 +99,7 @@ why_made question dump btf map = do
   told ← checked Notes (info parts.notes)
   types ← types_in btf
   listed ← map_in map
-  shown_in question (bytes_of dump) parts.segments told listed
+  shown_in question (bytes_of dump) parts.segments told types listed
 
 -- what is asked of three files by their names
 pub record Asking : Type 0 where

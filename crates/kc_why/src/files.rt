@@ -1,5 +1,5 @@
 // The files of kwhy, and what is shown of an address.
-ghost use Rattle.std.specs.Prelude.{◌≡◌, ◌+◌, ◌≤◌, ◌^◌, ℕ, List, map, max, None, Some, option_map, IfOk};
+ghost use Rattle.std.specs.Prelude.{◌≡◌, ◌++◌, ◌+◌, ◌≤◌, ◌^◌, ℕ, List, map, max, None, Some, option_map, IfOk};
 ghost use Rattle.std.specs.List.{All};
 ghost use Rattle.std.specs.Option.{ForSome};
 ghost use Rattle.std.specs.String.{string_bytes};
@@ -13,19 +13,34 @@ ghost use Rattle.kc_input.specs.Paging.{IsTable, by_info};
 ghost use Rattle.kc_input.specs.Slots.{RefusesIn};
 ghost use Rattle.kc_ends.specs.Answers.{OnNone, OnStoreIn, PrintsOf, PrintsOfBytes, Runs, StayBehind, UnlessStoreIn};
 ghost use Rattle.kc_ends.specs.Asked.{word_in};
+ghost use Rattle.kc_syms.specs.Answers.{Stands};
+ghost use Rattle.kc_syms.specs.Rows.{RowText};
+ghost use Rattle.kc_syms.specs.Symbols.{symbol};
+ghost use Rattle.kc_object.specs.Shapes.{object_shape};
 ghost use Rattle.kc_why.specs.Memory.{image_of};
+ghost use Rattle.kc_where.specs.Views.{image_symbols, sight_view};
+ghost use Rattle.kc_why.specs.Objects.{kernel_by};
+ghost use Rattle.kc_why.specs.ObjectText.{object_lines};
+ghost use Rattle.kc_why.specs.Text.{why_text};
 ghost use Rattle.kc_why.specs.Why.{asks_view, found_in, question_of, seen_in, shown_in, why_asked, why_asks, why_made, why_view, why_written};
 
 use crate::looking::look_at;
+use crate::object_text::push_objects;
+use crate::objects::Sighted;
 use crate::text::why_text;
 use crate::written::find_written;
+use kc_btf::Btf;
 use kc_elf::Core;
 use kc_ends::Answer;
 use kc_input::{Halt, read_dump, read_info, read_map, read_symbols, read_types};
+use kc_kinds::Known;
+use kc_layout::Names;
 use kc_notes::Info;
+use kc_object::{ObjectShape, object_shape};
 use kc_outside::Store;
+use kc_syms::Symbols;
 use kc_where::{ImageMap, Rules, know_sights};
-use kc_word::read_hex;
+use kc_word::{NoMemory, read_hex};
 use std::alloc::Global;
 
 /// What is asked of a dump.
@@ -37,7 +52,7 @@ pub enum Question {
     Words(u64),
 }
 
-/// A question to a dump, with its kernel's files.
+/// A question about a dump, with the files of its kernel.
 #[derive(Clone, Copy)]
 pub struct Asks<'w> {
     /// The name of the dump.
@@ -113,17 +128,18 @@ fn why<S: Store>(alloc: Global, store: &mut S, asks: &Asks<'_>) -> Result<Answer
 {
     let core = read_dump(alloc, store, asks.dump)?;
     let info = read_info(&core)?;
-    let _types = read_types(alloc, store, asks.btf)?;
+    let types = read_types(alloc, store, asks.btf)?;
     let map = read_map(alloc, store, asks.map)?;
-    answer(alloc, store, &core, info, &map, asks.question)
+    answer(alloc, store, &core, info, &types, &map, asks.question)
 }
 
-// The answer to a question to a dump that was read, by the bytes of a map.
+// The answer to a question about a dump that was read, by the bytes of a map.
 fn answer<S: Store>(
     alloc: Global,
     store: &mut S,
     core: &Core,
     info: Info,
+    types: &Btf,
     map: &[u8],
     question: Question,
 ) -> Result<Answer, Halt>
@@ -131,7 +147,7 @@ fn answer<S: Store>(
     requires inside { AreInside (S.sizes store.old Dump) core.now.segments }
     requires below { All (λ s. s.paddr + max s.filesz s.memsz ≤ 2 ^ 64) core.now.segments }
 
-    ensures output { PrintsOfBytes why_written (λ bytes. shown_in question bytes core.now.segments info map.now)
+    ensures output { PrintsOfBytes why_written (λ bytes. shown_in question bytes core.now.segments info types.now map.now)
         (content (S.files store.old) Dump (S.opened store.old Dump)) result }
     ensures refused { RefusesIn Map result }
     ensures files { S.files store.new ≡ S.files store.old }
@@ -140,17 +156,47 @@ fn answer<S: Store>(
     ensures cause { OnStore result (Rose (S.faults store.old) (S.faults store.new)) }
 {
     match question {
-        Question::Sight(address) => see(alloc, store, core, info, map, address),
+        Question::Sight(address) => see(alloc, store, core, info, types, map, address),
         Question::Words(value) => find(alloc, store, core, map, value),
     }
 }
 
-// What is seen of an address of a dump.
+// Where a kernel has the words that tell which object has an address, where it has them.
+fn shape_in(
+    alloc: Global,
+    types: &Btf,
+    symbols: &Symbols<'_>,
+    info: Info,
+) -> Result<Option<ObjectShape>, NoMemory>
+    ensures { IfOk result (λ shape. (rows : List RowText) → Stands (symbol symbols.now) rows → shape ≡ object_shape (kernel_by types.now rows info)) }
+{
+    let names = Names::new(alloc, types)?;
+    let known = Known {
+        btf: types,
+        names: &names,
+        symbols,
+        kaslr: info.kaslr,
+        five: info.five,
+    };
+    Ok(object_shape(&known))
+}
+
+// The text of what is seen of an address, and of what holds it.
+fn seen_text(alloc: Global, image: &ImageMap<'_>, seen: &Sighted) -> Result<Vec<u8>, NoMemory>
+    ensures { IfOk result (λ text. text.items ≡ why_text (image_symbols image.now) (sight_view seen.now.sight) ++ object_lines seen.now.told) }
+{
+    let mut text = why_text(alloc, image, &seen.sight)?;
+    push_objects(&mut text, &seen.told)?;
+    Ok(text)
+}
+
+// What is seen of an address of a dump, and what holds it.
 fn see<S: Store>(
     alloc: Global,
     store: &mut S,
     core: &Core,
     info: Info,
+    types: &Btf,
     map: &[u8],
     address: u64,
 ) -> Result<Answer, Halt>
@@ -158,7 +204,7 @@ fn see<S: Store>(
     requires inside { AreInside (S.sizes store.old Dump) core.now.segments }
 
     ensures output { PrintsOfBytes why_written
-        (λ bytes. seen_in (image_of bytes core.now.segments (by_info info)) address info map.now)
+        (λ bytes. seen_in (image_of bytes core.now.segments (by_info info)) address info types.now map.now)
         (content (S.files store.old) Dump (S.opened store.old Dump)) result }
     ensures refused { RefusesIn Map result }
     ensures files { S.files store.new ≡ S.files store.old }
@@ -177,9 +223,10 @@ fn see<S: Store>(
         phys_base: info.phys_base,
         five: info.five,
     };
-    let sight = look_at(alloc, store, core, info, &rules, address)?;
+    let shape = shape_in(alloc, types, &symbols, info)?;
+    let seen = look_at(alloc, store, core, info, &rules, types, &shape, address)?;
     know_sights();
-    Ok(Answer::Done(why_text(alloc, &image, &sight)?))
+    Ok(Answer::Done(seen_text(alloc, &image, &seen)?))
 }
 
 // The words of a dump that hold a value.

@@ -4,6 +4,8 @@
 mod files;
 mod laws;
 mod looking;
+mod object_text;
+mod objects;
 mod text;
 mod top;
 mod written;

@@ -9,17 +9,20 @@ ghost use Rattle.kc_tlb.specs.Entries.{AreEmpty};
 ghost use Rattle.kc_input.specs.Halts.{NotRefused, OnStore, UnlessStore};
 ghost use Rattle.kc_input.specs.Paging.{IsTable, by_info};
 ghost use Rattle.kc_where.specs.Looks.{CountsLookFaults};
-ghost use Rattle.kc_why.specs.Looking.{SightsAs, halted};
+ghost use Rattle.kc_why.specs.Looking.{SightsAs, TellsAs, halted};
 ghost use Rattle.kc_why.specs.Memory.{image_of};
 
+use crate::objects::{Sighted, read_sighted};
+use kc_btf::Btf;
 use kc_elf::Core;
 use kc_input::{Halt, paging_by};
 use kc_mem::Memory;
 use kc_notes::Info;
+use kc_object::ObjectShape;
 use kc_outside::Store;
 use kc_phys::{Phys, Room};
 use kc_tlb::Tlb;
-use kc_where::{LookStop, Rules, Sight, read_entries, read_sight, word_start};
+use kc_where::{LookStop, Rules, read_entries, word_start};
 use kc_word::{PageCfg, Steps, Tail};
 use std::alloc::Global;
 use std::marker::Brand;
@@ -38,7 +41,7 @@ fn halted(stop: LookStop) -> Halt
     }
 }
 
-/// What is seen of an address of the dump in slot Dump, whose segments and notes were read.
+/// What is seen of an address of the dump in slot Dump, whose segments and notes were read, and what holds it.
 ///
 /// # Errors
 ///
@@ -49,13 +52,17 @@ pub fn look_at<S: Store>(
     core: &Core,
     info: Info,
     rules: &Rules,
+    types: &Btf,
+    shape: &Option<ObjectShape>,
     address: u64,
-) -> Result<Sight, Halt>
+) -> Result<Sighted, Halt>
     requires table { IsTable info.table }
     requires inside { AreInside (S.sizes store.old Dump) core.now.segments }
 
     ensures sight { SightsAs (option_map (λ bytes. image_of bytes core.now.segments (by_info info)) (content (S.files store.old) Dump (S.opened store.old Dump)))
         rules.now address result }
+    ensures told { TellsAs (option_map (λ bytes. image_of bytes core.now.segments (by_info info)) (content (S.files store.old) Dump (S.opened store.old Dump)))
+        shape.now address result }
     ensures not_refused { NotRefused result }
     ensures files { S.files store.new ≡ S.files store.old }
     ensures later { S.faults store.old ≤ S.faults store.new }
@@ -72,6 +79,8 @@ pub fn look_at<S: Store>(
         tlb,
         paging,
         rules,
+        types,
+        shape,
         address,
         Blank::new(1),
     ) {
@@ -88,9 +97,11 @@ fn look<S: Store, L: Ledger>(
     tlb: Tlb,
     paging: PageCfg,
     rules: &Rules,
+    types: &Btf,
+    shape: &Option<ObjectShape>,
     address: u64,
     blank: Blank,
-) -> Result<Sight, LookStop>
+) -> Result<Sighted, LookStop>
     requires name { blank.name ≡ L.name }
     requires parts { blank.parts ≡ L.parts }
     requires some { 0 < L.parts }
@@ -103,6 +114,8 @@ fn look<S: Store, L: Ledger>(
 
     ensures sight { SightsAs (option_map (λ bytes. image_of bytes room.segments.items paging) (content (S.files store.old) Dump (S.opened store.old Dump)))
         rules.now address result }
+    ensures told { TellsAs (option_map (λ bytes. image_of bytes room.segments.items paging) (content (S.files store.old) Dump (S.opened store.old Dump)))
+        shape.now address result }
     ensures files { S.files store.new ≡ S.files store.old }
     ensures cause { CountsLookFaults result (S.faults store.old) (S.faults store.new) }
 {
@@ -110,7 +123,16 @@ fn look<S: Store, L: Ledger>(
     let mut frames = Phys::over(store, room);
     let entries = read_entries(alloc, &mut frames, &paging, word_start(address), &mut steps);
     let mut memory = Memory::over(frames, tlb);
-    let sight = read_sight(alloc, &mut memory, address, rules, entries, &mut steps);
+    let sight = read_sighted(
+        alloc,
+        &mut memory,
+        types,
+        shape,
+        address,
+        rules,
+        entries,
+        &mut steps,
+    );
     let frames = memory.into_frames();
     let _store = frames.into_store();
     sight

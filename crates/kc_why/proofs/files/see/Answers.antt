@@ -1,4 +1,4 @@
-use Rattle.std.proofs.Common.{List, ℕ, [], ap, ◌∙◌}
+use Rattle.std.proofs.Common.{rules, List, ℕ, [], ap, ◌∙◌}
 use Rattle.std.specs.Result.{result_ok}
 use Rattle.kc_outside.specs.declared.store.Slot.TheVariants.{Dump}
 use Rattle.kc_outside.specs.Files.{content}
@@ -9,7 +9,8 @@ use Rattle.kc_ends.specs.declared.status.Status.TheVariants.{Done}
 use Rattle.kc_where.specs.declared.symbol.ImageMap.{ImageMap}
 use Rattle.kc_where.specs.Views.{image_symbols}
 use Rattle.kc_why.specs.Memory.{image_of}
-use Rattle.kc_why.proofs.WhyLemmas.{prints_why, rules_read, symbols_read}
+use Rattle.kc_why.specs.Why.{seen_in}
+use Rattle.kc_why.proofs.WhyLemmas.{none_left, prints_why, rules_read, symbols_read}
 use Rattle.kc_why.proofs.files.see.Goals as goal
 
 pub returns-clause-output : goal.returns-clause-output
@@ -18,7 +19,12 @@ returns-clause-output g c =
     let m : ImageMap = record { map = c.args.map; kaslr = c.args.info.kaslr; end = c.ok.result } in
     let end = c.ok.ensures.value ∙ ap result_ok c.address.ensures.exact in
     prints_why (content (g.S.Store.files c.args.store.now) Dump (g.S.Store.opened c.args.store.now Dump)) (λ bytes. image_of bytes c.args.core.now.segments (by_info c.args.info))
-    c.args.address c.args.info c.args.map.now (image_symbols m) _ read.0 c.in_ok-sight.sight (answer.Done c.in_ok-why_text.field-0) read.1
+    c.args.address c.args.info c.args.types.now c.args.map.now (image_symbols m) _ c.in_ok-shape.shape read.0 c.in_ok-seen.seen (answer.Done c.in_ok-seen_text.field-0) read.1
     (symbols_read c.know_sights.ensures.symbols m (symbol c.in_ok-symbols.symbols) read.0 read.1 read.2 end)
-    (rules_read c.args.info (symbol c.in_ok-symbols.symbols) read.0 c.address-2.result read.2 c.address-2.ensures.exact) c.in_ok-sight.ensures.sight
-    (ap (λ (o : List ℕ). record { out = o; err = []; status = Done }) c.in_ok-why_text.ensures)
+    (rules_read c.args.info (symbol c.in_ok-symbols.symbols) read.0 c.address-2.result read.2 c.address-2.ensures.exact) (c.in_ok-shape.ensures read.0 read.2) c.in_ok-seen.ensures.sight c.in_ok-seen.ensures.told
+    (ap (λ (o : List ℕ). record { out = o; err = []; status = Done }) c.in_ok-seen_text.ensures)
+
+pub returns-in_err-seen_text-clause-output : goal.returns-in_err-seen_text-clause-output
+returns-in_err-seen_text-clause-output g c =
+    none_left (λ bytes. seen_in (image_of bytes c.args.core.now.segments (by_info c.args.info)) c.args.address c.args.info c.args.types.now c.args.map.now)
+    (content (g.S.Store.files c.args.store.now) Dump (g.S.Store.opened c.args.store.now Dump)) _ (search rules)

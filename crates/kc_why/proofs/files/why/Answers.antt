@@ -4,4 +4,4 @@ use Rattle.kc_why.proofs.files.why.Goals as goal
 
 -- the calls between read other files, so the dump's size stays
 pub answer-requires-clause-inside : goal.answer-requires-clause-inside
-answer-requires-clause-inside g c = rw (c.in_ok-map.ensures.others_sizes Dump refl, c.in_ok-_types.ensures.others_sizes Dump refl) c.in_ok-core.ensures.inside
+answer-requires-clause-inside g c = rw (c.in_ok-map.ensures.others_sizes Dump refl, c.in_ok-types.ensures.others_sizes Dump refl) c.in_ok-core.ensures.inside

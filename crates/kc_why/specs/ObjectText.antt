@@ -1,0 +1,75 @@
+-- What is printed of the object that has an address.
+use Rattle.std.specs.Prelude.{ℕ, nat_lt, if◌then◌else◌, Bool, true, false, List, [], ◌++◌, codes, decimal, map, Option, Some, None, Result, Ok, Err}
+use Rattle.kc_text.specs.Text.{hex, visible}
+use Rattle.kc_report.specs.Lines.{rule_code}
+use Rattle.kc_found.specs.Violations.{Violation}
+use Rattle.kc_object.specs.declared.cache.Cache.{Cache}
+use Rattle.kc_object.specs.declared.free.FreeSpot.{FreeSpot}
+use Rattle.kc_object.specs.declared.held.Held.{Held}
+use Rattle.kc_object.specs.declared.page.Page.{Page}
+use Rattle.kc_object.specs.declared.slab.Slab.{Slab}
+use Rattle.kc_object.specs.declared.spot.ObjectSpot.{ObjectSpot}
+use Rattle.kc_object.specs.declared.spot.Spot.{Spot}
+use Rattle.kc_object.specs.declared.spot.Spot.TheVariants.{Before, Pad, Object, Past}
+
+-- why something can't be told: the rule, and what it is about
+abbrev pub unknown_text : Violation → List ℕ
+unknown_text v = codes " unknown " ++ rule_code v.rule ++ codes " " ++ hex v.at ++ codes "\n"
+
+-- a page: its descriptor, its number, and its head page's descriptor
+abbrev pub page_line : Page → List ℕ
+page_line p =
+    (codes "descriptor " ++ hex p.descriptor) ++ (codes " page " ++ hex p.number) ++ (codes " head " ++ hex p.head) ++ codes "\n"
+
+-- how many users a cache has; one that is never merged has a negative number there
+abbrev pub users_text : Option ℕ → List ℕ
+users_text None = []
+users_text (Some users) = if nat_lt users 0x8000000000000000 then codes " users " ++ decimal users else []
+
+-- a cache: its address and its name, the bytes from one object to the next, and how many users it has
+abbrev pub cache_line : Cache → ℕ → List ℕ
+cache_line c size = codes "cache " ++ hex c.at ++ codes " " ++ map visible c.name ++ codes " size " ++ decimal size ++ users_text c.users ++ codes "\n"
+
+-- a slab: its descriptor, its first byte, and how many objects it has and how many are in use
+abbrev pub slab_line : ℕ → Slab → List ℕ
+slab_line head s =
+    codes "slab " ++ hex head ++ codes " first " ++ hex s.first ++ codes " objects " ++ decimal s.counts.objects ++ codes " inuse " ++ decimal s.counts.inuse
+    ++ codes "\n"
+
+-- where the slab's own free list has the object; where it doesn't, a processor that owns the slab may have it in its list
+abbrev pub place_text : Option ℕ → ℕ → Bool → List ℕ
+place_text (Some place) length frozen = codes " free " ++ decimal place ++ codes " of " ++ decimal length ++ codes "\n"
+place_text None length true = codes " frozen\n"
+place_text None length false = codes " used\n"
+
+abbrev pub free_text : Result FreeSpot Violation → Bool → List ℕ
+free_text (Ok free) frozen = place_text free.place free.length frozen
+free_text (Err v) frozen = unknown_text v
+
+-- the object, its number in the slab, and the byte in it
+abbrev pub object_text : ObjectSpot → List ℕ
+object_text o = codes "object " ++ hex o.first ++ codes " number " ++ decimal o.number ++ codes " byte " ++ decimal o.byte
+
+-- where in its slab the address lies
+abbrev pub spot_line : Spot → Result FreeSpot Violation → Bool → List ℕ
+spot_line (Object o) free frozen = object_text o ++ free_text free frozen
+spot_line (Pad number) free frozen = codes "pad number " ++ decimal number ++ codes "\n"
+spot_line Past free frozen = codes "past\n"
+spot_line Before free frozen = codes "before\n"
+
+abbrev pub whole_slab : ℕ → Slab → List ℕ
+whole_slab head s = cache_line s.cache s.objects.size ++ slab_line head s ++ spot_line s.spot s.free s.counts.frozen
+
+abbrev pub slab_lines : ℕ → Result (Option Slab) Violation → List ℕ
+slab_lines head (Ok None) = []
+slab_lines head (Ok (Some s)) = whole_slab head s
+slab_lines head (Err v) = codes "slab" ++ unknown_text v
+
+-- what holds an address
+abbrev pub held_lines : Result Held Violation → List ℕ
+held_lines (Ok h) = page_line h.page ++ slab_lines h.page.head h.slab
+held_lines (Err v) = codes "descriptor" ++ unknown_text v
+
+abbrev pub object_lines : Option (Result Held Violation) → List ℕ
+object_lines None = []
+object_lines (Some told) = held_lines told
