@@ -1,5 +1,5 @@
 -- What shows why something of an object can't be told stands in the dump.
-use Rattle.std.proofs.Common.{◌≡◌, ℕ, ◌+◌, Bool, true, false, not, nat_eq, nat_lt, ◌||◌, List, Option, Some, None, refl}
+use Rattle.std.proofs.Common.{◌≡◌, ℕ, ◌+◌, Bool, true, false, not, nat_eq, nat_lt, ◌||◌, Option, Some, None, refl}
 use Rattle.std.specs.Prelude.{Result, Ok, Err, if◌then◌else◌}
 use Rattle.std.specs.Option.{unwrap_or}
 use Rattle.kc_memory.specs.declared.rule.Rule.TheVariants.{U3, U4}
@@ -28,7 +28,6 @@ use Rattle.kc_list.specs.Laws.{RingPlacesStand}
 use Rattle.kc_slub.specs.Laws.{FreePlacesStand}
 use Rattle.kc_object.specs.declared.counts.SlabCounts.{SlabCounts}
 use Rattle.kc_object.specs.declared.held.Held.{Held}
-use Rattle.kc_object.specs.declared.page.Page.{Page}
 use Rattle.kc_object.specs.declared.shape.ObjectShape.{ObjectShape}
 use Rattle.kc_object.specs.declared.slab.Slab.{Slab}
 use Rattle.kc_object.specs.declared.spot.Spot.{Spot}

@@ -19,7 +19,6 @@ use Rattle.kc_found.specs.Violations.{Violation, breaks_field}
 use Rattle.kc_object.specs.declared.cache.Cache.{Cache}
 use Rattle.kc_object.specs.declared.counts.SlabCounts.{SlabCounts}
 use Rattle.kc_object.specs.declared.held.Held.{Held}
-use Rattle.kc_object.specs.declared.page.Page.{Page}
 use Rattle.kc_object.specs.declared.shape.ObjectShape.{ObjectShape}
 use Rattle.kc_object.specs.declared.slab.Slab.{Slab}
 use Rattle.kc_object.specs.Caches.{cache_of}

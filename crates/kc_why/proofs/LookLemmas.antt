@@ -1,6 +1,6 @@
 -- What is seen of an address, once its parts are.
-use Rattle.std.proofs.Common.{◌≡◌, ℕ, List, Option, Some, None, Result, Ok, Err, IfOk, option_map, refl, subst, sym, ap}
-use Rattle.std.specs.Global.{Global, Vec}
+use Rattle.std.proofs.Common.{◌≡◌, ℕ, List, Option, Some, None, Result, Ok, Err, IfOk, option_map, refl, subst}
+use Rattle.std.specs.Global.{Vec}
 use Rattle.kc_word.specs.declared.plain.PageCfg.{PageCfg}
 use Rattle.kc_word.specs.declared.plain.Segment.{Segment}
 use Rattle.kc_word.specs.declared.plain.Tail.TheVariants as Tail
@@ -15,8 +15,7 @@ use Rattle.kc_where.specs.declared.stop.LookStop.{LookStop}
 use Rattle.kc_where.specs.Aliases.{aliases}
 use Rattle.kc_where.specs.Entries.{entries}
 use Rattle.kc_where.specs.Looks.{LooksAs, words}
-use Rattle.kc_where.specs.Sights.{near, page_start, sight, word_start}
-use Rattle.kc_where.specs.Views.{sight_view}
+use Rattle.kc_where.specs.Sights.{near, page_start, word_start}
 use Rattle.kc_why.specs.declared.objects.Sighted.{Sighted}
 use Rattle.kc_why.specs.Looking.{SightsAs, TellsAs}
 use Rattle.kc_why.specs.Memory.{image_of}

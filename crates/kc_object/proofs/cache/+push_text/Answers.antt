@@ -1,5 +1,4 @@
-use Rattle.std.proofs.Common.{rules, arith, Some, ap, true, false, ◌≡◌}
-use Rattle.std.proofs.lemmas.Grind.{common_steps}
+use Rattle.std.proofs.Common.{rules, true, false, ◌≡◌}
 use Rattle.kc_object.specs.Caches.{is_visible}
 use Rattle.kc_object.proofs.TextLemmas.{on_ok, text_ends, text_full, text_goes, text_unseen}
 use Rattle.kc_object.proofs.cache.+push_text.Goals as goal

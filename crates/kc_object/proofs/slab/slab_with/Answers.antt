@@ -1,4 +1,4 @@
-use Rattle.std.proofs.Common.{rules, ap, ◌≡◌}
+use Rattle.std.proofs.Common.{ap}
 use Rattle.kc_object.proofs.SlabLemmas.{slab_told}
 use Rattle.kc_object.proofs.slab.slab_with.Goals as goal
 
