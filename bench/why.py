@@ -13,6 +13,7 @@ import random
 import sys
 
 import child
+from objects import Objects
 from second import IMAGE, TOP, Broken, Core, Info, Memory, Refused, address, dec_of, symbols, vmcoreinfo
 
 RUNS = 5
@@ -213,6 +214,14 @@ def made_values(why, count):
     return some
 
 
+def held(objects, at):
+    """The lines of the object that holds an address, where the types tell it."""
+    try:
+        return "".join(line + "\n" for line in objects.lines(at))
+    except Refused:
+        return ""
+
+
 def compare(command, words, folder, wanted):
     """Whether a run of some words prints what is wanted."""
     status, out, err, _ = child.run(command + words, folder)
@@ -235,8 +244,9 @@ def main():
     why = Why(core, open(f"{folder}/{names[2]}", "rb").read())
     given, command = [int(word, 16) for word in sys.argv[3:]], [kwhy] + names
     addresses, values = given or made(why, 40), given or made_values(why, 8)
+    objects = Objects(core, open(f"{folder}/{names[1]}", "rb").read(), open(f"{folder}/{names[2]}", "rb").read())
     for at in addresses:
-        compare(command, [f"{at:x}"], folder, why.text(at))
+        compare(command, [f"{at:x}"], folder, why.text(at) + held(objects, at))
     for value in values:
         compare(command, ["refs", f"{value:x}"], folder, why.refs(value))
     print(len(addresses), "addresses", measure(command + [f"{addresses[0]:x}"], folder))
