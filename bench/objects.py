@@ -15,10 +15,17 @@ import sys
 import tempfile
 
 import child
-from second import TOP, Broken, Core, Info, Kernel, Memory, Refused, Types, address, free_list, slub, symbols
+from areas import Holders
+from second import IMAGE, TOP, Broken, Core, Info, Kernel, Memory, Refused, Types, address, free_list, slub, symbols
 
 NAMES = ["vmcore", "btf", "System.map"]
-LINES = re.compile(r"^(descriptor |cache |slab |object |pad |past|before)")
+LINES = re.compile(r"^(descriptor |cache |held by |slab |object |pad |past|before)")
+
+
+def all_rows(map_, kaslr):
+    """The run-time address and the name of each row, in the order of the file, so that the first of several at one address is found first."""
+    listed = ((int(line[:16], 16), line[19:].decode()) for line in map_.splitlines())
+    return [((at + kaslr) % TOP if at >= IMAGE else at, name) for at, name in listed]
 
 
 class Objects:
@@ -31,6 +38,7 @@ class Objects:
         self.kernel = Kernel(self.memory, Types(btf), symbols(map_), info)
         self.caches = address(self.kernel.rows, "slab_caches", info.kaslr)
         self.page_size = self.kernel.types.size(self.kernel.struct("page"))
+        self.rows, self.holders = all_rows(map_, info.kaslr), None
 
     def base(self, name, four, five):
         symbol = address(self.kernel.rows, name, self.kernel.info.kaslr)
@@ -53,6 +61,29 @@ class Objects:
                 break
             text, at = text + chr(byte), at + 1
         return text
+
+    def keys(self):
+        """Where the direct map begins, and the caches that encode free pointers: the address, the name and the random number of each."""
+        found = []
+        for node in self.kernel.ring(self.caches):
+            cache = (node - self.kernel.byte("kmem_cache", "list")) % TOP
+            coded = self.optional(cache, "random")
+            if coded is not None:
+                found.append((cache, self.name(cache), coded % TOP))
+        return self.keys_base(), found
+
+    def keys_base(self):
+        """Where the direct map begins."""
+        return self.base("page_offset_base", 0xFFFF888000000000, 0xFF11000000000000)
+
+    def free_lists(self, cache):
+        """The slabs of a cache's partial lists, each with the objects of its free list."""
+        kernel, bases = self.kernel, (self.base("vmemmap_base", 0xFFFFEA0000000000, 0xFFD4000000000000), self.keys_base())
+        offset, size = (kernel.field(cache, "kmem_cache", name)[0] for name in ("offset", "size"))
+        coded, pad = self.optional(cache, "random"), self.optional(cache, "red_left_pad") or 0
+        for slab in slub(kernel, cache):
+            base = (bases[1] + (slab - bases[0]) // self.page_size * 4096 + pad) % TOP
+            yield slab, free_list(kernel, slab, kernel.field(slab, "slab", "objects")[0], base, size, offset, coded)
 
     def free(self, slab, first, counts, of_cache):
         """Where the slab's own free list has the object."""
@@ -81,6 +112,8 @@ class Objects:
         start = distance // self.page_size * 4096
         users = self.optional(cache, "refcount")
         yield f"cache {cache:016x} {self.name(cache)} size {size[0]}" + ("" if users is None or users % TOP >> 63 else f" users {users}")
+        if users is not None and 1 < users % TOP < 1 << 63:
+            yield from self.held_by(cache)
         yield f"slab {slab:016x} first {(bases[1] + start) % TOP:016x} objects {objects[0]} inuse {inuse[0]}"
         number, byte = divmod(pa - start, size[0])
         if pa < start:
@@ -95,6 +128,14 @@ class Objects:
             counts = objects[0], inuse[0], frozen[0]
             free = self.free(slab, first, counts, (base, size[0], offset, coded))
             yield f"object {first:016x} number {number} byte {byte - pad} {free}"
+
+    def held_by(self, cache):
+        """The line of the symbols whose words hold a cache's address."""
+        if self.holders is None:
+            bounds = (address(self.kernel.rows, name, self.kernel.info.kaslr) for name in ("_etext", "_end"))
+            self.holders = Holders(self.memory, self.rows, *bounds)
+        if self.holders.of(cache):
+            yield "held by " + " ".join(self.holders.of(cache))
 
     def lines(self, va):
         try:

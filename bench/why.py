@@ -7,17 +7,19 @@ FOLDER has the files vmcore, btf and System.map (or z.core, z.btf and z.map); th
 the page tables at random, and of words of the dump. The second reader is `second.py`'s core and page tables and a search of the file for
 eight bytes, and shares no code with the program.
 """
+import array
 import mmap
 import os
 import random
 import sys
 
 import child
-from objects import Objects
+from areas import Areas
+from objects import Objects, all_rows
 from second import IMAGE, TOP, Broken, Core, Info, Memory, Refused, address, dec_of, symbols, vmcoreinfo
 
 RUNS = 5
-PATTERNS = (0x5A, 0x6B, 0xA5, 0xAA, 0xBB, 0xCC)
+PATTERNS = {0x5A: "uninitialized", 0x6B: "freed", 0xA5: "end", 0xAA: "unallocated", 0xBB: "redzone-free", 0xCC: "redzone-used"}
 POISON = (0xDEAD000000000100, 0xDEAD000000000122)
 FILLS = ("zero", "pattern", "text")
 
@@ -79,12 +81,7 @@ class Why:
         rows = symbols(map_)
         self.end = self.image_end(rows, info)
         self.base, self.phys_base = self.direct_base(rows, info), phys_base(self.core)
-        # in the order of the file, so that the first of several at one address is found first
-        self.rows = []
-        for line in map_.splitlines():
-            listed = int(line[:16], 16)
-            if listed >= IMAGE:
-                self.rows.append(((listed + info.kaslr) % TOP, line[19:].decode()))
+        self.rows = [row for row in all_rows(map_, info.kaslr) if row[0] >= IMAGE]
 
     def image_end(self, rows, info):
         """Where the kernel's image ends, if the map's rows say one address."""
@@ -136,6 +133,8 @@ class Why:
             return f'text "{value.to_bytes(8, "little").decode()}"'
         if kind == "small":
             return f"small {value}"
+        if kind == "pattern":
+            return f"pattern {value & 255:02x} {PATTERNS[value & 255]}"
         symbol = self.symbol(value) if kind == "number" else None
         return f"image {symbol}" if symbol else kind
 
@@ -157,10 +156,12 @@ class Why:
             high += 8
         return f"span {low:016x} {high + 7:016x}"
 
-    def text(self, at):
+    def text(self, at, areas):
         lines, va = [f"address {at:016x}"], at - at % 8
         if self.symbol(at):
             lines.append(f"symbol {self.symbol(at)}")
+        if self.end is None or not IMAGE <= at < self.end:
+            lines += areas
         found, size = entries(self.memory, va)
         for level, (_, pa, origin, value) in found:
             lines.append(f"entry {level} {pa:016x} {origin_text(origin)} {value:016x}")
@@ -176,27 +177,66 @@ class Why:
             lines.append(self.span(va, place[3]))
         return "\n".join(lines + [""])
 
-    def refs(self, value):
+    def encoded(self, values, keys):
+        """The places of the words that hold one of some values as a free pointer that a cache encodes, by value, in one pass."""
+        direct, caches = keys
+        table = {}
+        for value in values:
+            for cache, name, coded in reversed(caches):
+                table[value ^ coded] = value, f"encoded {cache:016x} {name}\n"
+        found = {value: {} for value in values}
+        for offset, start, size in self.core.loads:
+            skipped = -start % 8
+            words = array.array("Q", self.core.data[offset + skipped : offset + skipped + max(size - skipped, 0) // 8 * 8])
+            for k, word in enumerate(words):
+                pa = start + skipped + 8 * k
+                at = int.from_bytes(((direct + pa) % TOP).to_bytes(8, "little"), "big")
+                if word ^ at in table:
+                    value, line = table[word ^ at]
+                    if word != value:
+                        found[value].setdefault(offset, []).append((pa, offset + skipped + 8 * k, word, line))
+        return found
+
+    def refs(self, value, found):
         """The text of the words that hold a value, one segment after the other."""
         wanted, data, lines = value.to_bytes(8, "little"), self.core.data, []
         for offset, start, size in self.core.loads:
+            some = [(pa, at, f"place - {pa:016x} {at:016x} {word:016x}\n{line}") for pa, at, word, line in found.get(offset, [])]
             at = data.find(wanted, offset, offset + size)
             while at >= 0:
                 pa = start + at - offset
                 if pa % 8 == 0:
-                    lines.append(f"place - {pa:016x} {at:016x} {value:016x}\n")
+                    some.append((pa, at, f"place - {pa:016x} {at:016x} {value:016x}\n"))
                 at = data.find(wanted, at + 1, offset + size)
+            lines += [line for _, _, line in sorted(some)]
         return "".join(lines) + f"words {len(lines)}\n"
 
 
-def made(why, count):
-    """Addresses of symbols, of words that are there, and others, by a fixed seed."""
-    rng, some = random.Random(43), []
+def made(why, areas, count):
+    """Addresses of symbols, of words that are there, of areas, and others, by a fixed seed."""
+    rng, some = random.Random(43), made_areas(areas, count)
     for _ in range(count):
         some.append(rng.choice(why.rows)[0] + rng.randrange(64))
         offset, start, size = rng.choice(why.core.loads)
         pa = start + rng.randrange(max(size, 1))
         some += [0xFFFF888000000000 + pa, rng.randrange(TOP), 0xFFFFC90000000000 + rng.randrange(1 << 25), rng.randrange(1 << 32)]
+    return some
+
+
+def made_areas(areas, count):
+    """Addresses of modules, of processors' areas and of stacks, by a fixed seed."""
+    rng, some, kernel = random.Random(59), [], areas.kernel
+    try:
+        for node in kernel.ring(areas.symbol("modules"))[:count]:
+            module = (node - kernel.byte("module", "list")) % TOP
+            base, size = (kernel.field(module, "module", f"{areas.parts()[0]}.{name}")[0] for name in ("base", "size"))
+            some += [(base + rng.randrange(max(size, 1))) % TOP, (base + size) % TOP]
+        for number in range(kernel.memory.number(areas.symbol("nr_cpu_ids"), 0, 32)[0]):
+            offset = kernel.memory.place(areas.symbol("__per_cpu_offset") + 8 * number)[3]
+            some += [(offset + rng.randrange(areas.symbol("__per_cpu_end"))) % TOP, offset, (offset + areas.symbol("__per_cpu_end")) % TOP]
+        some += [(stack + rng.randrange(16384)) % TOP for stack, _ in rng.sample(areas.stacks(), min(count, len(areas.stacks())))]
+    except (Broken, Refused, TypeError):
+        pass
     return some
 
 
@@ -214,12 +254,21 @@ def made_values(why, count):
     return some
 
 
+def made_objects(objects, count):
+    """Objects that a free pointer leads to, of the slabs that caches have in their lists, by a fixed seed."""
+    rng, some = random.Random(61), []
+    for cache, _, _ in objects.keys()[1]:
+        for slab, found in objects.free_lists(cache):
+            some += found[1:]
+    return rng.sample(some, min(count, len(some)))
+
+
 def held(objects, at):
     """The lines of the object that holds an address, where the types tell it."""
     try:
-        return "".join(line + "\n" for line in objects.lines(at))
+        return objects.lines(at)
     except Refused:
-        return ""
+        return []
 
 
 def compare(command, words, folder, wanted):
@@ -243,12 +292,18 @@ def main():
         core = mmap.mmap(file.fileno(), 0, access=mmap.ACCESS_READ)
     why = Why(core, open(f"{folder}/{names[2]}", "rb").read())
     given, command = [int(word, 16) for word in sys.argv[3:]], [kwhy] + names
-    addresses, values = given or made(why, 40), given or made_values(why, 8)
-    objects = Objects(core, open(f"{folder}/{names[1]}", "rb").read(), open(f"{folder}/{names[2]}", "rb").read())
+    map_ = open(f"{folder}/{names[2]}", "rb").read()
+    objects = Objects(core, open(f"{folder}/{names[1]}", "rb").read(), map_)
+    areas = Areas(objects.kernel, all_rows(map_, objects.kernel.info.kaslr))
+    addresses, values = given or made(why, areas, 40), given or made_values(why, 8)
     for at in addresses:
-        compare(command, [f"{at:x}"], folder, why.text(at) + held(objects, at))
+        lines = held(objects, at)
+        slab = any(line.startswith("slab ") and " first " in line for line in lines)
+        compare(command, [f"{at:x}"], folder, why.text(at, areas.lines(at, slab)) + "".join(line + "\n" for line in lines))
+    values += [] if given else made_objects(objects, 8)
+    found = why.encoded(values, objects.keys())
     for value in values:
-        compare(command, ["refs", f"{value:x}"], folder, why.refs(value))
+        compare(command, ["refs", f"{value:x}"], folder, why.refs(value, found[value]))
     print(len(addresses), "addresses", measure(command + [f"{addresses[0]:x}"], folder))
     print(len(values), "values", measure(command + ["refs", f"{values[0]:x}"], folder))
 

@@ -6,6 +6,7 @@ use Rattle.kc_input.specs.declared.halt.Halt.{Halt}
 use Rattle.kc_input.specs.declared.halt.Halt.TheVariants.{Refused, Store, Memory}
 use Rattle.kc_input.specs.declared.refusal.Refusal.{Refusal}
 use Rattle.kc_input.specs.declared.refusal.Refusal.TheVariants as refusals
+use Rattle.kc_input.specs.declared.refusal.ReportFault.TheVariants as faults_of
 use Rattle.kc_input.specs.Calls.{called, refused_calls}
 use Rattle.kc_ends.specs.declared.answer.Answer.{Answer}
 use Rattle.kc_ends.specs.declared.answer.Answer.TheVariants.{Done, Broken}
@@ -29,6 +30,9 @@ refused_few faults asked old new refusals.NoType is = inr (inr (inl is))
 refused_few faults asked old new (refusals.Path f) is = inr (inr (inl is))
 refused_few faults asked old new (refusals.Plan f) is = inr (inr (inl is))
 refused_few faults asked old new (refusals.Certificate n) is = inr (inr (inl is))
+refused_few faults asked old new (refusals.Report faults_of.F1) is = inr (inl is)
+refused_few faults asked old new (refusals.Report (faults_of.Y1 at)) is = inr (inr (inl is))
+refused_few faults asked old new (refusals.Report faults_of.Y2) is = inr (inr (inl is))
 
 pub few : {S : Type 0} (faults asked : S → ℕ) (outcome : Option (Result Answer Halt)) (old new : S) → LayoutCalls faults asked outcome old new → FewCalls faults asked old new
 few faults asked None old new is = inl is

@@ -11,11 +11,12 @@ use crate::{
 use kc_btf::Btf;
 use kc_fixture::{MAP, btf_file};
 use kc_found::{Counts, ListSpace, Origin, Space, VWord, Walked};
-use kc_memory::{Miss, Rule, Stop};
+use kc_mem::Memory;
+use kc_memory::{FrameStop, Frames, PWord};
 use kc_notes::Info;
 use kc_plan::{Plan, read_plan};
 use kc_syms::Symbols;
-use kc_word::{NoMemory, Steps};
+use kc_word::{NoMemory, PageCfg, Steps};
 use std::alloc::{AllocError, Global};
 use std::marker::Brand;
 use std::sync::ledger::{Blank, Ledger};
@@ -252,13 +253,13 @@ const HEAD: u64 = IMAGE + 0xb120;
 
 const FIRST: u64 = DIRECT + 0x10_0000;
 
-// A ring of many nodes. It counts the words that are read.
+// The physical memory of a ring of many nodes, with its page tables. It counts the words that are read.
 #[derive(Drop)]
 struct LongRing {
     reads: u64,
 }
 
-impl Space for LongRing {
+impl Frames for LongRing {
     ghost image = { λ r. None };
 
     ghost files = { λ r. None };
@@ -267,42 +268,44 @@ impl Space for LongRing {
 
     ghost through = { λ r. [] };
 
-    ghost most = { λ r. 1 };
-
-    ghost most_some = { λ r. lit≤ tt };
-
-    ghost most_small = { λ r. lit≤ tt };
-
-    fn word<L: Ledger>(&mut self, va: u64, _: &mut Steps<L>) -> Result<VWord, Stop> {
+    fn word<L: Ledger>(&mut self, pa: u64, steps: &mut Steps<L>) -> Result<PWord, FrameStop> {
+        steps.tick();
         self.reads = self.reads.saturating_add(1);
-        let pa = va & 0xffff_ffff_ffff;
-        match linked(va) {
-            Some(value) => Ok(VWord {
-                va,
-                pa,
-                off: Origin::File(pa),
+        match entry(pa).or_else(|| linked(pa)) {
+            Some(value) => Ok(PWord {
                 value,
+                off: Origin::File(pa),
             }),
-            None => Err(Stop::Miss(Miss {
-                va,
-                rule: Rule::M6,
-                level: 0,
-                pa: 0,
-                entry: None,
-            })),
+            None => Err(FrameStop::Absent),
         }
     }
 }
 
+// A page of the size that an entry's level has, or a table, which is there and may be written.
+const PAGE: u64 = 0x83;
+
+const TABLE: u64 = 0x03;
+
+// The entries that map the first GiB of memory, in the kernel's image and in the direct map: two of the top table, each with one
+// below it.
+fn entry(pa: u64) -> Option<u64> {
+    match pa {
+        0x1ff8 => Some(0x2000 | TABLE),
+        0x1888 => Some(0x3000 | TABLE),
+        0x2ff0 | 0x3000 => Some(PAGE),
+        _ => None,
+    }
+}
+
 // What a word of the ring holds: the address of the node after it, or before it.
-fn linked(va: u64) -> Option<u64> {
-    if va == HEAD {
+fn linked(pa: u64) -> Option<u64> {
+    if pa == HEAD - IMAGE {
         return Some(FIRST);
     }
-    if va == HEAD + 8 {
+    if pa == HEAD - IMAGE + 8 {
         return Some(node(NODES - 1));
     }
-    let at = va.checked_sub(FIRST)?;
+    let at = pa.checked_sub(FIRST - DIRECT)?;
     let number = at / 16;
     match at % 16 {
         0 if number < NODES => Some(node(number + 1)),
@@ -344,12 +347,19 @@ fn ring_list(alloc: Global, nodes: u64) -> Result<Walked, NoMemory> {
     Ok(list)
 }
 
-// How many steps a certificate has, and how many nodes each; the answer, and how many words were read.
+const PAGING: PageCfg = PageCfg {
+    table: 0x1000,
+    five: false,
+    sme: 0,
+};
+
+// How many steps a certificate has, and how many nodes each; the answer, and how many words were read, entries of page tables
+// among them.
 const PAID: [(u64, u64, &str); 4] = [
     (0, 0, "no 1, 0 reads"),
-    (1, 0, "no 1, 1 reads"),
-    (1, 2, "no 1, 2 reads"),
-    (1, NODES, "yes 1 100000, 200002 reads"),
+    (1, 0, "no 1, 3 reads"),
+    (1, 2, "no 1, 4 reads"),
+    (1, NODES, "yes 1 100000, 200786 reads"),
 ];
 
 #[test]
@@ -362,9 +372,16 @@ fn reads_are_paid_by_the_certificate(rt: HostRuntime) -> Result<(), Fail> {
     };
     for (steps, nodes, wanted) in PAID {
         let cert = ring_cert(alloc, steps, nodes)?;
-        let mut ring = LongRing { reads: 0 };
-        let found = answer::<LongRing, Brand>(alloc, &plan, &btf, &mut ring, &cert, Blank::new(1))?;
-        let reads = ring.reads;
+        let mut memory = Memory::new(alloc, LongRing { reads: 0 }, PAGING, 1)?;
+        let found = answer::<Memory<LongRing>, Brand>(
+            alloc,
+            &plan,
+            &btf,
+            &mut memory,
+            &cert,
+            Blank::new(1),
+        )?;
+        let reads = memory.into_frames().reads;
         let told = format!(in alloc; "{found}, {reads} reads")?;
         assert_eq!(rt; told.as_str(), wanted);
     }

@@ -6,6 +6,7 @@ use Rattle.kc_input.specs.declared.halt.Halt.{Halt}
 use Rattle.kc_input.specs.declared.halt.Halt.TheVariants.{Refused, Store, Memory}
 use Rattle.kc_input.specs.declared.refusal.Refusal.{Refusal}
 use Rattle.kc_input.specs.declared.refusal.Refusal.TheVariants as refusals
+use Rattle.kc_input.specs.declared.refusal.ReportFault.TheVariants as faults
 
 -- the count of calls after so many more
 abbrev pub called : ℕ → ℕ → ℕ
@@ -30,6 +31,7 @@ Opens faults asked (Err failed) old new = FailedLast 2 faults asked old new
 -- how often the store was called where a file that is read whole is refused: one that is too long isn't read
 abbrev pub refused_calls : Refusal → ℕ
 refused_calls (refusals.TooLong slot) = 2
+refused_calls (refusals.Report faults.F1) = 2
 refused_calls _ = 3
 
 -- The calls that read one file whole: it is opened, its size is asked, and it is read once. Where memory is wanting for its bytes,

@@ -1,5 +1,5 @@
 -- What the files of a command hold, and what is looked up in them.
-use Rattle.std.specs.Prelude.{ℕ, ◌≤◌, ◌^◌, List, length, Option}
+use Rattle.std.specs.Prelude.{ℕ, ◌≤◌, ◌^◌, nat_le, if◌then◌else◌, List, length, Option}
 use Rattle.std.specs.List.{flat_map}
 use Rattle.kc_outside.specs.declared.store.Slot.TheVariants as slot
 use Rattle.kc_elf.specs.Parts.{Parts}
@@ -13,7 +13,8 @@ use Rattle.kc_layout.specs.Ends.{NumberAt, field}
 use Rattle.kc_syms.specs.Addresses.{common_of}
 use Rattle.kc_syms.specs.Rows.{RowText, rows}
 use Rattle.kc_input.specs.declared.refusal.Refusal.TheVariants as refusal
-use Rattle.kc_input.specs.Made.{◌>>=◌, Made, bytes_in, checked, gives, short_file, wanted}
+use Rattle.kc_input.specs.declared.refusal.ReportFault.TheVariants.{F1}
+use Rattle.kc_input.specs.Made.{◌>>=◌, Made, bytes_in, checked, gives, refuses, short_file, wanted}
 
 -- the segments and notes of a dump, or its first fault
 abbrev pub dump_parts : Option (List ℕ) → Made Parts
@@ -70,3 +71,10 @@ plan_in file = short_file slot.Plan file
 -- the bytes of a certificate, unless it is above the limit
 abbrev pub cert_bytes_in : Option (List ℕ) → Made (List ℕ)
 cert_bytes_in file = short_file slot.Report file
+
+-- the bytes of a report, unless it is above 1 MiB
+abbrev pub report_short : List ℕ → Made (List ℕ)
+report_short bytes = if nat_le (length bytes) (2 ^ 20) then gives bytes else refuses (refusal.Report F1)
+
+abbrev pub report_bytes_in : Option (List ℕ) → Made (List ℕ)
+report_bytes_in file = bytes_in file >>= report_short

@@ -22,7 +22,9 @@ use Rattle.kc_keys.specs.declared.fault.PRule.TheVariants.{P1, P2, P3, P4, P5, P
 use Rattle.kc_keys.specs.Keys.{spelled}
 use Rattle.kc_text.specs.Text.{hex}
 use Rattle.kc_input.specs.declared.refusal.Refusal.{Refusal}
-use Rattle.kc_input.specs.declared.refusal.Refusal.TheVariants.{Core, Notes, TooLong, Types, Module as of_module, MapLine, Symbol, NoType, Path, Plan as of_plan, Certificate}
+use Rattle.kc_input.specs.declared.refusal.Refusal.TheVariants.{Core, Notes, TooLong, Types, Module as of_module, MapLine, Symbol, NoType, Path, Plan as of_plan, Certificate, Report as of_report}
+use Rattle.kc_input.specs.declared.refusal.ReportFault.{ReportFault}
+use Rattle.kc_input.specs.declared.refusal.ReportFault.TheVariants.{F1, Y1, Y2}
 
 -- the code of a core file's fault, with the index of a program header
 abbrev pub core_code : CoreFault → List ℕ
@@ -119,6 +121,12 @@ slot_name Plan = codes "plan"
 slot_name Report = codes "cert"
 slot_name Module = codes "module"
 
+-- the code of a report's fault, with the place in its file
+abbrev pub report_code : ReportFault → List ℕ
+report_code F1 = codes "F1"
+report_code (Y1 at) = codes "Y1 at " ++ decimal at
+report_code Y2 = codes "Y2"
+
 -- what is refused, and by which rule
 abbrev pub refusal_text : Refusal → List ℕ
 refusal_text (Core fault) = codes "dump " ++ core_code fault
@@ -132,6 +140,7 @@ refusal_text NoType = codes "path Q1 step 0"
 refusal_text (Path fault) = codes "path " ++ path_code fault.rule ++ codes " step " ++ decimal fault.step
 refusal_text (of_plan fault) = codes "plan " ++ plan_code fault
 refusal_text (Certificate at) = codes "cert Z1 at " ++ decimal at
+refusal_text (of_report fault) = codes "report " ++ report_code fault
 
 abbrev pub refusal_line : Refusal → List ℕ
 refusal_line refusal = codes "refused " ++ refusal_text refusal ++ codes "\n"

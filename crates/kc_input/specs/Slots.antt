@@ -3,7 +3,7 @@ use Rattle.std.specs.Prelude.{◌≡◌, ⊤, Option, Some, None, Result, Ok, Er
 use Rattle.kc_outside.specs.declared.store.Slot.{Slot}
 use Rattle.kc_outside.specs.declared.store.Slot.TheVariants.{Dump, Btf, Map, Plan as plan_slot, Report, Module as module_slot}
 use Rattle.kc_input.specs.declared.refusal.Refusal.{Refusal}
-use Rattle.kc_input.specs.declared.refusal.Refusal.TheVariants.{Core, Notes, TooLong, Types, Module, MapLine, Symbol, NoType, Path, Plan, Certificate}
+use Rattle.kc_input.specs.declared.refusal.Refusal.TheVariants.{Core, Notes, TooLong, Types, Module, MapLine, Symbol, NoType, Path, Plan, Certificate, Report as report_refused}
 use Rattle.kc_input.specs.declared.halt.Halt.{Halt}
 use Rattle.kc_input.specs.declared.halt.Halt.TheVariants.{Refused, Store, Memory}
 
@@ -20,6 +20,7 @@ refused_slot NoType = None
 refused_slot (Path fault) = None
 refused_slot (Plan fault) = Some plan_slot
 refused_slot (Certificate at) = Some Report
+refused_slot (report_refused fault) = Some Report
 
 -- a refusal is about this file, or about none
 abbrev pub IsAbout : {A : Type 0} → Option Slot → Result A Refusal → Type 0

@@ -46,8 +46,8 @@ pub fn open<S: Store>(store: &mut S, slot: Slot, name: &str) -> Result<u64, Fail
     store.size(slot)
 }
 
-// Reads an opened file whole.
-fn read_opened<S: Store>(
+/// Reads an opened file whole, of at most 256 MiB.
+pub fn read_opened<S: Store>(
     alloc: Global,
     store: &mut S,
     slot: Slot,

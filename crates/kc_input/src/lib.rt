@@ -1,5 +1,5 @@
-//! What the files of a command hold, or the first refusal: a dump and its notes, types, symbols, a plan's text and a
-//! certificate's.
+//! What the files of a command hold, or the first refusal: a dump and its notes, types, symbols, a plan's text, a
+//! certificate's and a report's.
 #![tactic(auto)]
 
 mod cert;
@@ -12,6 +12,7 @@ mod map;
 mod module;
 mod plan;
 mod refusal;
+mod report;
 mod types;
 
 pub use cert::read_cert_file;
@@ -22,5 +23,6 @@ pub use line::refusal_line;
 pub use map::{read_map, read_symbols};
 pub use module::read_module;
 pub use plan::read_plan_file;
-pub use refusal::Refusal;
+pub use refusal::{Refusal, ReportFault};
+pub use report::read_report_file;
 pub use types::read_types;

@@ -1,9 +1,9 @@
 // The line of a refusal.
 ghost use Rattle.std.specs.Prelude.{◌≡◌, ◌++◌, Some, codes, decimal, IfOk, OnOk};
 ghost use Rattle.kc_text.specs.Text.{hex};
-ghost use Rattle.kc_input.specs.Lines.{audit_part, btf_code, btf_text, core_code, key_part, key_text, note_code, path_code, plan_code, plan_rule, refusal_line, refusal_text, slot_name, symbol_code};
+ghost use Rattle.kc_input.specs.Lines.{audit_part, btf_code, btf_text, core_code, key_part, key_text, note_code, path_code, plan_code, plan_rule, refusal_line, refusal_text, report_code, slot_name, symbol_code};
 
-use crate::refusal::Refusal;
+use crate::refusal::{Refusal, ReportFault};
 use kc_btf::{BRule, BtfFault};
 use kc_elf::CoreFault;
 use kc_keys::{PRule, PlanFault, PlanKey, spelling};
@@ -227,6 +227,17 @@ fn push_plan(text: &mut Vec<u8>, fault: PlanFault) -> Result<(), NoMemory>
     push_key(text, fault.key)
 }
 
+fn push_report(text: &mut Vec<u8>, fault: ReportFault) -> Result<(), NoMemory>
+    ensures { OnOk result (text.new.items ≡ text.old.items ++ (codes "report " ++ report_code fault)) }
+{
+    push(text, b"report ")?;
+    match fault {
+        ReportFault::F1 => push(text, b"F1"),
+        ReportFault::Y1(at) => push_numbered(text, b"Y1 at ", at),
+        ReportFault::Y2 => push(text, b"Y2"),
+    }
+}
+
 fn push_refusal(text: &mut Vec<u8>, refusal: Refusal) -> Result<(), NoMemory>
     ensures { OnOk result (text.new.items ≡ text.old.items ++ refusal_text refusal) }
 {
@@ -242,6 +253,7 @@ fn push_refusal(text: &mut Vec<u8>, refusal: Refusal) -> Result<(), NoMemory>
         Refusal::Path(fault) => push_path(text, fault),
         Refusal::Plan(fault) => push_plan(text, fault),
         Refusal::Certificate(at) => push_numbered(text, b"cert Z1 at ", at),
+        Refusal::Report(fault) => push_report(text, fault),
     }
 }
 

@@ -10,6 +10,17 @@ use kc_notes::NoteFault;
 use kc_outside::Slot;
 use kc_syms::SymFault;
 
+/// Why the file of a report is refused.
+#[derive(Clone, Copy, Debug, PartialEq, Eq)]
+pub enum ReportFault {
+    /// It is above 1 MiB.
+    F1,
+    /// It is no report's text. Its longest front that begins some report's text has this length in bytes.
+    Y1(u64),
+    /// It isn't the report of this plan on this dump.
+    Y2,
+}
+
 /// The first fault of a command's files, or of what it looks up in them.
 #[derive(Clone, Copy, Debug, PartialEq, Eq)]
 pub enum Refusal {
@@ -36,6 +47,8 @@ pub enum Refusal {
     /// The file of a certificate is no certificate's text. Its longest front that begins some certificate's text has this
     /// length in bytes.
     Certificate(u64),
+    /// The file of a report is too long, is no report's text, or is the report of something else.
+    Report(ReportFault),
 }
 
 impl From<CoreFault> for Refusal {

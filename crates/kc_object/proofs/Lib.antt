@@ -1,3 +1,3 @@
-pub mod TextLemmas
 pub mod SlabLemmas
 pub mod ObjectLaws
+mod KeyLemmas

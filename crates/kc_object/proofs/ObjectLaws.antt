@@ -33,7 +33,8 @@ use Rattle.kc_object.specs.declared.slab.Slab.{Slab}
 use Rattle.kc_object.specs.declared.spot.Spot.{Spot}
 use Rattle.kc_object.specs.FreeSpots.{free_spot}
 use Rattle.kc_object.specs.Laws.{ObjectsStand, broken_places, places, slab_places}
-use Rattle.kc_object.specs.Pages.{bases_at, descriptor_of, looked_at, number_of, page_of}
+use Rattle.kc_lookup.specs.Looked.{looked_at}
+use Rattle.kc_object.specs.Pages.{bases_at, descriptor_of, number_of, page_of}
 use Rattle.kc_object.specs.Slabs.{counts_of, held, is_listed, slab_at, slab_of, some_slab}
 
 -- what is known of the words, fields, rings and free lists of a dump

@@ -12,7 +12,7 @@ use Rattle.kc_found.specs.Violations.{Violation}
 use Rattle.kc_object.specs.declared.free.FreeSpot.{FreeSpot}
 use Rattle.kc_object.specs.declared.spot.Spot.{Spot}
 use Rattle.kc_object.specs.declared.spot.Spot.TheVariants.{Before, Pad, Object, Past}
-use Rattle.kc_object.specs.Pages.{looked_at}
+use Rattle.kc_lookup.specs.Looked.{looked_at}
 
 -- the place of an object among those of a free list, counted from 1
 abbrev pub place_of : List ℕ → Spot → Option ℕ

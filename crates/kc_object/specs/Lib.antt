@@ -1,8 +1,9 @@
+pub mod Bounds
 pub mod Caches
 pub mod FreeSpots
+pub mod Keys
 pub mod Laws
 pub mod Pages
 pub mod Shapes
 pub mod Slabs
 pub mod Spots
-pub mod Unread

@@ -10,12 +10,9 @@ use Rattle.kc_found.specs.declared.asked.Asked.{Asked}
 use Rattle.kc_found.specs.Nodes.{at_offset}
 use Rattle.kc_found.specs.Trials.{and_then}
 use Rattle.kc_found.specs.Violations.{Violation}
+use Rattle.kc_lookup.specs.Looked.{looked_at}
 use Rattle.kc_object.specs.declared.page.Page.{Page}
 use Rattle.kc_object.specs.declared.shape.ObjectShape.{ObjectShape}
-
--- no audit asks, and what is looked at is named as the start
-abbrev pub looked_at : ℕ → Asked
-looked_at at = record { audit = 0; start = at }
 
 -- where page descriptors and physical memory begin; no memory node is looked at
 abbrev pub bases_at : Image → Asked → SlubShape → Result SlubBases Violation

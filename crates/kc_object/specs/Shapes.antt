@@ -1,16 +1,12 @@
 -- Where the words stand that tell which object has an address. Source: the kernel's include/linux/mm_types.h, `struct page`;
 -- include/linux/slub_def.h, `struct kmem_cache` (from 6.8 on in mm/slab.h); mm/slab_common.c, `slab_caches`.
-use Rattle.std.specs.Prelude.{ℕ, codes, Option, Some, None, Result, Ok, Err, if◌then◌else◌}
-use Rattle.kc_syms.specs.declared.fault.SymFault.{SymFault}
+use Rattle.std.specs.Prelude.{codes, Option, Some, None, if◌then◌else◌}
 use Rattle.kc_kinds.specs.declared.row.Row.{Row}
 use Rattle.kc_kinds.specs.Kernels.{Kernel, address_in, are_single}
 use Rattle.kc_kinds.specs.Members.{◌>>=◌, inner_in, scalar_in, struct_named}
 use Rattle.kc_kinds.specs.Slabs.{slub_row, slub_words}
+use Rattle.kc_lookup.specs.Kernels.{single}
 use Rattle.kc_object.specs.declared.shape.ObjectShape.{ObjectShape}
-
-abbrev pub single : Result ℕ SymFault → Option ℕ
-single (Ok address) = Some address
-single (Err fault) = None
 
 -- in a kernel of whose structs these are those that slab caches need
 unfoldable pub shape_with : Kernel → Row → Option ObjectShape

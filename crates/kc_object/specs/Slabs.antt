@@ -23,7 +23,8 @@ use Rattle.kc_object.specs.declared.shape.ObjectShape.{ObjectShape}
 use Rattle.kc_object.specs.declared.slab.Slab.{Slab}
 use Rattle.kc_object.specs.Caches.{cache_of}
 use Rattle.kc_object.specs.FreeSpots.{free_spot}
-use Rattle.kc_object.specs.Pages.{bases_at, looked_at, page_of}
+use Rattle.kc_lookup.specs.Looked.{looked_at}
+use Rattle.kc_object.specs.Pages.{bases_at, page_of}
 use Rattle.kc_object.specs.Spots.{spot_of}
 
 -- how many objects a slab has and how many of them are in use, with U3 of the first, and whether a processor owns it

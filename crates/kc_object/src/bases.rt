@@ -1,33 +1,15 @@
 // Where page descriptors and physical memory begin.
-ghost use Rattle.std.specs.Prelude.{◌≡◌};
+ghost use Rattle.std.specs.Prelude.{◌≡◌, ◌+◌, ◌≤◌};
 ghost use Rattle.kc_memory.specs.Stays.{SpaceStays};
 ghost use Rattle.kc_found.specs.Walks.{CountsWalkFaults, WalksAs};
 ghost use Rattle.kc_view.specs.Caches.{base_of};
-ghost use Rattle.kc_object.specs.Pages.{bases_at, looked_at};
+ghost use Rattle.kc_object.specs.Pages.{bases_at};
 
-use kc_btf::Btf;
 use kc_found::{Asked, Space, WalkStop, stopped};
-use kc_view::{Base, SlubBases, SlubShape, View};
+use kc_view::{Base, SlubBases, SlubShape};
 use kc_word::Steps;
 use std::alloc::Global;
 use std::sync::ledger::Ledger;
-
-// No audit asks, and what is looked at is named as the start.
-pub(crate) fn looked_at(at: u64) -> Asked
-    ensures { result ≡ looked_at at }
-{
-    Asked {
-        audit: 0,
-        start: at,
-    }
-}
-
-// What lies at an address, whose fields are found by their offsets alone: the type's number is that of `void`.
-pub(crate) fn view_at(btf: &Btf, at: u64) -> View<'_>
-    ensures { result ≡ record { types = btf.now; ty = 0; at = at } }
-{
-    View::new(btf, 0, at)
-}
 
 // A base, which may be a word of memory.
 fn read_base<S: Space, L: Ledger>(
@@ -38,6 +20,7 @@ fn read_base<S: Space, L: Ledger>(
     steps: &mut Steps<L>,
 ) -> Result<u64, WalkStop>
     ensures exact { WalksAs (λ n. n) (λ i. base_of i asked.now base) (S.image space.old) result }
+    ensures steps { steps.new ≤ steps.old + 6 }
     ensures stays { SpaceStays S.image S.files S.through S.most space.old space.new }
     ensures cause { CountsWalkFaults result (S.faults space.old) (S.faults space.new) }
 {
@@ -59,6 +42,7 @@ pub(crate) fn read_bases<S: Space, L: Ledger>(
     steps: &mut Steps<L>,
 ) -> Result<SlubBases, WalkStop>
     ensures exact { WalksAs (λ b. b) (λ i. bases_at i asked.now shape.now) (S.image space.old) result }
+    ensures steps { steps.new ≤ steps.old + 12 }
     ensures stays { SpaceStays S.image S.files S.through S.most space.old space.new }
     ensures cause { CountsWalkFaults result (S.faults space.old) (S.faults space.new) }
 {

@@ -1,5 +1,5 @@
 // How many objects a slab has.
-ghost use Rattle.std.specs.Prelude.{◌≡◌};
+ghost use Rattle.std.specs.Prelude.{◌≡◌, ◌+◌, ◌≤◌};
 ghost use Rattle.kc_memory.specs.Stays.{SpaceStays};
 ghost use Rattle.kc_found.specs.Walks.{CountsWalkFaults, WalksAs};
 ghost use Rattle.kc_object.specs.Slabs.{counts_of};
@@ -32,6 +32,7 @@ pub(crate) fn read_counts<S: Space, L: Ledger>(
     steps: &mut Steps<L>,
 ) -> Result<SlabCounts, WalkStop>
     ensures exact { WalksAs (λ n. n) (λ i. counts_of i asked.now shape.now slab.now.at) (S.image space.old) result }
+    ensures steps { steps.new ≤ steps.old + 180 }
     ensures stays { SpaceStays S.image S.files S.through S.most space.old space.new }
     ensures cause { CountsWalkFaults result (S.faults space.old) (S.faults space.new) }
 {

@@ -4,12 +4,13 @@ ghost use Rattle.std.specs.List.{position};
 ghost use Rattle.kc_memory.specs.Stays.{SpaceStays};
 ghost use Rattle.kc_found.specs.FreeLists.{IsGrid};
 ghost use Rattle.kc_found.specs.Walks.{CountsWalkFaults, WalksAs};
+ghost use Rattle.kc_object.specs.Bounds.{WithinWalks};
 ghost use Rattle.kc_object.specs.FreeSpots.{free_spot, place_of};
 
-use crate::bases::looked_at;
 use crate::spot::Spot;
 use kc_fields::read_field;
 use kc_found::{Found, Grid, Space, WalkStop, Walked};
+use kc_lookup::looked_at;
 use kc_slub::free_walk;
 use kc_view::{SlubShape, View};
 use kc_word::Steps;
@@ -58,6 +59,7 @@ fn read_free<S: Space, L: Ledger>(
 ) -> Result<FreeSpot, WalkStop>
     requires { IsGrid grid.now }
     ensures exact { WalksAs (λ f. f) (λ i. free_spot i shape.now grid.now slab.now.at spot.now) (S.image space.old) result }
+    ensures bound { WithinWalks (S.image space.old) (S.most space.old) 1 60 steps.old steps.new }
     ensures stays { SpaceStays S.image S.files S.through S.most space.old space.new }
     ensures cause { CountsWalkFaults result (S.faults space.old) (S.faults space.new) }
 {
@@ -82,6 +84,7 @@ pub(crate) fn tell_free<S: Space, L: Ledger>(
 ) -> Result<Result<FreeSpot, Found>, WalkStop>
     requires { IsGrid grid.now }
     ensures exact { WalksAs (λ f. f) (λ i. Ok (free_spot i shape.now grid.now slab.now.at spot.now)) (S.image space.old) result }
+    ensures bound { WithinWalks (S.image space.old) (S.most space.old) 1 60 steps.old steps.new }
     ensures stays { SpaceStays S.image S.files S.through S.most space.old space.new }
     ensures cause { CountsWalkFaults result (S.faults space.old) (S.faults space.new) }
 {

@@ -2,14 +2,16 @@
 ghost use Rattle.std.specs.Prelude.{◌≡◌};
 ghost use Rattle.kc_memory.specs.Stays.{SpaceStays};
 ghost use Rattle.kc_found.specs.Walks.{CountsWalkFaults, WalksAs};
+ghost use Rattle.kc_object.specs.Bounds.{WithinWalks};
 ghost use Rattle.kc_object.specs.Slabs.{held};
 
-use crate::bases::{looked_at, read_bases};
+use crate::bases::read_bases;
 use crate::page::{Page, read_page};
 use crate::shape::ObjectShape;
 use crate::slab::{Slab, slab_at};
 use kc_btf::Btf;
 use kc_found::{Found, Space, WalkStop};
+use kc_lookup::looked_at;
 use kc_word::Steps;
 use std::alloc::Global;
 use std::sync::ledger::Ledger;
@@ -38,6 +40,7 @@ pub fn find_object<S: Space, L: Ledger>(
     steps: &mut Steps<L>,
 ) -> Result<Held, WalkStop>
     ensures exact { WalksAs (λ h. h) (λ i. held i shape.now pa) (S.image space.old) result }
+    ensures bound { WithinWalks (S.image space.old) (S.most space.old) 2 1500 steps.old steps.new }
     ensures stays { SpaceStays S.image S.files S.through S.most space.old space.new }
     ensures cause { CountsWalkFaults result (S.faults space.old) (S.faults space.new) }
 {

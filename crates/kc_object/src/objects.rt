@@ -23,6 +23,7 @@ fn read_optional<S: Space, L: Ledger>(
 ) -> Result<Option<u64>, WalkStop>
     requires { cache.now.at ≡ asked.now.start }
     ensures exact { WalksAs (λ n. n) (λ i. optional_of i asked.now field.now) (S.image space.old) result }
+    ensures steps { steps.new ≤ steps.old + 60 }
     ensures stays { SpaceStays S.image S.files S.through S.most space.old space.new }
     ensures cause { CountsWalkFaults result (S.faults space.old) (S.faults space.new) }
 {
@@ -47,6 +48,7 @@ pub(crate) fn read_objects<S: Space, L: Ledger>(
     requires { cache.now.at ≡ asked.now.start }
     ensures exact { WalksAs (λ o. o) (λ i. objects_of i asked.now shape.now) (S.image space.old) result }
     ensures fits { IfOk result (λ o. (1 ≤ o.size) × (o.offset + 8 ≤ o.size)) }
+    ensures steps { steps.new ≤ steps.old + 240 }
     ensures stays { SpaceStays S.image S.files S.through S.most space.old space.new }
     ensures cause { CountsWalkFaults result (S.faults space.old) (S.faults space.new) }
 {

@@ -1,14 +1,14 @@
 // The page that holds a physical address.
-ghost use Rattle.std.specs.Prelude.{◌≡◌};
+ghost use Rattle.std.specs.Prelude.{◌≡◌, ◌+◌, ◌≤◌};
 ghost use Rattle.kc_memory.specs.Stays.{SpaceStays};
 ghost use Rattle.kc_found.specs.Walks.{CountsWalkFaults, WalksAs};
 ghost use Rattle.kc_object.specs.Pages.{descriptor_of, head_of, page_of};
 
-use crate::bases::{looked_at, view_at};
 use crate::shape::ObjectShape;
 use kc_btf::Btf;
 use kc_fields::read_field;
 use kc_found::{Space, WalkStop};
+use kc_lookup::{looked_at, view_at};
 use kc_view::{SlubBases, SlubShape};
 use kc_word::Steps;
 use std::alloc::Global;
@@ -55,6 +55,7 @@ pub(crate) fn read_page<S: Space, L: Ledger>(
     steps: &mut Steps<L>,
 ) -> Result<Page, WalkStop>
     ensures exact { WalksAs (λ p. p) (λ i. page_of i shape.now bases.now pa) (S.image space.old) result }
+    ensures steps { steps.new ≤ steps.old + 60 }
     ensures stays { SpaceStays S.image S.files S.through S.most space.old space.new }
     ensures cause { CountsWalkFaults result (S.faults space.old) (S.faults space.new) }
 {

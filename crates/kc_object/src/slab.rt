@@ -3,9 +3,9 @@ ghost use Rattle.std.specs.Prelude.{◌≡◌, ◌≤◌, ◌+◌, ◌*◌, ◌<
 ghost use Rattle.kc_memory.specs.Stays.{SpaceStays};
 ghost use Rattle.kc_found.specs.Walks.{CountsWalkFaults, WalksAs};
 ghost use Rattle.kc_view.specs.Caches.{grid_of, is_descriptor, page_of};
+ghost use Rattle.kc_object.specs.Bounds.{WithinWalks};
 ghost use Rattle.kc_object.specs.Slabs.{is_listed, slab_at, slab_of, slab_with, start_of};
 
-use crate::bases::{looked_at, view_at};
 use crate::cache::{Cache, read_cache};
 use crate::counts::{SlabCounts, read_counts};
 use crate::free::{FreeSpot, tell_free};
@@ -16,6 +16,7 @@ use kc_btf::Btf;
 use kc_fields::read_field;
 use kc_found::{Found, Grid, Rule, Space, WalkStop, Walked, broken_field};
 use kc_list::ring;
+use kc_lookup::{looked_at, view_at};
 use kc_view::{FieldNumber, SlabObjects, SlubBases, SlubShape};
 use kc_word::Steps;
 use std::alloc::Global;
@@ -96,6 +97,7 @@ fn slab_with<S: Space, L: Ledger>(
     requires inside { objects.offset + 8 ≤ objects.size }
     requires descriptor { IsTrue (is_descriptor shape.now.slub bases.now slab) }
     ensures exact { WalksAs (λ s. s) (λ i. Ok (slab_with i shape.now bases.now slab pa cache objects counts)) (S.image space.old) result }
+    ensures bound { WithinWalks (S.image space.old) (S.most space.old) 1 60 steps.old steps.new }
     ensures stays { SpaceStays S.image S.files S.through S.most space.old space.new }
     ensures cause { CountsWalkFaults result (S.faults space.old) (S.faults space.new) }
 {
@@ -127,6 +129,7 @@ fn read_slab<S: Space, L: Ledger>(
     steps: &mut Steps<L>,
 ) -> Result<Slab, WalkStop>
     ensures exact { WalksAs (λ s. s) (λ i. slab_of i shape.now bases.now slab pa cache.now) (S.image space.old) result }
+    ensures bound { WithinWalks (S.image space.old) (S.most space.old) 1 1368 steps.old steps.new }
     ensures stays { SpaceStays S.image S.files S.through S.most space.old space.new }
     ensures cause { CountsWalkFaults result (S.faults space.old) (S.faults space.new) }
 {
@@ -177,6 +180,7 @@ pub(crate) fn slab_at<S: Space, L: Ledger>(
     steps: &mut Steps<L>,
 ) -> Result<Option<Slab>, WalkStop>
     ensures exact { WalksAs (λ s. s) (λ i. slab_at i shape.now bases.now head pa) (S.image space.old) result }
+    ensures bound { WithinWalks (S.image space.old) (S.most space.old) 2 1428 steps.old steps.new }
     ensures stays { SpaceStays S.image S.files S.through S.most space.old space.new }
     ensures cause { CountsWalkFaults result (S.faults space.old) (S.faults space.new) }
 {

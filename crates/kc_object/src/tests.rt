@@ -88,7 +88,7 @@ const CASES: [(u64, u64, u64, &str); 12] = [
         5000,
         0x0000_7972_0a6e_6564,
         415_600,
-        "page 101 of 6400: den, 2 users, 1 of 2: Past, None of 1",
+        "page 101 of 6400: den\nry, 2 users, 1 of 2: Past, None of 1",
     ),
 ];
 

@@ -1,2 +1,3 @@
 mod BlockLemmas
 mod StoreLemmas
+mod WritingLemmas

@@ -1,10 +1,12 @@
--- The words of a dump's file that hold a value. Source: ELF-64 object files (gABI), "Program Header"; words are those at physical
+-- The words of a dump's file that hold what is looked for. Source: ELF-64 object files (gABI), "Program Header"; words are those at physical
 -- addresses that are multiples of 8, and numbers are little-endian.
-use Rattle.std.specs.Prelude.{ℕ, ◌+◌, ◌-◌, ◌*◌, ◌/◌, ◌%◌, ◌≤◌, Bool, nat_eq, List, [], ◌∷◌, ◌++◌, map, drop, length}
-use Rattle.std.specs.List.{filter, range_with_len}
+use Rattle.std.specs.Prelude.{ℕ, ◌+◌, ◌-◌, ◌*◌, ◌/◌, ◌%◌, ◌≤◌, List, [], ◌∷◌, ◌++◌, map, drop, Option, option_map}
+use Rattle.std.specs.List.{filter_map, range_with_len}
 use Rattle.byteorder.specs.Endian.{little_number}
 use Rattle.kc_word.specs.declared.plain.Segment.{Segment}
+use Rattle.kc_refs.specs.declared.place.FoundWord.{FoundWord}
 use Rattle.kc_refs.specs.declared.place.WordPlace.{WordPlace}
+use Rattle.kc_refs.specs.Writings.{Sought, writing}
 
 -- how many bytes of a segment come before its first word
 abbrev pub skipped : Segment → ℕ
@@ -22,26 +24,30 @@ place s k = record { pa = s.paddr + skipped s + 8 * k; off = s.offset + skipped 
 abbrev pub places : Segment → ℕ → ℕ → List WordPlace
 places s first count = map (place s) (range_with_len first count)
 
--- a word holds a value, by bytes that begin at a file offset
-abbrev pub holds_from : ℕ → List ℕ → ℕ → WordPlace → Bool
-holds_from from bytes value p = nat_eq (little_number 8 (drop (p.off - from) bytes)) value
+-- how the word at a place holds what is looked for, where it does
+abbrev pub found_by : Sought → ℕ → WordPlace → Option FoundWord
+found_by sought word p = option_map (λ w. record { place = p; value = word; writing = w }) (writing sought word p.pa)
+
+-- by bytes that begin at a file offset
+abbrev pub found_from : ℕ → List ℕ → Sought → WordPlace → Option FoundWord
+found_from from bytes sought p = found_by sought (little_number 8 (drop (p.off - from) bytes)) p
 
 -- by the file's bytes
-abbrev pub holds : ℕ → List ℕ → WordPlace → Bool
-holds value bytes p = nat_eq (little_number 8 (drop p.off bytes)) value
+abbrev pub found_at : Sought → List ℕ → WordPlace → Option FoundWord
+found_at sought bytes p = found_by sought (little_number 8 (drop p.off bytes)) p
 
--- of a segment's words from one on, so many, those that hold a value, by a block that begins with them
-abbrev pub in_block : ℕ → List ℕ → Segment → ℕ → ℕ → List WordPlace
-in_block value block s first count = filter (holds_from (place s first).off block value) (places s first count)
+-- of a segment's words from one on, so many, those that hold it, by a block that begins with them
+abbrev pub in_block : Sought → List ℕ → Segment → ℕ → ℕ → List FoundWord
+in_block sought block s first count = filter_map (found_from (place s first).off block sought) (places s first count)
 
 -- those of a segment that do, by rising place
-abbrev pub in_segment : ℕ → List ℕ → Segment → List WordPlace
-in_segment value bytes s = filter (holds value bytes) (places s 0 (word_count s))
+abbrev pub in_segment : Sought → List ℕ → Segment → List FoundWord
+in_segment sought bytes s = filter_map (found_at sought bytes) (places s 0 (word_count s))
 
 -- and those of segments, one segment after the other
-unfoldable pub in_segments : ℕ → List ℕ → List Segment → List WordPlace
-in_segments value bytes [] = []
-in_segments value bytes (s ∷ others) = in_segment value bytes s ++ in_segments value bytes others
+unfoldable pub in_segments : Sought → List ℕ → List Segment → List FoundWord
+in_segments sought bytes [] = []
+in_segments sought bytes (s ∷ others) = in_segment sought bytes s ++ in_segments sought bytes others
 
 -- a segment's file bytes lie inside a file of this size
 abbrev pub IsInside : ℕ → Segment → Type 0

@@ -1,12 +1,15 @@
-//! Where a value is written in a dump: the words of its file that hold it. The whole file is read, once, in blocks.
+//! Where a value is written in a dump: the words of its file that hold it, as it is or as an encoded free pointer. The whole file is
+//! read, once, in blocks.
 #![tactic(auto)]
 
 mod place;
 mod search;
+mod sought;
 mod stop;
 #[cfg(test)]
 mod tests;
 
-pub use place::WordPlace;
+pub use place::{FoundWord, WordPlace};
 pub use search::find_words;
+pub use sought::{Sought, Writing};
 pub use stop::SearchStop;

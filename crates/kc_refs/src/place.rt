@@ -1,4 +1,5 @@
-// Where a word stands.
+// Where a word stands, and how it holds a value.
+use crate::sought::Writing;
 
 /// A word of 8 bytes in the dump's file.
 #[derive(Clone, Copy, Debug, PartialEq, Eq)]
@@ -7,4 +8,15 @@ pub struct WordPlace {
     pub pa: u64,
     /// The file offset of its first byte.
     pub off: u64,
+}
+
+/// A word of the dump's file that holds a value.
+#[derive(Clone, Copy, Debug, PartialEq, Eq)]
+pub struct FoundWord {
+    /// Where it stands.
+    pub place: WordPlace,
+    /// What stands there.
+    pub value: u64,
+    /// How it holds the value that is looked for.
+    pub writing: Writing,
 }

@@ -1,4 +1,4 @@
-// The search for words that hold a value.
+// The search for words that hold what is looked for.
 ghost use Rattle.std.specs.Prelude.{◌≡◌, ◌+◌, ◌*◌, ◌≤◌, ◌<◌, ◌++◌, length, drop, take, vec_len, IsSome, IfOk, OnOk};
 ghost use Rattle.std.specs.List.{All};
 ghost use Rattle.std.specs.Option.{ForSome};
@@ -9,7 +9,8 @@ ghost use Rattle.kc_elf.specs.Stays.{StoreStays};
 ghost use Rattle.kc_refs.specs.Holding.{IsAddressed, IsInside, in_block, in_segment, in_segments, place, skipped, word_count};
 ghost use Rattle.kc_refs.specs.Stops.{CountsFaults, Told};
 
-use crate::place::WordPlace;
+use crate::place::{FoundWord, WordPlace};
+use crate::sought::Sought;
 use crate::stop::SearchStop;
 use byteorder::{ByteOrder, LittleEndian};
 use kc_outside::{Slot, Store};
@@ -51,25 +52,31 @@ fn place(segment: &Segment, k: u64) -> WordPlace
     }
 }
 
-// Adds those of some words that hold a value; the bytes of the block are theirs.
+// Adds those of some words that hold what is looked for; the bytes of the block are theirs.
 fn add_words(
     block: &[u8],
     segment: &Segment,
     first: u64,
     count: u64,
-    value: u64,
-    found: &mut Vec<WordPlace>,
+    sought: &Sought,
+    found: &mut Vec<FoundWord>,
 ) -> Result<(), NoMemory>
     requires addressed { IsAddressed segment.now }
     requires inside { segment.now.offset + segment.now.filesz < 18446744073709551616 }
     requires below { first + count ≤ word_count segment.now }
     requires room { 8 * count ≤ length block.now }
-    ensures { OnOk result (found.new.items ≡ found.old.items ++ in_block value block.now segment.now first count) }
+    ensures { OnOk result (found.new.items ≡ found.old.items ++ in_block sought.now block.now segment.now first count) }
 {
     for k in 0..count {
         let at = (WORD_BYTES * k) as usize;
-        if LittleEndian::read_u64(&block[at..]) == value {
-            found.push(place(segment, first + k))?;
+        let value = LittleEndian::read_u64(&block[at..]);
+        let place = place(segment, first + k);
+        if let Some(writing) = sought.writing(value, place.pa) {
+            found.push(FoundWord {
+                place,
+                value,
+                writing,
+            })?;
         }
     }
     Ok(())
@@ -109,13 +116,13 @@ fn new_block(alloc: Global) -> Result<Vec<u8>, AllocError>
     vec![in alloc; 0; BLOCK_BYTES]
 }
 
-// Adds the words of a segment that hold a value.
+// Adds the words of a segment that hold what is looked for.
 fn search_segment<S: Store>(
     store: &mut S,
     segment: &Segment,
-    value: u64,
+    sought: &Sought,
     block: &mut [u8],
-    found: &mut Vec<WordPlace>,
+    found: &mut Vec<FoundWord>,
 ) -> Result<(), SearchStop>
     requires addressed { IsAddressed segment.now }
     requires room { length block.old ≡ 65536 }
@@ -123,7 +130,7 @@ fn search_segment<S: Store>(
     requires within { ForSome (S.sizes store.old Dump) (λ size. IsInside size segment.now) }
 
     ensures found { OnOk result (Told (content (S.files store.old) Dump (S.opened store.old Dump)) (λ bytes.
-        found.new.items ≡ found.old.items ++ in_segment value bytes segment.now)) }
+        found.new.items ≡ found.old.items ++ in_segment sought.now bytes segment.now)) }
     ensures length { length block.new ≡ length block.old }
     ensures stays { StoreStays S.opened S.sizes S.files S.may S.asked store.old store.new }
     ensures cause { CountsFaults result (S.faults store.old) (S.faults store.new) }
@@ -133,13 +140,13 @@ fn search_segment<S: Store>(
     while first < words {
         let count = BLOCK_WORDS.min(words - first);
         read_words(store, segment, first, count, block)?;
-        add_words(block, segment, first, count, value, found)?;
+        add_words(block, segment, first, count, sought, found)?;
         first += count;
     }
     Ok(())
 }
 
-/// The words of the segments' file bytes that hold a value: those at physical addresses that are multiples of 8, one segment after
+/// The words of the segments' file bytes that hold what is looked for: those at physical addresses that are multiples of 8, one segment after
 /// the other in the order of the table, each by rising place. The file in slot Dump is read once, in blocks.
 ///
 /// # Errors
@@ -149,21 +156,21 @@ pub fn find_words<S: Store>(
     alloc: Global,
     store: &mut S,
     segments: &[Segment],
-    value: u64,
-) -> Result<Vec<WordPlace>, SearchStop>
+    sought: &Sought,
+) -> Result<Vec<FoundWord>, SearchStop>
     requires addressed { All IsAddressed segments.now }
     requires learnt { IsSome (S.sizes store.old Dump) }
     requires within { ForSome (S.sizes store.old Dump) (λ size. All (IsInside size) segments.now) }
 
     ensures found { IfOk result (λ found. Told (content (S.files store.old) Dump (S.opened store.old Dump)) (λ bytes.
-        found.items ≡ in_segments value bytes segments.now)) }
+        found.items ≡ in_segments sought.now bytes segments.now)) }
     ensures stays { StoreStays S.opened S.sizes S.files S.may S.asked store.old store.new }
     ensures cause { CountsFaults result (S.faults store.old) (S.faults store.new) }
 {
     let mut block = new_block(alloc)?;
     let mut found = Vec::new(alloc);
     for segment in segments {
-        search_segment(store, segment, value, &mut block, &mut found)?;
+        search_segment(store, segment, sought, &mut block, &mut found)?;
     }
     Ok(found)
 }

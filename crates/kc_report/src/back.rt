@@ -10,7 +10,7 @@ ghost use Rattle.kc_report.specs.Faults.{IsRefused};
 ghost use Rattle.kc_report.specs.Formats.{broken_format, clean_format, each_format, end_of, line_format, place_format, report_format, report_from, result_format, root_format, roots_format};
 ghost use Rattle.kc_report.specs.Heads.{IsHead, head_broken};
 ghost use Rattle.kc_report.specs.IsReport.{IsReport};
-ghost use Rattle.kc_report.specs.Reads.{AddsOne, ReadsOne};
+ghost use Rattle.kc_report.specs.Reads.{AddsOne, ReadsOne, ReadsReport, report_in};
 
 use crate::read::{Head, read_head, read_line, read_place};
 use crate::report::{BrokenText, CleanLine, CleanLines, Report, RootResult, RootText, RootTexts};
@@ -30,6 +30,7 @@ pub fn read_report(alloc: Global, bytes: &[u8]) -> Result<Report, ReportStop>
     ensures report { IfOk result (λ report. IsReport bytes.now report) }
     ensures only { IfOk result (λ report. (other : Report) → IsReport bytes.now other → other ≡ report) }
     ensures refused { IfErr result (λ stop. IsRefused stop bytes.now) }
+    ensures made { ReadsReport (report_in bytes.now) result }
 {
     match read_any(alloc, bytes) {
         Ok((report, _)) => Ok(report),

@@ -251,6 +251,11 @@ each_stands law None count audits rs found all = tt
 each_stands law (Some i) count audits rs found all =
     zip_weaker (IsRoot (Some i) count audits) (λ r v. IsClean v.verdict ↔ RootStands i audits r) rs found (λ r v is. subst (λ (v : RootVerdict). IsClean v.verdict ↔ RootStands i audits r) is.exact (law i audits r)) all
 
+pub one_stands : CleanRootsStand → (image : Option Image) (audits : List AuditAt) (r : Root) (found : RootVerdict) → IfSome image (λ i. root_verdict i audits r ≡ found) →
+    IfSome image (λ i. IsClean found.verdict ↔ RootStands i audits r)
+one_stands law None audits r found exact = tt
+one_stands law (Some i) audits r found exact = subst (λ (v : RootVerdict). IsClean v.verdict ↔ RootStands i audits r) exact (law i audits r)
+
 -- the first violation of some, and of those behind them
 first_append : (es us : List Event) → first_wrong (es ++ us) ≡ or_later (first_wrong es) (first_wrong us)
 first_append [] us = refl

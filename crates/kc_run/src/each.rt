@@ -1,5 +1,5 @@
 // Each root audit of a plan.
-ghost use Rattle.std.specs.Prelude.{◌≡◌, ◌≤◌, ◌<◌, ◌↔◌, [], ◌∷◌, ◌++◌, length, map, nat_lt, IsTrue, IfOk, IfSome, OnOk};
+ghost use Rattle.std.specs.Prelude.{◌≡◌, ◌≤◌, ◌<◌, ◌↔◌, [], ◌∷◌, ◌++◌, length, map, nat_lt, option_map, IsTrue, IfOk, IfSome, OnOk};
 ghost use Rattle.std.specs.List.{AllZip, list_all};
 ghost use Rattle.kc_memory.specs.Stays.{SpaceStays};
 ghost use Rattle.kc_found.specs.declared.verdict.RootVerdict.{RootVerdict as RootFound};
@@ -11,7 +11,7 @@ ghost use Rattle.kc_plan.specs.Stands.{RootStands};
 ghost use Rattle.kc_plan.specs.Verdicts.{IsClean};
 ghost use Rattle.kc_plan.specs.Views.{plan_seen};
 ghost use Rattle.kc_run.specs.Answers.{CountsRunFaults};
-ghost use Rattle.kc_run.specs.Each.{AddsRoots};
+ghost use Rattle.kc_run.specs.Each.{AddsRoots, asked_root, root_at};
 ghost use Rattle.kc_run.specs.Tally.{counts_at};
 
 use crate::counts::no_walks;
@@ -137,6 +137,57 @@ fn root_verdict<S: Space, L: Ledger>(
         }),
         Err(stop) => Err(stop),
     }
+}
+
+/// The root audit with a number in the plan, with its symbol's address, or `None` exactly where the audit with that number
+/// is no root audit, or there is none.
+pub fn root_at(plan: &Plan, number: u32) -> Option<Asked>
+    ensures root { option_map asked_root result ≡ root_at number (plan_seen plan.now) }
+    ensures inside { IfSome result (λ root. root.audit < length plan.now.audits) }
+{
+    if number >= plan.count() {
+        return None;
+    }
+    match plan.audit(number).start {
+        Start::Root { symbol, .. } => Some(Asked {
+            audit: number,
+            start: symbol,
+        }),
+        Start::From { .. } => None,
+    }
+}
+
+/// The verdict on one root audit of a plan, of which [`root_at`] has the number and the symbol's address: its first
+/// violation, or where there is none how often each audit that it reaches walked, and how many elements it met. No other
+/// root audit is made.
+///
+/// # Errors
+///
+/// A failure of the space, whose count of faults then rose, or out of memory.
+pub fn run_root<S: Space, L: Ledger>(
+    alloc: Global,
+    plan: &Plan,
+    btf: &Btf,
+    root: &Asked,
+    space: &mut S,
+    steps: &mut Steps<L>,
+) -> Result<RootVerdict, RunStop>
+    requires inside { root.now.audit < length plan.now.audits }
+    requires types { AreInside (length btf.now.records) plan.now.audits }
+
+    ensures exact { IfOk result (λ found. IfSome (S.image space.old)
+        (λ image. root_verdict image (plan_seen plan.now) (root.now.audit, root.now.start) ≡ found)) }
+    // On a dump that is told the verdict is clean exactly where the root audit stands.
+    ensures stands { IfOk result (λ found. IfSome (S.image space.old) (λ image.
+        IsClean found.verdict ↔ RootStands image (plan_seen plan.now) (root.now.audit, root.now.start))) }
+    ensures root { IfOk result (λ found. found.root ≡ root.now.audit) }
+    ensures fits { IfOk result (FitsRoot (length plan.now.audits) (plan_seen plan.now)) }
+
+    ensures stays { SpaceStays S.image S.files S.through S.most space.old space.new }
+    ensures cause { CountsRunFaults result (S.faults space.old) (S.faults space.new) }
+{
+    know_verdicts();
+    root_verdict(alloc, &Known { plan, btf }, space, root, steps)
 }
 
 // Adds the verdict on an audit, where it is a root audit.

@@ -3,3 +3,4 @@ pub mod ReadLemmas
 pub mod EntryLemmas
 pub mod SightLaws
 pub mod NearestLaws
+pub mod HolderLemmas

@@ -6,9 +6,10 @@ use Rattle.kc_memory.specs.Places.{AllStandIn}
 use Rattle.kc_syms.specs.Rows.{RowText, rows}
 use Rattle.kc_where.specs.declared.aliases.Rules.{Rules}
 use Rattle.kc_where.specs.declared.symbol.ImageMap.{ImageMap}
+use Rattle.kc_where.specs.Holders.{holders}
 use Rattle.kc_where.specs.Nearest.{SymbolAt, below, image_end, image_symbol, nearest}
 use Rattle.kc_where.specs.Sights.{places, sight}
-use Rattle.kc_where.specs.Views.{image_symbols}
+use Rattle.kc_where.specs.Views.{image_symbols, symbols_from, symbols_holding}
 
 -- each word stands in the dump, at the place where it is seen
 abbrev pub SightsStand : Type 0
@@ -18,20 +19,30 @@ SightsStand = (image : Image) (rules : Rules) (address : ℕ) → AllStandIn ima
 abbrev pub SymbolsAreRows : Type 0
 SymbolsAreRows = (m : ImageMap) (listed : List RowText) (address : ℕ) → rows m.map.now ≡ Ok listed → m.end ≡ image_end m.kaslr listed → image_symbols m address ≡ image_symbol m.kaslr listed address
 
+-- and so are those from an address on
+abbrev pub SymbolsFromAreRows : Type 0
+SymbolsFromAreRows = (m : ImageMap) (listed : List RowText) (from address : ℕ) → rows m.map.now ≡ Ok listed → symbols_from m from address ≡ nearest from m.kaslr address listed
+
 -- a symbol is that of one of these rows, which isn't above an address
-abbrev pub IsOneOf : ℕ → ℕ → SymbolAt → List RowText → Type 0
-IsOneOf kaslr address s [] = ⊥
-IsOneOf kaslr address s (row ∷ rows) = (below kaslr address row.listed row.name ≡ Some s) ⊎ IsOneOf kaslr address s rows
+abbrev pub IsOneOf : ℕ → ℕ → ℕ → SymbolAt → List RowText → Type 0
+IsOneOf from kaslr address s [] = ⊥
+IsOneOf from kaslr address s (row ∷ rows) = (below from kaslr address row.listed row.name ≡ Some s) ⊎ IsOneOf from kaslr address s rows
 
 -- and no other one, which isn't above the address, is higher
-pub record IsNearest (kaslr address : ℕ) (s : SymbolAt) (rows : List RowText) : Type 0 where
-  pub one : IsOneOf kaslr address s rows
-  pub highest : AllByRecursion (λ (row : RowText). IfSome (below kaslr address row.listed row.name) (λ t. t.address ≤ s.address)) rows
+pub record IsNearest (from kaslr address : ℕ) (s : SymbolAt) (rows : List RowText) : Type 0 where
+  pub one : IsOneOf from kaslr address s rows
+  pub highest : AllByRecursion (λ (row : RowText). IfSome (below from kaslr address row.listed row.name) (λ t. t.address ≤ s.address)) rows
 
 -- where there is none, each row's is above the address or not in the image
-abbrev pub NearestIs : ℕ → ℕ → List RowText → Option SymbolAt → Type 0
-NearestIs kaslr address rows None = AllByRecursion (λ (row : RowText). below kaslr address row.listed row.name ≡ None) rows
-NearestIs kaslr address rows (Some s) = IsNearest kaslr address s rows
+abbrev pub NearestIs : ℕ → ℕ → ℕ → List RowText → Option SymbolAt → Type 0
+NearestIs from kaslr address rows None = AllByRecursion (λ (row : RowText). below from kaslr address row.listed row.name ≡ None) rows
+NearestIs from kaslr address rows (Some s) = IsNearest from kaslr address s rows
 
 abbrev pub SymbolsAreNearest : Type 0
-SymbolsAreNearest = (kaslr address : ℕ) (rows : List RowText) → NearestIs kaslr address rows (nearest kaslr address rows)
+SymbolsAreNearest = (from kaslr address : ℕ) (rows : List RowText) → NearestIs from kaslr address rows (nearest from kaslr address rows)
+
+-- the symbols whose words hold a value are those of the rows
+abbrev pub HoldersAreRows : Type 0
+HoldersAreRows =
+    (image : Image) (m : ImageMap) (listed : List RowText) (value : ℕ) → rows m.map.now ≡ Ok listed
+    → symbols_holding image m value ≡ holders image m.text_end m.end m.kaslr value listed

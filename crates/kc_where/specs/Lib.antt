@@ -1,5 +1,6 @@
 pub mod Aliases
 pub mod Entries
+pub mod Holders
 pub mod Laws
 pub mod Lines
 pub mod Looks

@@ -4,6 +4,7 @@
 
 mod aliases;
 mod entries;
+mod holders;
 mod laws;
 mod meaning;
 mod sight;
@@ -14,6 +15,7 @@ mod words;
 
 pub use aliases::{Aliases, Rules, read_aliases};
 pub use entries::{Entry, page_bytes, read_entries};
+pub use holders::find_holders;
 pub use laws::know_sights;
 pub use meaning::{Meaning, meaning_of};
 pub use sight::{Sight, read_sight, word_start};

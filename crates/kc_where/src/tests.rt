@@ -68,6 +68,7 @@ fn symbols_stand_below(rt: HostRuntime) -> Result<(), Fail> {
     let image = ImageMap {
         map: MAP,
         kaslr: 0x10,
+        text_end: None,
         end: Some(0xffff_ffff_8200_0010),
     };
     for (address, wanted) in [
@@ -81,7 +82,7 @@ fn symbols_stand_below(rt: HostRuntime) -> Result<(), Fail> {
         let found = image.symbol(address).map(|symbol| symbol.name);
         assert_eq!(rt; found, wanted, "{address:x}");
     }
-    let end = nearest(MAP, 0x10, u64::MAX).map(|symbol| symbol.address);
+    let end = nearest(MAP, 0xffff_ffff_8000_0000, 0x10, u64::MAX).map(|symbol| symbol.address);
     assert_eq!(rt; end, Some(0xffff_ffff_8200_0010));
     Ok(())
 }

@@ -1,4 +1,6 @@
 pub mod TextLemmas
+pub mod ReportLemmas
 pub mod WhyLemmas
 pub mod WrittenLaws
 pub mod LookLemmas
+pub mod SearchLemmas

@@ -8,7 +8,6 @@ use Rattle.kc_memory.specs.Image.{Image, Physical}
 use Rattle.kc_memory.specs.Translation.{vword}
 use Rattle.kc_mem.specs.Paged.{with_paging}
 use Rattle.kc_phys.specs.Stored.{stored}
-use Rattle.kc_object.specs.declared.shape.ObjectShape.{ObjectShape}
 use Rattle.kc_where.specs.declared.aliases.Rules.{Rules}
 use Rattle.kc_where.specs.declared.entries.Entry.{Entry}
 use Rattle.kc_where.specs.declared.stop.LookStop.{LookStop}
@@ -19,7 +18,8 @@ use Rattle.kc_where.specs.Sights.{near, page_start, word_start}
 use Rattle.kc_why.specs.declared.objects.Sighted.{Sighted}
 use Rattle.kc_why.specs.Looking.{SightsAs, TellsAs}
 use Rattle.kc_why.specs.Memory.{image_of}
-use Rattle.kc_why.specs.Objects.{told_of}
+use Rattle.kc_why.specs.Objects.{Shapes, told_of}
+use Rattle.kc_why.specs.Views.{told_view}
 
 -- the parts of a sight, of a memory
 pub record Parts (image : Option Image) (rules : Rules) (address : ℕ) (r : Result Sighted LookStop) : Type 0 where
@@ -58,13 +58,13 @@ sighted content segments paging rules address physical seen es r stands is enter
     (sight_at (stored segments Tail.Absent content) paging rules address es r (subst (λ (q : Option Physical). Entered q paging address es) stands entered) way
     (subst (λ (m : Option Image). Parts m rules address r) is parts))
 
-tells_at : (image : Option Image) (shape : Option ObjectShape) (address : ℕ) (r : Result Sighted LookStop) → LooksAs (λ (s : Sighted). s.told) (λ i. told_of i shape address) image r → TellsAs image shape address r
-tells_at None shape address r told = tt
-tells_at (Some i) shape address (Ok s) told = told
-tells_at (Some i) shape address (Err e) told = tt
+tells_at : (image : Option Image) (shapes : Shapes) (address : ℕ) (r : Result Sighted LookStop) → LooksAs (λ (s : Sighted). told_view s.told) (λ i. told_of i shapes address) image r → TellsAs image shapes address r
+tells_at None shapes address r told = tt
+tells_at (Some i) shapes address (Ok s) told = told
+tells_at (Some i) shapes address (Err e) told = tt
 
-pub tells : (content : Option (List ℕ)) (segments : List Segment) (paging : PageCfg) (shape : Option ObjectShape) (address : ℕ) (seen : Option Image) (r : Result Sighted LookStop)
-    → seen ≡ with_paging paging (stored segments Tail.Absent content) → LooksAs (λ (s : Sighted). s.told) (λ i. told_of i shape address) seen r
-    → TellsAs (option_map (λ bytes. image_of bytes segments paging) content) shape address r
-tells content segments paging shape address seen r is told =
-    subst (λ (m : Option Image). TellsAs m shape address r) (same_memory content segments paging) (tells_at _ shape address r (subst (λ (m : Option Image). LooksAs (λ (s : Sighted). s.told) (λ i. told_of i shape address) m r) is told))
+pub tells : (content : Option (List ℕ)) (segments : List Segment) (paging : PageCfg) (shapes : Shapes) (address : ℕ) (seen : Option Image) (r : Result Sighted LookStop)
+    → seen ≡ with_paging paging (stored segments Tail.Absent content) → LooksAs (λ (s : Sighted). told_view s.told) (λ i. told_of i shapes address) seen r
+    → TellsAs (option_map (λ bytes. image_of bytes segments paging) content) shapes address r
+tells content segments paging shapes address seen r is told =
+    subst (λ (m : Option Image). TellsAs m shapes address r) (same_memory content segments paging) (tells_at _ shapes address r (subst (λ (m : Option Image). LooksAs (λ (s : Sighted). told_view s.told) (λ i. told_of i shapes address) m r) is told))

@@ -1,36 +1,42 @@
 -- What is shown of an address is true of the dump.
-use Rattle.std.specs.Prelude.{◌≡◌, ℕ, ◌+◌, ◌-◌, ◌%◌, ◌≤◌, ◌⊎◌, List, [], ◌∷◌, drop}
+use Rattle.std.specs.Prelude.{◌≡◌, ℕ, ◌+◌, ◌-◌, ◌%◌, ◌≤◌, ◌⊎◌, List, [], ◌∷◌, drop, Some}
 use Rattle.std.specs.List.{AllByRecursion, Contains}
 use Rattle.byteorder.specs.Endian.{little_number}
 use Rattle.kc_memory.specs.Places.{AllStandIn}
 use Rattle.kc_refs.specs.Holding.{in_segments}
-use Rattle.kc_refs.specs.declared.place.WordPlace.{WordPlace}
+use Rattle.kc_refs.specs.declared.place.FoundWord.{FoundWord}
+use Rattle.kc_refs.specs.Writings.{Sought, writing}
 use Rattle.kc_where.specs.Sights.{places, sight}
 use Rattle.kc_word.specs.declared.plain.Segment.{Segment}
-use Rattle.kc_why.specs.Why.{Shown, Sees, Finds}
+use Rattle.kc_cause.specs.Laws.{WordsStand}
+use Rattle.kc_why.specs.Searching.{sought_by}
+use Rattle.kc_why.specs.Why.{Shown, Sees, Finds, Tells}
 
--- A word of a segment holds a value: it stands whole in the segment's file bytes, at a physical address that is a multiple of 8, and the
--- file has the value at the offset of that address.
-pub record IsWritten (bytes : List ℕ) (value : ℕ) (p : WordPlace) (s : Segment) : Type 0 where
-  pub aligned : p.pa % 8 ≡ 0
-  pub after : s.paddr ≤ p.pa
-  pub whole : p.pa + 8 ≤ s.paddr + s.filesz
-  pub at : p.off ≡ s.offset + (p.pa - s.paddr)
-  pub holds : little_number 8 (drop p.off bytes) ≡ value
+-- A word of a segment holds what is looked for: it stands whole in the segment's file bytes, at a physical address that is a multiple of 8,
+-- with what the file has at the offset of that address.
+pub record IsWritten (bytes : List ℕ) (sought : Sought) (f : FoundWord) (s : Segment) : Type 0 where
+  pub aligned : f.place.pa % 8 ≡ 0
+  pub after : s.paddr ≤ f.place.pa
+  pub whole : f.place.pa + 8 ≤ s.paddr + s.filesz
+  pub at : f.place.off ≡ s.offset + (f.place.pa - s.paddr)
+  pub value : little_number 8 (drop f.place.off bytes) ≡ f.value
+  pub holds : writing sought f.value f.place.pa ≡ Some f.writing
 
 -- it is a word of one of the segments
-abbrev pub IsWrittenIn : List ℕ → ℕ → List Segment → WordPlace → Type 0
-IsWrittenIn bytes value [] p = ⊥
-IsWrittenIn bytes value (s ∷ others) p = IsWritten bytes value p s ⊎ IsWrittenIn bytes value others p
+abbrev pub IsWrittenIn : List ℕ → Sought → List Segment → FoundWord → Type 0
+IsWrittenIn bytes sought [] f = ⊥
+IsWrittenIn bytes sought (s ∷ others) f = IsWritten bytes sought f s ⊎ IsWrittenIn bytes sought others f
 
 -- each word that is shown stands in its memory, or in its dump, at the place that is shown
 abbrev pub Stand : Shown → Type 0
 Stand (Sees l) = AllStandIn l.image (places (sight l.image l.rules l.address))
-Stand (Finds s) = AllByRecursion (IsWrittenIn s.bytes s.value s.segments) (in_segments s.value s.bytes s.segments)
+Stand (Finds s) = AllByRecursion (IsWrittenIn s.bytes (sought_by s.value s.keys) s.segments) (in_segments (sought_by s.value s.keys) s.bytes s.segments)
+Stand (Tells e) = WordsStand e
 
 abbrev pub ShownStand : Type 0
 ShownStand = (s : Shown) → Stand s
 
--- and each word that holds a value is found
+-- and each word that holds what is looked for is found
 abbrev pub WrittenAreFound : Type 0
-WrittenAreFound = (bytes : List ℕ) (value : ℕ) (segments : List Segment) (p : WordPlace) → IsWrittenIn bytes value segments p → Contains (in_segments value bytes segments) p
+WrittenAreFound =
+    (bytes : List ℕ) (sought : Sought) (segments : List Segment) (f : FoundWord) → IsWrittenIn bytes sought segments f → Contains (in_segments sought bytes segments) f

@@ -4,13 +4,13 @@ use Rattle.kc_input.specs.declared.halt.Halt.{Halt}
 use Rattle.kc_input.specs.declared.halt.Halt.TheVariants.{Store, Memory}
 use Rattle.kc_memory.specs.Image.{Image}
 use Rattle.kc_where.specs.declared.aliases.Rules.{Rules}
-use Rattle.kc_object.specs.declared.shape.ObjectShape.{ObjectShape}
 use Rattle.kc_where.specs.declared.stop.LookStop.{LookStop}
 use Rattle.kc_where.specs.declared.stop.LookStop.TheVariants.{Fault, NoMemory}
 use Rattle.kc_where.specs.Sights.{sight}
 use Rattle.kc_where.specs.Views.{sight_view}
 use Rattle.kc_why.specs.declared.objects.Sighted.{Sighted}
-use Rattle.kc_why.specs.Objects.{told_of}
+use Rattle.kc_why.specs.Objects.{Shapes, told_of}
+use Rattle.kc_why.specs.Views.{told_view}
 
 -- a failure to read is one of the store
 abbrev pub halted : LookStop → Halt
@@ -27,11 +27,11 @@ abbrev pub SightsAs : {E : Type 0} → Option Image → Rules → ℕ → Result
 SightsAs None rules address r = ⊤
 SightsAs (Some image) rules address r = IsSight image rules address r
 
--- and what is told of an object is what holds the address
-abbrev pub IsTold : {E : Type 0} → Image → Option ObjectShape → ℕ → Result Sighted E → Type 0
-IsTold image shape address (Ok s) = s.told ≡ told_of image shape address
-IsTold image shape address (Err e) = ⊤
+-- and what is told is what a kernel tells of the address
+abbrev pub IsTold : {E : Type 0} → Image → Shapes → ℕ → Result Sighted E → Type 0
+IsTold image shapes address (Ok s) = told_view s.told ≡ told_of image shapes address
+IsTold image shapes address (Err e) = ⊤
 
-abbrev pub TellsAs : {E : Type 0} → Option Image → Option ObjectShape → ℕ → Result Sighted E → Type 0
-TellsAs None shape address r = ⊤
-TellsAs (Some image) shape address r = IsTold image shape address r
+abbrev pub TellsAs : {E : Type 0} → Option Image → Shapes → ℕ → Result Sighted E → Type 0
+TellsAs None shapes address r = ⊤
+TellsAs (Some image) shapes address r = IsTold image shapes address r

@@ -1,6 +1,8 @@
 -- What is printed of the object that has an address.
-use Rattle.std.specs.Prelude.{ℕ, nat_lt, if◌then◌else◌, Bool, true, false, List, [], ◌++◌, codes, decimal, map, Option, Some, None, Result, Ok, Err}
+use Rattle.std.specs.Prelude.{ℕ, nat_lt, if◌then◌else◌, Bool, true, false, List, [], ◌∷◌, ◌++◌, codes, decimal, map, Option, Some, None, Result, Ok, Err}
+use Rattle.kc_text.specs.Compose.{texts}
 use Rattle.kc_text.specs.Text.{hex, visible}
+use Rattle.kc_where.specs.Nearest.{SymbolAt}
 use Rattle.kc_report.specs.Lines.{rule_code}
 use Rattle.kc_found.specs.Violations.{Violation}
 use Rattle.kc_object.specs.declared.cache.Cache.{Cache}
@@ -57,19 +59,29 @@ spot_line (Pad number) free frozen = codes "pad number " ++ decimal number ++ co
 spot_line Past free frozen = codes "past\n"
 spot_line Before free frozen = codes "before\n"
 
-abbrev pub whole_slab : ℕ → Slab → List ℕ
-whole_slab head s = cache_line s.cache s.objects.size ++ slab_line head s ++ spot_line s.spot s.free s.counts.frozen
+-- a symbol's name
+abbrev pub holder_text : SymbolAt → List ℕ
+holder_text s = codes " " ++ map visible s.name
 
-abbrev pub slab_lines : ℕ → Result (Option Slab) Violation → List ℕ
-slab_lines head (Ok None) = []
-slab_lines head (Ok (Some s)) = whole_slab head s
-slab_lines head (Err v) = codes "slab" ++ unknown_text v
+-- the symbols whose words hold the cache's address, where there are some
+abbrev pub holder_line : List SymbolAt → List ℕ
+holder_line [] = []
+holder_line (s ∷ others) = codes "held by" ++ texts holder_text (s ∷ others) ++ codes "\n"
+
+abbrev pub whole_slab : ℕ → List SymbolAt → Slab → List ℕ
+whole_slab head holders s =
+    cache_line s.cache s.objects.size ++ holder_line holders ++ slab_line head s ++ spot_line s.spot s.free s.counts.frozen
+
+abbrev pub slab_lines : ℕ → List SymbolAt → Result (Option Slab) Violation → List ℕ
+slab_lines head holders (Ok None) = []
+slab_lines head holders (Ok (Some s)) = whole_slab head holders s
+slab_lines head holders (Err v) = codes "slab" ++ unknown_text v
 
 -- what holds an address
-abbrev pub held_lines : Result Held Violation → List ℕ
-held_lines (Ok h) = page_line h.page ++ slab_lines h.page.head h.slab
-held_lines (Err v) = codes "descriptor" ++ unknown_text v
+abbrev pub held_lines : List SymbolAt → Result Held Violation → List ℕ
+held_lines holders (Ok h) = page_line h.page ++ slab_lines h.page.head holders h.slab
+held_lines holders (Err v) = codes "descriptor" ++ unknown_text v
 
-abbrev pub object_lines : Option (Result Held Violation) → List ℕ
-object_lines None = []
-object_lines (Some told) = held_lines told
+abbrev pub object_lines : List SymbolAt → Option (Result Held Violation) → List ℕ
+object_lines holders None = []
+object_lines holders (Some held) = held_lines holders held

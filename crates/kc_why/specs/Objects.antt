@@ -1,28 +1,120 @@
--- Which object has an address.
-use Rattle.std.specs.Prelude.{ℕ, ◌+◌, ◌%◌, ◌^◌, List, Option, Some, None, Result, Ok, Err}
+-- What is told of an address, beside what is seen of it: the areas in which it lies, and which object has it.
+use Rattle.std.specs.Prelude.{ℕ, ◌+◌, ◌%◌, ◌^◌, ◌&&◌, Bool, true, false, not, nat_lt, if◌then◌else◌, codes, List, [], Option, Some, None, Result, Ok, Err}
+use Rattle.std.specs.Result.{result_ok}
 use Rattle.kc_btf.specs.Btf.{Types}
 use Rattle.kc_memory.specs.declared.words.VWord.{VWord}
 use Rattle.kc_memory.specs.Image.{Image}
 use Rattle.kc_memory.specs.Stopped.{Stopped}
 use Rattle.kc_memory.specs.Translation.{vword}
 use Rattle.kc_notes.specs.declared.info.Info.{Info}
+use Rattle.kc_syms.specs.Addresses.{common_of}
 use Rattle.kc_syms.specs.Rows.{RowText, addresses}
 use Rattle.kc_found.specs.Violations.{Violation}
 use Rattle.kc_kinds.specs.Kernels.{Kernel}
+use Rattle.kc_area.specs.declared.areas.Areas.{Areas}
+use Rattle.kc_area.specs.declared.shape.AreaShape.{AreaShape}
+use Rattle.kc_area.specs.Areas.{areas}
+use Rattle.kc_area.specs.Shapes.{area_shape}
+use Rattle.kc_object.specs.declared.cache.Cache.{Cache}
 use Rattle.kc_object.specs.declared.held.Held.{Held}
 use Rattle.kc_object.specs.declared.shape.ObjectShape.{ObjectShape}
+use Rattle.kc_object.specs.declared.slab.Slab.{Slab}
+use Rattle.kc_object.specs.Shapes.{object_shape}
 use Rattle.kc_object.specs.Slabs.{held}
+use Rattle.kc_where.specs.Holders.{holders}
+use Rattle.kc_where.specs.Nearest.{SymbolAt, image_end, in_image}
 use Rattle.kc_where.specs.Sights.{word_start}
 
+-- where a kernel has what tells of an address: page descriptors and slab caches, areas, where its image ends, and the symbols whose words
+-- hold a value in a memory
+pub record Shapes : Type 0 where
+  pub objects : Option ObjectShape
+  pub areas : AreaShape
+  pub end : Option ℕ
+  pub holding : Image → ℕ → List SymbolAt
+
+-- the areas in which an address lies, what holds it, and the symbols whose words hold the address of the object's cache
+pub record Told : Type 0 where
+  pub areas : Areas
+  pub held : Option (Result Held Violation)
+  pub holders : List SymbolAt
+
 -- what holds an address, by its word; nothing is told where the word can't be read, or the kernel lacks what that asks for
-abbrev pub told_by : Image → Option ObjectShape → ℕ → Result VWord Stopped → Option (Result Held Violation)
-told_by image None address word = None
-told_by image (Some shape) address (Err s) = None
-told_by image (Some shape) address (Ok w) = Some (held image shape ((w.pa + address % 8) % 2 ^ 64))
+abbrev pub held_by : Image → Option ObjectShape → ℕ → Result VWord Stopped → Option (Result Held Violation)
+held_by image None address word = None
+held_by image (Some shape) address (Err s) = None
+held_by image (Some shape) address (Ok w) = Some (held image shape ((w.pa + address % 8) % 2 ^ 64))
 
-abbrev pub told_of : Image → Option ObjectShape → ℕ → Option (Result Held Violation)
-told_of image shape address = told_by image shape address (vword image (word_start address))
+-- a slab holds it
+abbrev pub is_slab_told : Result (Option Slab) Violation → Bool
+is_slab_told (Ok (Some s)) = true
+is_slab_told (Ok None) = false
+is_slab_told (Err v) = false
 
--- the kernel of these types and of the rows of a map
+abbrev pub is_slab : Option (Result Held Violation) → Bool
+is_slab None = false
+is_slab (Some (Ok h)) = is_slab_told h.slab
+is_slab (Some (Err v)) = false
+
+-- no area is told of an address of the image; and a stack isn't in a slab
+abbrev pub no_areas : Areas
+no_areas = record { module_found = Ok None; processor_found = Ok None; stack_found = Ok None }
+
+abbrev pub areas_by : Image → Shapes → ℕ → Option (Result Held Violation) → Areas
+areas_by image shapes address held = if in_image shapes.end address then no_areas else areas image shapes.areas (not (is_slab held)) address
+
+-- a cache that has several users; one that is never merged has a negative number of them
+abbrev pub shared_by : ℕ → Option ℕ → Option ℕ
+shared_by at None = None
+shared_by at (Some users) = if nat_lt 1 users && nat_lt users 0x8000000000000000 then Some at else None
+
+abbrev pub shared : Cache → Option ℕ
+shared c = shared_by c.at c.users
+
+abbrev pub shared_told : Result (Option Slab) Violation → Option ℕ
+shared_told (Ok (Some s)) = shared s.cache
+shared_told (Ok None) = None
+shared_told (Err v) = None
+
+abbrev pub shared_in : Option (Result Held Violation) → Option ℕ
+shared_in None = None
+shared_in (Some (Ok h)) = shared_told h.slab
+shared_in (Some (Err v)) = None
+
+abbrev pub holders_by : (ℕ → List SymbolAt) → Option ℕ → List SymbolAt
+holders_by holding None = []
+holders_by holding (Some cache) = holding cache
+
+-- what is told of an address, by its word
+abbrev pub told_with : Image → Shapes → ℕ → Option (Result Held Violation) → Told
+told_with image shapes address held = record {
+  areas = areas_by image shapes address held;
+  held = held;
+  holders = holders_by (shapes.holding image) (shared_in held);
+}
+
+abbrev pub told_by : Image → Shapes → ℕ → Result VWord Stopped → Told
+told_by image shapes address word = told_with image shapes address (held_by image shapes.objects address word)
+
+abbrev pub told_of : Image → Shapes → ℕ → Told
+told_of image shapes address = told_by image shapes address (vword image (word_start address))
+
+-- the kernel of these types and symbols, and of the rows of a map
+abbrev pub kernel_with : Types → (List ℕ → List ℕ) → Info → Kernel
+kernel_with types symbols told = record { types = types; symbols = symbols; kaslr = told.kaslr; five = told.five }
+
 abbrev pub kernel_by : Types → List RowText → Info → Kernel
-kernel_by types rows told = record { types = types; symbols = λ name. addresses name rows; kaslr = told.kaslr; five = told.five }
+kernel_by types rows told = kernel_with types (λ name. addresses name rows) told
+
+-- where the image's data begins, at the symbol `_etext`
+abbrev pub data_start : ℕ → List RowText → Option ℕ
+data_start kaslr rows = result_ok (common_of kaslr (addresses (codes "_etext") rows))
+
+-- and what it has to tell of an address
+abbrev pub shapes_by : Types → List RowText → Info → Shapes
+shapes_by types rows told = record {
+  objects = object_shape (kernel_by types rows told);
+  areas = area_shape (kernel_by types rows told);
+  end = image_end told.kaslr rows;
+  holding = λ image value. holders image (data_start told.kaslr rows) (image_end told.kaslr rows) told.kaslr value rows;
+}

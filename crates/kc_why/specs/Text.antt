@@ -1,5 +1,5 @@
 -- What is printed of an address.
-use Rattle.std.specs.Prelude.{ℕ, ◌+◌, ◌-◌, ◌*◌, ◌/◌, ◌%◌, ◌^◌, if◌then◌else◌, Bool, true, false, List, [], ◌++◌, codes, decimal, length, map, slice_get, Option, Some, None, option_and_then, Result, Ok, Err}
+use Rattle.std.specs.Prelude.{ℕ, ◌==◌, ◌+◌, ◌-◌, ◌*◌, ◌/◌, ◌%◌, ◌^◌, if◌then◌else◌, Bool, true, false, List, [], ◌++◌, codes, decimal, length, map, slice_get, Option, Some, None, option_and_then, Result, Ok, Err}
 use Rattle.std.specs.Int.{to_le_bytes, w64}
 use Rattle.kc_memory.specs.declared.rule.Rule.{Rule}
 use Rattle.kc_memory.specs.declared.rule.Rule.TheVariants.{M6}
@@ -69,12 +69,25 @@ abbrev pub number_text : Option SymbolAt → ℕ → List ℕ
 number_text None value = codes "number"
 number_text (Some s) value = codes "image " ++ symbol_text s value
 
+-- a byte that the kernel fills memory with, and what it tells there. Source: the kernel's include/linux/poison.h: POISON_INUSE ("for
+-- use-uninitialised poisoning"), POISON_FREE ("for use-after-free poisoning"), POISON_END ("end-byte of poisoning"), PAGE_POISON (of a page that
+-- isn't allocated), SLUB_RED_INACTIVE and SLUB_RED_ACTIVE (the red zone of an object that is free, or in use)
+abbrev pub pattern_text : ℕ → List ℕ
+pattern_text byte =
+    if byte == 0x5a then codes "pattern 5a uninitialized"
+    else (if byte == 0x6b then codes "pattern 6b freed"
+    else (if byte == 0xa5 then codes "pattern a5 end"
+    else (if byte == 0xaa then codes "pattern aa unallocated"
+    else (if byte == 0xbb then codes "pattern bb redzone-free"
+    else (if byte == 0xcc then codes "pattern cc redzone-used"
+    else codes "pattern")))))
+
 -- what a word says
 abbrev pub meaning_text : (ℕ → Option SymbolAt) → Meaning → ℕ → List ℕ
 meaning_text symbols Zero value = codes "zero"
 meaning_text symbols Own value = codes "self"
 meaning_text symbols Unlisted value = codes "unlisted"
-meaning_text symbols (Pattern byte) value = codes "pattern"
+meaning_text symbols (Pattern byte) value = pattern_text byte
 meaning_text symbols Text value = codes "text \"" ++ to_le_bytes w64 value ++ codes "\""
 meaning_text symbols Small value = codes "small " ++ decimal value
 meaning_text symbols Number value = number_text (symbols value) value
@@ -102,9 +115,12 @@ abbrev pub beside_lines : (ℕ → Option SymbolAt) → Result VWord Stopped →
 beside_lines symbols (Ok w) near page = around_lines symbols w near page
 beside_lines symbols (Err s) near page = []
 
--- all lines
-abbrev pub why_text : (ℕ → Option SymbolAt) → Sight → List ℕ
-why_text symbols s =
-    codes "address " ++ hex s.address ++ codes "\n" ++ symbol_line (symbols s.address) s.address ++ texts entry_line s.entries
-    ++ page_line s.word s.entries ++ word_line s.word ++ alias_line s.aliases.direct ++ alias_line s.aliases.image
+-- the address, and its symbol
+abbrev pub head_lines : (ℕ → Option SymbolAt) → ℕ → List ℕ
+head_lines symbols address = codes "address " ++ hex address ++ codes "\n" ++ symbol_line (symbols address) address
+
+-- what is seen of it
+abbrev pub sight_lines : (ℕ → Option SymbolAt) → Sight → List ℕ
+sight_lines symbols s =
+    texts entry_line s.entries ++ page_line s.word s.entries ++ word_line s.word ++ alias_line s.aliases.direct ++ alias_line s.aliases.image
     ++ beside_lines symbols s.word s.near s.page

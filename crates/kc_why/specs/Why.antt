@@ -1,5 +1,5 @@
--- kwhy: what lies at an address of a dump, or which words of the dump hold it.
-use Rattle.std.specs.Prelude.{ℕ, if◌then◌else◌, List, [], ◌∷◌, ◌++◌, codes, Option, None, option_map}
+-- kwhy: what lies at an address of a dump, which words of the dump hold it, or what explains a report.
+use Rattle.std.specs.Prelude.{ℕ, if◌then◌else◌, List, [], ◌∷◌, ◌++◌, codes, Option, Some, None, option_map, Result}
 use Rattle.std.specs.Str.{bytes_eq}
 use Rattle.kc_word.specs.Hex.{hex_number}
 use Rattle.kc_word.specs.declared.plain.Segment.{Segment}
@@ -19,45 +19,51 @@ use Rattle.kc_ends.specs.declared.status.Status.TheVariants.{Done}
 use Rattle.kc_ends.specs.Asked.{Asked}
 use Rattle.kc_ends.specs.Output.{written_files}
 use Rattle.kc_ends.specs.Written.{Written}
-use Rattle.kc_refs.specs.Holding.{in_segments}
-use Rattle.kc_object.specs.declared.shape.ObjectShape.{ObjectShape}
+use Rattle.kc_found.specs.Violations.{Violation}
+use Rattle.kc_cause.specs.Explained.{Explained, explained_text}
+use Rattle.kc_cause.specs.Files.{ReportFiles, cause_asked, report_files}
+use Rattle.kc_object.specs.declared.keys.FreeKeys.{FreeKeys}
 use Rattle.kc_object.specs.Shapes.{object_shape}
+use Rattle.kc_refs.specs.Holding.{in_segments}
 use Rattle.kc_where.specs.declared.aliases.Rules.{Rules}
-use Rattle.kc_where.specs.Nearest.{SymbolAt, image_symbol}
 use Rattle.kc_where.specs.Sights.{sight}
 use Rattle.kc_why.specs.declared.files.Asks.{Asks}
+use Rattle.kc_why.specs.declared.files.Form.{Form}
+use Rattle.kc_why.specs.declared.files.Form.TheVariants.{About, Explains}
 use Rattle.kc_why.specs.declared.files.Question.{Question}
 use Rattle.kc_why.specs.declared.files.Question.TheVariants.{Sight, Words}
 use Rattle.kc_why.specs.Memory.{bytes_of, image_of}
-use Rattle.kc_why.specs.Objects.{kernel_by, told_of}
-use Rattle.kc_why.specs.ObjectText.{object_lines}
-use Rattle.kc_why.specs.Text.{why_text}
+use Rattle.kc_why.specs.Searching.{keys_of, sought_by}
+use Rattle.kc_why.specs.Objects.{Shapes, kernel_by, shapes_by, told_of}
+use Rattle.kc_why.specs.SeenText.{MapSymbols, seen_text, symbols_by}
 use Rattle.kc_why.specs.WordText.{words_text}
 
--- what is seen: a memory, the kernel's rules for its addresses, where it has the words that tell objects, an address, and the symbols
--- of the kernel's image
+-- what is seen: a memory, the kernel's rules for its addresses, where it has what tells of them, an address, and the map's symbols
 pub record Looked : Type 0 where
   pub image : Image
   pub rules : Rules
-  pub shape : Option ObjectShape
+  pub shapes : Shapes
   pub address : ℕ
-  pub symbols : ℕ → Option SymbolAt
+  pub symbols : MapSymbols
 
--- what is searched: the bytes of a dump, its segments, and a value
+-- what is searched: the bytes of a dump, its segments, what its free pointers are encoded with, and a value
 pub record Searched : Type 0 where
   pub bytes : List ℕ
   pub segments : List Segment
+  pub keys : Option (Result FreeKeys Violation)
   pub value : ℕ
 
--- what is shown: what is seen of an address, or where a value is written
+-- what is shown: what is seen of an address, where a value is written, or what explains a report
 pub data Shown : Type 0 where
   Sees : Looked → Shown
   Finds : Searched → Shown
+  Tells : Explained → Shown
 
 -- its lines
 abbrev pub shown_text : Shown → List ℕ
-shown_text (Sees l) = why_text l.symbols (sight l.image l.rules l.address) ++ object_lines (told_of l.image l.shape l.address)
-shown_text (Finds s) = words_text s.value (in_segments s.value s.bytes s.segments)
+shown_text (Sees l) = seen_text l.symbols (sight l.image l.rules l.address) (told_of l.image l.shapes l.address)
+shown_text (Finds s) = words_text s.keys (in_segments (sought_by s.value s.keys) s.bytes s.segments)
+shown_text (Tells e) = explained_text e
 
 abbrev pub why_written : Shown → Written
 why_written s = record { out = shown_text s; err = []; status = Done }
@@ -74,23 +80,31 @@ abbrev pub looked_by : Image → ℕ → Info → Types → List RowText → Loo
 looked_by image address told types rows = record {
   image = image;
   rules = rules_by told rows;
-  shape = object_shape (kernel_by types rows told);
+  shapes = shapes_by types rows told;
   address = address;
-  symbols = image_symbol told.kaslr rows;
+  symbols = symbols_by told.kaslr rows;
 }
 
 -- what is seen of an address of a memory, by the kernel's types and the bytes of a map
 abbrev pub seen_in : Image → ℕ → Info → Types → List ℕ → Made Shown
 seen_in image address told types map = rows_in map >>= (λ rows. gives (Sees (looked_by image address told types rows)))
 
--- where a value is written in a dump; the map is read all the same
-abbrev pub found_in : List ℕ → List Segment → ℕ → List ℕ → Made Shown
-found_in bytes segments value map = rows_in map >>= (λ rows. gives (Finds (record { bytes = bytes; segments = segments; value = value })))
+-- where a value is written in a dump
+abbrev pub searched_by : List ℕ → List Segment → ℕ → Info → Types → List RowText → Searched
+searched_by bytes segments value told types rows = record {
+  bytes = bytes;
+  segments = segments;
+  keys = keys_of (image_of bytes segments (by_info told)) (object_shape (kernel_by types rows told));
+  value = value;
+}
+
+abbrev pub found_in : List ℕ → List Segment → ℕ → Info → Types → List ℕ → Made Shown
+found_in bytes segments value told types map = rows_in map >>= (λ rows. gives (Finds (searched_by bytes segments value told types rows)))
 
 -- what is shown of a dump's bytes and segments
 abbrev pub shown_in : Question → List ℕ → List Segment → Info → Types → List ℕ → Made Shown
 shown_in (Sight address) bytes segments told types map = seen_in (image_of bytes segments (by_info told)) address told types map
-shown_in (Words value) bytes segments told types map = found_in bytes segments value map
+shown_in (Words value) bytes segments told types map = found_in bytes segments value told types map
 
 -- the faults come in the order dump, types and map
 abbrev pub why_made : Question → Option (List ℕ) → Option (List ℕ) → Option (List ℕ) → Made Shown
@@ -121,14 +135,32 @@ question_of (address ∷ []) = option_map Sight (hex_number address)
 question_of (form ∷ address ∷ []) = if bytes_eq form (codes "refs") then option_map Words (hex_number address) else None
 question_of _ = None
 
--- the words after the program's name
+abbrev pub question_asked : List ℕ → List ℕ → List ℕ → Option Question → Option (Asked Shown)
+question_asked dump btf map question = option_map (λ q. why_asked (record { dump = dump; btf = btf; map = map; question = q })) question
+
+-- what explains a report
+abbrev pub told_asked : ReportFiles → Asked Shown
+told_asked f = record {
+  named = (cause_asked f).named;
+  made = λ files. (cause_asked f).made files >>= (λ e. gives (Tells e));
+}
+
+abbrev pub report_asked : List ℕ → List ℕ → List ℕ → List ℕ → List ℕ → Asked Shown
+report_asked dump btf map plan report =
+    told_asked (record { files = record { dump = dump; btf = btf; map = map; plan = plan }; report = report })
+
+-- the words after the program's name: behind the map a question, or else the names of a plan, which isn't `refs`, and of a report
+abbrev pub words_asked : List ℕ → List ℕ → List ℕ → List (List ℕ) → Option (Asked Shown)
+words_asked dump btf map (plan ∷ report ∷ []) =
+    if bytes_eq plan (codes "refs") then question_asked dump btf map (question_of (plan ∷ report ∷ [])) else Some (report_asked dump btf map plan report)
+words_asked dump btf map words = question_asked dump btf map (question_of words)
+
 abbrev pub why_asks : List (List ℕ) → Option (Asked Shown)
-why_asks (dump ∷ btf ∷ map ∷ words) =
-    option_map (λ q. why_asked (record { dump = dump; btf = btf; map = map; question = q })) (question_of words)
+why_asks (dump ∷ btf ∷ map ∷ words) = words_asked dump btf map words
 why_asks _ = None
 
 abbrev pub usage_text : List ℕ
-usage_text = codes "usage: kwhy DUMP BTF MAP ADDRESS\nusage: kwhy DUMP BTF MAP refs ADDRESS\n"
+usage_text = codes "usage: kwhy DUMP BTF MAP ADDRESS\nusage: kwhy DUMP BTF MAP refs ADDRESS\nusage: kwhy DUMP BTF MAP PLAN REPORT\n"
 
 -- what is written of words over a store's files
 abbrev pub written_of : List (List ℕ) → Told → Option Written
@@ -140,3 +172,7 @@ asks_view a = record { dump = a.dump.now; btf = a.btf.now; map = a.map.now; ques
 
 abbrev pub why_view : Asks → Asked Shown
 why_view a = why_asked (asks_view a)
+
+abbrev pub form_view : Form → Asked Shown
+form_view (About a) = why_view a
+form_view (Explains a) = told_asked (report_files a)

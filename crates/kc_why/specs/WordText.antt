@@ -1,18 +1,43 @@
 -- What is printed of where a value is written.
-use Rattle.std.specs.Prelude.{ℕ, List, length, ◌++◌, codes, decimal, None}
+use Rattle.std.specs.Prelude.{ℕ, nat_eq, List, [], length, map, ◌++◌, codes, decimal, Option, Some, None, Result, Ok, Err}
+use Rattle.std.specs.List.{find}
 use Rattle.kc_memory.specs.declared.words.Origin.TheVariants.{File}
 use Rattle.kc_memory.specs.declared.words.Place.{Place}
-use Rattle.kc_refs.specs.declared.place.WordPlace.{WordPlace}
+use Rattle.kc_found.specs.Violations.{Violation}
+use Rattle.kc_object.specs.declared.keys.CacheKey.{CacheKey}
+use Rattle.kc_object.specs.declared.keys.FreeKeys.{FreeKeys}
+use Rattle.kc_refs.specs.declared.place.FoundWord.{FoundWord}
+use Rattle.kc_refs.specs.declared.sought.Writing.{Writing}
+use Rattle.kc_refs.specs.declared.sought.Writing.TheVariants.{Plain, Encoded}
 use Rattle.kc_report.specs.Lines.{place_line}
 use Rattle.kc_text.specs.Compose.{texts}
+use Rattle.kc_text.specs.Text.{hex, visible}
+use Rattle.kc_why.specs.ObjectText.{unknown_text}
+use Rattle.kc_why.specs.Searching.{keys_in}
 
 -- the place of a word that holds a value: no virtual address is asked for it
-abbrev pub place_in : ℕ → WordPlace → Place
-place_in value p = record { va = None; pa = p.pa; off = File p.off; value = value }
+abbrev pub place_in : FoundWord → Place
+place_in f = record { va = None; pa = f.place.pa; off = File f.place.off; value = f.value }
 
-abbrev pub found_line : ℕ → WordPlace → List ℕ
-found_line value p = place_line (place_in value p)
+-- the cache whose objects have such a free pointer
+abbrev pub key_line : Option CacheKey → List ℕ
+key_line None = []
+key_line (Some k) = codes "encoded " ++ hex k.cache.at ++ codes " " ++ map visible k.cache.name ++ codes "\n"
 
--- a line for each word, and how many they are
-abbrev pub words_text : ℕ → List WordPlace → List ℕ
-words_text value found = texts (found_line value) found ++ codes "words " ++ decimal (length found) ++ codes "\n"
+-- how a word holds the value, where it isn't as it is: the first of these caches with that random number
+abbrev pub writing_text : List CacheKey → Writing → List ℕ
+writing_text keys Plain = []
+writing_text keys (Encoded random) = key_line (find (λ (k : CacheKey). nat_eq k.random random) keys)
+
+abbrev pub found_lines : List CacheKey → FoundWord → List ℕ
+found_lines keys f = place_line (place_in f) ++ writing_text keys f.writing
+
+-- why it can't be told what free pointers are encoded with; none is found then but as it is
+abbrev pub untold_line : Option (Result FreeKeys Violation) → List ℕ
+untold_line None = []
+untold_line (Some (Ok keys)) = []
+untold_line (Some (Err v)) = codes "encoded" ++ unknown_text v
+
+-- the lines of each word, and how many they are
+abbrev pub words_text : Option (Result FreeKeys Violation) → List FoundWord → List ℕ
+words_text told found = texts (found_lines (keys_in told)) found ++ untold_line told ++ codes "words " ++ decimal (length found) ++ codes "\n"

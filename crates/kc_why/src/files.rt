@@ -1,5 +1,5 @@
 // The files of kwhy, and what is shown of an address.
-ghost use Rattle.std.specs.Prelude.{◌≡◌, ◌++◌, ◌+◌, ◌≤◌, ◌^◌, ℕ, List, map, max, None, Some, option_map, IfOk};
+ghost use Rattle.std.specs.Prelude.{◌≡◌, ◌++◌, ◌+◌, ◌≤◌, ◌^◌, ℕ, List, map, max, None, Some, option_map, Ok, IfOk, IfSome};
 ghost use Rattle.std.specs.List.{All};
 ghost use Rattle.std.specs.Option.{ForSome};
 ghost use Rattle.std.specs.String.{string_bytes};
@@ -12,31 +12,36 @@ ghost use Rattle.kc_input.specs.Halts.{OnStore, UnlessStore};
 ghost use Rattle.kc_input.specs.Paging.{IsTable, by_info};
 ghost use Rattle.kc_input.specs.Slots.{RefusesIn};
 ghost use Rattle.kc_ends.specs.Answers.{OnNone, OnStoreIn, PrintsOf, PrintsOfBytes, Runs, StayBehind, UnlessStoreIn};
-ghost use Rattle.kc_ends.specs.Asked.{word_in};
+ghost use Rattle.kc_ends.specs.Asked.{asked_files, word_in};
 ghost use Rattle.kc_syms.specs.Answers.{Stands};
-ghost use Rattle.kc_syms.specs.Rows.{RowText};
+ghost use Rattle.kc_syms.specs.Rows.{RowText, rows};
 ghost use Rattle.kc_syms.specs.Symbols.{symbol};
-ghost use Rattle.kc_object.specs.Shapes.{object_shape};
+ghost use Rattle.kc_view.specs.TaskLists.{IsInside};
 ghost use Rattle.kc_why.specs.Memory.{image_of};
-ghost use Rattle.kc_where.specs.Views.{image_symbols, sight_view};
-ghost use Rattle.kc_why.specs.Objects.{kernel_by};
-ghost use Rattle.kc_why.specs.ObjectText.{object_lines};
-ghost use Rattle.kc_why.specs.Text.{why_text};
-ghost use Rattle.kc_why.specs.Why.{asks_view, found_in, question_of, seen_in, shown_in, why_asked, why_asks, why_made, why_view, why_written};
+ghost use Rattle.kc_where.specs.Views.{sight_view};
+ghost use Rattle.kc_area.specs.Shapes.{area_shape};
+ghost use Rattle.kc_object.specs.Shapes.{object_shape};
+ghost use Rattle.kc_why.specs.Objects.{kernel_with, shapes_by};
+ghost use Rattle.kc_why.specs.SeenText.{map_symbols, seen_text, symbols_by};
+ghost use Rattle.kc_why.specs.Views.{shapes_view, told_view};
+ghost use Rattle.kc_why.specs.Why.{asks_view, form_view, found_in, question_asked, question_of, seen_in, shown_in, why_asked, why_asks, why_made, why_written};
 
+use crate::area_text::push_areas;
 use crate::looking::look_at;
 use crate::object_text::push_objects;
-use crate::objects::Sighted;
-use crate::text::why_text;
-use crate::written::find_written;
+use crate::objects::{Shapes, Sighted, Words};
+use crate::searching::find_written;
+use crate::text::{push_head, push_sight};
+use kc_area::area_shape;
 use kc_btf::Btf;
+use kc_cause::{Asks as CauseAsks, PlanFiles, explain};
 use kc_elf::Core;
 use kc_ends::Answer;
 use kc_input::{Halt, read_dump, read_info, read_map, read_symbols, read_types};
 use kc_kinds::Known;
 use kc_layout::Names;
 use kc_notes::Info;
-use kc_object::{ObjectShape, object_shape};
+use kc_object::object_shape;
 use kc_outside::Store;
 use kc_syms::Symbols;
 use kc_where::{ImageMap, Rules, know_sights};
@@ -78,23 +83,56 @@ fn question_of(words: &[String]) -> Option<Question>
     }
 }
 
-// What the words ask.
-fn read(words: &[String]) -> Option<Asks<'_>>
-    ensures asked { option_map why_view result ≡ why_asks (map string_bytes words.now) }
+/// What the words of a command line ask for.
+#[derive(Clone, Copy)]
+pub enum Form<'w> {
+    /// A question about a dump.
+    About(Asks<'w>),
+    /// What explains a report.
+    Explains(CauseAsks<'w>),
+}
+
+// What a question behind the names of three files asks for.
+fn about<'w>(
+    dump: &'w str,
+    btf: &'w str,
+    map: &'w str,
+    question: Option<Question>,
+) -> Option<Form<'w>>
+    ensures asked { option_map form_view result ≡ question_asked dump.now btf.now map.now question }
 {
-    let [dump, btf, map, question @ ..] = words else {
+    Some(Form::About(Asks {
+        dump,
+        btf,
+        map,
+        question: question?,
+    }))
+}
+
+// What the words ask.
+fn read(words: &[String]) -> Option<Form<'_>>
+    ensures asked { option_map form_view result ≡ why_asks (map string_bytes words.now) }
+{
+    let [dump, btf, map, words @ ..] = words else {
         return None;
     };
-    Some(Asks {
-        dump: dump.as_str(),
-        btf: btf.as_str(),
-        map: map.as_str(),
-        question: question_of(question)?,
-    })
+    let (dump, btf, map) = (dump.as_str(), btf.as_str(), map.as_str());
+    match words {
+        [plan, report] if plan.as_str() != "refs" => Some(Form::Explains(CauseAsks {
+            files: PlanFiles {
+                dump,
+                btf,
+                map,
+                plan: plan.as_str(),
+            },
+            report: report.as_str(),
+        })),
+        _ => about(dump, btf, map, question_of(words)),
+    }
 }
 
 /// Runs kwhy on the words behind its name: the first fault of the dump, the types or the map, else what is seen of the
-/// address, or the words that hold it. `None` where these aren't its words; the store isn't asked then.
+/// address, or the words that hold it; or also of the plan or the report, else what explains the report. `None` where these aren't its words; the store isn't asked then.
 pub fn run<S: Store>(alloc: Global, store: &mut S, words: &[String]) -> Option<Result<Answer, Halt>>
     requires { (slot : Slot) → ForSome (word_in (why_asks (map string_bytes words.now)) slot) (S.may store.old slot) }
 
@@ -106,8 +144,25 @@ pub fn run<S: Store>(alloc: Global, store: &mut S, words: &[String]) -> Option<R
     ensures quiet { UnlessStoreIn result (S.faults store.new ≡ S.faults store.old) }
     ensures cause { OnStoreIn result (Rose (S.faults store.old) (S.faults store.new)) }
 {
-    let asks = read(words)?;
-    Some(why(alloc, store, &asks))
+    let form = read(words)?;
+    Some(reply(alloc, store, &form))
+}
+
+// The answer to what the words ask for.
+fn reply<S: Store>(alloc: Global, store: &mut S, form: &Form<'_>) -> Result<Answer, Halt>
+    requires { (slot : Slot) → ForSome (word_in (Some (form_view form.now)) slot) (S.may store.old slot) }
+
+    ensures output { PrintsOf why_written (λ files. (form_view form.now).made (asked_files (form_view form.now) files)) (S.files store.old) result }
+    ensures unopened { StayBehind (form_view form.now).named result (S.opened store.old) (S.opened store.new) }
+    ensures files { S.files store.new ≡ S.files store.old }
+    ensures later { S.faults store.old ≤ S.faults store.new }
+    ensures quiet { UnlessStore result (S.faults store.new ≡ S.faults store.old) }
+    ensures cause { OnStore result (Rose (S.faults store.old) (S.faults store.new)) }
+{
+    match form {
+        Form::About(asks) => why(alloc, store, asks),
+        Form::Explains(asks) => explain(alloc, store, asks),
+    }
 }
 
 // The answer to what is asked.
@@ -157,18 +212,20 @@ fn answer<S: Store>(
 {
     match question {
         Question::Sight(address) => see(alloc, store, core, info, types, map, address),
-        Question::Words(value) => find(alloc, store, core, map, value),
+        Question::Words(value) => find(alloc, store, core, info, types, map, value),
     }
 }
 
-// Where a kernel has the words that tell which object has an address, where it has them.
-fn shape_in(
+// Where a kernel has the words that tell of an address.
+fn words_in(
     alloc: Global,
     types: &Btf,
     symbols: &Symbols<'_>,
     info: Info,
-) -> Result<Option<ObjectShape>, NoMemory>
-    ensures { IfOk result (λ shape. (rows : List RowText) → Stands (symbol symbols.now) rows → shape ≡ object_shape (kernel_by types.now rows info)) }
+) -> Result<Words, NoMemory>
+    ensures objects { IfOk result (λ words. words.objects ≡ object_shape (kernel_with types.now (symbol symbols.now) info)) }
+    ensures areas { IfOk result (λ words. words.areas ≡ area_shape (kernel_with types.now (symbol symbols.now) info)) }
+    ensures tasks { IfOk result (λ words. IfSome words.areas.stacks (λ shape. IsInside shape.tasks types.now)) }
 {
     let names = Names::new(alloc, types)?;
     let known = Known {
@@ -178,15 +235,48 @@ fn shape_in(
         kaslr: info.kaslr,
         five: info.five,
     };
-    Ok(object_shape(&known))
+    Ok(Words {
+        objects: object_shape(&known),
+        areas: area_shape(&known),
+    })
+}
+
+// What tells of an address, by the words that tell it.
+fn shapes_in<'m>(
+    alloc: Global,
+    types: &Btf,
+    symbols: &Symbols<'_>,
+    info: Info,
+    map: &'m [u8],
+) -> Result<Shapes<'m>, NoMemory>
+    ensures exact { IfOk result (λ shapes. (read : List RowText) → rows map.now ≡ Ok read → Stands (symbol symbols.now) read
+        → shapes_view shapes ≡ shapes_by types.now read info) }
+    ensures symbols { IfOk result (λ shapes. (read : List RowText) → rows map.now ≡ Ok read → Stands (symbol symbols.now) read
+        → map_symbols shapes.map ≡ symbols_by info.kaslr read) }
+    ensures tasks { IfOk result (λ shapes. IfSome shapes.words.areas.stacks (λ shape. IsInside shape.tasks types.now)) }
+{
+    know_sights();
+    let words = words_in(alloc, types, symbols, info)?;
+    Ok(Shapes {
+        words,
+        map: ImageMap {
+            map,
+            kaslr: info.kaslr,
+            text_end: symbols.address(b"_etext", info.kaslr).ok(),
+            end: symbols.address(b"_end", info.kaslr).ok(),
+        },
+    })
 }
 
 // The text of what is seen of an address, and of what holds it.
-fn seen_text(alloc: Global, image: &ImageMap<'_>, seen: &Sighted) -> Result<Vec<u8>, NoMemory>
-    ensures { IfOk result (λ text. text.items ≡ why_text (image_symbols image.now) (sight_view seen.now.sight) ++ object_lines seen.now.told) }
+fn seen_text(alloc: Global, image: &ImageMap<'_>, seen: &Sighted<'_>) -> Result<Vec<u8>, NoMemory>
+    ensures { IfOk result (λ text. text.items ≡ seen_text (map_symbols image.now) (sight_view seen.now.sight) (told_view seen.now.told)) }
 {
-    let mut text = why_text(alloc, image, &seen.sight)?;
-    push_objects(&mut text, &seen.told)?;
+    let mut text = Vec::new(alloc);
+    push_head(&mut text, image, seen.sight.address)?;
+    push_areas(&mut text, image, &seen.told.areas)?;
+    push_sight(&mut text, image, &seen.sight)?;
+    push_objects(&mut text, &seen.told.holders, &seen.told.held)?;
     Ok(text)
 }
 
@@ -213,20 +303,14 @@ fn see<S: Store>(
     ensures cause { OnStore result (Rose (S.faults store.old) (S.faults store.new)) }
 {
     let symbols = read_symbols(alloc, map)?;
-    let image = ImageMap {
-        map,
-        kaslr: info.kaslr,
-        end: symbols.address(b"_end", info.kaslr).ok(),
-    };
     let rules = Rules {
         direct: symbols.address(b"page_offset_base", info.kaslr),
         phys_base: info.phys_base,
         five: info.five,
     };
-    let shape = shape_in(alloc, types, &symbols, info)?;
-    let seen = look_at(alloc, store, core, info, &rules, types, &shape, address)?;
-    know_sights();
-    Ok(Answer::Done(seen_text(alloc, &image, &seen)?))
+    let shapes = shapes_in(alloc, types, &symbols, info, map)?;
+    let seen = look_at(alloc, store, core, info, &rules, types, &shapes, address)?;
+    Ok(Answer::Done(seen_text(alloc, &shapes.map, &seen)?))
 }
 
 // The words of a dump that hold a value.
@@ -234,13 +318,16 @@ fn find<S: Store>(
     alloc: Global,
     store: &mut S,
     core: &Core,
+    info: Info,
+    types: &Btf,
     map: &[u8],
     value: u64,
 ) -> Result<Answer, Halt>
+    requires table { IsTable info.table }
     requires inside { AreInside (S.sizes store.old Dump) core.now.segments }
     requires below { All (λ s. s.paddr + max s.filesz s.memsz ≤ 2 ^ 64) core.now.segments }
 
-    ensures output { PrintsOfBytes why_written (λ bytes. found_in bytes core.now.segments value map.now)
+    ensures output { PrintsOfBytes why_written (λ bytes. found_in bytes core.now.segments value info types.now map.now)
         (content (S.files store.old) Dump (S.opened store.old Dump)) result }
     ensures refused { RefusesIn Map result }
     ensures files { S.files store.new ≡ S.files store.old }
@@ -248,6 +335,16 @@ fn find<S: Store>(
     ensures quiet { UnlessStore result (S.faults store.new ≡ S.faults store.old) }
     ensures cause { OnStore result (Rose (S.faults store.old) (S.faults store.new)) }
 {
-    let _symbols = read_symbols(alloc, map)?;
-    Ok(Answer::Done(find_written(alloc, store, core, value)?))
+    let symbols = read_symbols(alloc, map)?;
+    let shapes = shapes_in(alloc, types, &symbols, info, map)?;
+    let text = find_written(
+        alloc,
+        store,
+        core,
+        info,
+        types,
+        &shapes.words.objects,
+        value,
+    )?;
+    Ok(Answer::Done(text))
 }

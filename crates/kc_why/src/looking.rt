@@ -1,5 +1,5 @@
 // One look at the memory of a dump.
-ghost use Rattle.std.specs.Prelude.{◌≡◌, ◌<◌, ◌≤◌, ◌%◌, ◌^◌, option_map};
+ghost use Rattle.std.specs.Prelude.{◌≡◌, ◌<◌, ◌≤◌, ◌%◌, ◌^◌, option_map, IfSome};
 ghost use Rattle.kc_word.specs.declared.plain.Tail.TheVariants as Tail;
 ghost use Rattle.kc_outside.specs.declared.store.Slot.TheVariants.{Dump};
 ghost use Rattle.kc_outside.specs.Counts.{Rose};
@@ -11,14 +11,15 @@ ghost use Rattle.kc_input.specs.Paging.{IsTable, by_info};
 ghost use Rattle.kc_where.specs.Looks.{CountsLookFaults};
 ghost use Rattle.kc_why.specs.Looking.{SightsAs, TellsAs, halted};
 ghost use Rattle.kc_why.specs.Memory.{image_of};
+ghost use Rattle.kc_why.specs.Views.{shapes_view};
+ghost use Rattle.kc_view.specs.TaskLists.{IsInside};
 
-use crate::objects::{Sighted, read_sighted};
+use crate::objects::{Shapes, Sighted, read_sighted};
 use kc_btf::Btf;
 use kc_elf::Core;
 use kc_input::{Halt, paging_by};
 use kc_mem::Memory;
 use kc_notes::Info;
-use kc_object::ObjectShape;
 use kc_outside::Store;
 use kc_phys::{Phys, Room};
 use kc_tlb::Tlb;
@@ -46,23 +47,24 @@ fn halted(stop: LookStop) -> Halt
 /// # Errors
 ///
 /// A failed call of the store; no memory was left.
-pub fn look_at<S: Store>(
+pub fn look_at<'m, S: Store>(
     alloc: Global,
     store: &mut S,
     core: &Core,
     info: Info,
     rules: &Rules,
     types: &Btf,
-    shape: &Option<ObjectShape>,
+    shapes: &Shapes<'m>,
     address: u64,
-) -> Result<Sighted, Halt>
+) -> Result<Sighted<'m>, Halt>
     requires table { IsTable info.table }
     requires inside { AreInside (S.sizes store.old Dump) core.now.segments }
+    requires tasks { IfSome shapes.now.words.areas.stacks (λ shape. IsInside shape.tasks types.now) }
 
     ensures sight { SightsAs (option_map (λ bytes. image_of bytes core.now.segments (by_info info)) (content (S.files store.old) Dump (S.opened store.old Dump)))
         rules.now address result }
     ensures told { TellsAs (option_map (λ bytes. image_of bytes core.now.segments (by_info info)) (content (S.files store.old) Dump (S.opened store.old Dump)))
-        shape.now address result }
+        (shapes_view shapes.now) address result }
     ensures not_refused { NotRefused result }
     ensures files { S.files store.new ≡ S.files store.old }
     ensures later { S.faults store.old ≤ S.faults store.new }
@@ -80,7 +82,7 @@ pub fn look_at<S: Store>(
         paging,
         rules,
         types,
-        shape,
+        shapes,
         address,
         Blank::new(1),
     ) {
@@ -90,7 +92,7 @@ pub fn look_at<S: Store>(
 }
 
 // The same over room for blocks and places for translations, with steps on a blank of the caller's.
-fn look<S: Store, L: Ledger>(
+fn look<'m, S: Store, L: Ledger>(
     alloc: Global,
     store: &mut S,
     room: Room,
@@ -98,10 +100,10 @@ fn look<S: Store, L: Ledger>(
     paging: PageCfg,
     rules: &Rules,
     types: &Btf,
-    shape: &Option<ObjectShape>,
+    shapes: &Shapes<'m>,
     address: u64,
     blank: Blank,
-) -> Result<Sighted, LookStop>
+) -> Result<Sighted<'m>, LookStop>
     requires name { blank.name ≡ L.name }
     requires parts { blank.parts ≡ L.parts }
     requires some { 0 < L.parts }
@@ -109,13 +111,14 @@ fn look<S: Store, L: Ledger>(
     requires tail { room.tail ≡ Tail.Absent }
     requires aligned { paging.table % 4096 ≡ 0 }
     requires small { paging.table < 2 ^ 52 }
+    requires tasks { IfSome shapes.now.words.areas.stacks (λ shape. IsInside shape.tasks types.now) }
     requires empty { AreEmpty tlb.places.items }
     requires inside { AreInside (S.sizes store.old Dump) room.segments.items }
 
     ensures sight { SightsAs (option_map (λ bytes. image_of bytes room.segments.items paging) (content (S.files store.old) Dump (S.opened store.old Dump)))
         rules.now address result }
     ensures told { TellsAs (option_map (λ bytes. image_of bytes room.segments.items paging) (content (S.files store.old) Dump (S.opened store.old Dump)))
-        shape.now address result }
+        (shapes_view shapes.now) address result }
     ensures files { S.files store.new ≡ S.files store.old }
     ensures cause { CountsLookFaults result (S.faults store.old) (S.faults store.new) }
 {
@@ -127,7 +130,7 @@ fn look<S: Store, L: Ledger>(
         alloc,
         &mut memory,
         types,
-        shape,
+        shapes,
         address,
         rules,
         entries,

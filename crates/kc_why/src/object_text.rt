@@ -1,20 +1,22 @@
 // What is printed of the object that has an address.
-ghost use Rattle.std.specs.Prelude.{◌≡◌, ◌++◌, OnOk};
+ghost use Rattle.std.specs.Prelude.{◌≡◌, ◌++◌, map, OnOk};
+ghost use Rattle.kc_text.specs.Compose.{texts};
 ghost use Rattle.kc_text.specs.Text.{hex};
-ghost use Rattle.kc_why.specs.ObjectText.{cache_line, free_text, held_lines, object_lines, object_text, page_line, place_text, slab_line, slab_lines, spot_line, unknown_text, users_text, whole_slab};
+ghost use Rattle.kc_where.specs.Views.{symbol_view};
+ghost use Rattle.kc_why.specs.ObjectText.{cache_line, free_text, held_lines, holder_line, holder_text, object_lines, object_text, page_line, place_text, slab_line, slab_lines, spot_line, unknown_text, users_text, whole_slab};
 
-use crate::objects::Told;
 use kc_found::Found;
 use kc_object::{Cache, FreeSpot, Held, ObjectSpot, Page, Slab, Spot};
 use kc_report::rule_code;
 use kc_text::{push, push_hex, push_name, push_numbered};
+use kc_where::Symbol;
 use kc_word::NoMemory;
 
 // The least number of 64 bits that is negative.
-const NEGATIVE: u64 = 1 << 63;
+pub(crate) const NEGATIVE: u64 = 1 << 63;
 
 // Why something can't be told.
-fn push_unknown(text: &mut Vec<u8>, found: &Found) -> Result<(), NoMemory>
+pub(crate) fn push_unknown(text: &mut Vec<u8>, found: &Found) -> Result<(), NoMemory>
     ensures { OnOk result (text.new.items ≡ text.old.items ++ unknown_text found.now) }
 {
     push(text, b" unknown ")?;
@@ -142,10 +144,39 @@ fn push_spot(
     }
 }
 
-fn push_whole_slab(text: &mut Vec<u8>, head: u64, slab: &Slab) -> Result<(), NoMemory>
-    ensures { OnOk result (text.new.items ≡ text.old.items ++ whole_slab head slab.now) }
+// The names of symbols, a space before each.
+fn push_holders(text: &mut Vec<u8>, holders: &[Symbol<'_>]) -> Result<(), NoMemory>
+    ensures { OnOk result (text.new.items ≡ text.old.items ++ texts holder_text (map symbol_view holders.now)) }
+{
+    for symbol in holders {
+        push(text, b" ")?;
+        push_name(text, symbol.name)?;
+    }
+    Ok(())
+}
+
+// The line of the symbols whose words hold a cache's address.
+fn push_holder_line(text: &mut Vec<u8>, holders: &[Symbol<'_>]) -> Result<(), NoMemory>
+    ensures { OnOk result (text.new.items ≡ text.old.items ++ holder_line (map symbol_view holders.now)) }
+{
+    if holders.is_empty() {
+        return Ok(());
+    }
+    push(text, b"held by")?;
+    push_holders(text, holders)?;
+    push(text, b"\n")
+}
+
+fn push_whole_slab(
+    text: &mut Vec<u8>,
+    head: u64,
+    holders: &[Symbol<'_>],
+    slab: &Slab,
+) -> Result<(), NoMemory>
+    ensures { OnOk result (text.new.items ≡ text.old.items ++ whole_slab head (map symbol_view holders.now) slab.now) }
 {
     push_cache(text, &slab.cache, slab.objects.size)?;
+    push_holder_line(text, holders)?;
     push_slab(text, head, slab)?;
     push_spot(text, &slab.spot, &slab.free, slab.counts.frozen)
 }
@@ -154,12 +185,13 @@ fn push_whole_slab(text: &mut Vec<u8>, head: u64, slab: &Slab) -> Result<(), NoM
 fn push_slab_lines(
     text: &mut Vec<u8>,
     head: u64,
+    holders: &[Symbol<'_>],
     slab: &Result<Option<Slab>, Found>,
 ) -> Result<(), NoMemory>
-    ensures { OnOk result (text.new.items ≡ text.old.items ++ slab_lines head slab.now) }
+    ensures { OnOk result (text.new.items ≡ text.old.items ++ slab_lines head (map symbol_view holders.now) slab.now) }
 {
     match slab {
-        Ok(Some(slab)) => push_whole_slab(text, head, slab),
+        Ok(Some(slab)) => push_whole_slab(text, head, holders, slab),
         Ok(None) => Ok(()),
         Err(found) => {
             push(text, b"slab")?;
@@ -169,13 +201,17 @@ fn push_slab_lines(
 }
 
 // The lines of what holds an address.
-fn push_held(text: &mut Vec<u8>, told: &Result<Held, Found>) -> Result<(), NoMemory>
-    ensures { OnOk result (text.new.items ≡ text.old.items ++ held_lines told.now) }
+fn push_held(
+    text: &mut Vec<u8>,
+    holders: &[Symbol<'_>],
+    held: &Result<Held, Found>,
+) -> Result<(), NoMemory>
+    ensures { OnOk result (text.new.items ≡ text.old.items ++ held_lines (map symbol_view holders.now) held.now) }
 {
-    match told {
+    match held {
         Ok(held) => {
             push_page(text, &held.page)?;
-            push_slab_lines(text, held.page.head, &held.slab)
+            push_slab_lines(text, held.page.head, holders, &held.slab)
         }
         Err(found) => {
             push(text, b"descriptor")?;
@@ -184,12 +220,16 @@ fn push_held(text: &mut Vec<u8>, told: &Result<Held, Found>) -> Result<(), NoMem
     }
 }
 
-/// Adds the lines of what holds an address, where that is told.
-pub fn push_objects(text: &mut Vec<u8>, told: &Option<Told>) -> Result<(), NoMemory>
-    ensures { OnOk result (text.new.items ≡ text.old.items ++ object_lines told.now) }
+/// Adds the lines of what holds an address, where that is told, with the symbols whose words hold the cache's address.
+pub fn push_objects(
+    text: &mut Vec<u8>,
+    holders: &[Symbol<'_>],
+    held: &Option<Result<Held, Found>>,
+) -> Result<(), NoMemory>
+    ensures { OnOk result (text.new.items ≡ text.old.items ++ object_lines (map symbol_view holders.now) held.now) }
 {
-    match told {
-        Some(told) => push_held(text, told),
+    match held {
+        Some(held) => push_held(text, holders, held),
         None => Ok(()),
     }
 }

@@ -1,11 +1,11 @@
 // What is printed.
-ghost use Rattle.std.specs.Prelude.{◌≡◌, ◌++◌, ◌-◌, ◌≤◌, codes, length, option_and_then, option_map, slice_get, Ok, IfOk, OnOk};
+ghost use Rattle.std.specs.Prelude.{◌≡◌, ◌++◌, ◌-◌, ◌≤◌, codes, length, option_and_then, option_map, slice_get, Ok, OnOk};
 ghost use Rattle.std.specs.Int.{to_le_bytes, w64};
 ghost use Rattle.kc_where.specs.Entries.{page_bytes};
 ghost use Rattle.kc_where.specs.Meanings.{meaning};
 ghost use Rattle.kc_text.specs.Compose.{texts};
 ghost use Rattle.kc_where.specs.Views.{image_symbols, sight_view, symbol_view};
-ghost use Rattle.kc_why.specs.Text.{alias_line, around_lines, beside_lines, bounds_text, entry_line, is_absent, is_mapped, meaning_text, near_line, number_text, page_line, size_line, span_line, stopped_text, symbol_line, symbol_text, why_text, word_line};
+ghost use Rattle.kc_why.specs.Text.{alias_line, around_lines, beside_lines, bounds_text, entry_line, head_lines, is_absent, is_mapped, meaning_text, near_line, number_text, page_line, pattern_text, size_line, span_line, stopped_text, sight_lines, symbol_line, symbol_text, word_line};
 
 use kc_memory::{Miss, Rule, VWord, place_of};
 use kc_report::{push_origin, push_place, rule_code};
@@ -14,10 +14,13 @@ use kc_where::{
     Entry, ImageMap, Meaning, Seen, Sight, Span, Symbol, is_fill, meaning_of, page_bytes, span_of,
 };
 use kc_word::NoMemory;
-use std::alloc::Global;
 
 // A symbol, and how many bytes an address is behind it.
-fn push_symbol(text: &mut Vec<u8>, symbol: Symbol<'_>, address: u64) -> Result<(), NoMemory>
+pub(crate) fn push_symbol(
+    text: &mut Vec<u8>,
+    symbol: Symbol<'_>,
+    address: u64,
+) -> Result<(), NoMemory>
     ensures { OnOk result (text.new.items ≡ text.old.items ++ symbol_text (symbol_view symbol.entry) address) }
 {
     push_name(text, symbol.name)?;
@@ -161,6 +164,21 @@ fn push_visible(text: &mut Vec<u8>, value: u64) -> Result<(), NoMemory>
     push(text, b"\"")
 }
 
+// A byte that the kernel fills memory with, and what it tells there.
+fn pattern_text(byte: u8) -> &'static [u8]
+    ensures { result.now ≡ pattern_text byte }
+{
+    match byte {
+        0x5a => b"pattern 5a uninitialized",
+        0x6b => b"pattern 6b freed",
+        0xa5 => b"pattern a5 end",
+        0xaa => b"pattern aa unallocated",
+        0xbb => b"pattern bb redzone-free",
+        0xcc => b"pattern cc redzone-used",
+        _ => b"pattern",
+    }
+}
+
 // What a word says.
 fn push_meaning(
     text: &mut Vec<u8>,
@@ -174,7 +192,7 @@ fn push_meaning(
         Meaning::Zero => push(text, b"zero"),
         Meaning::Own => push(text, b"self"),
         Meaning::Unlisted => push(text, b"unlisted"),
-        Meaning::Pattern(_) => push(text, b"pattern"),
+        Meaning::Pattern(byte) => push(text, pattern_text(byte)),
         Meaning::Text => push_visible(text, value),
         Meaning::Small => push_numbered(text, b"small ", value),
         Meaning::Number => push_number(text, image.symbol(value), value),
@@ -272,20 +290,24 @@ fn push_beside(
     }
 }
 
-/// The text of what is seen of an address, with the symbols of the kernel's image.
-pub fn why_text(alloc: Global, image: &ImageMap<'_>, sight: &Sight) -> Result<Vec<u8>, NoMemory>
-    ensures { IfOk result (λ text. text.items ≡ why_text (image_symbols image.now) (sight_view sight.now)) }
+/// Adds the lines of an address and of the symbol of the kernel's image that stands nearest.
+pub fn push_head(text: &mut Vec<u8>, image: &ImageMap<'_>, address: u64) -> Result<(), NoMemory>
+    ensures { OnOk result (text.new.items ≡ text.old.items ++ head_lines (image_symbols image.now) address) }
 {
-    let mut text = Vec::new(alloc);
-    push(&mut text, b"address ")?;
-    push_hex(&mut text, sight.address)?;
-    push(&mut text, b"\n")?;
-    push_symbol_line(&mut text, image.symbol(sight.address), sight.address)?;
-    push_entries(&mut text, &sight.entries)?;
-    push_page(&mut text, &sight.word, &sight.entries)?;
-    push_word(&mut text, &sight.word)?;
-    push_alias(&mut text, sight.aliases.direct)?;
-    push_alias(&mut text, sight.aliases.image)?;
-    push_beside(&mut text, image, &sight.word, &sight.near, &sight.page)?;
-    Ok(text)
+    push(text, b"address ")?;
+    push_hex(text, address)?;
+    push(text, b"\n")?;
+    push_symbol_line(text, image.symbol(address), address)
+}
+
+/// Adds the lines of what is seen of an address, with the symbols of the kernel's image.
+pub fn push_sight(text: &mut Vec<u8>, image: &ImageMap<'_>, sight: &Sight) -> Result<(), NoMemory>
+    ensures { OnOk result (text.new.items ≡ text.old.items ++ sight_lines (image_symbols image.now) (sight_view sight.now)) }
+{
+    push_entries(text, &sight.entries)?;
+    push_page(text, &sight.word, &sight.entries)?;
+    push_word(text, &sight.word)?;
+    push_alias(text, sight.aliases.direct)?;
+    push_alias(text, sight.aliases.image)?;
+    push_beside(text, image, &sight.word, &sight.near, &sight.page)
 }

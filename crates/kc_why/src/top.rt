@@ -21,10 +21,11 @@ use kc_outside::{Sink, Store};
 use std::alloc::Global;
 
 /// The lines that say how the program is called.
-const USAGE: &[u8] = b"usage: kwhy DUMP BTF MAP ADDRESS\nusage: kwhy DUMP BTF MAP refs ADDRESS\n";
+const USAGE: &[u8] =
+    b"usage: kwhy DUMP BTF MAP ADDRESS\nusage: kwhy DUMP BTF MAP refs ADDRESS\nusage: kwhy DUMP BTF MAP PLAN REPORT\n";
 
 /// The program. It answers the status that it ends with: done where what is seen of the address is shown, also where its word can't be
-/// read, or where the words that hold it are, also where there is none. Its text is made whole before a byte of it is put.
+/// read, or where the words that hold it are, also where there is none, or where a report is explained. Its text is made whole before a byte of it is put.
 pub fn kwhy<S: Store, O: Sink, E: Sink>(
     alloc: Global,
     words: &[String],

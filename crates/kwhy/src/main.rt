@@ -1,4 +1,4 @@
-//! kwhy: what lies at an address of a dump, or which words of the dump hold it.
+//! kwhy: what lies at an address of a dump, which words of the dump hold it, or what explains a report.
 #![tactic(auto)]
 
 use kc_ends::Status;

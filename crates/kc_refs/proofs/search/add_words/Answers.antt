@@ -1,16 +1,15 @@
-use Rattle.std.proofs.Common.{arith, ◌≡◌, ◌+◌, ◌*◌, ◌++◌, ℕ, List, ap, sym, ◌∙◌, refl}
+use Rattle.std.proofs.Common.{arith, ◌≡◌, ◌+◌}
 use Rattle.std.proofs.lemmas.Grind.{common_steps}
 use Rattle.kc_refs.proofs.BlockLemmas.{hit, passed}
 use Rattle.kc_refs.proofs.search.add_words.Goals as goal
-use Rattle.kc_refs.proofs.search.add_words.Goals.{then-read_u64-value+in_ok-push, else-read_u64-value}
+use Rattle.kc_refs.proofs.search.add_words.Goals.{in-Some+in_ok-push, in_default}
 
--- src/search.rt:89:5
 pub loop-k-preserved : goal.loop-k-preserved
-loop-k-preserved c = elim c.if-read_u64-value.branch [
-  | then-read_u64-value+in_ok-push w ↦
-      let more = hit c.args.value c.args.block.now c.args.segment.now c.args.first c.loop-k.k (grind (arith, common_steps)) in
+loop-k-preserved c = elim c.match-writing.branch [
+  | in-Some+in_ok-push w ↦
+      let more = hit c.args.sought.now c.args.block.now c.args.segment.now c.args.first c.loop-k.k w.in-Some.writing (grind (arith, common_steps)) in
       grind (arith, common_steps)
-  | else-read_u64-value w ↦
-      let more = passed c.args.value c.args.block.now c.args.segment.now c.args.first c.loop-k.k (grind (arith, common_steps)) in
+  | in_default w ↦
+      let more = passed c.args.sought.now c.args.block.now c.args.segment.now c.args.first c.loop-k.k (grind (arith, common_steps)) in
       grind (arith, common_steps)
 ]

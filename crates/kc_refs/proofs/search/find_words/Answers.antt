@@ -17,7 +17,7 @@ no_segment = record { paddr = 0; filesz = 0; memsz = 0; offset = 0 }
 pub loop-segment-init : goal.loop-segment-init
 loop-segment-init g c = record {
   length = grind (arith, common_steps);
-  found = told_none _ c.args.value c.args.segments.now c.new-found.result.items (grind (arith, common_steps));
+  found = told_none _ c.args.sought.now c.args.segments.now c.new-found.result.items (grind (arith, common_steps));
   stays = record { same_opened = refl; same_sizes = refl; same_files = refl; may_still = λ s n may. may; may_no_more = λ s n may. may; asked_later = omega arith };
   quiet = refl;
 }
@@ -34,15 +34,15 @@ pub loop-segment-preserved : goal.loop-segment-preserved
 loop-segment-preserved g c =
     let segment = get_or c.args.segments.now c.loop-segment.segment-index no_segment in
     let more = told_before g.S.Store.opened g.S.Store.sizes g.S.Store.files g.S.Store.may g.S.Store.asked c.args.store.now c.loop-segment.store
-    (λ bytes. c.search_segment.new.found.items ≡ c.loop-segment.found.items ++ in_segment c.args.value bytes segment)
+    (λ bytes. c.search_segment.new.found.items ≡ c.loop-segment.found.items ++ in_segment c.args.sought.now bytes segment)
     c.loop-segment.invariant.stays c.in_ok-search_segment.ensures.found in
     record {
       length = c.loop-segment.invariant.length;
-      found = told_next _ c.args.value c.loop-segment.segment-index c.args.segments.now segment c.loop-segment.found.items c.search_segment.new.found.items
+      found = told_next _ c.args.sought.now c.loop-segment.segment-index c.args.segments.now segment c.loop-segment.found.items c.search_segment.new.found.items
           (drop_more c.args.segments.now c.loop-segment.segment-index no_segment (grind (arith, common_steps))) c.loop-segment.invariant.found more;
       stays = stays_on g.S.Store.opened g.S.Store.sizes g.S.Store.files g.S.Store.may g.S.Store.asked c.args.store.now c.loop-segment.store c.search_segment.new.store c.loop-segment.invariant.stays c.search_segment.ensures.stays;
       quiet = c.in_ok-search_segment.ensures.cause ∙ c.loop-segment.invariant.quiet;
     }
 
 pub returns-clause-found : goal.returns-clause-found
-returns-clause-found g c = told_all _ c.args.value c.loop-segment.segment-index c.args.segments.now c.loop-segment.found.items (grind (arith, common_steps)) c.loop-segment.invariant.found
+returns-clause-found g c = told_all _ c.args.sought.now c.loop-segment.segment-index c.args.segments.now c.loop-segment.found.items (grind (arith, common_steps)) c.loop-segment.invariant.found

@@ -11,7 +11,7 @@ abbrev pub invariant-loop-segment : goal.invariant-loop-segment
 invariant-loop-segment g l = record {
   length : vec_len l.block ≡ 65536;
   found : Told (content (g.S.Store.files l.initial.store) Dump (g.S.Store.opened l.initial.store Dump)) (λ bytes.
-      l.found.items ++ in_segments l.value bytes (drop l.segment-index l.segments) ≡ in_segments l.value bytes l.segments);
+      l.found.items ++ in_segments l.sought bytes (drop l.segment-index l.segments) ≡ in_segments l.sought bytes l.segments);
   stays : StoreStays g.S.Store.opened g.S.Store.sizes g.S.Store.files g.S.Store.may g.S.Store.asked l.initial.store l.store;
   quiet : g.S.Store.faults l.store ≡ g.S.Store.faults l.initial.store;
 }

@@ -1,10 +1,10 @@
 use Rattle.std.proofs.Common.{◌≡◌, ◌≤◌, ◌-◌, ◌++◌, length, IsSome}
-use Rattle.std.specs.List.{filter}
+use Rattle.std.specs.List.{filter_map}
 use Rattle.std.specs.Option.{ForSome}
 use Rattle.kc_outside.specs.declared.store.Slot.TheVariants.{Dump}
 use Rattle.kc_outside.specs.Files.{content}
 use Rattle.kc_elf.specs.Stays.{StoreStays}
-use Rattle.kc_refs.specs.Holding.{IsInside, holds, places}
+use Rattle.kc_refs.specs.Holding.{IsInside, found_at, places}
 use Rattle.kc_refs.specs.Stops.{Told}
 use Rattle.kc_refs.proofs.search.search_segment.Given as goal
 
@@ -14,7 +14,7 @@ invariant-loop-first g l = record {
   within : l.first ≤ l.words;
   length : length l.block ≡ length l.initial.block;
   found : Told (content (g.S.Store.files l.initial.store) Dump (g.S.Store.opened l.initial.store Dump)) (λ bytes.
-      l.found.items ≡ l.initial.found.items ++ filter (holds l.value bytes) (places l.segment 0 l.first));
+      l.found.items ≡ l.initial.found.items ++ filter_map (found_at l.sought bytes) (places l.segment 0 l.first));
   stays : StoreStays g.S.Store.opened g.S.Store.sizes g.S.Store.files g.S.Store.may g.S.Store.asked l.initial.store l.store;
   quiet : g.S.Store.faults l.store ≡ g.S.Store.faults l.initial.store;
 }

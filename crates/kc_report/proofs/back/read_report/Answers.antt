@@ -1,3 +1,5 @@
+use Rattle.std.proofs.Common.{ap}
+use Rattle.kc_report.specs.Reads.{placed}
 use Rattle.kc_report.proofs.BackLemmas.{only_one, report_is, rest_within, refused_is, stopped_at}
 use Rattle.kc_report.proofs.back.read_report.Goals as goal
 
@@ -18,3 +20,11 @@ pub returns-in-Err-At-clause-refused : goal.returns-in-Err-At-clause-refused
 returns-in-Err-At-clause-refused c =
     let bytes = c.args.bytes.now in
     refused_is bytes c.in-Err-At.rest.now (stopped_at bytes c.in-Err-At.field-0 c.in-Err-At.rest c.in-Err-At.field-0-is c.in-Err-At.ensures)
+
+pub returns-in-Ok-clause-made : goal.returns-in-Ok-clause-made
+returns-in-Ok-clause-made c = ap (placed c.args.bytes.now) c.in-Ok.ensures
+
+pub returns-in-Err-At-clause-made : goal.returns-in-Err-At-clause-made
+returns-in-Err-At-clause-made c =
+    let bytes = c.args.bytes.now in
+    ap (placed bytes) (stopped_at bytes c.in-Err-At.field-0 c.in-Err-At.rest c.in-Err-At.field-0-is c.in-Err-At.ensures)

@@ -1,4 +1,5 @@
-use Rattle.kc_where.proofs.NearestLemmas.{symbols_are_rows}
+use Rattle.kc_where.proofs.HolderLemmas.{holders_are_rows}
+use Rattle.kc_where.proofs.NearestLemmas.{in_map, symbols_are_rows}
 use Rattle.kc_where.proofs.NearestLaws.{symbols_are_nearest}
 use Rattle.kc_where.proofs.SightLaws.{sights_stand}
 use Rattle.kc_where.proofs.laws.know_sights.Goals as goal
@@ -9,5 +10,11 @@ returns-clause-stand c = sights_stand c.know_places.ensures
 pub returns-clause-symbols : goal.returns-clause-symbols
 returns-clause-symbols c = symbols_are_rows
 
+pub returns-clause-from : goal.returns-clause-from
+returns-clause-from c m listed from address read = in_map from m.kaslr address m.map.now listed read
+
 pub returns-clause-nearest : goal.returns-clause-nearest
 returns-clause-nearest c = symbols_are_nearest
+
+pub returns-clause-holders : goal.returns-clause-holders
+returns-clause-holders c = holders_are_rows

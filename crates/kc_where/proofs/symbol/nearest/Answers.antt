@@ -9,4 +9,4 @@ returns-clause-lines c =
     sym (higher_none (option_map symbol_view c.loop-line.found)) ∙ all.2
 
 pub returns-clause-rows : goal.returns-clause-rows
-returns-clause-rows c listed is = returns-clause-lines c ∙ in_map c.args.kaslr c.args.address c.args.map.now listed is
+returns-clause-rows c listed is = returns-clause-lines c ∙ in_map c.args.from c.args.kaslr c.args.address c.args.map.now listed is

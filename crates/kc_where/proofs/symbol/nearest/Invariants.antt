@@ -10,4 +10,4 @@ abbrev pub invariant-loop-line : goal.invariant-loop-line
 invariant-loop-line l =
     (goal.iterator-loop-line).can_next l.line-iterator ×
     (goal.iterator-loop-line).is_finite l.line-iterator ×
-    (higher (option_map symbol_view l.found) (in_lines l.kaslr l.address l.line-iterator) ≡ in_lines l.kaslr l.address (lines l.fn.map))
+    (higher (option_map symbol_view l.found) (in_lines l.from l.kaslr l.address l.line-iterator) ≡ in_lines l.from l.kaslr l.address (lines l.fn.map))

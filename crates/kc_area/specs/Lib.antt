@@ -1,0 +1,6 @@
+pub mod Areas
+pub mod Firsts
+pub mod Modules
+pub mod Processors
+pub mod Shapes
+pub mod Stacks

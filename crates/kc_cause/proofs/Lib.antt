@@ -1,0 +1,5 @@
+mod FileLemmas
+mod Fits
+mod HeldLemmas
+mod ItemLemmas
+mod RepairLemmas

@@ -1,0 +1,65 @@
+-- The files of a report: those of its audit, and its own.
+use Rattle.std.specs.Prelude.{◌≡◌, ◌⊎◌, ⊤, ℕ, List, [], ◌∷◌, ◌++◌, Option, Some, None, Result, Ok, Err}
+use Rattle.kc_outside.specs.declared.store.Slot.{Slot}
+use Rattle.kc_outside.specs.declared.store.Slot.TheVariants as slot
+use Rattle.kc_outside.specs.Files.{Files as Told}
+use Rattle.kc_plan.specs.Views.{plan_whole}
+use Rattle.kc_input.specs.declared.halt.Halt.{Halt}
+use Rattle.kc_input.specs.declared.halt.Halt.TheVariants.{Refused, Store, Memory}
+use Rattle.kc_input.specs.Made.{Halts, Made, gives}
+use Rattle.kc_input.specs.Paging.{by_info}
+use Rattle.kc_input.specs.Slots.{refused_slot}
+use Rattle.kc_ends.specs.Asked.{Asked, Named}
+use Rattle.kc_cause.specs.declared.files.Asks.{Asks}
+use Rattle.kc_cause.specs.declared.held.Held.{Held}
+use Rattle.kc_cause.specs.declared.held.PlanFiles.{PlanFiles}
+use Rattle.kc_cause.specs.Explained.{Explained, cause_made, explained_by}
+
+-- the files of an audit by their names
+pub record AuditFiles : Type 0 where
+  pub dump : List ℕ
+  pub btf : List ℕ
+  pub map : List ℕ
+  pub plan : List ℕ
+
+-- the report's by its name too
+pub record ReportFiles : Type 0 where
+  pub files : AuditFiles
+  pub report : List ℕ
+
+-- in the order in which they are read
+abbrev pub named_files : AuditFiles → List Named
+named_files f =
+    record { slot = slot.Dump; name = f.dump } ∷ record { slot = slot.Btf; name = f.btf }
+    ∷ record { slot = slot.Map; name = f.map } ∷ record { slot = slot.Plan; name = f.plan } ∷ []
+
+abbrev pub cause_asked : ReportFiles → Asked Explained
+cause_asked f = record {
+  named = named_files f.files ++ record { slot = slot.Report; name = f.report } ∷ [];
+  made = λ files. cause_made (files slot.Dump) (files slot.Btf) (files slot.Map) (files slot.Plan) (files slot.Report);
+}
+
+-- as the code keeps them
+abbrev pub audit_files : PlanFiles → AuditFiles
+audit_files f = record { dump = f.dump.now; btf = f.btf.now; map = f.map.now; plan = f.plan.now }
+
+abbrev pub report_files : Asks → ReportFiles
+report_files a = record { files = audit_files a.files; report = a.report.now }
+
+-- what is explained by what the files hold, where the dump has these bytes
+abbrev pub explained_of : Held → List ℕ → Explained
+explained_of held bytes = explained_by held.core.segments (by_info held.info) held.types (plan_whole held.plan) bytes
+
+-- Where the files are told, they hold what is made of them: the dump that lies open has bytes, and with these it is what is audited.
+abbrev pub Holds : (Told → Made Explained) → Option Told → Option (List ℕ) → Result Held Halt → Type 0
+Holds made None content r = ⊤
+Holds made (Some files) content (Ok held) = (bytes : List ℕ) × (content ≡ Some bytes) × (made files ≡ gives (explained_of held bytes))
+Holds made (Some files) content (Err halt) = Halts (made files) halt
+
+-- a refusal is about the map, and the plan's slot is then as before, or it is about the plan
+abbrev pub RefusesLate : {A : Type 0} → Result A Halt → (Slot → Option (List ℕ)) → (Slot → Option (List ℕ)) → Type 0
+RefusesLate (Ok a) old new = ⊤
+RefusesLate (Err (Refused refusal)) old new =
+    ((refused_slot refusal ≡ Some slot.Map) × (new slot.Plan ≡ old slot.Plan)) ⊎ (refused_slot refusal ≡ Some slot.Plan)
+RefusesLate (Err Store) old new = ⊤
+RefusesLate (Err Memory) old new = ⊤

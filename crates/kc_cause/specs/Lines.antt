@@ -1,0 +1,90 @@
+-- The lines that explain a violation.
+use Rattle.std.specs.Prelude.{ℕ, if◌then◌else◌, Bool, true, false, List, [], ◌∷◌, ◌++◌, codes, decimal, map, Option}
+use Rattle.std.specs.Option.{option_map_or}
+use Rattle.kc_btf.specs.Btf.{Types}
+use Rattle.kc_btf.specs.Readers.{name_at, type_numbered}
+use Rattle.kc_memory.specs.declared.rule.Rule.{Rule}
+use Rattle.kc_memory.specs.declared.rule.Rule.TheVariants.{C, U4}
+use Rattle.kc_text.specs.Text.{hex, visible}
+use Rattle.kc_found.specs.Violations.{Violation}
+use Rattle.kc_kinds.specs.declared.kind.Kind.{Kind}
+use Rattle.kc_plan.specs.Planned.{AuditAt}
+use Rattle.kc_plan.specs.Seen.{container_of}
+use Rattle.kc_report.specs.Lines.{place_lines, rule_code}
+use Rattle.kc_member.specs.MemberPaths.{member_path}
+use Rattle.kc_element.specs.declared.element.Element.{Element}
+use Rattle.kc_element.specs.declared.number.Part.{Part}
+use Rattle.kc_element.specs.Elements.{element_of}
+use Rattle.kc_element.specs.Numbers.{differing, part_of}
+use Rattle.kc_suspect.specs.declared.suspect.Suspect.{Suspect}
+use Rattle.kc_repair.specs.declared.outcome.Next.{Next}
+use Rattle.kc_repair.specs.declared.outcome.Repair.{Repair}
+use Rattle.kc_repair.specs.declared.outcome.Repair.TheVariants.{Stands, Nothing}
+use Rattle.kc_cause.specs.Sentences.{sentence}
+
+abbrev pub bytes_line : List ℕ → List ℕ → List ℕ
+bytes_line label bytes = label ++ bytes ++ codes "\n"
+
+-- the rule, with what it says
+abbrev pub rule_line : Rule → List ℕ
+rule_line rule = codes "rule " ++ rule_code rule ++ codes " " ++ sentence rule ++ codes "\n"
+
+-- C and U4 are about a whole element, and the others about a member of one
+abbrev pub is_of_member : Rule → Bool
+is_of_member C = false
+is_of_member U4 = false
+is_of_member _ = true
+
+abbrev pub type_name : Types → ℕ → List ℕ
+type_name types ty = option_map_or (λ t. name_at types.strings t.name) (type_numbered types ty) []
+
+-- an element: its type and its address
+abbrev pub typed_part : Types → Element → List ℕ
+typed_part types e = codes "element " ++ map visible (type_name types e.ty) ++ codes " " ++ hex e.at
+
+-- the path of a member, where there is one
+abbrev pub path_part : List ℕ → List ℕ
+path_part [] = []
+path_part (c ∷ cs) = codes " " ++ c ∷ cs
+
+-- the member of it in which a violation's address lies
+abbrev pub about_part : Types → Violation → Element → List ℕ
+about_part types v e =
+    (if is_of_member v.rule then path_part (member_path types e.ty (container_of e.at v.at)) else []) ++ codes "\n"
+
+-- the element that a violation is about, where that is told
+abbrev pub element_lines : Types → AuditAt → Violation → List ℕ
+element_lines types a v = option_map_or (λ e. typed_part types e ++ about_part types v e) (element_of types a v) []
+
+-- a number against the one that is expected, and in how many bits they differ
+abbrev pub number_line : Part → List ℕ
+number_line p = codes "expected " ++ hex p.expected ++ codes " found " ++ hex p.found ++ (codes " bits " ++ decimal (differing p)) ++ codes "\n"
+
+abbrev pub number_lines : Kind → Violation → List ℕ
+number_lines kind v = option_map_or number_line (part_of kind v) []
+
+-- a violation of an audit
+abbrev pub violation_lines : Types → AuditAt → Violation → List ℕ
+violation_lines types a v =
+    bytes_line (codes "audit ") a.name ++ rule_line v.rule ++ element_lines types a v ++ place_lines v.places ++ number_lines a.kind v
+
+-- a word that is suspected: the four columns of a place, and the number that it may have held
+abbrev pub suspect_part : Suspect → List ℕ
+suspect_part s = hex s.va ++ codes " " ++ hex s.pa ++ codes " " ++ hex s.off ++ codes " " ++ hex s.now ++ codes " " ++ hex s.value
+
+-- how many were tried, and whether there were more
+abbrev pub tried_part : ℕ → Bool → List ℕ
+tried_part tried true = codes "the first " ++ decimal tried
+tried_part tried false = decimal tried
+
+-- what comes after one of them: the rule that is broken then, and where
+abbrev pub next_line : Next → List ℕ
+next_line n = codes "then " ++ suspect_part n.suspect ++ codes " " ++ rule_code n.rule ++ codes " " ++ hex n.at ++ codes "\n"
+
+abbrev pub next_lines : Option Next → List ℕ
+next_lines next = option_map_or next_line next []
+
+-- what repairs
+abbrev pub repair_lines : Repair → List ℕ
+repair_lines (Stands s) = codes "repair " ++ suspect_part s ++ codes "\n"
+repair_lines (Nothing tried more next) = codes "repair none of " ++ tried_part tried more ++ codes " tried\n" ++ next_lines next

@@ -1,0 +1,242 @@
+// The files of a report, and what explains it.
+ghost use Rattle.std.specs.Prelude.{◌≡◌, ◌≤◌, ◌∷◌, [], ℕ, List, length, IfSome};
+ghost use Rattle.kc_outside.specs.declared.store.Slot.{Slot};
+ghost use Rattle.kc_outside.specs.declared.store.Slot.TheVariants.{Dump, Map};
+ghost use Rattle.kc_outside.specs.Counts.{Rose};
+ghost use Rattle.kc_outside.specs.Files.{OthersStay, content};
+ghost use Rattle.kc_memory.specs.Stays.{FramesStay};
+ghost use Rattle.kc_phys.specs.Stored.{AreInside, stored};
+ghost use Rattle.kc_mem.specs.Paged.{with_paging};
+ghost use Rattle.kc_plan.specs.Inside.{AreInside as TypesAreInside};
+ghost use Rattle.kc_plan.specs.Views.{plan_seen};
+ghost use Rattle.kc_input.specs.Halts.{NotRefused, NotStore, OnStore, UnlessStore};
+ghost use Rattle.kc_input.specs.Made.{Is, IsOf};
+ghost use Rattle.kc_input.specs.Paging.{IsTable};
+ghost use Rattle.kc_input.specs.Slots.{RefusesIn};
+ghost use Rattle.kc_ends.specs.Answers.{Prints, PrintsOf, PrintsOfBytes, StayBehind};
+ghost use Rattle.kc_cause.specs.Explained.{cause_made, causes_text, compared, explained_written, or_clean, report_file, report_passed};
+ghost use Rattle.kc_cause.specs.Files.{cause_asked, explained_of, report_files};
+ghost use Rattle.kc_cause.specs.Judged.{Compares, FitsJudged, JudgesAs, Tells, is_reported, over_plan};
+
+use crate::explained::{Written, explained_text};
+use crate::held::{Held, PlanFiles, names_of, read_held};
+use crate::judged::{Judged, JudgedOver, PlanOf, judge_over, report_text};
+use kc_ends::Answer;
+use kc_input::{Halt, Refusal, ReportFault, paging_by, read_report_file};
+use kc_outside::Store;
+use kc_phys::{Phys, Room};
+use kc_report::{ReportStop, read_report};
+use kc_run::RunStop;
+use kc_word::PageCfg;
+use std::alloc::Global;
+
+/// A report, with the files of its audit.
+#[derive(Clone, Copy)]
+pub struct Asks<'w> {
+    /// The names of the dump, of the file of types, of the map and of the plan.
+    pub files: PlanFiles<'w>,
+    /// The name of the report.
+    pub report: &'w str,
+}
+
+/// The text that explains a report: the first fault of the dump, the types, the map, the plan or the report, else what explains it.
+///
+/// # Errors
+///
+/// That fault; a failed call of the store; no memory was left.
+pub fn explain<S: Store>(alloc: Global, store: &mut S, asks: &Asks<'_>) -> Result<Answer, Halt>
+    requires dump { S.may store.old Dump asks.now.files.dump.now }
+    requires btf { S.may store.old Slot.Btf asks.now.files.btf.now }
+    requires map { S.may store.old Map asks.now.files.map.now }
+    requires plan { S.may store.old Slot.Plan asks.now.files.plan.now }
+    requires report { S.may store.old Slot.Report asks.now.report.now }
+
+    ensures output { PrintsOf explained_written
+        (λ files. cause_made (files Dump asks.now.files.dump.now) (files Slot.Btf asks.now.files.btf.now)
+        (files Map asks.now.files.map.now) (files Slot.Plan asks.now.files.plan.now)
+        (files Slot.Report asks.now.report.now)) (S.files store.old) result }
+    ensures unopened { StayBehind (cause_asked (report_files asks.now)).named result (S.opened store.old)
+        (S.opened store.new) }
+    ensures files { S.files store.new ≡ S.files store.old }
+    ensures later { S.faults store.old ≤ S.faults store.new }
+    ensures quiet { UnlessStore result (S.faults store.new ≡ S.faults store.old) }
+    ensures cause { OnStore result (Rose (S.faults store.old) (S.faults store.new)) }
+{
+    let held = read_held(alloc, store, &asks.files)?;
+    let report = find_report(alloc, store, asks.report)?;
+    explain_held(alloc, store, &held, &report)
+}
+
+// The bytes of a file that is a report.
+fn find_report<S: Store>(alloc: Global, store: &mut S, name: &str) -> Result<Vec<u8>, Halt>
+    requires may { S.may store.old Slot.Report name.now }
+
+    ensures told { IsOf (λ report. report.items) (λ files. report_file (files Slot.Report name.now)) (S.files store.old) result }
+    ensures refused { RefusesIn Slot.Report result }
+
+    ensures others_opened { OthersStay Slot.Report (S.opened store.old) (S.opened store.new) }
+    ensures others_sizes { OthersStay Slot.Report (S.sizes store.old) (S.sizes store.new) }
+    ensures files { S.files store.new ≡ S.files store.old }
+    ensures later { S.faults store.old ≤ S.faults store.new }
+    ensures quiet { UnlessStore result (S.faults store.new ≡ S.faults store.old) }
+    ensures cause { OnStore result (Rose (S.faults store.old) (S.faults store.new)) }
+{
+    let bytes = read_report_file(alloc, store, name)?;
+    pass_report(alloc, bytes)
+}
+
+// The same bytes, where they are the text of a report.
+fn pass_report(alloc: Global, bytes: Vec<u8>) -> Result<Vec<u8>, Halt>
+    ensures made { Is (λ report. report.items) (report_passed bytes.items) result }
+    ensures refused { RefusesIn Slot.Report result }
+    ensures no_call { NotStore result }
+{
+    match read_report(alloc, &bytes) {
+        Ok(_) => Ok(bytes),
+        Err(ReportStop::Y1(at)) => Err(Halt::Refused(Refusal::Report(ReportFault::Y1(at)))),
+        Err(ReportStop::NoMemory) => Err(Halt::Memory),
+    }
+}
+
+// What explains the report of what the files hold, with these bytes, which are a report's.
+fn explain_held<S: Store>(
+    alloc: Global,
+    store: &mut S,
+    held: &Held,
+    report: &[u8],
+) -> Result<Answer, Halt>
+    requires table { IsTable held.now.info.table }
+    requires types { TypesAreInside (length held.now.types.records) held.now.plan.audits }
+    requires inside { AreInside (S.sizes store.old Dump) held.now.core.segments }
+
+    ensures output { PrintsOfBytes explained_written (λ bytes. compared (explained_of held.now bytes) report.now)
+        (content (S.files store.old) Dump (S.opened store.old Dump)) result }
+    ensures refused { RefusesIn Slot.Report result }
+    ensures files { S.files store.new ≡ S.files store.old }
+    ensures later { S.faults store.old ≤ S.faults store.new }
+    ensures quiet { UnlessStore result (S.faults store.new ≡ S.faults store.old) }
+    ensures cause { OnStore result (Rose (S.faults store.old) (S.faults store.new)) }
+{
+    let room = Room::new(alloc, held.core.segments(), held.plan.tail)?;
+    let over = PlanOf {
+        alloc,
+        plan: &held.plan,
+        types: &held.types,
+    };
+    let paging = paging_by(held.info);
+    let memory = Phys::over(store, room);
+    let ExplainedOver { memory, answer } = explain_over(memory, &over, paging, report);
+    let _store = memory.into_store();
+    answer
+}
+
+// What explains a report, and the memory that was asked, handed back.
+#[derive(Drop)]
+struct ExplainedOver<'s, S: Store> {
+    memory: Phys<'s, S>,
+    answer: Result<Answer, Halt>,
+}
+
+// The same over the physical memory of the dump.
+fn explain_over<'s, S: Store>(
+    memory: Phys<'s, S>,
+    over: &PlanOf<'_>,
+    paging: PageCfg,
+    report: &[u8],
+) -> ExplainedOver<'s, S>
+    requires table { IsTable paging.table }
+    requires types { TypesAreInside (length over.now.types.now.records) over.now.plan.now.audits }
+
+    ensures output { IfSome (with_paging paging (stored memory.entry.segments.items memory.entry.tail (content (S.files memory.entry.store.now) Dump (S.opened memory.entry.store.now Dump)))) (λ image.
+        Prints explained_written (compared (over_plan over.now.types.now over.now.plan.now image) report.now) result.answer) }
+    ensures refused { RefusesIn Slot.Report result.answer }
+    ensures stays { FramesStay (λ p. stored p.segments.items p.tail (content (S.files p.store.now) Dump (S.opened p.store.now Dump))) (λ p. S.files p.store.now) (λ p. p.store.ghost_name ∷ []) memory.entry result.memory }
+    ensures later { S.faults memory.entry.store.now ≤ S.faults result.memory.store.now }
+    ensures quiet { UnlessStore result.answer (S.faults result.memory.store.now ≡ S.faults memory.entry.store.now) }
+    ensures cause { OnStore result.answer (Rose (S.faults memory.entry.store.now) (S.faults result.memory.store.now)) }
+{
+    let JudgedOver { memory, judged } = judge_over(memory, over, paging);
+    match judged {
+        Ok(judged) => explain_judged(memory, over, paging, &judged, report),
+        Err(RunStop::Fault) => ExplainedOver {
+            memory,
+            answer: Err(Halt::Store),
+        },
+        Err(RunStop::NoMemory) => ExplainedOver {
+            memory,
+            answer: Err(Halt::Memory),
+        },
+    }
+}
+
+// The same of what was judged.
+fn explain_judged<'s, S: Store>(
+    memory: Phys<'s, S>,
+    over: &PlanOf<'_>,
+    paging: PageCfg,
+    judged: &Judged,
+    report: &[u8],
+) -> ExplainedOver<'s, S>
+    requires table { IsTable paging.table }
+    requires types { TypesAreInside (length over.now.types.now.records) over.now.plan.now.audits }
+    requires fits { FitsJudged (length over.now.plan.now.audits) (plan_seen over.now.plan.now) judged.now }
+    requires says { IfSome (with_paging paging (stored memory.segments.items memory.tail (content (S.files memory.store.now) Dump (S.opened memory.store.now Dump)))) (λ image. JudgesAs image over.now.plan.now judged.now) }
+
+    ensures output { IfSome (with_paging paging (stored memory.entry.segments.items memory.entry.tail (content (S.files memory.entry.store.now) Dump (S.opened memory.entry.store.now Dump)))) (λ image.
+        Prints explained_written (compared (over_plan over.now.types.now over.now.plan.now image) report.now) result.answer) }
+    ensures refused { RefusesIn Slot.Report result.answer }
+    ensures stays { FramesStay (λ p. stored p.segments.items p.tail (content (S.files p.store.now) Dump (S.opened p.store.now Dump))) (λ p. S.files p.store.now) (λ p. p.store.ghost_name ∷ []) memory.entry result.memory }
+    ensures later { S.faults memory.entry.store.now ≤ S.faults result.memory.store.now }
+    ensures quiet { UnlessStore result.answer (S.faults result.memory.store.now ≡ S.faults memory.entry.store.now) }
+    ensures cause { OnStore result.answer (Rose (S.faults memory.entry.store.now) (S.faults result.memory.store.now)) }
+{
+    match compare(over, judged, report) {
+        Ok(()) => tell(memory, over, paging, judged),
+        Err(halt) => ExplainedOver {
+            memory,
+            answer: Err(halt),
+        },
+    }
+}
+
+// Whether these bytes are the report of what was judged.
+fn compare(over: &PlanOf<'_>, judged: &Judged, report: &[u8]) -> Result<(), Halt>
+    requires fits { FitsJudged (length over.now.plan.now.audits) (plan_seen over.now.plan.now) judged.now }
+    ensures { Compares (is_reported over.now.plan.now judged.now report.now) result }
+{
+    let names = names_of(over.alloc, over.plan)?;
+    let now = report_text(over.alloc, &names, judged)?;
+    if now.as_slice() == report {
+        Ok(())
+    } else {
+        Err(Halt::Refused(Refusal::Report(ReportFault::Y2)))
+    }
+}
+
+// The answer on what was judged.
+fn tell<'s, S: Store>(
+    memory: Phys<'s, S>,
+    over: &PlanOf<'_>,
+    paging: PageCfg,
+    judged: &Judged,
+) -> ExplainedOver<'s, S>
+    requires table { IsTable paging.table }
+    requires types { TypesAreInside (length over.now.types.now.records) over.now.plan.now.audits }
+    requires fits { FitsJudged (length over.now.plan.now.audits) (plan_seen over.now.plan.now) judged.now }
+
+    ensures says { IfSome (with_paging paging (stored memory.entry.segments.items memory.entry.tail (content (S.files memory.entry.store.now) Dump (S.opened memory.entry.store.now Dump)))) (λ image.
+        Tells (or_clean (causes_text (over_plan over.now.types.now over.now.plan.now image) judged.now.roots)) result.answer) }
+    ensures not_refused { NotRefused result.answer }
+    ensures stays { FramesStay (λ p. stored p.segments.items p.tail (content (S.files p.store.now) Dump (S.opened p.store.now Dump))) (λ p. S.files p.store.now) (λ p. p.store.ghost_name ∷ []) memory.entry result.memory }
+    ensures later { S.faults memory.entry.store.now ≤ S.faults result.memory.store.now }
+    ensures quiet { UnlessStore result.answer (S.faults result.memory.store.now ≡ S.faults memory.entry.store.now) }
+    ensures cause { OnStore result.answer (Rose (S.faults memory.entry.store.now) (S.faults result.memory.store.now)) }
+{
+    let Written { memory, text } = explained_text(memory, over, paging, &judged.roots);
+    let answer = match text {
+        Ok(text) => Ok(Answer::Done(text)),
+        Err(RunStop::Fault) => Err(Halt::Store),
+        Err(RunStop::NoMemory) => Err(Halt::Memory),
+    };
+    ExplainedOver { memory, answer }
+}

@@ -1,0 +1,18 @@
+//! From a report to its cause: what the verdicts on the root audits of a plan say, the elements that they are about, and the words that would repair them.
+#![tactic(auto)]
+
+mod explained;
+mod files;
+mod held;
+mod judged;
+mod laws;
+mod lines;
+mod repairs;
+mod sentences;
+
+pub use files::{Asks, explain};
+pub use held::PlanFiles;
+pub use laws::know_causes;
+
+#[cfg(test)]
+mod tests;

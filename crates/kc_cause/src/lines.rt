@@ -1,0 +1,169 @@
+// The lines that explain a violation.
+ghost use Rattle.std.specs.Prelude.{◌≡◌, ◌++◌, ◌≤◌, length, OnOk};
+ghost use Rattle.kc_plan.specs.Inside.{IsInside};
+ghost use Rattle.kc_plan.specs.Planned.{audit_seen};
+ghost use Rattle.kc_plan.specs.Seen.{container_of};
+ghost use Rattle.kc_member.specs.MemberPaths.{member_path};
+ghost use Rattle.kc_cause.specs.Lines.{about_part, bytes_line, element_lines, is_of_member, number_line, number_lines, path_part, rule_line, type_name, typed_part, violation_lines};
+
+use crate::sentences::sentence;
+use kc_btf::Btf;
+use kc_element::{Element, Part, element_of, part_of};
+use kc_found::{Found, Name};
+use kc_kinds::Kind;
+use kc_member::push_member;
+use kc_memory::Rule;
+use kc_plan::Audit;
+use kc_report::{push_places, rule_code};
+use kc_run::container_of;
+use kc_text::{push, push_hex, push_name, push_numbered};
+use kc_word::NoMemory;
+use std::alloc::Global;
+
+// A line of a label and some bytes.
+pub(crate) fn push_line(text: &mut Vec<u8>, label: &[u8], bytes: &Name) -> Result<(), NoMemory>
+    ensures { OnOk result (text.new.items ≡ text.old.items ++ bytes_line label.now bytes.now) }
+{
+    push(text, label)?;
+    push(text, bytes.as_slice())?;
+    push(text, b"\n")
+}
+
+// The line of a rule, with what it says.
+fn push_rule(text: &mut Vec<u8>, rule: Rule) -> Result<(), NoMemory>
+    ensures { OnOk result (text.new.items ≡ text.old.items ++ rule_line rule) }
+{
+    push(text, b"rule ")?;
+    push(text, rule_code(rule))?;
+    push(text, b" ")?;
+    push(text, sentence(rule))?;
+    push(text, b"\n")
+}
+
+// Whether a rule is about a member of its element.
+fn is_of_member(rule: Rule) -> bool
+    ensures { result ≡ is_of_member rule }
+{
+    !matches!(rule, Rule::C | Rule::U4)
+}
+
+// The name of a type.
+fn type_name(btf: &Btf, ty: u32) -> &[u8]
+    requires { ty ≤ length btf.now.records }
+    ensures { result.now ≡ type_name btf.now ty }
+{
+    if ty == 0 {
+        return b"";
+    }
+    btf.name(btf.ty(ty).name)
+}
+
+// The path of the member of an element in which a byte lies, where there is one.
+fn push_path(
+    alloc: Global,
+    text: &mut Vec<u8>,
+    btf: &Btf,
+    element: Element,
+    at: u64,
+) -> Result<(), NoMemory>
+    requires { element.ty ≤ length btf.now.records }
+    ensures { OnOk result (text.new.items ≡ text.old.items ++ path_part (member_path btf.now element.ty (container_of element.at at))) }
+{
+    let mut path = Vec::new(alloc);
+    push_member(&mut path, btf, element.ty, container_of(element.at, at))?;
+    if path.is_empty() {
+        return Ok(());
+    }
+    push(text, b" ")?;
+    push(text, &path)
+}
+
+// The start of the line of an element: its type and its address.
+fn push_typed(text: &mut Vec<u8>, btf: &Btf, element: Element) -> Result<(), NoMemory>
+    requires { element.ty ≤ length btf.now.records }
+    ensures { OnOk result (text.new.items ≡ text.old.items ++ typed_part btf.now element) }
+{
+    push(text, b"element ")?;
+    push_name(text, type_name(btf, element.ty))?;
+    push(text, b" ")?;
+    push_hex(text, element.at)
+}
+
+// The member of it that a rule is about.
+fn push_about(
+    alloc: Global,
+    text: &mut Vec<u8>,
+    btf: &Btf,
+    element: Element,
+    found: &Found,
+) -> Result<(), NoMemory>
+    requires { element.ty ≤ length btf.now.records }
+    ensures { OnOk result (text.new.items ≡ text.old.items ++ about_part btf.now found.now element) }
+{
+    if is_of_member(found.rule) {
+        push_path(alloc, text, btf, element, found.at)?;
+    }
+    push(text, b"\n")
+}
+
+// The line of the element that a violation is about, where that is told.
+fn push_element(
+    alloc: Global,
+    text: &mut Vec<u8>,
+    btf: &Btf,
+    audit: &Audit,
+    found: &Found,
+) -> Result<(), NoMemory>
+    requires { IsInside (length btf.now.records) audit.now }
+    ensures { OnOk result (text.new.items ≡ text.old.items ++ element_lines btf.now (audit_seen audit.now) found.now) }
+{
+    let Some(element) = element_of(btf, audit, found) else {
+        return Ok(());
+    };
+    push_typed(text, btf, element)?;
+    push_about(alloc, text, btf, element, found)
+}
+
+// The line of a number against the one that is expected.
+fn push_part(text: &mut Vec<u8>, part: &Part) -> Result<(), NoMemory>
+    ensures { OnOk result (text.new.items ≡ text.old.items ++ number_line part.now) }
+{
+    push(text, b"expected ")?;
+    push_hex(text, part.expected)?;
+    push(text, b" found ")?;
+    push_hex(text, part.found)?;
+    push_numbered(text, b" bits ", u64::from(part.differing()))?;
+    push(text, b"\n")
+}
+
+fn push_number(text: &mut Vec<u8>, kind: &Kind, found: &Found) -> Result<(), NoMemory>
+    ensures { OnOk result (text.new.items ≡ text.old.items ++ number_lines kind.now found.now) }
+{
+    match part_of(kind, found) {
+        Some(part) => push_part(text, &part),
+        None => Ok(()),
+    }
+}
+
+/// Adds the lines of a violation of an audit: the audit's name, the rule with what it says, the element that it is about, the words
+/// that show it, and the number that is expected against the one that stands there.
+///
+/// # Errors
+///
+/// No memory was left.
+pub fn push_violation(
+    alloc: Global,
+    text: &mut Vec<u8>,
+    btf: &Btf,
+    audit: &Audit,
+    found: &Found,
+) -> Result<(), NoMemory>
+    requires { IsInside (length btf.now.records) audit.now }
+    ensures { OnOk result (text.new.items ≡ text.old.items ++ violation_lines btf.now (audit_seen audit.now) found.now) }
+{
+    push_line(text, b"audit ", &audit.name)?;
+    push_rule(text, found.rule)?;
+    push_element(alloc, text, btf, audit, found)?;
+    push_places(text, found.places.as_slice())?;
+    push_number(text, &audit.kind, found)
+}

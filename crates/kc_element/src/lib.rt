@@ -1,0 +1,12 @@
+//! What a violation is about: the element of the plan whose word breaks the rule, and the number that stands there against the one
+//! that is expected.
+#![tactic(auto)]
+
+mod element;
+mod number;
+
+pub use element::{Element, element_of};
+pub use number::{Part, part_of};
+
+#[cfg(test)]
+mod tests;

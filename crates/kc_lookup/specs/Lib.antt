@@ -1,0 +1,5 @@
+pub mod Kernels
+pub mod Known
+pub mod Looked
+pub mod Texts
+pub mod Unread

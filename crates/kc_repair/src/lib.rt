@@ -1,0 +1,17 @@
+//! What would repair a structure that an audit found broken: suspects are tried one by one, each in a memory of the dump in
+//! which its word holds its value, until the same root audit stands there. No file is written.
+#![tactic(auto)]
+
+mod laws;
+mod outcome;
+mod seeking;
+#[cfg(test)]
+mod tests;
+mod trial;
+mod tries;
+
+pub use laws::know_repairs;
+pub use outcome::{Breach, Next, Repair};
+pub use seeking::repair_over;
+pub use trial::RootAudit;
+pub use tries::{MOST, Repaired, repair};

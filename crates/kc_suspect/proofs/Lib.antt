@@ -1,0 +1,4 @@
+pub mod BitLemmas
+pub mod LinkLemmas
+pub mod MadeLemmas
+pub mod StandLaws

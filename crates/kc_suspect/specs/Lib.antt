@@ -1,0 +1,9 @@
+pub mod Answers
+pub mod Changes
+pub mod Fields
+pub mod FreePointers
+pub mod Laws
+pub mod Links
+pub mod Suspects
+pub mod Trees
+pub mod Ways

@@ -1,0 +1,74 @@
+-- A dump that is told is the same after it was asked.
+use Rattle.std.proofs.Common.{◌≡◌, ℕ, ◌+◌, ◌≤◌, Bool, true, false, List, [], ◌∷◌, Option, Some, None, option_map, IsTrue, refl, sym, ap, subst, ◌∙◌, arith}
+use Rattle.std.specs.Prelude.{Result, Ok, Err, IfOk, IfSome, max, is_some}
+use Rattle.std.specs.Bool.{OnTrue}
+use Rattle.std.specs.List.{All}
+use Rattle.std.specs.Option.{ForSome}
+use Rattle.std.proofs.lemmas.Bool.{OnTrue_at, OnTrue_from}
+use Rattle.std.proofs.lemmas.List.Elements.{All-cons, All-nil}
+use Rattle.kc_word.specs.declared.plain.PageCfg.{PageCfg}
+use Rattle.kc_word.specs.declared.plain.Segment.{Segment}
+use Rattle.kc_word.specs.declared.plain.Tail.{Tail}
+use Rattle.kc_word.specs.declared.plain.Tail.TheVariants.{Absent}
+use Rattle.kc_memory.specs.Image.{Image, Physical}
+use Rattle.kc_phys.specs.Blocks.{reach}
+use Rattle.kc_phys.specs.Stored.{AreInside, IsInside, stored}
+use Rattle.kc_mem.specs.Paged.{with_paging}
+use Rattle.kc_refs.specs.Stops.{Told}
+use Rattle.kc_why.specs.Memory.{image_of}
+
+-- segments that reach no further lie inside
+reached : (n : ℕ) (segments : List Segment) → reach segments ≤ n → All (IsInside n) segments
+reached n [] within = All-nil (IsInside n)
+reached n (s ∷ ss) within = All-cons (IsInside n) s ss (omega (arith, within)) (reached n ss (omega (arith, within)))
+
+pub inside : (size : Option ℕ) (segments : List Segment) (end last : ℕ) → IsTrue (is_some size) → ForSome size (λ n. last ≤ n) → end ≡ reach segments → last ≡ end
+    → AreInside size segments
+inside size segments end last there within is same =
+    (there, λ n at. reached n segments (subst (λ (k : ℕ). k ≤ n) (same ∙ is) (within n at)))
+
+-- what is told of an image
+abbrev segments_in : Option Image → List Segment
+segments_in None = []
+segments_in (Some i) = i.physical.segments
+
+abbrev bytes_in : Option Image → Option (List ℕ)
+bytes_in None = None
+bytes_in (Some i) = Some i.physical.bytes
+
+bytes_told : (paging : PageCfg) (segments : List Segment) (tail : Tail) (content : Option (List ℕ)) → bytes_in (with_paging paging (stored segments tail content)) ≡ content
+bytes_told paging segments tail None = refl
+bytes_told paging segments tail (Some bytes) = refl
+
+pub same_bytes : (old new : PageCfg) (before after : List Segment) (tail rest : Tail) (content now : Option (List ℕ))
+    → with_paging new (stored after rest now) ≡ with_paging old (stored before tail content) → now ≡ content
+same_bytes old new before after tail rest content now is = sym (bytes_told new after rest now) ∙ ap bytes_in is ∙ bytes_told old before tail content
+
+same_segments : (old new : PageCfg) (before after : List Segment) (tail rest : Tail) (bytes : List ℕ) (now : Option (List ℕ))
+    → with_paging new (stored after rest now) ≡ with_paging old (stored before tail (Some bytes)) → after ≡ before
+same_segments old new before after tail rest bytes None is = absurd (let none : ⊥ = cc in none)
+same_segments old new before after tail rest bytes (Some b) is = ap segments_in is
+
+-- so they reach as far
+same_end : (old new : PageCfg) (before after : List Segment) (tail rest : Tail) (bytes : List ℕ) (now : Option (List ℕ)) (end last : ℕ) (test : Bool)
+    → with_paging new (stored after rest now) ≡ with_paging old (stored before tail (Some bytes)) → end ≡ reach before → last ≡ reach after
+    → (last ≡ end → test ≡ true) → test ≡ true
+same_end old new before after tail rest bytes now end last test is first second tests =
+    tests (second ∙ ap reach (same_segments old new before after tail rest bytes now is) ∙ sym first)
+
+-- what is said of the dump's bytes after it was asked is said of those before
+pub found_before : (old new : PageCfg) (before after : List Segment) (tail rest : Tail) (content now : Option (List ℕ)) (end last : ℕ) (test : Bool) (P : List ℕ → Type 0)
+    → with_paging new (stored after rest now) ≡ with_paging old (stored before tail content) → end ≡ reach before → last ≡ reach after
+    → (last ≡ end → test ≡ true) → OnTrue test (Told now P) → Told content P
+found_before old new before after tail rest None now end last test P is first second tests found = tt
+found_before old new before after tail rest (Some bytes) now end last test P is first second tests found =
+    subst (λ (c : Option (List ℕ)). Told c P) (same_bytes old new before after tail rest (Some bytes) now is)
+    (OnTrue_at (same_end old new before after tail rest bytes now end last test is first second tests) found)
+
+-- what is told of the memory is told of the dump's bytes
+pub told_by : (paging : PageCfg) (segments room : List Segment) (tail : Tail) (content : Option (List ℕ)) (P : Image → Type 0)
+    → room ≡ segments → tail ≡ Absent → IfSome (with_paging paging (stored room tail content)) P → Told content (λ bytes. P (image_of bytes segments paging))
+told_by paging segments room tail None P same absent told = tt
+told_by paging segments room tail (Some bytes) P same absent told =
+    subst (λ (ss : List Segment). P (image_of bytes ss paging)) same
+    (subst (λ (t : Tail). P (record { physical = record { bytes = bytes; segments = room; tail = t }; paging = paging })) absent told)
