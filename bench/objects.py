@@ -15,7 +15,7 @@ import sys
 import tempfile
 
 import child
-from areas import Holders
+from areas import Holders, shown
 from second import IMAGE, TOP, Broken, Core, Info, Kernel, Memory, Refused, Types, address, free_list, slub, symbols
 
 NAMES = ["vmcore", "btf", "System.map"]
@@ -38,6 +38,7 @@ class Objects:
         self.kernel = Kernel(self.memory, Types(btf), symbols(map_), info)
         self.caches = address(self.kernel.rows, "slab_caches", info.kaslr)
         self.page_size = self.kernel.types.size(self.kernel.struct("page"))
+        self.kernel.types.plain(self.kernel.struct("page"), "compound_head")  # without it no object is told, nor what encodes free pointers
         self.rows, self.holders = all_rows(map_, info.kaslr), None
 
     def base(self, name, four, five):
@@ -57,9 +58,9 @@ class Objects:
                 byte = self.memory.number(at % TOP, 0, 8)[0]
             except Broken:
                 break
-            if not 0x21 <= byte <= 0x7E:
+            if byte == 0:
                 break
-            text, at = text + chr(byte), at + 1
+            text, at = text + shown([byte]), at + 1
         return text
 
     def keys(self):
@@ -158,6 +159,27 @@ class Objects:
         except Broken as broken:
             lines = lines[:1] + [f"slab unknown {broken.rule} {broken.at:016x}"]
         return lines
+
+    def described(self, va):
+        """The page whose descriptor has an address."""
+        try:
+            bases = self.base("vmemmap_base", 0xFFFFEA0000000000, 0xFFD4000000000000), self.keys_base()
+        except Broken:
+            return "number"
+        number, byte = divmod((va - bases[0]) % TOP, self.page_size)
+        return f"descriptor {number:016x}+{byte}" if number < 1 << (40 if self.kernel.info.levels == 5 else 34) else "number"
+
+    def lead(self, va):
+        """What a number leads to, taken as an address."""
+        try:
+            self.memory.place(va - va % 8)
+        except Broken:
+            return "number"
+        lines = [line.split(" ") for line in self.lines(va)]
+        if lines[-1][0] == "object":
+            name = next(words[2] for words in lines if words[0] == "cache")
+            return f"object {name}+{lines[-1][5]}" + " free" * (lines[-1][6] == "free")
+        return self.described(va)
 
 
 def compare(kwhy, folder, objects, given):

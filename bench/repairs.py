@@ -49,7 +49,8 @@ def tried(commands, copy, damage, paths):
     copy.put(offset, new)
     with open(told, "w") as text:
         text.write(report)
-    words = [dump, *files, os.path.join(folder, plan)]
+    path = os.path.join(folder, plan)
+    words = [dump, *files, path if os.path.exists(path) else os.path.join(folder, "plans", plan)]
     status, out, err, seconds = child.run([kwhy, *words, told])
     assert status == 0, (name, status, err)
     memory = child.most_memory([kwhy, *words, told])

@@ -16,7 +16,7 @@ import sys
 import child
 from areas import Areas
 from objects import Objects, all_rows
-from second import IMAGE, TOP, Broken, Core, Info, Memory, Refused, address, dec_of, symbols, vmcoreinfo
+from second import IMAGE, TOP, Broken, Core, Info, Kernel, Memory, Refused, Types, address, dec_of, symbols, vmcoreinfo
 
 RUNS = 5
 PATTERNS = {0x5A: "uninitialized", 0x6B: "freed", 0xA5: "end", 0xAA: "unallocated", 0xBB: "redzone-free", 0xCC: "redzone-used"}
@@ -82,6 +82,7 @@ class Why:
         self.end = self.image_end(rows, info)
         self.base, self.phys_base = self.direct_base(rows, info), phys_base(self.core)
         self.rows = [row for row in all_rows(map_, info.kaslr) if row[0] >= IMAGE]
+        self.lead = lambda value: "number"
 
     def image_end(self, rows, info):
         """Where the kernel's image ends, if the map's rows say one address."""
@@ -119,6 +120,10 @@ class Why:
         name = next(row[1] for row in below if row[0] == most)
         return f"{name}+{at - most}"
 
+    def is_outside(self, at):
+        """Whether an address isn't one of the image."""
+        return self.end is None or not IMAGE <= at < self.end
+
     def seen(self, va):
         """The place of a word, or the text of what stopped its reading."""
         try:
@@ -135,8 +140,10 @@ class Why:
             return f"small {value}"
         if kind == "pattern":
             return f"pattern {value & 255:02x} {PATTERNS[value & 255]}"
-        symbol = self.symbol(value) if kind == "number" else None
-        return f"image {symbol}" if symbol else kind
+        if kind != "number":
+            return kind
+        symbol = self.symbol(value)
+        return f"image {symbol}" if symbol else self.lead(value)
 
     def near(self, va):
         place, stopped = self.seen(va)
@@ -160,7 +167,7 @@ class Why:
         lines, va = [f"address {at:016x}"], at - at % 8
         if self.symbol(at):
             lines.append(f"symbol {self.symbol(at)}")
-        if self.end is None or not IMAGE <= at < self.end:
+        if self.is_outside(at):
             lines += areas
         found, size = entries(self.memory, va)
         for level, (_, pa, origin, value) in found:
@@ -194,14 +201,14 @@ class Why:
                 if word ^ at in table:
                     value, line = table[word ^ at]
                     if word != value:
-                        found[value].setdefault(offset, []).append((pa, offset + skipped + 8 * k, word, line))
+                        found[value].setdefault((offset, start), []).append((pa, offset + skipped + 8 * k, word, line))
         return found
 
     def refs(self, value, found):
         """The text of the words that hold a value, one segment after the other."""
         wanted, data, lines = value.to_bytes(8, "little"), self.core.data, []
         for offset, start, size in self.core.loads:
-            some = [(pa, at, f"place - {pa:016x} {at:016x} {word:016x}\n{line}") for pa, at, word, line in found.get(offset, [])]
+            some = [(pa, at, f"place - {pa:016x} {at:016x} {word:016x}\n{line}") for pa, at, word, line in found.get((offset, start), [])]
             at = data.find(wanted, offset, offset + size)
             while at >= 0:
                 pa = start + at - offset
@@ -271,6 +278,36 @@ def held(objects, at):
         return []
 
 
+class Sights:
+    """What is printed of the addresses of a dump: what is seen of one, and what is told of it."""
+
+    def __init__(self, core, btf, map_):
+        self.why = Why(core, map_)
+        kernel = Kernel(self.why.memory, Types(btf), symbols(map_), Info(self.why.core))
+        self.areas = Areas(kernel, all_rows(map_, kernel.info.kaslr))
+        try:
+            self.objects = Objects(core, btf, map_)
+            self.why.lead = self.objects.lead
+        except (Refused, TypeError):
+            self.objects = None
+
+    def parts(self, at):
+        """The lines of the areas of an address, and those of what holds it."""
+        lines = [] if self.objects is None else held(self.objects, at)
+        slab = any(line.startswith("slab ") and " first " in line for line in lines)
+        return self.areas.lines(at, slab), lines
+
+    def text(self, at):
+        areas, lines = self.parts(at)
+        return self.why.text(at, areas) + "".join(line + "\n" for line in lines)
+
+    def told(self, at):
+        """What stands after a word of a violation."""
+        symbol, (areas, lines) = self.why.symbol(at), self.parts(at)
+        first = [f"symbol {symbol}"] if symbol else []
+        return "".join(line + "\n" for line in first + (areas if self.why.is_outside(at) else []) + lines)
+
+
 def compare(command, words, folder, wanted):
     """Whether a run of some words prints what is wanted."""
     status, out, err, _ = child.run(command + words, folder)
@@ -290,16 +327,12 @@ def main():
     names = ["vmcore", "btf", "System.map"] if whole else ["z.core", "z.btf", "z.map"]
     with open(f"{folder}/{names[0]}", "rb") as file:
         core = mmap.mmap(file.fileno(), 0, access=mmap.ACCESS_READ)
-    why = Why(core, open(f"{folder}/{names[2]}", "rb").read())
     given, command = [int(word, 16) for word in sys.argv[3:]], [kwhy] + names
-    map_ = open(f"{folder}/{names[2]}", "rb").read()
-    objects = Objects(core, open(f"{folder}/{names[1]}", "rb").read(), map_)
-    areas = Areas(objects.kernel, all_rows(map_, objects.kernel.info.kaslr))
+    sights = Sights(core, open(f"{folder}/{names[1]}", "rb").read(), open(f"{folder}/{names[2]}", "rb").read())
+    why, objects, areas = sights.why, sights.objects, sights.areas
     addresses, values = given or made(why, areas, 40), given or made_values(why, 8)
     for at in addresses:
-        lines = held(objects, at)
-        slab = any(line.startswith("slab ") and " first " in line for line in lines)
-        compare(command, [f"{at:x}"], folder, why.text(at, areas.lines(at, slab)) + "".join(line + "\n" for line in lines))
+        compare(command, [f"{at:x}"], folder, sights.text(at))
     values += [] if given else made_objects(objects, 8)
     found = why.encoded(values, objects.keys())
     for value in values:

@@ -1,20 +1,21 @@
 -- What explains a report, step by step.
-use Rattle.std.proofs.Common.{◌≡◌, ℕ, nat_eq, Bool, true, false, if◌then◌else◌, List, Option, Some, None, IfSome, Result, Ok, Err, refl, sym, ap, subst, ◌∙◌}
+use Rattle.std.proofs.Common.{◌≡◌, ℕ, nat_eq, Bool, true, false, if◌then◌else◌, List, Option, Some, None, IfSome, Result, Ok, Err, inl, inr, refl, sym, ap, subst, ◌∙◌}
 use Rattle.std.specs.Prelude.{bytes_eq}
 use Rattle.kc_outside.specs.declared.store.Slot.{Slot}
 use Rattle.kc_outside.specs.declared.store.Slot.TheVariants as slot
-use Rattle.kc_outside.specs.Files.{Files as Told}
+use Rattle.kc_outside.specs.Files.{Files as Told, named}
 use Rattle.kc_word.specs.declared.plain.Segment.{Segment}
 use Rattle.kc_word.specs.declared.plain.Tail.{Tail}
-use Rattle.kc_btf.specs.Btf.{Types}
 use Rattle.kc_memory.specs.Image.{Image}
 use Rattle.kc_phys.specs.Stored.{stored}
 use Rattle.kc_mem.specs.Paged.{with_paging}
 use Rattle.kc_found.specs.declared.verdict.RootVerdict.{RootVerdict}
 use Rattle.kc_found.specs.declared.verdict.Verdict.{Verdict}
-use Rattle.kc_plan.specs.declared.plan.Plan.{Plan}
 use Rattle.kc_plan.specs.Roots.{root_verdicts}
 use Rattle.kc_plan.specs.Verdicts.{verdict}
+use Rattle.kc_plan.specs.Views.{plan_seen}
+use Rattle.kc_told.specs.SeenText.{map_symbols}
+use Rattle.kc_told.specs.Views.{shapes_view}
 use Rattle.kc_report.specs.Copies.{report_each, report_of}
 use Rattle.kc_report.specs.declared.report.Report.{Report}
 use Rattle.kc_report.specs.IsReport.{report_text}
@@ -22,7 +23,7 @@ use Rattle.kc_input.specs.declared.halt.Halt.{Halt}
 use Rattle.kc_input.specs.declared.halt.Halt.TheVariants.{Refused, Store, Memory}
 use Rattle.kc_input.specs.Halts.{NotRefused}
 use Rattle.kc_input.specs.Inputs.{report_bytes_in}
-use Rattle.kc_input.specs.Made.{◌>>=◌, Is, IsOf, Made}
+use Rattle.kc_input.specs.Made.{Is, IsOf, Made, gives}
 use Rattle.kc_input.specs.Paging.{by_info}
 use Rattle.kc_input.specs.Slots.{RefusesIn, refused_slot}
 use Rattle.kc_ends.specs.declared.answer.Answer.{Answer}
@@ -30,9 +31,11 @@ use Rattle.kc_ends.specs.declared.answer.Answer.TheVariants.{Done, Broken}
 use Rattle.kc_ends.specs.Answers.{Prints, PrintsOf, PrintsOfBytes, StayBehind}
 use Rattle.kc_ends.specs.Asked.{AllStay, behind}
 use Rattle.kc_cause.specs.declared.held.Held.{Held}
+use Rattle.kc_cause.specs.declared.held.Planned.{Planned}
+use Rattle.kc_cause.specs.declared.judged.PlanOf.{PlanOf}
 use Rattle.kc_cause.specs.declared.judged.Judged.{Judged}
-use Rattle.kc_cause.specs.Explained.{Explained, causes_text, compared, explained_text, explained_written, names_of, or_clean, report_file, report_now, report_passed}
-use Rattle.kc_cause.specs.Files.{Holds, ReportFiles, cause_asked, explained_of, named_files}
+use Rattle.kc_cause.specs.Explained.{Explained, cause_made, causes_text, compared, explained_text, explained_written, kernel_in, names_of, or_clean, planned_in, report_file, report_now, report_passed}
+use Rattle.kc_cause.specs.Files.{RefusesLate, ReportFiles, cause_asked, explained_of, held_view, kernel_files, planned_view}
 use Rattle.kc_cause.specs.Judged.{Compares, JudgesAs, Tells, is_reported, over_plan, report_by}
 
 -- the report of the verdicts is that of what is audited
@@ -46,65 +49,75 @@ now_is : (e : Explained) (roots : List RootVerdict) (whole : Option Verdict) →
 now_is e roots whole is same = now_by (nat_eq e.version 2) e roots whole is same
 
 -- so what is told of the verdicts on a memory, where the bytes are their report, is what explains it
-reported : (types : Types) (plan : Plan) (image : Image) (judged : Judged) (report : List ℕ) → JudgesAs image plan judged
-    → bytes_eq report (report_text (report_now (over_plan types plan image))) ≡ is_reported plan judged report
-reported types plan image judged report is =
-    ap (λ (r : Report). bytes_eq report (report_text r)) (now_is (over_plan types plan image) judged.roots judged.whole is.whole is.roots)
+reported : (o : PlanOf) (image : Image) (judged : Judged) (report : List ℕ) → JudgesAs image o.plan.now judged
+    → bytes_eq report (report_text (report_now (over_plan o image))) ≡ is_reported o.plan.now judged report
+reported o image judged report is =
+    ap (λ (r : Report). bytes_eq report (report_text r)) (now_is (over_plan o image) judged.roots judged.whole is.whole is.roots)
 
-tells_one : (types : Types) (plan : Plan) (image : Image) (judged : Judged) (report : List ℕ) (r : Result Answer Halt) → JudgesAs image plan judged
-    → is_reported plan judged report ≡ true → Tells (or_clean (causes_text (over_plan types plan image) judged.roots)) r → NotRefused r
-    → Prints explained_written (compared (over_plan types plan image) report) r
-tells_one types plan image judged report (Ok (Done text)) is same tells sure =
-    let e = over_plan types plan image in
-    let test : bytes_eq report (report_text (report_now e)) ≡ true = reported types plan image judged report is ∙ same in
+tells_one : (o : PlanOf) (image : Image) (judged : Judged) (report : List ℕ) (r : Result Answer Halt) → JudgesAs image o.plan.now judged
+    → is_reported o.plan.now judged report ≡ true → Tells (or_clean (causes_text (over_plan o image) judged.roots)) r → NotRefused r
+    → Prints explained_written (compared (over_plan o image) report) r
+tells_one o image judged report (Ok (Done text)) is same tells sure =
+    let e = over_plan o image in
+    let test : bytes_eq report (report_text (report_now e)) ≡ true = reported o image judged report is ∙ same in
     let told : explained_text e ≡ text.items = ap (λ (rs : List RootVerdict). or_clean (causes_text e rs)) is.roots ∙ sym tells in
     rw (test, told) refl
-tells_one types plan image judged report (Ok (Broken text)) is same tells sure = absurd tells
-tells_one types plan image judged report (Err (Refused refusal)) is same tells sure = absurd sure
-tells_one types plan image judged report (Err Store) is same tells sure = tt
-tells_one types plan image judged report (Err Memory) is same tells sure = tt
+tells_one o image judged report (Ok (Broken text)) is same tells sure = absurd tells
+tells_one o image judged report (Err (Refused refusal)) is same tells sure = absurd sure
+tells_one o image judged report (Err Store) is same tells sure = tt
+tells_one o image judged report (Err Memory) is same tells sure = tt
 
 -- or that they aren't
-refuses_one : (types : Types) (plan : Plan) (image : Image) (judged : Judged) (report : List ℕ) (halt : Halt) → JudgesAs image plan judged
-    → Compares (is_reported plan judged report) (Err halt) → Prints explained_written (compared (over_plan types plan image) report) (Err halt)
-refuses_one types plan image judged report (Refused refusal) is compares =
-    let e = over_plan types plan image in
-    let test : bytes_eq report (report_text (report_now e)) ≡ false = reported types plan image judged report is ∙ compares.0 in
+refuses_one : (o : PlanOf) (image : Image) (judged : Judged) (report : List ℕ) (halt : Halt) → JudgesAs image o.plan.now judged
+    → Compares (is_reported o.plan.now judged report) (Err halt) → Prints explained_written (compared (over_plan o image) report) (Err halt)
+refuses_one o image judged report (Refused refusal) is compares =
+    let e = over_plan o image in
+    let test : bytes_eq report (report_text (report_now e)) ≡ false = reported o image judged report is ∙ compares.0 in
     rw (test, compares.1) refl
-refuses_one types plan image judged report Store is compares = absurd compares
-refuses_one types plan image judged report Memory is compares = tt
+refuses_one o image judged report Store is compares = absurd compares
+refuses_one o image judged report Memory is compares = tt
 
 -- over a memory that is told or not
-pub tells_told : (types : Types) (plan : Plan) (image : Option Image) (judged : Judged) (report : List ℕ) (r : Result Answer Halt) → IfSome image (λ i. JudgesAs i plan judged)
-    → is_reported plan judged report ≡ true → IfSome image (λ i. Tells (or_clean (causes_text (over_plan types plan i) judged.roots)) r) → NotRefused r
-    → IfSome image (λ i. Prints explained_written (compared (over_plan types plan i) report) r)
-tells_told types plan None judged report r is same tells sure = tt
-tells_told types plan (Some i) judged report r is same tells sure = tells_one types plan i judged report r is same tells sure
+pub tells_told : (o : PlanOf) (image : Option Image) (judged : Judged) (report : List ℕ) (r : Result Answer Halt) → IfSome image (λ i. JudgesAs i o.plan.now judged)
+    → is_reported o.plan.now judged report ≡ true → IfSome image (λ i. Tells (or_clean (causes_text (over_plan o i) judged.roots)) r) → NotRefused r
+    → IfSome image (λ i. Prints explained_written (compared (over_plan o i) report) r)
+tells_told o None judged report r is same tells sure = tt
+tells_told o (Some i) judged report r is same tells sure = tells_one o i judged report r is same tells sure
 
-pub refuses_told : (types : Types) (plan : Plan) (image : Option Image) (judged : Judged) (report : List ℕ) (halt : Halt) → IfSome image (λ i. JudgesAs i plan judged)
-    → Compares (is_reported plan judged report) (Err halt) → IfSome image (λ i. Prints explained_written (compared (over_plan types plan i) report) (Err halt))
-refuses_told types plan None judged report halt is compares = tt
-refuses_told types plan (Some i) judged report halt is compares = refuses_one types plan i judged report halt is compares
+pub refuses_told : (o : PlanOf) (image : Option Image) (judged : Judged) (report : List ℕ) (halt : Halt) → IfSome image (λ i. JudgesAs i o.plan.now judged)
+    → Compares (is_reported o.plan.now judged report) (Err halt) → IfSome image (λ i. Prints explained_written (compared (over_plan o i) report) (Err halt))
+refuses_told o None judged report halt is compares = tt
+refuses_told o (Some i) judged report halt is compares = refuses_one o i judged report halt is compares
 
-pub judged_told : (types : Types) (plan : Plan) (image image' : Option Image) (report : List ℕ) (r : Result Answer Halt) → image' ≡ image
-    → IfSome image' (λ i. Prints explained_written (compared (over_plan types plan i) report) r) → IfSome image (λ i. Prints explained_written (compared (over_plan types plan i) report) r)
-judged_told types plan image image' report r same prints = subst (λ (m : Option Image). IfSome m (λ i. Prints explained_written (compared (over_plan types plan i) report) r)) same prints
+pub judged_told : (o : PlanOf) (image image' : Option Image) (report : List ℕ) (r : Result Answer Halt) → image' ≡ image
+    → IfSome image' (λ i. Prints explained_written (compared (over_plan o i) report) r) → IfSome image (λ i. Prints explained_written (compared (over_plan o i) report) r)
+judged_told o image image' report r same prints = subst (λ (m : Option Image). IfSome m (λ i. Prints explained_written (compared (over_plan o i) report) r)) same prints
 
 -- and where none was judged
-pub stops_told : (types : Types) (plan : Plan) (image : Option Image) (report : List ℕ) (halt : Halt) → NotRefused {A = Answer} (Err halt)
-    → IfSome image (λ i. Prints explained_written (compared (over_plan types plan i) report) (Err halt))
-stops_told types plan None report halt sure = tt
-stops_told types plan (Some i) report (Refused refusal) sure = absurd sure
-stops_told types plan (Some i) report Store sure = tt
-stops_told types plan (Some i) report Memory sure = tt
+pub stops_told : (o : PlanOf) (image : Option Image) (report : List ℕ) (halt : Halt) → NotRefused {A = Answer} (Err halt)
+    → IfSome image (λ i. Prints explained_written (compared (over_plan o i) report) (Err halt))
+stops_told o None report halt sure = tt
+stops_told o (Some i) report (Refused refusal) sure = absurd sure
+stops_told o (Some i) report Store sure = tt
+stops_told o (Some i) report Memory sure = tt
 
 -- over the dump
-pub held_prints : (content now : Option (List ℕ)) (held : Held) (segments : List Segment) (tail : Tail) (report : List ℕ) (r : Result Answer Halt)
-    → now ≡ content → segments ≡ held.core.segments → tail ≡ held.plan.tail
-    → IfSome (with_paging (by_info held.info) (stored segments tail now)) (λ i. Prints explained_written (compared (over_plan held.types held.plan i) report) r)
-    → PrintsOfBytes explained_written (λ bytes. compared (explained_of held bytes) report) content r
-held_prints None now held segments tail report r same within ends prints = tt
-held_prints (Some bytes) now held segments tail report r same within ends prints = rw (same, within, ends) at prints
+abbrev over_held : Held → Planned → Image → Explained
+over_held held planned image = record {
+  image = image;
+  types = held.types;
+  version = planned.plan.version;
+  audits = plan_seen planned.plan;
+  shapes = shapes_view planned.shapes;
+  symbols = map_symbols planned.shapes.map;
+}
+
+pub held_prints : (content now : Option (List ℕ)) (held : Held) (planned : Planned) (segments : List Segment) (tail : Tail) (report : List ℕ) (r : Result Answer Halt)
+    → now ≡ content → segments ≡ held.core.segments → tail ≡ planned.plan.tail
+    → IfSome (with_paging (by_info held.info) (stored segments tail now)) (λ i. Prints explained_written (compared (over_held held planned i) report) r)
+    → PrintsOfBytes explained_written (λ bytes. compared (explained_of held planned bytes) report) content r
+held_prints None now held planned segments tail report r same within ends prints = tt
+held_prints (Some bytes) now held planned segments tail report r same within ends prints = rw (same, within, ends) at prints
 
 pub halted_prints : (content : Option (List ℕ)) (made : List ℕ → Made Explained) (halt : Halt) → NotRefused {A = Answer} (Err halt) → PrintsOfBytes explained_written made content (Err halt)
 halted_prints None made halt sure = tt
@@ -112,30 +125,49 @@ halted_prints (Some bytes) made (Refused refusal) sure = absurd sure
 halted_prints (Some bytes) made Store sure = tt
 halted_prints (Some bytes) made Memory sure = tt
 
--- of the files
-pub files_print : {X : Type 0} (made : Told → Made Explained) (file : Told → Option (List ℕ)) (files : Option Told) (content : Option (List ℕ)) (held : Held) (kept : X → List ℕ) (report : X) (r : Result Answer Halt)
-    → Holds made files content (Ok held) → IsOf kept (λ files. report_file (file files)) files (Ok report)
-    → PrintsOfBytes explained_written (λ bytes. compared (explained_of held bytes) (kept report)) content r
-    → PrintsOf explained_written (λ files. made files >>= (λ e. report_file (file files) >>= (λ bytes. compared e bytes))) files r
-files_print made file None content held kept report r is read prints = tt
-files_print made file (Some files) content held kept report r is read prints = rw (is.2, read) (rw is.1 at prints)
+-- of files that are there
+made_prints : (dump btf map plan file content : Option (List ℕ)) (held : Held) (planned : Planned) (report : List ℕ) (r : Result Answer Halt)
+    → kernel_in dump btf map ≡ gives (held_view held) → planned_in (held_view held) plan ≡ gives (planned_view planned) → report_file file ≡ gives report → content ≡ dump
+    → PrintsOfBytes explained_written (λ bytes. compared (explained_of held planned bytes) report) content r
+    → Prints explained_written (cause_made dump btf map plan file) r
+made_prints None btf map plan file content held planned report r is found read same prints = absurd (let none : ⊥ = cc in none)
+made_prints (Some bytes) btf map plan file content held planned report r is found read same prints = rw (is, found, read) (rw same at prints)
 
--- a refusal of one of the four files leaves that of the report unopened too
-stays_more : (f : ReportFiles) (one : Option Slot) (old new : Slot → Option (List ℕ)) → new slot.Report ≡ old slot.Report
-    → AllStay (behind one (named_files f.files)) old new → AllStay (behind one (cause_asked f).named) old new
-stays_more f None old new kept stay = tt
-stays_more f (Some slot.Dump) old new kept stay = (stay.0, (stay.1.0, (stay.1.1.0, (kept, tt))))
-stays_more f (Some slot.Btf) old new kept stay = (stay.0, (stay.1.0, (kept, tt)))
-stays_more f (Some slot.Map) old new kept stay = (stay.0, (kept, tt))
-stays_more f (Some slot.Plan) old new kept stay = (kept, tt)
-stays_more f (Some slot.Report) old new kept stay = tt
-stays_more f (Some slot.Module) old new kept stay = tt
+pub files_print : {X : Type 0} (f : ReportFiles) (files : Option Told) (content : Option (List ℕ)) (held : Held) (planned : Planned) (kept : X → List ℕ) (report : X) (r : Result Answer Halt)
+    → IsOf held_view (λ files. kernel_in (files slot.Dump f.files.dump) (files slot.Btf f.files.btf) (files slot.Map f.files.map)) files (Ok held)
+    → IsOf planned_view (λ files. planned_in (held_view held) (files slot.Plan f.files.plan)) files (Ok planned)
+    → content ≡ named files slot.Dump f.files.dump → IsOf kept (λ files. report_file (files slot.Report f.report)) files (Ok report)
+    → PrintsOfBytes explained_written (λ bytes. compared (explained_of held planned bytes) (kept report)) content r
+    → PrintsOf explained_written (λ files. cause_made (files slot.Dump f.files.dump) (files slot.Btf f.files.btf) (files slot.Map f.files.map) (files slot.Plan f.files.plan) (files slot.Report f.report)) files r
+files_print f None content held planned kept report r is found same read prints = tt
+files_print f (Some files) content held planned kept report r is found same read prints =
+    made_prints (files slot.Dump f.files.dump) (files slot.Btf f.files.btf) (files slot.Map f.files.map) (files slot.Plan f.files.plan) (files slot.Report f.report)
+    content held planned (kept report) r is found read same prints
 
-pub four_stay : (A B : Type 0) (f : ReportFiles) (halt : Halt) (r : Result B Halt) (old new : Slot → Option (List ℕ)) → r ≡ Err halt → new slot.Report ≡ old slot.Report
-    → StayBehind {A = A} (named_files f.files) (Err halt) old new → StayBehind (cause_asked f).named r old new
-four_stay A B f (Refused refusal) r old new is kept stay = rw is (stays_more f (refused_slot refusal) old new kept stay)
-four_stay A B f Store r old new is kept stay = rw is tt
-four_stay A B f Memory r old new is kept stay = rw is tt
+-- a refusal of the kernel's files leaves those of the plan and of the report unopened too
+stays_more : (f : ReportFiles) (one : Option Slot) (old new : Slot → Option (List ℕ)) → new slot.Plan ≡ old slot.Plan → new slot.Report ≡ old slot.Report
+    → AllStay (behind one (kernel_files f.files)) old new → AllStay (behind one (cause_asked f).named) old new
+stays_more f None old new plan report stay = tt
+stays_more f (Some slot.Dump) old new plan report stay = (stay.0, (stay.1.0, (plan, (report, tt))))
+stays_more f (Some slot.Btf) old new plan report stay = (stay.0, (plan, (report, tt)))
+stays_more f (Some slot.Map) old new plan report stay = (plan, (report, tt))
+stays_more f (Some slot.Plan) old new plan report stay = (report, tt)
+stays_more f (Some slot.Report) old new plan report stay = tt
+stays_more f (Some slot.Module) old new plan report stay = tt
+
+pub three_stay : (A B : Type 0) (f : ReportFiles) (halt : Halt) (r : Result B Halt) (old new : Slot → Option (List ℕ)) → r ≡ Err halt → new slot.Plan ≡ old slot.Plan → new slot.Report ≡ old slot.Report
+    → StayBehind {A = A} (kernel_files f.files) (Err halt) old new → StayBehind (cause_asked f).named r old new
+three_stay A B f (Refused refusal) r old new is plan report stay = rw is (stays_more f (refused_slot refusal) old new plan report stay)
+three_stay A B f Store r old new is plan report stay = rw is tt
+three_stay A B f Memory r old new is plan report stay = rw is tt
+
+-- so does one of the map's rows, and one of the plan that of the report
+pub late_stays : (A B : Type 0) (f : ReportFiles) (halt : Halt) (r : Result B Halt) (old before new : Slot → Option (List ℕ)) → r ≡ Err halt → before slot.Plan ≡ old slot.Plan
+    → new slot.Report ≡ old slot.Report → RefusesLate {A = A} (Err halt) before new → StayBehind (cause_asked f).named r old new
+late_stays A B f (Refused refusal) r old before new is kept report (inl late) = rw (is, late.0) (rw kept at late.1, (report, tt))
+late_stays A B f (Refused refusal) r old before new is kept report (inr late) = rw (is, late) (report, tt)
+late_stays A B f Store r old before new is kept report late = rw is tt
+late_stays A B f Memory r old before new is kept report late = rw is tt
 
 -- and that of the report leaves none
 pub last_stays : (B : Type 0) (f : ReportFiles) (r : Result B Halt) (old new : Slot → Option (List ℕ)) → RefusesIn slot.Report r → StayBehind (cause_asked f).named r old new

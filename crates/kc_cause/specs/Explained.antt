@@ -5,13 +5,13 @@ use Rattle.kc_word.specs.declared.plain.PageCfg.{PageCfg}
 use Rattle.kc_word.specs.declared.plain.Segment.{Segment}
 use Rattle.kc_word.specs.declared.plain.Tail.{Tail}
 use Rattle.kc_btf.specs.Btf.{Types}
+use Rattle.kc_memory.specs.declared.words.Place.{Place}
 use Rattle.kc_memory.specs.Image.{Image}
 use Rattle.kc_notes.specs.declared.info.Info.{Info}
 use Rattle.kc_notes.specs.Info.{info}
-use Rattle.kc_syms.specs.Rows.{RowText, addresses}
+use Rattle.kc_syms.specs.Rows.{RowText}
 use Rattle.kc_found.specs.declared.verdict.RootVerdict.{RootVerdict}
 use Rattle.kc_found.specs.Violations.{Violation}
-use Rattle.kc_kinds.specs.Kernels.{Kernel}
 use Rattle.kc_plan.specs.Planned.{AuditAt, PlanAt}
 use Rattle.kc_plan.specs.Plans.{plan}
 use Rattle.kc_plan.specs.Roots.{Root, broken_in, root_verdicts}
@@ -31,14 +31,23 @@ use Rattle.kc_input.specs.Made.{◌>>=◌, Made, checked, gives, refuses}
 use Rattle.kc_input.specs.Paging.{by_info}
 use Rattle.kc_ends.specs.declared.status.Status.TheVariants.{Done}
 use Rattle.kc_ends.specs.Written.{Written}
-use Rattle.kc_cause.specs.Lines.{bytes_line, repair_lines, violation_lines}
+use Rattle.kc_report.specs.Lines.{place_line}
+use Rattle.kc_told.specs.Objects.{Shapes, kernel_by, shapes_by, told_of}
+use Rattle.kc_told.specs.SeenText.{MapSymbols, symbols_by, told_lines}
+use Rattle.kc_kinds.specs.declared.kind.Kind.{Kind}
+use Rattle.kc_cause.specs.Rings.{ring_lines}
+use Rattle.kc_cause.specs.Suspected.{Suspected, suspected}
+use Rattle.kc_cause.specs.Lines.{bytes_line, named_lines, number_lines, repair_lines}
 
--- what is explained: a memory that is audited, with its kernel's types, the version of a plan, and the plan's audits
+-- what is explained: a memory that is audited, with its kernel's types, the version of a plan, the plan's audits, where the kernel has what tells
+-- of an address, and the map's symbols
 pub record Explained : Type 0 where
   pub image : Image
   pub types : Types
   pub version : ℕ
   pub audits : List AuditAt
+  pub shapes : Shapes
+  pub symbols : MapSymbols
 
 -- the audits' names
 abbrev pub names_of : List AuditAt → List (List ℕ)
@@ -57,22 +66,45 @@ is_broken r = is_some (broken_in r.verdict)
 abbrev pub root_line : List AuditAt → ℕ → List ℕ
 root_line audits root = option_map_or (λ (a : AuditAt). bytes_line (codes "root ") a.name) (slice_get audits root) []
 
--- a violation, by the audit that found it
-abbrev pub found_lines : Types → List AuditAt → Violation → List ℕ
-found_lines types audits v = option_map_or (λ (a : AuditAt). violation_lines types a v) (slice_get audits v.audit) []
+-- a place, with what is told of its address
+abbrev pub told_at : Explained → Option ℕ → List ℕ
+told_at e None = []
+told_at e (Some va) = told_lines e.symbols va (told_of e.image e.shapes va)
 
--- what repairs it under a root audit
-abbrev pub repairs_under : Explained → Violation → Root → List ℕ
-repairs_under e v root = option_map_or (λ (a : AuditAt). repair_lines (repair_of e.image e.audits root a.kind v)) (slice_get e.audits v.audit) []
+abbrev pub place_told : Explained → Place → List ℕ
+place_told e p = place_line p ++ told_at e p.va
 
--- under the one with a number
+-- the list in which a violation lies, by the audit that found it, and the words that show it
+abbrev pub shown_lines : Explained → Violation → List ℕ
+shown_lines e v = option_map_or (λ (a : AuditAt). ring_lines e.types e.image v a.kind) (slice_get e.audits v.audit) [] ++ texts (place_told e) v.places
+
+-- a violation up to its words, and the number that it expects, by the audit that found it
+abbrev pub found_named : Types → List AuditAt → Violation → List ℕ
+found_named types audits v = option_map_or (λ (a : AuditAt). named_lines types a v) (slice_get audits v.audit) []
+
+abbrev pub found_number : List AuditAt → Violation → List ℕ
+found_number audits v = option_map_or (λ (a : AuditAt). number_lines a.kind v) (slice_get audits v.audit) []
+
+-- what repairs a violation of a kind of structure under the root audit with a number
+abbrev pub repairs_as : Explained → ℕ → Kind → Violation → List ℕ
+repairs_as e root kind v = option_map_or (λ (r : Root). repair_lines (repair_of e.image e.audits r kind v)) (root_at root e.audits) []
+
+-- of one as it is suspected, by the audit that found it
+abbrev pub repairs_of : Explained → ℕ → Suspected → List ℕ
+repairs_of e root s = repairs_as e root s.kind s.violation
+
 abbrev pub repairs_found : Explained → ℕ → Violation → List ℕ
-repairs_found e root v = option_map_or (repairs_under e v) (root_at root e.audits) []
+repairs_found e root v = option_map_or (λ (a : AuditAt). repairs_of e root (suspected e.image v a.kind)) (slice_get e.audits v.audit) []
 
--- the lines of a root audit, where its verdict is broken
+-- the lines of a violation of a root audit: what it is about, the words that show it, the number that it expects, and what repairs it
+abbrev pub broken_lines : Explained → ℕ → Violation → List ℕ
+broken_lines e root v =
+    (root_line e.audits root ++ found_named e.types e.audits v) ++ shown_lines e v ++ found_number e.audits v ++ repairs_found e root v
+
+-- those of a root audit, where its verdict is broken
 abbrev pub fault_lines : Explained → ℕ → Option Violation → List ℕ
 fault_lines e root None = []
-fault_lines e root (Some v) = root_line e.audits root ++ found_lines e.types e.audits v ++ repairs_found e root v
+fault_lines e root (Some v) = broken_lines e root v
 
 abbrev pub cause_lines : Explained → RootVerdict → List ℕ
 cause_lines e r = fault_lines e r.root (broken_in r.verdict)
@@ -114,30 +146,55 @@ report_file file = do
 abbrev pub compared : Explained → List ℕ → Made Explained
 compared e bytes = if bytes_eq bytes (report_text (report_now e)) then gives e else refuses (refusal.Report Y2)
 
--- a kernel's types, the addresses that the rows of its map list, and what its notes tell
-abbrev pub kernel_by : Types → List RowText → Info → Kernel
-kernel_by types rows told = record { types = types; symbols = λ name. addresses name rows; kaslr = told.kaslr; five = told.five }
+-- what the dump, the types and the map hold: the dump's segments, what its notes tell, the kernel's types, and the map's bytes
+pub record KernelFiles : Type 0 where
+  pub segments : List Segment
+  pub told : Info
+  pub types : Types
+  pub map : List ℕ
 
--- a plan over these, or its first fault
-abbrev pub plan_over : Types → List RowText → Info → List ℕ → Made PlanAt
-plan_over types rows told bytes = checked refusal.Plan (plan (kernel_by types rows told) bytes)
-
--- a plan over the rows of a map: the map's faults come first
-abbrev pub planned_in : Types → Info → Option (List ℕ) → Option (List ℕ) → Made PlanAt
-planned_in types told map plan = do
+-- the faults come in this order
+abbrev pub kernel_in : Option (List ℕ) → Option (List ℕ) → Option (List ℕ) → Made KernelFiles
+kernel_in dump btf map = do
+  parts ← dump_parts dump
+  told ← checked Notes (info parts.notes)
+  types ← types_in btf
   listed ← map_in map
-  rows ← rows_in listed
-  bytes ← plan_in plan
-  plan_over types rows told bytes
+  gives (record { segments = parts.segments; told = told; types = types; map = listed })
+
+-- a plan, where the kernel has what tells of an address, and the map's symbols
+pub record PlanOver : Type 0 where
+  pub plan : PlanAt
+  pub shapes : Shapes
+  pub symbols : MapSymbols
+
+-- a plan over the rows of the map, or its first fault
+abbrev pub plan_over : KernelFiles → List RowText → List ℕ → Made PlanOver
+plan_over k rows bytes = do
+  planned ← checked refusal.Plan (plan (kernel_by k.types rows k.told) bytes)
+  gives (record { plan = planned; shapes = shapes_by k.types rows k.told; symbols = symbols_by k.told.kaslr rows })
+
+-- the map's faults come first
+abbrev pub planned_in : KernelFiles → Option (List ℕ) → Made PlanOver
+planned_in k file = do
+  rows ← rows_in k.map
+  bytes ← plan_in file
+  plan_over k rows bytes
 
 -- the memory of a dump with these bytes and segments, whose tails read so
 abbrev pub image_of : List ℕ → List Segment → Tail → PageCfg → Image
 image_of bytes segments tail paging = record { physical = record { bytes = bytes; segments = segments; tail = tail }; paging = paging }
 
--- what a plan audits of it
-abbrev pub explained_by : List Segment → PageCfg → Types → PlanAt → List ℕ → Explained
-explained_by segments paging types plan bytes =
-    record { image = image_of bytes segments plan.tail paging; types = types; version = plan.version; audits = plan.audits }
+-- what a plan audits of it, where the dump has these bytes
+abbrev pub explained_by : KernelFiles → PlanOver → List ℕ → Explained
+explained_by k p bytes = record {
+  image = image_of bytes k.segments p.plan.tail (by_info k.told);
+  types = k.types;
+  version = p.plan.version;
+  audits = p.plan.audits;
+  shapes = p.shapes;
+  symbols = p.symbols;
+}
 
 -- the bytes of a file, where it is there
 abbrev pub bytes_of : Option (List ℕ) → List ℕ
@@ -147,11 +204,9 @@ bytes_of (Some bytes) = bytes
 -- the faults come in the order dump, types, map and plan
 abbrev pub audited : Option (List ℕ) → Option (List ℕ) → Option (List ℕ) → Option (List ℕ) → Made Explained
 audited dump btf map plan = do
-  parts ← dump_parts dump
-  told ← checked Notes (info parts.notes)
-  types ← types_in btf
-  planned ← planned_in types told map plan
-  gives (explained_by parts.segments (by_info told) types planned (bytes_of dump))
+  kernel ← kernel_in dump btf map
+  planned ← planned_in kernel plan
+  gives (explained_by kernel planned (bytes_of dump))
 
 -- and then those of the report
 abbrev pub cause_made : Option (List ℕ) → Option (List ℕ) → Option (List ℕ) → Option (List ℕ) → Option (List ℕ) → Made Explained

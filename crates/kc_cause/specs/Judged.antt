@@ -1,6 +1,5 @@
 -- What the code has of a plan on a dump, and what becomes of it.
 use Rattle.std.specs.Prelude.{◌≡◌, ⊤, ℕ, nat_eq, if◌then◌else◌, Bool, true, false, List, bytes_eq, IfSome, Option, Some, None, Result, Ok, Err}
-use Rattle.kc_btf.specs.Btf.{Types}
 use Rattle.kc_memory.specs.Image.{Image}
 use Rattle.kc_found.specs.declared.verdict.RootVerdict.{RootVerdict}
 use Rattle.kc_found.specs.declared.verdict.Verdict.{Verdict}
@@ -19,7 +18,11 @@ use Rattle.kc_input.specs.declared.refusal.Refusal.TheVariants as refusals
 use Rattle.kc_input.specs.declared.refusal.ReportFault.TheVariants.{Y2}
 use Rattle.kc_ends.specs.declared.answer.Answer.{Answer}
 use Rattle.kc_ends.specs.declared.answer.Answer.TheVariants.{Done, Broken}
+use Rattle.kc_view.specs.TaskLists.{IsInside}
+use Rattle.kc_told.specs.SeenText.{map_symbols}
+use Rattle.kc_told.specs.Views.{shapes_view}
 use Rattle.kc_cause.specs.declared.judged.Judged.{Judged}
+use Rattle.kc_cause.specs.declared.judged.PlanOf.{PlanOf}
 use Rattle.kc_cause.specs.Explained.{Explained, names_of}
 
 -- with version 2 there is no verdict on all audits
@@ -61,8 +64,19 @@ Compares same (Err Store) = ⊥
 Compares same (Err Memory) = ⊤
 
 -- a plan's audits over a memory
-abbrev pub over_plan : Types → Plan → Image → Explained
-over_plan types plan image = record { image = image; types = types; version = plan.version; audits = plan_seen plan }
+abbrev pub over_plan : PlanOf → Image → Explained
+over_plan o image = record {
+  image = image;
+  types = o.types.now;
+  version = o.plan.now.version;
+  audits = plan_seen o.plan.now;
+  shapes = shapes_view o.shapes;
+  symbols = map_symbols o.shapes.map;
+}
+
+-- the type of a task is one of the types
+abbrev pub TasksAreInside : PlanOf → Type 0
+TasksAreInside o = IfSome o.shapes.words.areas.stacks (λ shape. IsInside shape.tasks o.types.now)
 
 -- an answer is this text
 abbrev pub Tells : List ℕ → Result Answer Halt → Type 0

@@ -10,7 +10,7 @@ use Rattle.kc_found.specs.Violations.{Violation}
 use Rattle.kc_kinds.specs.declared.kind.Kind.{Kind}
 use Rattle.kc_plan.specs.Planned.{AuditAt}
 use Rattle.kc_plan.specs.Seen.{container_of}
-use Rattle.kc_report.specs.Lines.{place_lines, rule_code}
+use Rattle.kc_report.specs.Lines.{rule_code}
 use Rattle.kc_member.specs.MemberPaths.{member_path}
 use Rattle.kc_element.specs.declared.element.Element.{Element}
 use Rattle.kc_element.specs.declared.number.Part.{Part}
@@ -53,8 +53,8 @@ about_part types v e =
     (if is_of_member v.rule then path_part (member_path types e.ty (container_of e.at v.at)) else []) ++ codes "\n"
 
 -- the element that a violation is about, where that is told
-abbrev pub element_lines : Types → AuditAt → Violation → List ℕ
-element_lines types a v = option_map_or (λ e. typed_part types e ++ about_part types v e) (element_of types a v) []
+abbrev pub element_lines : Types → Violation → Option Element → List ℕ
+element_lines types v element = option_map_or (λ e. typed_part types e ++ about_part types v e) element []
 
 -- a number against the one that is expected, and in how many bits they differ
 abbrev pub number_line : Part → List ℕ
@@ -63,10 +63,9 @@ number_line p = codes "expected " ++ hex p.expected ++ codes " found " ++ hex p.
 abbrev pub number_lines : Kind → Violation → List ℕ
 number_lines kind v = option_map_or number_line (part_of kind v) []
 
--- a violation of an audit
-abbrev pub violation_lines : Types → AuditAt → Violation → List ℕ
-violation_lines types a v =
-    bytes_line (codes "audit ") a.name ++ rule_line v.rule ++ element_lines types a v ++ place_lines v.places ++ number_lines a.kind v
+-- a violation of an audit, up to its words
+abbrev pub named_lines : Types → AuditAt → Violation → List ℕ
+named_lines types a v = bytes_line (codes "audit ") a.name ++ rule_line v.rule ++ element_lines types v (element_of types a v)
 
 -- a word that is suspected: the four columns of a place, and the number that it may have held
 abbrev pub suspect_part : Suspect → List ℕ

@@ -11,11 +11,12 @@ ghost use Rattle.kc_plan.specs.Roots.{FitEach, FitsRoot};
 ghost use Rattle.kc_plan.specs.Views.{plan_seen};
 ghost use Rattle.kc_run.specs.Answers.{CountsRunFaults};
 ghost use Rattle.kc_input.specs.Paging.{IsTable};
-ghost use Rattle.kc_cause.specs.Explained.{cause_lines, causes_text, first_lines, found_lines, is_broken, or_clean, root_line};
-ghost use Rattle.kc_cause.specs.Judged.{over_plan};
+ghost use Rattle.kc_cause.specs.Explained.{broken_lines, cause_lines, causes_text, first_lines, found_named, found_number, is_broken, or_clean, root_line};
+ghost use Rattle.kc_cause.specs.Judged.{TasksAreInside, over_plan};
 
 use crate::judged::PlanOf;
-use crate::lines::{push_line, push_violation};
+use crate::lines::{push_line, push_named, push_number};
+use crate::places::push_shown_over;
 use crate::repairs::{Wrote, push_repairs};
 use kc_found::{Found, RootVerdict, Verdict, Verdicts};
 use kc_outside::Store;
@@ -31,8 +32,8 @@ fn is_broken(root: &RootVerdict) -> bool
     matches!(root.verdict, Verdict::Broken(_))
 }
 
-// Adds the name of a root audit, and the lines of its violation.
-fn push_found(
+// Adds the name of a root audit, and the lines of its violation up to its words.
+fn push_named_root(
     text: &mut Vec<u8>,
     over: &PlanOf<'_>,
     root: u32,
@@ -42,11 +43,66 @@ fn push_found(
     requires root { root < length over.now.plan.now.audits }
     requires found { found.now.audit < length over.now.plan.now.audits }
     ensures { OnOk result (text.new.items ≡ text.old.items
-        ++ root_line (plan_seen over.now.plan.now) root ++ found_lines over.now.types.now (plan_seen over.now.plan.now) found.now) }
+        ++ root_line (plan_seen over.now.plan.now) root ++ found_named over.now.types.now (plan_seen over.now.plan.now) found.now) }
 {
-    let PlanOf { alloc, plan, types } = *over;
-    push_line(text, b"root ", &plan.audit(root).name)?;
-    push_violation(alloc, text, types, plan.audit(found.audit), found)
+    push_line(text, b"root ", &over.plan.audit(root).name)?;
+    push_named(
+        over.alloc,
+        text,
+        over.types,
+        over.plan.audit(found.audit),
+        found,
+    )
+}
+
+// Adds the number that its violation expects.
+fn push_found_number(text: &mut Vec<u8>, over: &PlanOf<'_>, found: &Found) -> Result<(), NoMemory>
+    requires { found.now.audit < length over.now.plan.now.audits }
+    ensures { OnOk result (text.new.items ≡ text.old.items ++ found_number (plan_seen over.now.plan.now) found.now) }
+{
+    push_number(text, &over.plan.audit(found.audit).kind, found)
+}
+
+// Adds the lines of a violation of a root audit: what it is about, the words that show it, the number that it expects, and what repairs it.
+fn push_broken<'s, S: Store>(
+    memory: Phys<'s, S>,
+    text: &mut Vec<u8>,
+    over: &PlanOf<'_>,
+    paging: PageCfg,
+    root: u32,
+    found: &Found,
+) -> Wrote<'s, S>
+    requires table { IsTable paging.table }
+    requires types { AreInside (length over.now.types.now.records) over.now.plan.now.audits }
+    requires tasks { TasksAreInside over.now }
+    requires root { root < length over.now.plan.now.audits }
+    requires found { found.now.audit < length over.now.plan.now.audits }
+
+    ensures added { OnOk result.done (IfSome (with_paging paging (stored memory.entry.segments.items memory.entry.tail (content (S.files memory.entry.store.now) Dump (S.opened memory.entry.store.now Dump)))) (λ image.
+        text.new.items ≡ text.old.items ++ broken_lines (over_plan over.now image) root found.now)) }
+    ensures stays { FramesStay (λ p. stored p.segments.items p.tail (content (S.files p.store.now) Dump (S.opened p.store.now Dump))) (λ p. S.files p.store.now) (λ p. p.store.ghost_name ∷ []) memory.entry result.memory }
+    ensures cause { CountsRunFaults result.done (S.faults memory.entry.store.now) (S.faults result.memory.store.now) }
+{
+    if let Err(NoMemory) = push_named_root(text, over, root, found) {
+        return Wrote {
+            memory,
+            done: Err(RunStop::NoMemory),
+        };
+    }
+    let Wrote { memory, done } = push_shown_over(memory, text, over, paging, found);
+    if let Err(stop) = done {
+        return Wrote {
+            memory,
+            done: Err(stop),
+        };
+    }
+    match push_found_number(text, over, found) {
+        Ok(()) => push_repairs(memory, text, over, paging, root, found),
+        Err(NoMemory) => Wrote {
+            memory,
+            done: Err(RunStop::NoMemory),
+        },
+    }
 }
 
 // Adds the lines of a root audit, where its verdict is broken.
@@ -59,24 +115,19 @@ fn push_cause<'s, S: Store>(
 ) -> Wrote<'s, S>
     requires table { IsTable paging.table }
     requires types { AreInside (length over.now.types.now.records) over.now.plan.now.audits }
+    requires tasks { TasksAreInside over.now }
     requires fits { FitsRoot (length over.now.plan.now.audits) (plan_seen over.now.plan.now) root.now }
 
     ensures added { OnOk result.done (IfSome (with_paging paging (stored memory.entry.segments.items memory.entry.tail (content (S.files memory.entry.store.now) Dump (S.opened memory.entry.store.now Dump)))) (λ image.
-        text.new.items ≡ text.old.items ++ cause_lines (over_plan over.now.types.now over.now.plan.now image) root.now)) }
+        text.new.items ≡ text.old.items ++ cause_lines (over_plan over.now image) root.now)) }
     ensures stays { FramesStay (λ p. stored p.segments.items p.tail (content (S.files p.store.now) Dump (S.opened p.store.now Dump))) (λ p. S.files p.store.now) (λ p. p.store.ghost_name ∷ []) memory.entry result.memory }
     ensures cause { CountsRunFaults result.done (S.faults memory.entry.store.now) (S.faults result.memory.store.now) }
 {
-    let Verdict::Broken(found) = &root.verdict else {
-        return Wrote {
+    match &root.verdict {
+        Verdict::Broken(found) => push_broken(memory, text, over, paging, root.root, found),
+        Verdict::Clean(_) => Wrote {
             memory,
             done: Ok(()),
-        };
-    };
-    match push_found(text, over, root.root, found) {
-        Ok(()) => push_repairs(memory, text, over, paging, root.root, found),
-        Err(NoMemory) => Wrote {
-            memory,
-            done: Err(RunStop::NoMemory),
         },
     }
 }
@@ -91,10 +142,11 @@ fn push_causes<'s, S: Store>(
 ) -> Wrote<'s, S>
     requires table { IsTable paging.table }
     requires types { AreInside (length over.now.types.now.records) over.now.plan.now.audits }
+    requires tasks { TasksAreInside over.now }
     requires fits { FitEach (length over.now.plan.now.audits) (plan_seen over.now.plan.now) verdicts.now }
 
     ensures added { OnOk result.done (IfSome (with_paging paging (stored memory.entry.segments.items memory.entry.tail (content (S.files memory.entry.store.now) Dump (S.opened memory.entry.store.now Dump)))) (λ image.
-        text.new.items ≡ text.old.items ++ texts (cause_lines (over_plan over.now.types.now over.now.plan.now image)) verdicts.now)) }
+        text.new.items ≡ text.old.items ++ texts (cause_lines (over_plan over.now image)) verdicts.now)) }
     ensures stays { FramesStay (λ p. stored p.segments.items p.tail (content (S.files p.store.now) Dump (S.opened p.store.now Dump))) (λ p. S.files p.store.now) (λ p. p.store.ghost_name ∷ []) memory.entry result.memory }
     ensures cause { CountsRunFaults result.done (S.faults memory.entry.store.now) (S.faults result.memory.store.now) }
 {
@@ -128,10 +180,11 @@ fn push_first<'s, S: Store>(
 ) -> Wrote<'s, S>
     requires table { IsTable paging.table }
     requires types { AreInside (length over.now.types.now.records) over.now.plan.now.audits }
+    requires tasks { TasksAreInside over.now }
     requires fits { FitEach (length over.now.plan.now.audits) (plan_seen over.now.plan.now) verdicts.now }
 
     ensures added { OnOk result.done (IfSome (with_paging paging (stored memory.entry.segments.items memory.entry.tail (content (S.files memory.entry.store.now) Dump (S.opened memory.entry.store.now Dump)))) (λ image.
-        text.new.items ≡ text.old.items ++ first_lines (over_plan over.now.types.now over.now.plan.now image) (find is_broken verdicts.now))) }
+        text.new.items ≡ text.old.items ++ first_lines (over_plan over.now image) (find is_broken verdicts.now))) }
     ensures stays { FramesStay (λ p. stored p.segments.items p.tail (content (S.files p.store.now) Dump (S.opened p.store.now Dump))) (λ p. S.files p.store.now) (λ p. p.store.ghost_name ∷ []) memory.entry result.memory }
     ensures cause { CountsRunFaults result.done (S.faults memory.entry.store.now) (S.faults result.memory.store.now) }
 {
@@ -157,10 +210,11 @@ fn push_some<'s, S: Store>(
 ) -> Wrote<'s, S>
     requires table { IsTable paging.table }
     requires types { AreInside (length over.now.types.now.records) over.now.plan.now.audits }
+    requires tasks { TasksAreInside over.now }
     requires fits { FitEach (length over.now.plan.now.audits) (plan_seen over.now.plan.now) verdicts.now }
 
     ensures added { OnOk result.done (IfSome (with_paging paging (stored memory.entry.segments.items memory.entry.tail (content (S.files memory.entry.store.now) Dump (S.opened memory.entry.store.now Dump)))) (λ image.
-        text.new.items ≡ text.old.items ++ causes_text (over_plan over.now.types.now over.now.plan.now image) verdicts.now)) }
+        text.new.items ≡ text.old.items ++ causes_text (over_plan over.now image) verdicts.now)) }
     ensures stays { FramesStay (λ p. stored p.segments.items p.tail (content (S.files p.store.now) Dump (S.opened p.store.now Dump))) (λ p. S.files p.store.now) (λ p. p.store.ghost_name ∷ []) memory.entry result.memory }
     ensures cause { CountsRunFaults result.done (S.faults memory.entry.store.now) (S.faults result.memory.store.now) }
 {
@@ -192,10 +246,11 @@ pub(crate) fn explained_text<'s, S: Store>(
 ) -> Written<'s, S>
     requires table { IsTable paging.table }
     requires types { AreInside (length over.now.types.now.records) over.now.plan.now.audits }
+    requires tasks { TasksAreInside over.now }
     requires fits { FitEach (length over.now.plan.now.audits) (plan_seen over.now.plan.now) verdicts.now }
 
     ensures says { IfOk result.text (λ text. IfSome (with_paging paging (stored memory.entry.segments.items memory.entry.tail (content (S.files memory.entry.store.now) Dump (S.opened memory.entry.store.now Dump)))) (λ image.
-        text.items ≡ or_clean (causes_text (over_plan over.now.types.now over.now.plan.now image) verdicts.now))) }
+        text.items ≡ or_clean (causes_text (over_plan over.now image) verdicts.now))) }
     ensures stays { FramesStay (λ p. stored p.segments.items p.tail (content (S.files p.store.now) Dump (S.opened p.store.now Dump))) (λ p. S.files p.store.now) (λ p. p.store.ghost_name ∷ []) memory.entry result.memory }
     ensures cause { CountsRunFaults result.text (S.faults memory.entry.store.now) (S.faults result.memory.store.now) }
 {

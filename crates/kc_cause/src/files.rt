@@ -7,6 +7,7 @@ ghost use Rattle.kc_outside.specs.Files.{OthersStay, content};
 ghost use Rattle.kc_memory.specs.Stays.{FramesStay};
 ghost use Rattle.kc_phys.specs.Stored.{AreInside, stored};
 ghost use Rattle.kc_mem.specs.Paged.{with_paging};
+ghost use Rattle.kc_view.specs.TaskLists.{IsInside};
 ghost use Rattle.kc_plan.specs.Inside.{AreInside as TypesAreInside};
 ghost use Rattle.kc_plan.specs.Views.{plan_seen};
 ghost use Rattle.kc_input.specs.Halts.{NotRefused, NotStore, OnStore, UnlessStore};
@@ -16,10 +17,10 @@ ghost use Rattle.kc_input.specs.Slots.{RefusesIn};
 ghost use Rattle.kc_ends.specs.Answers.{Prints, PrintsOf, PrintsOfBytes, StayBehind};
 ghost use Rattle.kc_cause.specs.Explained.{cause_made, causes_text, compared, explained_written, or_clean, report_file, report_passed};
 ghost use Rattle.kc_cause.specs.Files.{cause_asked, explained_of, report_files};
-ghost use Rattle.kc_cause.specs.Judged.{Compares, FitsJudged, JudgesAs, Tells, is_reported, over_plan};
+ghost use Rattle.kc_cause.specs.Judged.{Compares, FitsJudged, JudgesAs, TasksAreInside, Tells, is_reported, over_plan};
 
 use crate::explained::{Written, explained_text};
-use crate::held::{Held, PlanFiles, names_of, read_held};
+use crate::held::{Held, PlanFiles, Planned, find_plan, names_of, read_held};
 use crate::judged::{Judged, JudgedOver, PlanOf, judge_over, report_text};
 use kc_ends::Answer;
 use kc_input::{Halt, Refusal, ReportFault, paging_by, read_report_file};
@@ -63,8 +64,9 @@ pub fn explain<S: Store>(alloc: Global, store: &mut S, asks: &Asks<'_>) -> Resul
     ensures cause { OnStore result (Rose (S.faults store.old) (S.faults store.new)) }
 {
     let held = read_held(alloc, store, &asks.files)?;
+    let planned = find_plan(alloc, store, asks.files.plan, &held)?;
     let report = find_report(alloc, store, asks.report)?;
-    explain_held(alloc, store, &held, &report)
+    explain_held(alloc, store, &held, &planned, &report)
 }
 
 // The bytes of a file that is a report.
@@ -103,13 +105,15 @@ fn explain_held<S: Store>(
     alloc: Global,
     store: &mut S,
     held: &Held,
+    planned: &Planned<'_>,
     report: &[u8],
 ) -> Result<Answer, Halt>
     requires table { IsTable held.now.info.table }
-    requires types { TypesAreInside (length held.now.types.records) held.now.plan.audits }
+    requires types { TypesAreInside (length held.now.types.records) planned.now.plan.audits }
+    requires tasks { IfSome planned.now.shapes.words.areas.stacks (λ shape. IsInside shape.tasks held.now.types) }
     requires inside { AreInside (S.sizes store.old Dump) held.now.core.segments }
 
-    ensures output { PrintsOfBytes explained_written (λ bytes. compared (explained_of held.now bytes) report.now)
+    ensures output { PrintsOfBytes explained_written (λ bytes. compared (explained_of held.now planned.now bytes) report.now)
         (content (S.files store.old) Dump (S.opened store.old Dump)) result }
     ensures refused { RefusesIn Slot.Report result }
     ensures files { S.files store.new ≡ S.files store.old }
@@ -117,11 +121,12 @@ fn explain_held<S: Store>(
     ensures quiet { UnlessStore result (S.faults store.new ≡ S.faults store.old) }
     ensures cause { OnStore result (Rose (S.faults store.old) (S.faults store.new)) }
 {
-    let room = Room::new(alloc, held.core.segments(), held.plan.tail)?;
+    let room = Room::new(alloc, held.core.segments(), planned.plan.tail)?;
     let over = PlanOf {
         alloc,
-        plan: &held.plan,
+        plan: &planned.plan,
         types: &held.types,
+        shapes: planned.shapes,
     };
     let paging = paging_by(held.info);
     let memory = Phys::over(store, room);
@@ -146,9 +151,10 @@ fn explain_over<'s, S: Store>(
 ) -> ExplainedOver<'s, S>
     requires table { IsTable paging.table }
     requires types { TypesAreInside (length over.now.types.now.records) over.now.plan.now.audits }
+    requires tasks { TasksAreInside over.now }
 
     ensures output { IfSome (with_paging paging (stored memory.entry.segments.items memory.entry.tail (content (S.files memory.entry.store.now) Dump (S.opened memory.entry.store.now Dump)))) (λ image.
-        Prints explained_written (compared (over_plan over.now.types.now over.now.plan.now image) report.now) result.answer) }
+        Prints explained_written (compared (over_plan over.now image) report.now) result.answer) }
     ensures refused { RefusesIn Slot.Report result.answer }
     ensures stays { FramesStay (λ p. stored p.segments.items p.tail (content (S.files p.store.now) Dump (S.opened p.store.now Dump))) (λ p. S.files p.store.now) (λ p. p.store.ghost_name ∷ []) memory.entry result.memory }
     ensures later { S.faults memory.entry.store.now ≤ S.faults result.memory.store.now }
@@ -179,11 +185,12 @@ fn explain_judged<'s, S: Store>(
 ) -> ExplainedOver<'s, S>
     requires table { IsTable paging.table }
     requires types { TypesAreInside (length over.now.types.now.records) over.now.plan.now.audits }
+    requires tasks { TasksAreInside over.now }
     requires fits { FitsJudged (length over.now.plan.now.audits) (plan_seen over.now.plan.now) judged.now }
     requires says { IfSome (with_paging paging (stored memory.segments.items memory.tail (content (S.files memory.store.now) Dump (S.opened memory.store.now Dump)))) (λ image. JudgesAs image over.now.plan.now judged.now) }
 
     ensures output { IfSome (with_paging paging (stored memory.entry.segments.items memory.entry.tail (content (S.files memory.entry.store.now) Dump (S.opened memory.entry.store.now Dump)))) (λ image.
-        Prints explained_written (compared (over_plan over.now.types.now over.now.plan.now image) report.now) result.answer) }
+        Prints explained_written (compared (over_plan over.now image) report.now) result.answer) }
     ensures refused { RefusesIn Slot.Report result.answer }
     ensures stays { FramesStay (λ p. stored p.segments.items p.tail (content (S.files p.store.now) Dump (S.opened p.store.now Dump))) (λ p. S.files p.store.now) (λ p. p.store.ghost_name ∷ []) memory.entry result.memory }
     ensures later { S.faults memory.entry.store.now ≤ S.faults result.memory.store.now }
@@ -222,10 +229,11 @@ fn tell<'s, S: Store>(
 ) -> ExplainedOver<'s, S>
     requires table { IsTable paging.table }
     requires types { TypesAreInside (length over.now.types.now.records) over.now.plan.now.audits }
+    requires tasks { TasksAreInside over.now }
     requires fits { FitsJudged (length over.now.plan.now.audits) (plan_seen over.now.plan.now) judged.now }
 
     ensures says { IfSome (with_paging paging (stored memory.entry.segments.items memory.entry.tail (content (S.files memory.entry.store.now) Dump (S.opened memory.entry.store.now Dump)))) (λ image.
-        Tells (or_clean (causes_text (over_plan over.now.types.now over.now.plan.now image) judged.now.roots)) result.answer) }
+        Tells (or_clean (causes_text (over_plan over.now image) judged.now.roots)) result.answer) }
     ensures not_refused { NotRefused result.answer }
     ensures stays { FramesStay (λ p. stored p.segments.items p.tail (content (S.files p.store.now) Dump (S.opened p.store.now Dump))) (λ p. S.files p.store.now) (λ p. p.store.ghost_name ∷ []) memory.entry result.memory }
     ensures later { S.faults memory.entry.store.now ≤ S.faults result.memory.store.now }

@@ -1,22 +1,26 @@
-// What the four files of an audit hold.
-ghost use Rattle.std.specs.Prelude.{◌≡◌, ◌≤◌, ℕ, List, length, IfOk};
+// What the files of an audit hold.
+ghost use Rattle.std.specs.Prelude.{◌≡◌, ◌≤◌, ℕ, List, length, IfOk, IfSome};
 ghost use Rattle.kc_outside.specs.declared.store.Slot.{Slot};
 ghost use Rattle.kc_outside.specs.declared.store.Slot.TheVariants.{Dump, Map};
 ghost use Rattle.kc_outside.specs.Counts.{Rose};
-ghost use Rattle.kc_outside.specs.Files.{content};
+ghost use Rattle.kc_outside.specs.Files.{content, named};
 ghost use Rattle.kc_phys.specs.Stored.{AreInside};
 ghost use Rattle.kc_syms.specs.Answers.{Stands};
 ghost use Rattle.kc_syms.specs.Rows.{RowText};
 ghost use Rattle.kc_syms.specs.Symbols.{symbol};
+ghost use Rattle.kc_view.specs.TaskLists.{IsInside};
 ghost use Rattle.kc_plan.specs.Inside.{AreInside as TypesAreInside};
 ghost use Rattle.kc_plan.specs.Views.{plan_seen, plan_whole};
 ghost use Rattle.kc_input.specs.Halts.{NotStore, OnStore, UnlessStore};
-ghost use Rattle.kc_input.specs.Made.{Is, IsOf};
+ghost use Rattle.kc_input.specs.Made.{Is, IsOf, checked};
 ghost use Rattle.kc_input.specs.Paging.{IsTable};
 ghost use Rattle.kc_input.specs.Slots.{RefusesIn};
 ghost use Rattle.kc_ends.specs.Answers.{StayBehind};
-ghost use Rattle.kc_cause.specs.Explained.{audited, names_of, plan_over, planned_in};
-ghost use Rattle.kc_cause.specs.Files.{Holds, RefusesLate, audit_files, named_files};
+ghost use Rattle.kc_plan.specs.Plans.{plan};
+ghost use Rattle.kc_input.specs.declared.refusal.Refusal.TheVariants as refusal;
+ghost use Rattle.kc_told.specs.Objects.{kernel_by};
+ghost use Rattle.kc_cause.specs.Explained.{kernel_in, names_of, planned_in};
+ghost use Rattle.kc_cause.specs.Files.{RefusesLate, audit_files, held_view, kernel_files, planned_view};
 
 use kc_btf::Btf;
 use kc_elf::Core;
@@ -26,6 +30,7 @@ use kc_outside::Store;
 use kc_plan::{Plan, know_plans, read_plan};
 use kc_report::PlanNames;
 use kc_syms::Symbols;
+use kc_told::{Shapes, shapes_in};
 use kc_word::NoMemory;
 use std::alloc::Global;
 
@@ -42,7 +47,7 @@ pub struct PlanFiles<'w> {
     pub plan: &'w str,
 }
 
-/// What the four files of an audit hold. The dump stays in slot Dump.
+/// What the dump, the types and the map hold. The dump stays in slot Dump.
 #[derive(Drop)]
 pub struct Held {
     /// The segments and notes of the dump.
@@ -51,11 +56,20 @@ pub struct Held {
     pub info: Info,
     /// The kernel's types.
     pub types: Btf,
-    /// The plan, over the types and the map.
-    pub plan: Plan,
+    /// The bytes of the map.
+    pub map: Vec<u8>,
 }
 
-/// Reads the dump, the types, the map and the plan.
+/// A plan over these, and what tells of an address.
+#[derive(Drop)]
+pub struct Planned<'m> {
+    /// The plan.
+    pub plan: Plan,
+    /// What tells of an address.
+    pub shapes: Shapes<'m>,
+}
+
+/// Reads the dump, the types and the map.
 ///
 /// # Errors
 ///
@@ -68,18 +82,17 @@ pub fn read_held<S: Store>(
     requires dump { S.may store.old Dump files.now.dump.now }
     requires btf { S.may store.old Slot.Btf files.now.btf.now }
     requires map { S.may store.old Map files.now.map.now }
-    requires plan { S.may store.old Slot.Plan files.now.plan.now }
 
-    ensures told { Holds
-        (λ told. audited (told Dump files.now.dump.now) (told Slot.Btf files.now.btf.now)
-        (told Map files.now.map.now) (told Slot.Plan files.now.plan.now)) (S.files store.old)
-        (content (S.files store.new) Dump (S.opened store.new Dump)) result }
-    ensures unopened { StayBehind (named_files (audit_files files.now)) result (S.opened store.old)
+    ensures told { IsOf held_view
+        (λ told. kernel_in (told Dump files.now.dump.now) (told Slot.Btf files.now.btf.now)
+        (told Map files.now.map.now)) (S.files store.old) result }
+    ensures content { IfOk result (λ held. content (S.files store.new) Dump (S.opened store.new Dump) ≡ named (S.files store.old) Dump files.now.dump.now) }
+    ensures unopened { StayBehind (kernel_files (audit_files files.now)) result (S.opened store.old)
         (S.opened store.new) }
     ensures table { IfOk result (λ held. IsTable held.info.table) }
-    ensures types { IfOk result (λ held. TypesAreInside (length held.types.records) held.plan.audits) }
     ensures inside { IfOk result (λ held. AreInside (S.sizes store.new Dump) held.core.segments) }
 
+    ensures plan_opened { S.opened store.new Slot.Plan ≡ S.opened store.old Slot.Plan }
     ensures report_opened { S.opened store.new Slot.Report ≡ S.opened store.old Slot.Report }
     ensures may { (s : Slot) (n : List ℕ) → S.may store.old s n → S.may store.new s n }
     ensures files { S.files store.new ≡ S.files store.old }
@@ -90,31 +103,32 @@ pub fn read_held<S: Store>(
     let core = read_dump(alloc, store, files.dump)?;
     let info = read_info(&core)?;
     let types = read_types(alloc, store, files.btf)?;
-    let plan = find_plan(alloc, store, files, &types, &info)?;
+    let map = read_map(alloc, store, files.map)?;
     Ok(Held {
         core,
         info,
         types,
-        plan,
+        map,
     })
 }
 
-// The plan, over the types and the map: the first fault of the map or of the plan.
-fn find_plan<S: Store>(
+/// A plan over what these files hold, and what tells of an address.
+///
+/// # Errors
+///
+/// The first fault of the map's rows, or of the plan; a failed call of the store; no memory was left.
+pub fn find_plan<'m, S: Store>(
     alloc: Global,
     store: &mut S,
-    files: &PlanFiles<'_>,
-    types: &Btf,
-    info: &Info,
-) -> Result<Plan, Halt>
-    requires map { S.may store.old Map files.now.map.now }
-    requires plan { S.may store.old Slot.Plan files.now.plan.now }
+    name: &str,
+    held: &'m Held,
+) -> Result<Planned<'m>, Halt>
+    requires plan { S.may store.old Slot.Plan name.now }
 
-    ensures told { IsOf plan_whole
-        (λ told. planned_in types.now info.now (told Map files.now.map.now)
-        (told Slot.Plan files.now.plan.now)) (S.files store.old) result }
+    ensures told { IsOf planned_view (λ told. planned_in (held_view held.now) (told Slot.Plan name.now)) (S.files store.old) result }
     ensures unopened { RefusesLate result (S.opened store.old) (S.opened store.new) }
-    ensures types { IfOk result (λ plan. TypesAreInside (length types.now.records) plan.audits) }
+    ensures types { IfOk result (λ p. TypesAreInside (length held.now.types.records) p.plan.audits) }
+    ensures tasks { IfOk result (λ p. IfSome p.shapes.words.areas.stacks (λ shape. IsInside shape.tasks held.now.types)) }
 
     ensures report_opened { S.opened store.new Slot.Report ≡ S.opened store.old Slot.Report }
     ensures dump_opened { S.opened store.new Dump ≡ S.opened store.old Dump }
@@ -125,10 +139,11 @@ fn find_plan<S: Store>(
     ensures quiet { UnlessStore result (S.faults store.new ≡ S.faults store.old) }
     ensures cause { OnStore result (Rose (S.faults store.old) (S.faults store.new)) }
 {
-    let map = read_map(alloc, store, files.map)?;
-    let symbols = read_symbols(alloc, &map)?;
-    let bytes = read_plan_file(alloc, store, files.plan)?;
-    read_audits(alloc, &bytes, types, &symbols, info)
+    let symbols = read_symbols(alloc, &held.map)?;
+    let bytes = read_plan_file(alloc, store, name)?;
+    let plan = read_audits(alloc, &bytes, &held.types, &symbols, &held.info)?;
+    let shapes = shapes_in(alloc, &held.types, &symbols, held.info, &held.map)?;
+    Ok(Planned { plan, shapes })
 }
 
 // The plan with these bytes, over a kernel's types and symbols.
@@ -140,7 +155,7 @@ fn read_audits(
     symbols: &Symbols<'_>,
     info: &Info,
 ) -> Result<Plan, Halt>
-    ensures made { (rows : List RowText) → Stands (symbol symbols.now) rows → Is plan_whole (plan_over types.now rows info.now bytes.now) result }
+    ensures made { (rows : List RowText) → Stands (symbol symbols.now) rows → Is plan_whole (checked refusal.Plan (plan (kernel_by types.now rows info.now) bytes.now)) result }
     ensures refused { RefusesIn Slot.Plan result }
     ensures no_call { NotStore result }
     ensures inside { IfOk result (λ plan. TypesAreInside (length types.now.records) plan.audits) }

@@ -23,6 +23,7 @@ use kc_plan::Plan;
 use kc_report::{PlanNames, report_each, report_of, text};
 use kc_run::{RunStop, run, run_each};
 use kc_tlb::Tlb;
+use kc_told::Shapes;
 use kc_word::{NoMemory, PageCfg, Steps};
 use std::alloc::Global;
 use std::marker::Brand;
@@ -49,6 +50,8 @@ pub(crate) struct PlanOf<'p> {
     pub plan: &'p Plan,
     /// The types.
     pub types: &'p Btf,
+    /// What tells of an address.
+    pub shapes: Shapes<'p>,
 }
 
 // The verdict on all audits, where the plan asks for one.

@@ -7,8 +7,11 @@ mod held;
 mod judged;
 mod laws;
 mod lines;
+mod places;
 mod repairs;
+mod rings;
 mod sentences;
+mod suspected;
 
 pub use files::{Asks, explain};
 pub use held::PlanFiles;

@@ -1,10 +1,10 @@
 // The lines that explain a violation.
-ghost use Rattle.std.specs.Prelude.{◌≡◌, ◌++◌, ◌≤◌, length, OnOk};
+ghost use Rattle.std.specs.Prelude.{◌≡◌, ◌++◌, ◌≤◌, length, IfSome, OnOk};
 ghost use Rattle.kc_plan.specs.Inside.{IsInside};
 ghost use Rattle.kc_plan.specs.Planned.{audit_seen};
 ghost use Rattle.kc_plan.specs.Seen.{container_of};
 ghost use Rattle.kc_member.specs.MemberPaths.{member_path};
-ghost use Rattle.kc_cause.specs.Lines.{about_part, bytes_line, element_lines, is_of_member, number_line, number_lines, path_part, rule_line, type_name, typed_part, violation_lines};
+ghost use Rattle.kc_cause.specs.Lines.{about_part, bytes_line, element_lines, is_of_member, named_lines, number_line, number_lines, path_part, rule_line, type_name, typed_part};
 
 use crate::sentences::sentence;
 use kc_btf::Btf;
@@ -14,7 +14,7 @@ use kc_kinds::Kind;
 use kc_member::push_member;
 use kc_memory::Rule;
 use kc_plan::Audit;
-use kc_report::{push_places, rule_code};
+use kc_report::rule_code;
 use kc_run::container_of;
 use kc_text::{push, push_hex, push_name, push_numbered};
 use kc_word::NoMemory;
@@ -106,18 +106,22 @@ fn push_about(
     push(text, b"\n")
 }
 
-// The line of the element that a violation is about, where that is told.
-fn push_element(
+/// Adds the line of the element that a violation is about, where that is told.
+///
+/// # Errors
+///
+/// No memory was left.
+pub fn push_element(
     alloc: Global,
     text: &mut Vec<u8>,
     btf: &Btf,
-    audit: &Audit,
+    element: Option<Element>,
     found: &Found,
 ) -> Result<(), NoMemory>
-    requires { IsInside (length btf.now.records) audit.now }
-    ensures { OnOk result (text.new.items ≡ text.old.items ++ element_lines btf.now (audit_seen audit.now) found.now) }
+    requires { IfSome element (λ e. e.ty ≤ length btf.now.records) }
+    ensures { OnOk result (text.new.items ≡ text.old.items ++ element_lines btf.now found.now element) }
 {
-    let Some(element) = element_of(btf, audit, found) else {
+    let Some(element) = element else {
         return Ok(());
     };
     push_typed(text, btf, element)?;
@@ -136,7 +140,12 @@ fn push_part(text: &mut Vec<u8>, part: &Part) -> Result<(), NoMemory>
     push(text, b"\n")
 }
 
-fn push_number(text: &mut Vec<u8>, kind: &Kind, found: &Found) -> Result<(), NoMemory>
+/// Adds the line of the number that a violation expects against the one that stands there, where there is one.
+///
+/// # Errors
+///
+/// No memory was left.
+pub fn push_number(text: &mut Vec<u8>, kind: &Kind, found: &Found) -> Result<(), NoMemory>
     ensures { OnOk result (text.new.items ≡ text.old.items ++ number_lines kind.now found.now) }
 {
     match part_of(kind, found) {
@@ -145,13 +154,12 @@ fn push_number(text: &mut Vec<u8>, kind: &Kind, found: &Found) -> Result<(), NoM
     }
 }
 
-/// Adds the lines of a violation of an audit: the audit's name, the rule with what it says, the element that it is about, the words
-/// that show it, and the number that is expected against the one that stands there.
+/// Adds the lines of a violation of an audit up to its words: the audit's name, the rule with what it says, and the element that it is about.
 ///
 /// # Errors
 ///
 /// No memory was left.
-pub fn push_violation(
+pub fn push_named(
     alloc: Global,
     text: &mut Vec<u8>,
     btf: &Btf,
@@ -159,11 +167,9 @@ pub fn push_violation(
     found: &Found,
 ) -> Result<(), NoMemory>
     requires { IsInside (length btf.now.records) audit.now }
-    ensures { OnOk result (text.new.items ≡ text.old.items ++ violation_lines btf.now (audit_seen audit.now) found.now) }
+    ensures { OnOk result (text.new.items ≡ text.old.items ++ named_lines btf.now (audit_seen audit.now) found.now) }
 {
     push_line(text, b"audit ", &audit.name)?;
     push_rule(text, found.rule)?;
-    push_element(alloc, text, btf, audit, found)?;
-    push_places(text, found.places.as_slice())?;
-    push_number(text, &audit.kind, found)
+    push_element(alloc, text, btf, element_of(btf, audit, found), found)
 }

@@ -9,12 +9,14 @@ ghost use Rattle.kc_plan.specs.Inside.{AreInside as TypesAreInside};
 ghost use Rattle.kc_plan.specs.Views.{plan_seen};
 ghost use Rattle.kc_run.specs.Answers.{CountsRunFaults};
 ghost use Rattle.kc_input.specs.Paging.{IsTable};
-ghost use Rattle.kc_cause.specs.Explained.{repairs_found};
+ghost use Rattle.kc_cause.specs.Explained.{repairs_as, repairs_found};
 ghost use Rattle.kc_cause.specs.Judged.{over_plan};
 ghost use Rattle.kc_cause.specs.Lines.{next_line, next_lines, repair_lines, suspect_part, tried_part};
 
 use crate::judged::PlanOf;
+use crate::suspected::{AsRingOver, as_ring_over};
 use kc_found::Found;
+use kc_kinds::Kind;
 use kc_outside::Store;
 use kc_phys::Phys;
 use kc_repair::{Next, Repair, Repaired, RootAudit, repair_over};
@@ -97,7 +99,49 @@ pub(crate) struct Wrote<'s, S: Store> {
     pub(crate) done: Result<(), RunStop>,
 }
 
-/// Adds the lines of what repairs a violation under the root audit with a number.
+// Adds the lines of what repairs a violation of a kind of structure under the root audit with a number.
+fn push_repairs_as<'s, S: Store>(
+    memory: Phys<'s, S>,
+    text: &mut Vec<u8>,
+    over: &PlanOf<'_>,
+    paging: PageCfg,
+    root: u32,
+    kind: &Kind,
+    found: &Found,
+) -> Wrote<'s, S>
+    requires table { IsTable paging.table }
+    requires types { TypesAreInside (length over.now.types.now.records) over.now.plan.now.audits }
+
+    ensures added { OnOk result.done (IfSome (with_paging paging (stored memory.entry.segments.items memory.entry.tail (content (S.files memory.entry.store.now) Dump (S.opened memory.entry.store.now Dump)))) (λ image.
+        text.new.items ≡ text.old.items ++ repairs_as (over_plan over.now image) root kind.now found.now)) }
+    ensures stays { FramesStay (λ p. stored p.segments.items p.tail (content (S.files p.store.now) Dump (S.opened p.store.now Dump))) (λ p. S.files p.store.now) (λ p. p.store.ghost_name ∷ []) memory.entry result.memory }
+    ensures cause { CountsRunFaults result.done (S.faults memory.entry.store.now) (S.faults result.memory.store.now) }
+{
+    let PlanOf {
+        alloc,
+        plan,
+        types,
+        ..
+    } = *over;
+    let Some(root) = root_at(plan, root) else {
+        return Wrote {
+            memory,
+            done: Ok(()),
+        };
+    };
+    let audit = RootAudit { plan, types, root };
+    let Repaired { memory, repair } = repair_over(alloc, memory, paging, &audit, kind, found);
+    let done = match repair {
+        Ok(repair) => match push_repair(text, &repair) {
+            Ok(()) => Ok(()),
+            Err(NoMemory) => Err(RunStop::NoMemory),
+        },
+        Err(stop) => Err(stop),
+    };
+    Wrote { memory, done }
+}
+
+/// Adds the lines of what repairs a violation under the root audit with a number, as it is suspected.
 pub(crate) fn push_repairs<'s, S: Store>(
     memory: Phys<'s, S>,
     text: &mut Vec<u8>,
@@ -111,26 +155,26 @@ pub(crate) fn push_repairs<'s, S: Store>(
     requires found { found.now.audit < length over.now.plan.now.audits }
 
     ensures added { OnOk result.done (IfSome (with_paging paging (stored memory.entry.segments.items memory.entry.tail (content (S.files memory.entry.store.now) Dump (S.opened memory.entry.store.now Dump)))) (λ image.
-        text.new.items ≡ text.old.items ++ repairs_found (over_plan over.now.types.now over.now.plan.now image) root found.now)) }
+        text.new.items ≡ text.old.items ++ repairs_found (over_plan over.now image) root found.now)) }
     ensures stays { FramesStay (λ p. stored p.segments.items p.tail (content (S.files p.store.now) Dump (S.opened p.store.now Dump))) (λ p. S.files p.store.now) (λ p. p.store.ghost_name ∷ []) memory.entry result.memory }
     ensures cause { CountsRunFaults result.done (S.faults memory.entry.store.now) (S.faults result.memory.store.now) }
 {
-    let PlanOf { alloc, plan, types } = *over;
-    let Some(root) = root_at(plan, root) else {
-        return Wrote {
+    let kind = &over.plan.audit(found.audit).kind;
+    let AsRingOver { memory, ring } = as_ring_over(memory, over, paging, kind, found);
+    match ring {
+        Ok(Some(ring)) => push_repairs_as(
             memory,
-            done: Ok(()),
-        };
-    };
-    let audit = RootAudit { plan, types, root };
-    let kind = &plan.audit(found.audit).kind;
-    let Repaired { memory, repair } = repair_over(alloc, memory, paging, &audit, kind, found);
-    let done = match repair {
-        Ok(repair) => match push_repair(text, &repair) {
-            Ok(()) => Ok(()),
-            Err(NoMemory) => Err(RunStop::NoMemory),
+            text,
+            over,
+            paging,
+            root,
+            &ring.kind,
+            &ring.found,
+        ),
+        Ok(None) => push_repairs_as(memory, text, over, paging, root, kind, found),
+        Err(stop) => Wrote {
+            memory,
+            done: Err(stop),
         },
-        Err(stop) => Err(stop),
-    };
-    Wrote { memory, done }
+    }
 }

@@ -1,5 +1,6 @@
 pub mod Bounds
 pub mod Caches
+pub mod Described
 pub mod FreeSpots
 pub mod Keys
 pub mod Laws

@@ -7,6 +7,7 @@ use Rattle.kc_kinds.specs.Members.{◌>>=◌, inner_in, scalar_in, struct_named}
 use Rattle.kc_kinds.specs.Slabs.{slub_row, slub_words}
 use Rattle.kc_lookup.specs.Kernels.{single}
 use Rattle.kc_object.specs.declared.shape.ObjectShape.{ObjectShape}
+use Rattle.kc_object.specs.Described.{pages_of}
 
 -- in a kernel of whose structs these are those that slab caches need
 unfoldable pub shape_with : Kernel → Row → Option ObjectShape
@@ -22,6 +23,7 @@ shape_with kernel row = do
     cache_list = cache_list;
     name = scalar_in kernel.types row.head (codes "name");
     refcount = scalar_in kernel.types row.head (codes "refcount");
+    pages = pages_of kernel.five;
   })
 
 -- in a kernel that has them, and none of the symbols of slab caches twice

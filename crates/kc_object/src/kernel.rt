@@ -3,6 +3,7 @@ ghost use Rattle.std.specs.Prelude.{◌≡◌, length};
 ghost use Rattle.kc_kinds.specs.Kernels.{kernel};
 ghost use Rattle.kc_kinds.specs.Rows.{IsRow};
 ghost use Rattle.kc_kinds.specs.Slabs.{slub_words};
+ghost use Rattle.kc_object.specs.Described.{pages_of};
 ghost use Rattle.kc_object.specs.Shapes.{object_shape, shape_with};
 
 use crate::shape::ObjectShape;
@@ -27,6 +28,13 @@ fn slub_in(known: &Known<'_>, row: &Row) -> Option<SlubShape>
     }
 }
 
+// How many pages there may be, by the levels of page tables in use.
+fn pages_of(five: bool) -> u64
+    ensures { result ≡ pages_of five }
+{
+    if five { 1 << 40 } else { 1 << 34 }
+}
+
 // Where these words stand, by the structs that slab caches need.
 #[tactic(auto, unfolding(crate::specs::Shapes::shape_with))]
 fn shape_with(known: &Known<'_>, row: &Row) -> Option<ObjectShape>
@@ -47,6 +55,7 @@ fn shape_with(known: &Known<'_>, row: &Row) -> Option<ObjectShape>
         cache_list,
         name,
         refcount,
+        pages: pages_of(known.five),
     })
 }
 

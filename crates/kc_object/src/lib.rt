@@ -4,6 +4,7 @@
 mod bases;
 mod cache;
 mod counts;
+mod described;
 mod free;
 mod held;
 mod kernel;
@@ -17,6 +18,7 @@ mod spot;
 
 pub use cache::Cache;
 pub use counts::SlabCounts;
+pub use described::{Described, find_described};
 pub use free::FreeSpot;
 pub use held::{Held, find_object};
 pub use kernel::object_shape;

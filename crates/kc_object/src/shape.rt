@@ -17,4 +17,6 @@ pub struct ObjectShape {
     pub name: Option<Field>,
     /// The field `refcount` of a cache: how many users it has, where caches are merged.
     pub refcount: Option<Field>,
+    /// How many pages of 4096 bytes there may be, by the bits of physical addresses.
+    pub pages: u64,
 }

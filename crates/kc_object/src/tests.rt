@@ -164,6 +164,7 @@ fn shape() -> ObjectShape {
         cache_list: 48,
         name: Some(field(512, 64)),
         refcount: Some(field(576, 32)),
+        pages: 1 << 34,
     }
 }
 

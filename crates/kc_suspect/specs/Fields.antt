@@ -2,7 +2,7 @@
 use Rattle.std.specs.Prelude.{ℕ, ◌/◌, ◌%◌, List, [], ◌++◌, Option, Some, None, option_and_then, option_map, option_to_list}
 use Rattle.std.specs.Option.{option_map_or}
 use Rattle.kc_memory.specs.declared.rule.Rule.{Rule}
-use Rattle.kc_memory.specs.declared.rule.Rule.TheVariants.{U1, U2, U6, U7, T1, T3, T4, T5, G1, G2}
+use Rattle.kc_memory.specs.declared.rule.Rule.TheVariants.{U1, U2, U7, T1, T3, T4, T5, G1, G2}
 use Rattle.kc_memory.specs.Bits.{bits}
 use Rattle.kc_memory.specs.Image.{Image}
 use Rattle.kc_layout.specs.declared.place.Field.{Field}
@@ -26,7 +26,6 @@ bit_changes image at bit width n = option_to_list (option_and_then (field_to ima
 abbrev pub slab_field : SlubShape → Rule → Option Field
 slab_field s U1 = Some s.slab_cache
 slab_field s U2 = Some s.frozen
-slab_field s U6 = Some s.inuse
 slab_field s U7 = Some s.nr_partial
 slab_field s _ = None
 

@@ -55,13 +55,13 @@ led_by image kind v link = option_map_or (relinked image kind v) link (shown v.p
 abbrev pub word_changes : Violation → List Change
 word_changes v = option_to_list (option_map (to v.at) v.expected)
 
--- the `prev` of a ring's node, or the `next` of the node that it should lead to, where that one passes by a node that was taken out by one word only
+-- the `next` of the node that a ring's `prev` should lead to, where that one passes by a node by this word alone, or that `prev`
 abbrev pub passed_changes : Image → Kind → Violation → ℕ → List Change
 passed_changes image (Ring s) v node = option_to_list (option_map (to (at_offset node s.next)) (node_behind image s v.start node))
 passed_changes image _ v node = []
 
 abbrev pub before_changes : Image → Kind → Violation → List Change
-before_changes image kind v = word_changes v ++ option_map_or (passed_changes image kind v) v.expected []
+before_changes image kind v = option_map_or (passed_changes image kind v) v.expected [] ++ word_changes v
 
 -- the `pprev` of a chain's node, or the link that led there
 abbrev pub pointed_changes : Violation → List Change

@@ -55,7 +55,6 @@ fn slab_field(shape: &SlubShape, rule: Rule) -> Option<Field>
     match rule {
         Rule::U1 => Some(shape.slab_cache),
         Rule::U2 => Some(shape.frozen),
-        Rule::U6 => Some(shape.inuse),
         Rule::U7 => Some(shape.nr_partial),
         _ => None,
     }

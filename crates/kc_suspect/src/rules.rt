@@ -1,6 +1,7 @@
 // What may have happened, by the rule that is broken.
 ghost use Rattle.std.specs.Prelude.{◌≡◌, ◌++◌, ◌<◌, ◌≤◌, ◌∷◌, [], option_to_list, OnOk, IfOk, IfSome};
 ghost use Rattle.std.specs.List.{flat_map};
+ghost use Rattle.std.specs.Option.{option_map_or};
 ghost use Rattle.kc_memory.specs.Stays.{SpaceStays};
 ghost use Rattle.kc_suspect.specs.Answers.{CountsSuspectFaults};
 ghost use Rattle.kc_suspect.specs.Changes.{each, to};
@@ -172,7 +173,25 @@ fn push_passed<S: Space, L: Ledger>(
     Ok(())
 }
 
-// Adds the `prev` of a ring's node, and the `next` of the one that it should lead to.
+// Adds the `next` of the node that a ring's `prev` should lead to, where that is told.
+fn push_passed_by<S: Space, L: Ledger>(
+    changes: &mut Changes,
+    kind: &Kind,
+    found: &Found,
+    space: &mut S,
+    steps: &mut Steps<L>,
+) -> Result<(), SuspectStop>
+    ensures added { OnOk result (IfSome (S.image space.old) (λ image. changes.new ≡ changes.old ++ option_map_or (passed_changes image kind.now found.now) found.now.expected [])) }
+    ensures stays { SpaceStays S.image S.files S.through S.most space.old space.new }
+    ensures cause { CountsSuspectFaults result (S.faults space.old) (S.faults space.new) }
+{
+    match found.expected {
+        Some(node) => push_passed(changes, kind, found, node, space, steps),
+        None => Ok(()),
+    }
+}
+
+// Adds it, and the `prev` of the ring's node.
 fn push_before<S: Space, L: Ledger>(
     changes: &mut Changes,
     kind: &Kind,
@@ -184,11 +203,8 @@ fn push_before<S: Space, L: Ledger>(
     ensures stays { SpaceStays S.image S.files S.through S.most space.old space.new }
     ensures cause { CountsSuspectFaults result (S.faults space.old) (S.faults space.new) }
 {
-    push_word(changes, found)?;
-    match found.expected {
-        Some(node) => push_passed(changes, kind, found, node, space, steps),
-        None => Ok(()),
-    }
+    push_passed_by(changes, kind, found, space, steps)?;
+    Ok(push_word(changes, found)?)
 }
 
 // Adds the `pprev` of a chain's node, and the link that led there.

@@ -148,7 +148,7 @@ fn of_rings(rt: HostRuntime) -> Result<(), Fail> {
     let changed = [(3000, 3000), (3008, 3000), (4008, 2000)];
     let stop = broken(alloc, Rule::L1, 1000, (3008, 3000), Some(2000));
     let passed = told::<Brand>(alloc, ring(), &changed, stop, Blank::new(1))?;
-    assert_eq!(rt; passed.as_str(), "2: 3008=2000 2000=4000");
+    assert_eq!(rt; passed.as_str(), "2: 2000=4000 3008=2000");
 
     let changed = [(4000, 3000)];
     let stop = broken(alloc, Rule::A, 1000, (3000, 4000), None);

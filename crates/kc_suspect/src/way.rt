@@ -54,10 +54,10 @@ pub(crate) fn way_of(rule: Rule) -> Way
         Rule::R6 | Rule::X3 | Rule::X4 | Rule::T6 => Way::Word,
         Rule::X1 | Rule::X2 | Rule::X5 | Rule::X6 => Way::Byte,
         Rule::X7 | Rule::X8 | Rule::X9 => Way::Entry,
-        Rule::U1 | Rule::U2 | Rule::U6 | Rule::U7 => Way::Member,
+        Rule::U1 | Rule::U2 | Rule::U7 => Way::Member,
         Rule::T1 | Rule::T3 | Rule::T4 | Rule::T5 | Rule::G1 | Rule::G2 => Way::Member,
         Rule::U5 => Way::Free,
         Rule::T2 => Way::Own,
-        Rule::R4 | Rule::U3 | Rule::U4 | Rule::T7 | Rule::C => Way::Shown,
+        Rule::R4 | Rule::U3 | Rule::U4 | Rule::U6 | Rule::T7 | Rule::C => Way::Shown,
     }
 }

@@ -22,7 +22,7 @@ pub use sight::{Sight, read_sight, word_start};
 pub use span::{Span, is_fill, span_of};
 pub use stop::LookStop;
 pub use symbol::{ImageMap, Symbol, nearest};
-pub use words::{Seen, read_words};
+pub use words::{Seen, read_word, read_words};
 
 #[cfg(test)]
 mod tests;

@@ -1,4 +1,3 @@
-pub mod TextLemmas
 pub mod ReportLemmas
 pub mod WhyLemmas
 pub mod WrittenLaws

@@ -15,11 +15,12 @@ use Rattle.kc_where.specs.Aliases.{aliases}
 use Rattle.kc_where.specs.Entries.{entries}
 use Rattle.kc_where.specs.Looks.{LooksAs, words}
 use Rattle.kc_where.specs.Sights.{near, page_start, word_start}
-use Rattle.kc_why.specs.declared.objects.Sighted.{Sighted}
-use Rattle.kc_why.specs.Looking.{SightsAs, TellsAs}
+use Rattle.kc_told.specs.declared.told.Sighted.{Sighted}
+use Rattle.kc_why.specs.Looking.{LeadsAs, SightsAs, TellsAs}
 use Rattle.kc_why.specs.Memory.{image_of}
-use Rattle.kc_why.specs.Objects.{Shapes, told_of}
-use Rattle.kc_why.specs.Views.{told_view}
+use Rattle.kc_told.specs.Near.{near_of}
+use Rattle.kc_told.specs.Objects.{Shapes, told_of}
+use Rattle.kc_told.specs.Views.{told_view}
 
 -- the parts of a sight, of a memory
 pub record Parts (image : Option Image) (rules : Rules) (address : ℕ) (r : Result Sighted LookStop) : Type 0 where
@@ -68,3 +69,14 @@ pub tells : (content : Option (List ℕ)) (segments : List Segment) (paging : Pa
     → TellsAs (option_map (λ bytes. image_of bytes segments paging) content) shapes address r
 tells content segments paging shapes address seen r is told =
     subst (λ (m : Option Image). TellsAs m shapes address r) (same_memory content segments paging) (tells_at _ shapes address r (subst (λ (m : Option Image). LooksAs (λ (s : Sighted). told_view s.told) (λ i. told_of i shapes address) m r) is told))
+
+leads_at : (image : Option Image) (shapes : Shapes) (address : ℕ) (r : Result Sighted LookStop) → LooksAs (λ (s : Sighted). s.near.items) (λ i. near_of i shapes address) image r → LeadsAs image shapes address r
+leads_at None shapes address r told = tt
+leads_at (Some i) shapes address (Ok s) told = told
+leads_at (Some i) shapes address (Err e) told = tt
+
+pub leads : (content : Option (List ℕ)) (segments : List Segment) (paging : PageCfg) (shapes : Shapes) (address : ℕ) (seen : Option Image) (r : Result Sighted LookStop)
+    → seen ≡ with_paging paging (stored segments Tail.Absent content) → LooksAs (λ (s : Sighted). s.near.items) (λ i. near_of i shapes address) seen r
+    → LeadsAs (option_map (λ bytes. image_of bytes segments paging) content) shapes address r
+leads content segments paging shapes address seen r is told =
+    subst (λ (m : Option Image). LeadsAs m shapes address r) (same_memory content segments paging) (leads_at _ shapes address r (subst (λ (m : Option Image). LooksAs (λ (s : Sighted). s.near.items) (λ i. near_of i shapes address) m r) is told))

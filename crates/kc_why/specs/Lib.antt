@@ -1,13 +1,7 @@
-pub mod AreaText
 pub mod Laws
 pub mod Looking
-pub mod Objects
-pub mod ObjectText
 pub mod Memory
 pub mod Searching
-pub mod SeenText
-pub mod Text
-pub mod Views
 pub mod Why
 pub mod WordText
 pub use Rattle.kc_ends.specs.Ends

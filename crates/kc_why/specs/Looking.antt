@@ -8,9 +8,10 @@ use Rattle.kc_where.specs.declared.stop.LookStop.{LookStop}
 use Rattle.kc_where.specs.declared.stop.LookStop.TheVariants.{Fault, NoMemory}
 use Rattle.kc_where.specs.Sights.{sight}
 use Rattle.kc_where.specs.Views.{sight_view}
-use Rattle.kc_why.specs.declared.objects.Sighted.{Sighted}
-use Rattle.kc_why.specs.Objects.{Shapes, told_of}
-use Rattle.kc_why.specs.Views.{told_view}
+use Rattle.kc_told.specs.declared.told.Sighted.{Sighted}
+use Rattle.kc_told.specs.Near.{near_of}
+use Rattle.kc_told.specs.Objects.{Shapes, told_of}
+use Rattle.kc_told.specs.Views.{told_view}
 
 -- a failure to read is one of the store
 abbrev pub halted : LookStop → Halt
@@ -35,3 +36,12 @@ IsTold image shapes address (Err e) = ⊤
 abbrev pub TellsAs : {E : Type 0} → Option Image → Shapes → ℕ → Result Sighted E → Type 0
 TellsAs None shapes address r = ⊤
 TellsAs (Some image) shapes address r = IsTold image shapes address r
+
+-- and what the words beside the address lead to is what a kernel tells of them
+abbrev pub LeadsTo : {E : Type 0} → Image → Shapes → ℕ → Result Sighted E → Type 0
+LeadsTo image shapes address (Ok s) = s.near.items ≡ near_of image shapes address
+LeadsTo image shapes address (Err e) = ⊤
+
+abbrev pub LeadsAs : {E : Type 0} → Option Image → Shapes → ℕ → Result Sighted E → Type 0
+LeadsAs None shapes address r = ⊤
+LeadsAs (Some image) shapes address r = LeadsTo image shapes address r

@@ -34,8 +34,9 @@ use Rattle.kc_why.specs.declared.files.Question.{Question}
 use Rattle.kc_why.specs.declared.files.Question.TheVariants.{Sight, Words}
 use Rattle.kc_why.specs.Memory.{bytes_of, image_of}
 use Rattle.kc_why.specs.Searching.{keys_of, sought_by}
-use Rattle.kc_why.specs.Objects.{Shapes, kernel_by, shapes_by, told_of}
-use Rattle.kc_why.specs.SeenText.{MapSymbols, seen_text, symbols_by}
+use Rattle.kc_told.specs.Near.{near_of}
+use Rattle.kc_told.specs.Objects.{Shapes, kernel_by, shapes_by, told_of}
+use Rattle.kc_told.specs.SeenText.{MapSymbols, seen_text, symbols_by}
 use Rattle.kc_why.specs.WordText.{words_text}
 
 -- what is seen: a memory, the kernel's rules for its addresses, where it has what tells of them, an address, and the map's symbols
@@ -61,7 +62,7 @@ pub data Shown : Type 0 where
 
 -- its lines
 abbrev pub shown_text : Shown → List ℕ
-shown_text (Sees l) = seen_text l.symbols (sight l.image l.rules l.address) (told_of l.image l.shapes l.address)
+shown_text (Sees l) = seen_text l.symbols (sight l.image l.rules l.address) (told_of l.image l.shapes l.address) (near_of l.image l.shapes l.address)
 shown_text (Finds s) = words_text s.keys (in_segments (sought_by s.value s.keys) s.bytes s.segments)
 shown_text (Tells e) = explained_text e
 

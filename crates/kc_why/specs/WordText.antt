@@ -12,7 +12,7 @@ use Rattle.kc_refs.specs.declared.sought.Writing.TheVariants.{Plain, Encoded}
 use Rattle.kc_report.specs.Lines.{place_line}
 use Rattle.kc_text.specs.Compose.{texts}
 use Rattle.kc_text.specs.Text.{hex, visible}
-use Rattle.kc_why.specs.ObjectText.{unknown_text}
+use Rattle.kc_told.specs.ObjectText.{unknown_text}
 use Rattle.kc_why.specs.Searching.{keys_in}
 
 -- the place of a word that holds a value: no virtual address is asked for it

@@ -13,39 +13,21 @@ ghost use Rattle.kc_input.specs.Paging.{IsTable, by_info};
 ghost use Rattle.kc_input.specs.Slots.{RefusesIn};
 ghost use Rattle.kc_ends.specs.Answers.{OnNone, OnStoreIn, PrintsOf, PrintsOfBytes, Runs, StayBehind, UnlessStoreIn};
 ghost use Rattle.kc_ends.specs.Asked.{asked_files, word_in};
-ghost use Rattle.kc_syms.specs.Answers.{Stands};
-ghost use Rattle.kc_syms.specs.Rows.{RowText, rows};
-ghost use Rattle.kc_syms.specs.Symbols.{symbol};
-ghost use Rattle.kc_view.specs.TaskLists.{IsInside};
 ghost use Rattle.kc_why.specs.Memory.{image_of};
-ghost use Rattle.kc_where.specs.Views.{sight_view};
-ghost use Rattle.kc_area.specs.Shapes.{area_shape};
-ghost use Rattle.kc_object.specs.Shapes.{object_shape};
-ghost use Rattle.kc_why.specs.Objects.{kernel_with, shapes_by};
-ghost use Rattle.kc_why.specs.SeenText.{map_symbols, seen_text, symbols_by};
-ghost use Rattle.kc_why.specs.Views.{shapes_view, told_view};
 ghost use Rattle.kc_why.specs.Why.{asks_view, form_view, found_in, question_asked, question_of, seen_in, shown_in, why_asked, why_asks, why_made, why_written};
 
-use crate::area_text::push_areas;
 use crate::looking::look_at;
-use crate::object_text::push_objects;
-use crate::objects::{Shapes, Sighted, Words};
 use crate::searching::find_written;
-use crate::text::{push_head, push_sight};
-use kc_area::area_shape;
 use kc_btf::Btf;
 use kc_cause::{Asks as CauseAsks, PlanFiles, explain};
 use kc_elf::Core;
 use kc_ends::Answer;
 use kc_input::{Halt, read_dump, read_info, read_map, read_symbols, read_types};
-use kc_kinds::Known;
-use kc_layout::Names;
 use kc_notes::Info;
-use kc_object::object_shape;
 use kc_outside::Store;
-use kc_syms::Symbols;
-use kc_where::{ImageMap, Rules, know_sights};
-use kc_word::{NoMemory, read_hex};
+use kc_told::{seen_text, shapes_in};
+use kc_where::Rules;
+use kc_word::read_hex;
 use std::alloc::Global;
 
 /// What is asked of a dump.
@@ -214,70 +196,6 @@ fn answer<S: Store>(
         Question::Sight(address) => see(alloc, store, core, info, types, map, address),
         Question::Words(value) => find(alloc, store, core, info, types, map, value),
     }
-}
-
-// Where a kernel has the words that tell of an address.
-fn words_in(
-    alloc: Global,
-    types: &Btf,
-    symbols: &Symbols<'_>,
-    info: Info,
-) -> Result<Words, NoMemory>
-    ensures objects { IfOk result (λ words. words.objects ≡ object_shape (kernel_with types.now (symbol symbols.now) info)) }
-    ensures areas { IfOk result (λ words. words.areas ≡ area_shape (kernel_with types.now (symbol symbols.now) info)) }
-    ensures tasks { IfOk result (λ words. IfSome words.areas.stacks (λ shape. IsInside shape.tasks types.now)) }
-{
-    let names = Names::new(alloc, types)?;
-    let known = Known {
-        btf: types,
-        names: &names,
-        symbols,
-        kaslr: info.kaslr,
-        five: info.five,
-    };
-    Ok(Words {
-        objects: object_shape(&known),
-        areas: area_shape(&known),
-    })
-}
-
-// What tells of an address, by the words that tell it.
-fn shapes_in<'m>(
-    alloc: Global,
-    types: &Btf,
-    symbols: &Symbols<'_>,
-    info: Info,
-    map: &'m [u8],
-) -> Result<Shapes<'m>, NoMemory>
-    ensures exact { IfOk result (λ shapes. (read : List RowText) → rows map.now ≡ Ok read → Stands (symbol symbols.now) read
-        → shapes_view shapes ≡ shapes_by types.now read info) }
-    ensures symbols { IfOk result (λ shapes. (read : List RowText) → rows map.now ≡ Ok read → Stands (symbol symbols.now) read
-        → map_symbols shapes.map ≡ symbols_by info.kaslr read) }
-    ensures tasks { IfOk result (λ shapes. IfSome shapes.words.areas.stacks (λ shape. IsInside shape.tasks types.now)) }
-{
-    know_sights();
-    let words = words_in(alloc, types, symbols, info)?;
-    Ok(Shapes {
-        words,
-        map: ImageMap {
-            map,
-            kaslr: info.kaslr,
-            text_end: symbols.address(b"_etext", info.kaslr).ok(),
-            end: symbols.address(b"_end", info.kaslr).ok(),
-        },
-    })
-}
-
-// The text of what is seen of an address, and of what holds it.
-fn seen_text(alloc: Global, image: &ImageMap<'_>, seen: &Sighted<'_>) -> Result<Vec<u8>, NoMemory>
-    ensures { IfOk result (λ text. text.items ≡ seen_text (map_symbols image.now) (sight_view seen.now.sight) (told_view seen.now.told)) }
-{
-    let mut text = Vec::new(alloc);
-    push_head(&mut text, image, seen.sight.address)?;
-    push_areas(&mut text, image, &seen.told.areas)?;
-    push_sight(&mut text, image, &seen.sight)?;
-    push_objects(&mut text, &seen.told.holders, &seen.told.held)?;
-    Ok(text)
 }
 
 // What is seen of an address of a dump, and what holds it.

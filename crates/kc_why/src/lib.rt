@@ -1,14 +1,10 @@
 //! The program kwhy: what lies at an address of a dump, which words of the dump hold it, or what explains a report.
 #![tactic(auto)]
 
-mod area_text;
 mod files;
 mod laws;
 mod looking;
-mod object_text;
-mod objects;
 mod searching;
-mod text;
 mod top;
 mod written;
 

@@ -9,12 +9,11 @@ ghost use Rattle.kc_tlb.specs.Entries.{AreEmpty};
 ghost use Rattle.kc_input.specs.Halts.{NotRefused, OnStore, UnlessStore};
 ghost use Rattle.kc_input.specs.Paging.{IsTable, by_info};
 ghost use Rattle.kc_where.specs.Looks.{CountsLookFaults};
-ghost use Rattle.kc_why.specs.Looking.{SightsAs, TellsAs, halted};
+ghost use Rattle.kc_why.specs.Looking.{LeadsAs, SightsAs, TellsAs, halted};
 ghost use Rattle.kc_why.specs.Memory.{image_of};
-ghost use Rattle.kc_why.specs.Views.{shapes_view};
+ghost use Rattle.kc_told.specs.Views.{shapes_view};
 ghost use Rattle.kc_view.specs.TaskLists.{IsInside};
 
-use crate::objects::{Shapes, Sighted, read_sighted};
 use kc_btf::Btf;
 use kc_elf::Core;
 use kc_input::{Halt, paging_by};
@@ -23,6 +22,7 @@ use kc_notes::Info;
 use kc_outside::Store;
 use kc_phys::{Phys, Room};
 use kc_tlb::Tlb;
+use kc_told::{Shapes, Sighted, read_sighted};
 use kc_where::{LookStop, Rules, read_entries, word_start};
 use kc_word::{PageCfg, Steps, Tail};
 use std::alloc::Global;
@@ -64,6 +64,8 @@ pub fn look_at<'m, S: Store>(
     ensures sight { SightsAs (option_map (λ bytes. image_of bytes core.now.segments (by_info info)) (content (S.files store.old) Dump (S.opened store.old Dump)))
         rules.now address result }
     ensures told { TellsAs (option_map (λ bytes. image_of bytes core.now.segments (by_info info)) (content (S.files store.old) Dump (S.opened store.old Dump)))
+        (shapes_view shapes.now) address result }
+    ensures leads { LeadsAs (option_map (λ bytes. image_of bytes core.now.segments (by_info info)) (content (S.files store.old) Dump (S.opened store.old Dump)))
         (shapes_view shapes.now) address result }
     ensures not_refused { NotRefused result }
     ensures files { S.files store.new ≡ S.files store.old }
@@ -118,6 +120,8 @@ fn look<'m, S: Store, L: Ledger>(
     ensures sight { SightsAs (option_map (λ bytes. image_of bytes room.segments.items paging) (content (S.files store.old) Dump (S.opened store.old Dump)))
         rules.now address result }
     ensures told { TellsAs (option_map (λ bytes. image_of bytes room.segments.items paging) (content (S.files store.old) Dump (S.opened store.old Dump)))
+        (shapes_view shapes.now) address result }
+    ensures leads { LeadsAs (option_map (λ bytes. image_of bytes room.segments.items paging) (content (S.files store.old) Dump (S.opened store.old Dump)))
         (shapes_view shapes.now) address result }
     ensures files { S.files store.new ≡ S.files store.old }
     ensures cause { CountsLookFaults result (S.faults store.old) (S.faults store.new) }

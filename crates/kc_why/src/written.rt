@@ -6,13 +6,13 @@ ghost use Rattle.kc_text.specs.Compose.{texts};
 ghost use Rattle.kc_why.specs.Searching.{keys_in};
 ghost use Rattle.kc_why.specs.WordText.{found_lines, key_line, place_in, untold_line, words_text, writing_text};
 
-use crate::object_text::push_unknown;
 use crate::searching::ToldKeys;
 use kc_memory::{Origin, Place};
 use kc_object::CacheKey;
 use kc_refs::{FoundWord, Writing};
 use kc_report::push_place;
 use kc_text::{push, push_hex, push_name, push_numbered};
+use kc_told::push_unknown;
 use kc_word::NoMemory;
 use std::alloc::Global;
 

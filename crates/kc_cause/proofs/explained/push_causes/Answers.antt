@@ -1,12 +1,13 @@
 use Rattle.std.proofs.Common.{ap, ◌∙◌}
 use Rattle.kc_mem.specs.Paged.{with_paging}
+use Rattle.kc_cause.specs.Explained.{cause_lines}
 use Rattle.kc_cause.specs.Judged.{over_plan}
-use Rattle.kc_cause.proofs.RepairLemmas.{cause_more}
+use Rattle.kc_cause.proofs.RepairLemmas.{item_more}
 use Rattle.kc_cause.proofs.explained.push_causes.Goals as goal
 
 pub loop-i-preserved : goal.loop-i-preserved
 loop-i-preserved g c = (
-  cause_more _ _ (over_plan c.args.over.now.types.now c.args.over.now.plan.now) c.args.verdicts.now c.loop-i.i _ _ _ _
+  item_more _ _ (λ m. cause_lines (over_plan c.args.over.now m)) c.args.verdicts.now c.loop-i.i _ _ _ _
       (ap (with_paging c.args.paging) c.loop-i.invariant.1.same_image) c.get.ensures (rw c.in-Ok.is at c.push_cause-wrote.ensures.added) c.loop-i.invariant.0,
   record {
     same_image = c.push_cause-wrote.ensures.stays.same_image ∙ c.loop-i.invariant.1.same_image;

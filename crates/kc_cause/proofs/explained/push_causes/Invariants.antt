@@ -14,7 +14,7 @@ use Rattle.kc_cause.proofs.explained.push_causes.Given as goal
 abbrev pub invariant-loop-i : goal.invariant-loop-i
 invariant-loop-i g l =
     IfSome (with_paging l.paging (stored l.fn.memory.segments.items l.fn.memory.tail (content (g.S.Store.files l.fn.memory.store.now) Dump (g.S.Store.opened l.fn.memory.store.now Dump))))
-    (λ image. l.text.items ++ texts (cause_lines (over_plan l.over.types.now l.over.plan.now image)) (drop l.i l.verdicts)
-    ≡ l.fn.text.items ++ texts (cause_lines (over_plan l.over.types.now l.over.plan.now image)) l.verdicts)
+    (λ image. l.text.items ++ texts (cause_lines (over_plan l.over image)) (drop l.i l.verdicts)
+    ≡ l.fn.text.items ++ texts (cause_lines (over_plan l.over image)) l.verdicts)
     × FramesStay (λ p. stored p.segments.items p.tail (content (g.S.Store.files p.store.now) Dump (g.S.Store.opened p.store.now Dump))) (λ p. g.S.Store.files p.store.now) (λ p. p.store.ghost_name ∷ []) l.fn.memory l.memory
     × (g.S.Store.faults l.memory.store.now ≡ g.S.Store.faults l.fn.memory.store.now)

@@ -9,11 +9,11 @@ use Rattle.kc_cause.proofs.files.explain_over.Goals as goal
 
 pub returns-in-Ok-clause-output : goal.returns-in-Ok-clause-output
 returns-in-Ok-clause-output g c =
-    judged_told c.args.over.now.types.now c.args.over.now.plan.now (with_paging c.args.paging (stored c.args.memory.segments.items c.args.memory.tail (content (g.S.Store.files c.args.memory.store.now) Dump (g.S.Store.opened c.args.memory.store.now Dump)))) _ c.args.report.now c.explain_judged.result.answer
+    judged_told c.args.over.now (with_paging c.args.paging (stored c.args.memory.segments.items c.args.memory.tail (content (g.S.Store.files c.args.memory.store.now) Dump (g.S.Store.opened c.args.memory.store.now Dump)))) _ c.args.report.now c.explain_judged.result.answer
     (ap (with_paging c.args.paging) c.judge_over-memory.ensures.stays.same_image) c.explain_judged.ensures.output
 
 pub returns-in-Err-Fault-clause-output : goal.returns-in-Err-Fault-clause-output
-returns-in-Err-Fault-clause-output g c = stops_told c.args.over.now.types.now c.args.over.now.plan.now (with_paging c.args.paging (stored c.args.memory.segments.items c.args.memory.tail (content (g.S.Store.files c.args.memory.store.now) Dump (g.S.Store.opened c.args.memory.store.now Dump)))) c.args.report.now Store tt
+returns-in-Err-Fault-clause-output g c = stops_told c.args.over.now (with_paging c.args.paging (stored c.args.memory.segments.items c.args.memory.tail (content (g.S.Store.files c.args.memory.store.now) Dump (g.S.Store.opened c.args.memory.store.now Dump)))) c.args.report.now Store tt
 
 pub returns-in-Err-NoMemory-clause-output : goal.returns-in-Err-NoMemory-clause-output
-returns-in-Err-NoMemory-clause-output g c = stops_told c.args.over.now.types.now c.args.over.now.plan.now (with_paging c.args.paging (stored c.args.memory.segments.items c.args.memory.tail (content (g.S.Store.files c.args.memory.store.now) Dump (g.S.Store.opened c.args.memory.store.now Dump)))) c.args.report.now Memory tt
+returns-in-Err-NoMemory-clause-output g c = stops_told c.args.over.now (with_paging c.args.paging (stored c.args.memory.segments.items c.args.memory.tail (content (g.S.Store.files c.args.memory.store.now) Dump (g.S.Store.opened c.args.memory.store.now Dump)))) c.args.report.now Memory tt

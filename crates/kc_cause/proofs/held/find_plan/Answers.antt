@@ -1,9 +1,16 @@
-use Rattle.kc_cause.proofs.HeldLemmas.{planned_told}
+use Rattle.std.proofs.Common.{rules}
+use Rattle.kc_cause.specs.Files.{held_view, planned_view}
+use Rattle.kc_cause.proofs.HeldLemmas.{planned_stops, planned_told}
 use Rattle.kc_cause.proofs.held.find_plan.Goals as goal
 
 pub returns-clause-told : goal.returns-clause-told
 returns-clause-told g c =
-    let rows = c.in_ok-symbols.ensures.made.0 in
-    planned_told (g.S.Store.files c.args.store.now) c.args.files.now.map.now c.args.files.now.plan.now c.args.types.now c.args.info.now _ _ c.in_ok-map.map c.in_ok-bytes.bytes
-    rows c.read_audits.result c.in_ok-map.ensures.told (rw c.deref.ensures.value at c.in_ok-symbols.ensures.made.1)
-    (rw c.in_ok-map.ensures.files at c.in_ok-bytes.ensures.told) (rw c.deref-2.ensures.value at c.read_audits.ensures.made rows c.in_ok-symbols.ensures.made.2)
+    let read = c.in_ok-symbols.ensures.made in
+    planned_told (g.S.Store.files c.args.store.now) c.args.name.now (held_view c.args.held.now) _ c.in_ok-bytes.bytes read.0 c.in_ok-plan.plan c.in_ok-shapes.shapes
+    (search rules) c.in_ok-bytes.ensures.told (search rules) (search rules) (search rules)
+
+pub returns-in_err-plan-clause-told : goal.returns-in_err-plan-clause-told
+returns-in_err-plan-clause-told g c =
+    let read = c.in_ok-symbols.ensures.made in
+    planned_stops (g.S.Store.files c.args.store.now) c.args.name.now (held_view c.args.held.now) _ planned_view c.in_ok-bytes.bytes read.0 c.in_err-plan.field-0.0 _
+    (search rules) c.in_ok-bytes.ensures.told (rw c.deref-2.ensures.value at c.in_err-plan.ensures.made read.0 read.2) (search rules)

@@ -6,8 +6,8 @@ use Rattle.kc_input.specs.Paging.{by_info}
 use Rattle.kc_ends.specs.declared.answer.Answer.TheVariants as answer
 use Rattle.kc_ends.specs.declared.status.Status.TheVariants.{Done}
 use Rattle.kc_why.specs.Memory.{image_of}
-use Rattle.kc_why.specs.SeenText.{map_symbols}
-use Rattle.kc_why.specs.Views.{shapes_view}
+use Rattle.kc_told.specs.SeenText.{map_symbols}
+use Rattle.kc_told.specs.Views.{shapes_view}
 use Rattle.kc_why.specs.Why.{seen_in}
 use Rattle.kc_why.proofs.WhyLemmas.{none_left, prints_why, rows_checked, rules_read}
 use Rattle.kc_why.proofs.files.see.Goals as goal
@@ -19,7 +19,7 @@ returns-clause-output g c =
     prints_why (content (g.S.Store.files c.args.store.now) Dump (g.S.Store.opened c.args.store.now Dump)) (λ bytes. image_of bytes c.args.core.now.segments (by_info c.args.info))
     c.args.address c.args.info c.args.types.now c.args.map.now (map_symbols c.in_ok-shapes.shapes.map) _ (shapes_view c.in_ok-shapes.shapes) read.0 c.in_ok-seen.seen (answer.Done c.in_ok-seen_text.field-0) read.1
     (c.in_ok-shapes.ensures.symbols read.0 listed read.2)
-    (rules_read c.args.info (symbol c.in_ok-symbols.symbols) read.0 c.address.result read.2 c.address.ensures.exact) (c.in_ok-shapes.ensures.exact read.0 listed read.2) c.in_ok-seen.ensures.sight c.in_ok-seen.ensures.told
+    (rules_read c.args.info (symbol c.in_ok-symbols.symbols) read.0 c.address.result read.2 c.address.ensures.exact) (c.in_ok-shapes.ensures.exact read.0 listed read.2) c.in_ok-seen.ensures.sight c.in_ok-seen.ensures.told c.in_ok-seen.ensures.leads
     (ap (λ (o : List ℕ). record { out = o; err = []; status = Done }) c.in_ok-seen_text.ensures)
 
 pub returns-in_err-seen_text-clause-output : goal.returns-in_err-seen_text-clause-output

@@ -1,0 +1,3 @@
+pub mod NearLemmas
+pub mod ShapeLemmas
+pub mod TextLemmas

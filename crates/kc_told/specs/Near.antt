@@ -1,0 +1,60 @@
+-- What the words beside an address lead to.
+use Rattle.std.specs.Prelude.{ℕ, List, map, Option, Some, None, Result, Ok, Err}
+use Rattle.kc_memory.specs.declared.words.VWord.{VWord}
+use Rattle.kc_memory.specs.Image.{Image}
+use Rattle.kc_memory.specs.Stopped.{Stopped}
+use Rattle.kc_memory.specs.Translation.{vword}
+use Rattle.kc_found.specs.Violations.{Violation}
+use Rattle.kc_object.specs.declared.described.Described.{Described}
+use Rattle.kc_object.specs.declared.shape.ObjectShape.{ObjectShape}
+use Rattle.kc_object.specs.Described.{described}
+use Rattle.kc_where.specs.declared.meaning.Meaning.{Meaning}
+use Rattle.kc_where.specs.declared.meaning.Meaning.TheVariants.{Number}
+use Rattle.kc_where.specs.Meanings.{meaning}
+use Rattle.kc_where.specs.Sights.{near, word_start}
+use Rattle.kc_told.specs.declared.near.Lead.{Lead}
+use Rattle.kc_told.specs.declared.near.NearWord.{NearWord}
+use Rattle.kc_told.specs.Objects.{Shapes, held_by}
+
+-- the page whose descriptor has an address, by the address's word; none where that can't be read or told
+abbrev pub page_told : Result (Option Described) Violation → Option Described
+page_told (Ok page) = page
+page_told (Err v) = None
+
+abbrev pub described_by : Image → Option ObjectShape → ℕ → Result VWord Stopped → Option Described
+described_by image None address word = None
+described_by image (Some shape) address (Err s) = None
+described_by image (Some shape) address (Ok w) = page_told (described image shape address)
+
+-- what an address leads to: what holds it, and the page whose descriptor has it
+abbrev pub lead_by : Image → Option ObjectShape → ℕ → Result VWord Stopped → Lead
+lead_by image shape address word = record { held = held_by image shape address word; described = described_by image shape address word }
+
+abbrev pub lead_at : Image → Option ObjectShape → ℕ → Lead
+lead_at image shape address = lead_by image shape address (vword image (word_start address))
+
+abbrev pub nothing : Lead
+nothing = record { held = None; described = None }
+
+-- what a word leads to, by what it says: a number is taken as an address
+abbrev pub lead_with : Image → Option ObjectShape → Meaning → ℕ → Lead
+lead_with image shape Number value = lead_at image shape value
+lead_with image shape _ value = nothing
+
+abbrev pub lead_of : Image → Option ObjectShape → VWord → Lead
+lead_of image shape w = lead_with image shape (meaning w.va w.value) w.value
+
+abbrev pub seen_lead : Image → Option ObjectShape → Result VWord Stopped → Lead
+seen_lead image shape (Ok w) = lead_of image shape w
+seen_lead image shape (Err s) = nothing
+
+-- a word with what it leads to
+abbrev pub near_word : Image → Option ObjectShape → Result VWord Stopped → NearWord
+near_word image shape seen = record { seen = seen; lead = seen_lead image shape seen }
+
+unfoldable pub near_words : Image → Option ObjectShape → List (Result VWord Stopped) → List NearWord
+near_words image shape near = map (near_word image shape) near
+
+-- those beside an address
+abbrev pub near_of : Image → Shapes → ℕ → List NearWord
+near_of image shapes address = near_words image shapes.objects (near image address)

@@ -1,0 +1,34 @@
+-- What is printed of an address.
+use Rattle.std.specs.Prelude.{ℕ, List, ◌++◌, Option}
+use Rattle.kc_syms.specs.Rows.{RowText}
+use Rattle.kc_where.specs.declared.symbol.ImageMap.{ImageMap}
+use Rattle.kc_where.specs.Nearest.{SymbolAt, image_symbol, nearest}
+use Rattle.kc_where.specs.Sights.{Sight}
+use Rattle.kc_where.specs.Views.{image_symbols, symbols_from}
+use Rattle.kc_told.specs.AreaText.{area_lines}
+use Rattle.kc_told.specs.declared.near.NearWord.{NearWord}
+use Rattle.kc_told.specs.Objects.{Told}
+use Rattle.kc_told.specs.ObjectText.{object_lines}
+use Rattle.kc_told.specs.Text.{head_lines, sight_lines, symbol_line}
+
+-- a map's symbols: that of an address of the image, and that of an address, of those from another one on
+pub record MapSymbols : Type 0 where
+  pub image : ℕ → Option SymbolAt
+  pub from : ℕ → ℕ → Option SymbolAt
+
+-- those of its rows
+abbrev pub symbols_by : ℕ → List RowText → MapSymbols
+symbols_by kaslr rows = record { image = image_symbol kaslr rows; from = λ from address. nearest from kaslr address rows }
+
+-- as the code finds them
+abbrev pub map_symbols : ImageMap → MapSymbols
+map_symbols m = record { image = image_symbols m; from = symbols_from m }
+
+-- all lines
+abbrev pub seen_text : MapSymbols → Sight → Told → List NearWord → List ℕ
+seen_text m s t near =
+    head_lines m.image s.address ++ area_lines m.from t.areas ++ sight_lines m.image s near ++ object_lines t.holders t.held
+
+-- what is told of an address alone: its symbol, its areas, and what holds it
+abbrev pub told_lines : MapSymbols → ℕ → Told → List ℕ
+told_lines m address t = symbol_line (m.image address) address ++ area_lines m.from t.areas ++ object_lines t.holders t.held

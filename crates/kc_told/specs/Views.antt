@@ -1,0 +1,17 @@
+-- What contracts see of the code's data.
+use Rattle.std.specs.Prelude.{map}
+use Rattle.kc_where.specs.Views.{symbol_view, symbols_holding}
+use Rattle.kc_told.specs.declared.told.Shapes.{Shapes as CodeShapes}
+use Rattle.kc_told.specs.declared.near_text.InObject.{InObject as CodeInObject}
+use Rattle.kc_told.specs.declared.told.Told.{Told as CodeTold}
+use Rattle.kc_told.specs.NearText.{InObject}
+use Rattle.kc_told.specs.Objects.{Shapes, Told}
+
+abbrev pub shapes_view : CodeShapes → Shapes
+shapes_view s = record { objects = s.words.objects; areas = s.words.areas; end = s.map.end; holding = λ image value. symbols_holding image s.map value }
+
+abbrev pub told_view : CodeTold → Told
+told_view t = record { areas = t.areas; held = t.held; holders = map symbol_view t.holders.items }
+
+abbrev pub in_object_view : CodeInObject → InObject
+in_object_view o = record { name = o.name.now; byte = o.byte; free = o.free }

@@ -1,0 +1,149 @@
+// What the words beside an address lead to.
+ghost use Rattle.std.specs.Prelude.{◌≡◌};
+ghost use Rattle.kc_memory.specs.Stays.{SpaceStays};
+ghost use Rattle.kc_where.specs.Looks.{CountsLookFaults, LooksAs};
+ghost use Rattle.kc_told.specs.Near.{described_by, lead_at, lead_of, near_word, near_words, nothing};
+
+use crate::told::tell_held;
+use kc_btf::Btf;
+use kc_found::{Found, Space, WalkStop};
+use kc_memory::VWord;
+use kc_object::{Described, Held, ObjectShape, find_described};
+use kc_where::{LookStop, Meaning, Seen, meaning_of, read_word, word_start};
+use kc_word::Steps;
+use std::alloc::Global;
+use std::sync::ledger::Ledger;
+
+/// What a number leads to, taken as a virtual address.
+#[derive(Drop)]
+pub struct Lead {
+    /// What holds that address, or why its page can't be told; `None` where its word can't be read, or the kernel lacks what that asks for.
+    pub held: Option<Result<Held, Found>>,
+    /// The page whose descriptor has it, where its word can be read.
+    pub described: Option<Described>,
+}
+
+/// A word beside an address, and what its number leads to.
+#[derive(Drop)]
+pub struct NearWord {
+    /// The word, or why it can't be read.
+    pub seen: Seen,
+    /// What it leads to; of a word that isn't there, or that says something else than a number, nothing is asked.
+    pub lead: Lead,
+}
+
+// Nothing is led to.
+fn nothing() -> Lead
+    ensures { result ≡ nothing }
+{
+    Lead {
+        held: None,
+        described: None,
+    }
+}
+
+// The page whose descriptor has an address, by the address's word.
+fn tell_described<S: Space, L: Ledger>(
+    alloc: Global,
+    space: &mut S,
+    shape: &Option<ObjectShape>,
+    address: u64,
+    word: &Seen,
+    steps: &mut Steps<L>,
+) -> Result<Option<Described>, LookStop>
+    ensures told { LooksAs (λ d. d) (λ image. described_by image shape.now address word.now) (S.image space.old) result }
+    ensures stays { SpaceStays S.image S.files S.through S.most space.old space.new }
+    ensures cause { CountsLookFaults result (S.faults space.old) (S.faults space.new) }
+{
+    let Some(shape) = shape else {
+        return Ok(None);
+    };
+    let Ok(_) = word else {
+        return Ok(None);
+    };
+    match find_described(alloc, space, shape, address, steps) {
+        Ok(page) => Ok(page),
+        Err(WalkStop::Broken(_)) => Ok(None),
+        Err(WalkStop::Fault) => Err(LookStop::Fault),
+        Err(WalkStop::NoMemory) => Err(LookStop::NoMemory),
+    }
+}
+
+// What an address leads to.
+fn lead_at<S: Space, L: Ledger>(
+    alloc: Global,
+    space: &mut S,
+    types: &Btf,
+    shape: &Option<ObjectShape>,
+    address: u64,
+    steps: &mut Steps<L>,
+) -> Result<Lead, LookStop>
+    ensures told { LooksAs (λ l. l) (λ image. lead_at image shape.now address) (S.image space.old) result }
+    ensures stays { SpaceStays S.image S.files S.through S.most space.old space.new }
+    ensures cause { CountsLookFaults result (S.faults space.old) (S.faults space.new) }
+{
+    let word = read_word(space, word_start(address), steps)?;
+    let held = tell_held(alloc, space, types, shape, address, &word, steps)?;
+    let described = tell_described(alloc, space, shape, address, &word, steps)?;
+    Ok(Lead { held, described })
+}
+
+// What a word leads to.
+fn lead_of<S: Space, L: Ledger>(
+    alloc: Global,
+    space: &mut S,
+    types: &Btf,
+    shape: &Option<ObjectShape>,
+    word: &VWord,
+    steps: &mut Steps<L>,
+) -> Result<Lead, LookStop>
+    ensures told { LooksAs (λ l. l) (λ image. lead_of image shape.now word.now) (S.image space.old) result }
+    ensures stays { SpaceStays S.image S.files S.through S.most space.old space.new }
+    ensures cause { CountsLookFaults result (S.faults space.old) (S.faults space.new) }
+{
+    match meaning_of(word.va, word.value) {
+        Meaning::Number => lead_at(alloc, space, types, shape, word.value, steps),
+        _ => Ok(nothing()),
+    }
+}
+
+// A word with what it leads to.
+fn near_word<S: Space, L: Ledger>(
+    alloc: Global,
+    space: &mut S,
+    types: &Btf,
+    shape: &Option<ObjectShape>,
+    seen: &Seen,
+    steps: &mut Steps<L>,
+) -> Result<NearWord, LookStop>
+    ensures told { LooksAs (λ w. w) (λ image. near_word image shape.now seen.now) (S.image space.old) result }
+    ensures stays { SpaceStays S.image S.files S.through S.most space.old space.new }
+    ensures cause { CountsLookFaults result (S.faults space.old) (S.faults space.new) }
+{
+    let lead = match seen {
+        Ok(word) => lead_of(alloc, space, types, shape, word, steps)?,
+        Err(_) => nothing(),
+    };
+    Ok(NearWord { seen: *seen, lead })
+}
+
+// Some words with what they lead to.
+pub(crate) fn near_words<S: Space, L: Ledger>(
+    alloc: Global,
+    space: &mut S,
+    types: &Btf,
+    shape: &Option<ObjectShape>,
+    near: &[Seen],
+    steps: &mut Steps<L>,
+) -> Result<Vec<NearWord>, LookStop>
+    ensures told { LooksAs (λ words. words.items) (λ image. near_words image shape.now near.now) (S.image space.old) result }
+    ensures stays { SpaceStays S.image S.files S.through S.most space.old space.new }
+    ensures cause { CountsLookFaults result (S.faults space.old) (S.faults space.new) }
+{
+    let mut words = Vec::new(alloc);
+    for seen in near {
+        let word = near_word(alloc, space, types, shape, seen, steps)?;
+        words.push(word)?;
+    }
+    Ok(words)
+}

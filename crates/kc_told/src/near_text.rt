@@ -1,0 +1,96 @@
+// What is printed of where a word beside an address leads to.
+ghost use Rattle.std.specs.Prelude.{◌≡◌, ◌++◌, option_map, OnOk};
+ghost use Rattle.kc_told.specs.NearText.{described_text, descriptor_text, free_mark, in_object_text, is_free, lead_text, object_in};
+ghost use Rattle.kc_told.specs.Views.{in_object_view};
+
+use crate::near::Lead;
+use kc_found::{Found, Name};
+use kc_object::{Described, FreeSpot, Held, Spot};
+use kc_text::{push, push_hex, push_name, push_numbered};
+use kc_word::NoMemory;
+
+// A byte of an object.
+#[derive(Clone, Copy)]
+pub(crate) struct InObject<'h> {
+    // The name of the object's cache.
+    pub(crate) name: &'h Name,
+    // The byte, counted from the object's first one.
+    pub(crate) byte: u64,
+    // Whether its slab's free list has the object.
+    pub(crate) free: bool,
+}
+
+// Whether a slab's free list has an object.
+fn is_free(free: &Result<FreeSpot, Found>) -> bool
+    ensures { result ≡ is_free free.now }
+{
+    match free {
+        Ok(free) => free.place.is_some(),
+        Err(_) => false,
+    }
+}
+
+// The object that holds an address.
+fn object_in(held: &Option<Result<Held, Found>>) -> Option<InObject<'_>>
+    ensures { option_map in_object_view result ≡ object_in held.now }
+{
+    let Some(Ok(held)) = held else {
+        return None;
+    };
+    let Ok(Some(slab)) = &held.slab else {
+        return None;
+    };
+    match &slab.spot {
+        Spot::Object(object) => Some(InObject {
+            name: &slab.cache.name,
+            byte: object.byte,
+            free: is_free(&slab.free),
+        }),
+        _ => None,
+    }
+}
+
+fn push_in_object(text: &mut Vec<u8>, object: &InObject<'_>) -> Result<(), NoMemory>
+    ensures { OnOk result (text.new.items ≡ text.old.items ++ in_object_text (in_object_view object.now)) }
+{
+    push(text, b"object ")?;
+    push_name(text, object.name.as_slice())?;
+    push_numbered(text, b"+", object.byte)?;
+    push(text, free_mark(object.free))
+}
+
+// Said of an object that is free.
+fn free_mark(free: bool) -> &'static [u8]
+    ensures { result.now ≡ free_mark free }
+{
+    if free { b" free" } else { b"" }
+}
+
+// The page whose descriptor it is.
+fn push_descriptor(text: &mut Vec<u8>, page: Described) -> Result<(), NoMemory>
+    ensures { OnOk result (text.new.items ≡ text.old.items ++ descriptor_text page) }
+{
+    push(text, b"descriptor ")?;
+    push_hex(text, page.number)?;
+    push_numbered(text, b"+", page.byte)
+}
+
+// The same, or that it is a number.
+fn push_described(text: &mut Vec<u8>, page: Option<Described>) -> Result<(), NoMemory>
+    ensures { OnOk result (text.new.items ≡ text.old.items ++ described_text page) }
+{
+    match page {
+        Some(page) => push_descriptor(text, page),
+        None => push(text, b"number"),
+    }
+}
+
+// What is led to.
+pub(crate) fn push_lead(text: &mut Vec<u8>, lead: &Lead) -> Result<(), NoMemory>
+    ensures { OnOk result (text.new.items ≡ text.old.items ++ lead_text lead.now) }
+{
+    match object_in(&lead.held) {
+        Some(object) => push_in_object(text, &object),
+        None => push_described(text, lead.described),
+    }
+}

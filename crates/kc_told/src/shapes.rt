@@ -1,0 +1,79 @@
+// Where a kernel has what tells of an address.
+ghost use Rattle.std.specs.Prelude.{◌≡◌, List, ℕ, Ok, IfOk, IfSome};
+ghost use Rattle.kc_syms.specs.Answers.{Stands};
+ghost use Rattle.kc_syms.specs.Rows.{RowText, rows};
+ghost use Rattle.kc_syms.specs.Symbols.{symbol};
+ghost use Rattle.kc_view.specs.TaskLists.{IsInside};
+ghost use Rattle.kc_area.specs.Shapes.{area_shape};
+ghost use Rattle.kc_object.specs.Shapes.{object_shape};
+ghost use Rattle.kc_told.specs.Objects.{kernel_with, shapes_by};
+ghost use Rattle.kc_told.specs.SeenText.{map_symbols, symbols_by};
+ghost use Rattle.kc_told.specs.Views.{shapes_view};
+
+use crate::told::{Shapes, Words};
+use kc_area::area_shape;
+use kc_btf::Btf;
+use kc_kinds::Known;
+use kc_layout::Names;
+use kc_notes::Info;
+use kc_object::object_shape;
+use kc_syms::Symbols;
+use kc_where::{ImageMap, know_sights};
+use kc_word::NoMemory;
+use std::alloc::Global;
+
+// Where a kernel has the words that tell of an address.
+fn words_in(
+    alloc: Global,
+    types: &Btf,
+    symbols: &Symbols<'_>,
+    info: Info,
+) -> Result<Words, NoMemory>
+    ensures objects { IfOk result (λ words. words.objects ≡ object_shape (kernel_with types.now (symbol symbols.now) info)) }
+    ensures areas { IfOk result (λ words. words.areas ≡ area_shape (kernel_with types.now (symbol symbols.now) info)) }
+    ensures tasks { IfOk result (λ words. IfSome words.areas.stacks (λ shape. IsInside shape.tasks types.now)) }
+{
+    let names = Names::new(alloc, types)?;
+    let known = Known {
+        btf: types,
+        names: &names,
+        symbols,
+        kaslr: info.kaslr,
+        five: info.five,
+    };
+    Ok(Words {
+        objects: object_shape(&known),
+        areas: area_shape(&known),
+    })
+}
+
+/// What tells of an address, by a kernel's types, and by the symbols of its map, which has these bytes.
+///
+/// # Errors
+///
+/// No memory was left.
+pub fn shapes_in<'m>(
+    alloc: Global,
+    types: &Btf,
+    symbols: &Symbols<'_>,
+    info: Info,
+    map: &'m [u8],
+) -> Result<Shapes<'m>, NoMemory>
+    ensures exact { IfOk result (λ shapes. (read : List RowText) → rows map.now ≡ Ok read → Stands (symbol symbols.now) read
+        → shapes_view shapes ≡ shapes_by types.now read info) }
+    ensures symbols { IfOk result (λ shapes. (read : List RowText) → rows map.now ≡ Ok read → Stands (symbol symbols.now) read
+        → map_symbols shapes.map ≡ symbols_by info.kaslr read) }
+    ensures tasks { IfOk result (λ shapes. IfSome shapes.words.areas.stacks (λ shape. IsInside shape.tasks types.now)) }
+{
+    know_sights();
+    let words = words_in(alloc, types, symbols, info)?;
+    Ok(Shapes {
+        words,
+        map: ImageMap {
+            map,
+            kaslr: info.kaslr,
+            text_end: symbols.address(b"_etext", info.kaslr).ok(),
+            end: symbols.address(b"_end", info.kaslr).ok(),
+        },
+    })
+}

@@ -1,0 +1,299 @@
+// What is told of an address, beside what is seen of it.
+ghost use Rattle.std.specs.Prelude.{◌≡◌, map, Ok, IfOk, IfSome};
+ghost use Rattle.kc_memory.specs.Stays.{SpaceStays};
+ghost use Rattle.kc_memory.specs.Translation.{vword};
+ghost use Rattle.kc_view.specs.TaskLists.{IsInside};
+ghost use Rattle.kc_area.specs.Areas.{areas};
+ghost use Rattle.kc_where.specs.Aliases.{aliases};
+ghost use Rattle.kc_where.specs.Looks.{CountsLookFaults, FaultsAfter, LooksAs, words};
+ghost use Rattle.kc_where.specs.Sights.{near, page_start, word_start};
+ghost use Rattle.kc_where.specs.Views.{symbol_view, symbols_holding};
+ghost use Rattle.kc_told.specs.Near.{near_of};
+ghost use Rattle.kc_told.specs.Objects.{areas_by, held_by, holders_by, is_slab, shared, shared_in, told_by, told_of};
+ghost use Rattle.kc_told.specs.Views.{shapes_view, told_view};
+
+use crate::near::{NearWord, near_words};
+use crate::object_text::NEGATIVE;
+use kc_area::{AreaShape, Areas, read_areas};
+use kc_btf::Btf;
+use kc_found::{Found, WalkStop};
+use kc_memory::Space;
+use kc_object::{Cache, Held, ObjectShape, find_object};
+use kc_where::{
+    Entry, ImageMap, LookStop, Rules, Seen, Sight, Symbol, find_holders, read_sight, read_word,
+    word_start,
+};
+use kc_word::Steps;
+use std::alloc::Global;
+use std::sync::ledger::Ledger;
+
+/// Where a kernel has the words that tell of an address.
+#[derive(Clone, Copy)]
+pub struct Words {
+    /// Those of page descriptors and slab caches, where it has all that these ask for.
+    pub objects: Option<ObjectShape>,
+    /// Those of areas.
+    pub areas: AreaShape,
+}
+
+/// What tells of an address.
+#[derive(Clone, Copy)]
+pub struct Shapes<'m> {
+    /// The kernel's words.
+    pub words: Words,
+    /// The symbols of its map.
+    pub map: ImageMap<'m>,
+}
+
+/// What is told of an address.
+#[derive(Drop)]
+pub struct Told<'m> {
+    /// The areas in which it lies; of an address of the image none is asked for.
+    pub areas: Areas,
+    /// What holds it, or why its page can't be told; `None` where its word can't be read, or the kernel lacks what that asks for.
+    pub held: Option<Result<Held, Found>>,
+    /// The symbols whose words hold the address of the object's cache, where this has several users.
+    pub holders: Vec<Symbol<'m>>,
+}
+
+/// What is seen of an address, and what is told of it.
+#[derive(Drop)]
+pub struct Sighted<'m> {
+    /// What is seen of it.
+    pub sight: Sight,
+    /// The words beside it, with what they lead to.
+    pub near: Vec<NearWord>,
+    /// What is told of it.
+    pub told: Told<'m>,
+}
+
+// What holds an address, by its word.
+pub(crate) fn tell_held<S: Space, L: Ledger>(
+    alloc: Global,
+    space: &mut S,
+    types: &Btf,
+    shape: &Option<ObjectShape>,
+    address: u64,
+    word: &Seen,
+    steps: &mut Steps<L>,
+) -> Result<Option<Result<Held, Found>>, LookStop>
+    ensures told { LooksAs (λ t. t) (λ image. held_by image shape.now address word.now) (S.image space.old) result }
+    ensures stays { SpaceStays S.image S.files S.through S.most space.old space.new }
+    ensures cause { CountsLookFaults result (S.faults space.old) (S.faults space.new) }
+{
+    let Some(shape) = shape else {
+        return Ok(None);
+    };
+    let Ok(word) = word else {
+        return Ok(None);
+    };
+    let pa = word.pa.wrapping_add(address % 8);
+    match find_object(alloc, space, types, shape, pa, steps) {
+        Ok(held) => Ok(Some(Ok(held))),
+        Err(WalkStop::Broken(found)) => Ok(Some(Err(found))),
+        Err(WalkStop::Fault) => Err(LookStop::Fault),
+        Err(WalkStop::NoMemory) => Err(LookStop::NoMemory),
+    }
+}
+
+// Whether a slab holds an address.
+fn is_slab(held: &Option<Result<Held, Found>>) -> bool
+    ensures { result ≡ is_slab held.now }
+{
+    match held {
+        Some(Ok(held)) => matches!(&held.slab, Ok(Some(_))),
+        _ => false,
+    }
+}
+
+// The address of a cache that has several users.
+fn shared(cache: &Cache) -> Option<u64>
+    ensures { result ≡ shared cache.now }
+{
+    match cache.users {
+        Some(users) if 1 < users && users < NEGATIVE => Some(cache.at),
+        _ => None,
+    }
+}
+
+// The address of a slab's cache, where it has several users.
+fn shared_in(held: &Option<Result<Held, Found>>) -> Option<u64>
+    ensures { result ≡ shared_in held.now }
+{
+    let Some(Ok(held)) = held else {
+        return None;
+    };
+    match &held.slab {
+        Ok(Some(slab)) => shared(&slab.cache),
+        _ => None,
+    }
+}
+
+// The areas in which an address lies, which isn't one of the image.
+fn tell_areas<S: Space, L: Ledger>(
+    alloc: Global,
+    space: &mut S,
+    types: &Btf,
+    shape: &AreaShape,
+    stacks: bool,
+    address: u64,
+    steps: &mut Steps<L>,
+) -> Result<Areas, LookStop>
+    requires { IfSome shape.now.stacks (λ shape. IsInside shape.tasks types.now) }
+    ensures told { LooksAs (λ a. a) (λ image. areas image shape.now stacks address) (S.image space.old) result }
+    ensures stays { SpaceStays S.image S.files S.through S.most space.old space.new }
+    ensures cause { CountsLookFaults result (S.faults space.old) (S.faults space.new) }
+{
+    match read_areas(alloc, space, types, shape, stacks, address, steps) {
+        Ok(areas) => Ok(areas),
+        Err(WalkStop::NoMemory) => Err(LookStop::NoMemory),
+        Err(WalkStop::Fault | WalkStop::Broken(_)) => Err(LookStop::Fault),
+    }
+}
+
+// The same of any address; in the image no area is asked for.
+fn tell_outside<S: Space, L: Ledger>(
+    alloc: Global,
+    space: &mut S,
+    types: &Btf,
+    shapes: &Shapes<'_>,
+    address: u64,
+    held: &Option<Result<Held, Found>>,
+    steps: &mut Steps<L>,
+) -> Result<Areas, LookStop>
+    requires { IfSome shapes.now.words.areas.stacks (λ shape. IsInside shape.tasks types.now) }
+    ensures told { LooksAs (λ a. a) (λ image. areas_by image (shapes_view shapes.now) address held.now) (S.image space.old) result }
+    ensures stays { SpaceStays S.image S.files S.through S.most space.old space.new }
+    ensures cause { CountsLookFaults result (S.faults space.old) (S.faults space.new) }
+{
+    if shapes.map.holds(address) {
+        return Ok(Areas {
+            module_found: Ok(None),
+            processor_found: Ok(None),
+            stack_found: Ok(None),
+        });
+    }
+    let stacks = !is_slab(held);
+    tell_areas(
+        alloc,
+        space,
+        types,
+        &shapes.words.areas,
+        stacks,
+        address,
+        steps,
+    )
+}
+
+// The symbols whose words hold the address of the object's cache, where this has several users.
+fn tell_holders<'m, S: Space, L: Ledger>(
+    alloc: Global,
+    space: &mut S,
+    symbols: &ImageMap<'m>,
+    cache: Option<u64>,
+    steps: &mut Steps<L>,
+) -> Result<Vec<Symbol<'m>>, LookStop>
+    ensures told { LooksAs (λ found. map symbol_view found.items) (λ image. holders_by (λ cache. symbols_holding image symbols.now cache) cache) (S.image space.old) result }
+    ensures stays { SpaceStays S.image S.files S.through S.most space.old space.new }
+    ensures cause { CountsLookFaults result (S.faults space.old) (S.faults space.new) }
+{
+    match cache {
+        Some(cache) => find_holders(alloc, space, symbols, cache, steps),
+        None => Ok(Vec::new(alloc)),
+    }
+}
+
+// What is told of an address, by its word.
+fn tell<'m, S: Space, L: Ledger>(
+    alloc: Global,
+    space: &mut S,
+    types: &Btf,
+    shapes: &Shapes<'m>,
+    address: u64,
+    word: &Seen,
+    steps: &mut Steps<L>,
+) -> Result<Told<'m>, LookStop>
+    requires { IfSome shapes.now.words.areas.stacks (λ shape. IsInside shape.tasks types.now) }
+    ensures told { LooksAs told_view (λ image. told_by image (shapes_view shapes.now) address word.now) (S.image space.old) result }
+    ensures stays { SpaceStays S.image S.files S.through S.most space.old space.new }
+    ensures cause { CountsLookFaults result (S.faults space.old) (S.faults space.new) }
+{
+    let held = tell_held(
+        alloc,
+        space,
+        types,
+        &shapes.words.objects,
+        address,
+        word,
+        steps,
+    )?;
+    let areas = tell_outside(alloc, space, types, shapes, address, &held, steps)?;
+    let holders = tell_holders(alloc, space, &shapes.map, shared_in(&held), steps)?;
+    Ok(Told {
+        areas,
+        held,
+        holders,
+    })
+}
+
+/// What is told of an address.
+///
+/// # Errors
+///
+/// A failure to read the dump; no memory was left.
+pub fn read_told<'m, S: Space, L: Ledger>(
+    alloc: Global,
+    space: &mut S,
+    types: &Btf,
+    shapes: &Shapes<'m>,
+    address: u64,
+    steps: &mut Steps<L>,
+) -> Result<Told<'m>, LookStop>
+    requires { IfSome shapes.now.words.areas.stacks (λ shape. IsInside shape.tasks types.now) }
+    ensures told { LooksAs told_view (λ image. told_of image (shapes_view shapes.now) address) (S.image space.old) result }
+    ensures stays { SpaceStays S.image S.files S.through S.most space.old space.new }
+    ensures cause { CountsLookFaults result (S.faults space.old) (S.faults space.new) }
+{
+    let word = read_word(space, word_start(address), steps)?;
+    tell(alloc, space, types, shapes, address, &word, steps)
+}
+
+/// What is seen of an address, with the entries on the way to it, and what is told of it. Where the entries weren't read, it reads nothing.
+///
+/// # Errors
+///
+/// A failure to read the dump; no memory was left.
+pub fn read_sighted<'m, S: Space, L: Ledger>(
+    alloc: Global,
+    space: &mut S,
+    types: &Btf,
+    shapes: &Shapes<'m>,
+    address: u64,
+    rules: &Rules,
+    entries: Result<Vec<Entry>, LookStop>,
+    steps: &mut Steps<L>,
+) -> Result<Sighted<'m>, LookStop>
+    requires { IfSome shapes.now.words.areas.stacks (λ shape. IsInside shape.tasks types.now) }
+    ensures address { IfOk result (λ s. s.sight.address ≡ address) }
+    ensures entries { IfOk result (λ s. entries ≡ Ok s.sight.entries) }
+    ensures word { LooksAs (λ s. s.sight.word) (λ image. vword image (word_start address)) (S.image space.old) result }
+    ensures aliases { LooksAs (λ s. s.sight.aliases) (λ image. aliases image rules.now (vword image (word_start address))) (S.image space.old) result }
+    ensures near { LooksAs (λ s. s.sight.near.items) (λ image. near image address) (S.image space.old) result }
+    ensures page { LooksAs (λ s. s.sight.page.items) (λ image. words image (page_start address) 512) (S.image space.old) result }
+    ensures told { LooksAs (λ s. told_view s.told) (λ image. told_of image (shapes_view shapes.now) address) (S.image space.old) result }
+    ensures leads { LooksAs (λ s. s.near.items) (λ image. near_of image (shapes_view shapes.now) address) (S.image space.old) result }
+    ensures stays { SpaceStays S.image S.files S.through S.most space.old space.new }
+    ensures cause { FaultsAfter entries result (S.faults space.old) (S.faults space.new) }
+{
+    let sight = read_sight(alloc, space, address, rules, entries, steps)?;
+    let near = near_words(
+        alloc,
+        space,
+        types,
+        &shapes.words.objects,
+        &sight.near,
+        steps,
+    )?;
+    let told = tell(alloc, space, types, shapes, address, &sight.word, steps)?;
+    Ok(Sighted { sight, near, told })
+}

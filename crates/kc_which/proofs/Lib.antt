@@ -1,0 +1,5 @@
+mod CacheLaw
+mod Ending
+mod Finding
+mod Searching
+mod TaskLaw

@@ -1,0 +1,5 @@
+pub mod CacheRings
+pub mod Ends
+pub mod Firsts
+pub mod Laws
+pub mod TaskRings
