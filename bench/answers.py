@@ -3,9 +3,10 @@
 
 usage: answers.py KAUDIT FOLDER ANSWERS
 
-ANSWERS lists the words of commands as `## WORDS`, each followed by the wanted text and a line `status N`.
-FOLDER has the files that the words name: `vmcore`, `btf`, `System.map`. Each command runs five times; the
-time is the least of them in seconds, and the memory the greatest, in MiB.
+ANSWERS lists the words of commands as `## WORDS`, as `## layout btf list_head`, each followed by the wanted text, of a refusal the line on
+standard error, and a line `status N`, which may be left out where N is 0. FOLDER has the files that the words name, mostly `vmcore`, `btf` and `System.map`: a dump, the bytes of its
+kernel's section .BTF and its build's System.map. Each command runs five times; the time is the least of them in seconds, and the memory the
+greatest, in MiB.
 """
 import os
 import sys

@@ -47,11 +47,16 @@ class Areas:
 
     def parts(self):
         """The paths of the parts of a module's memory."""
+        named = [path for path in ("core_layout", "init_layout") if self.has("module", f"{path}.base")]
+        return named if "core_layout" in named else [f"mem[{k}]" for k in range(self.length("module", "mem"))]
+
+    def has(self, struct, path):
+        """Whether a struct has a member."""
         try:
-            self.kernel.byte("module", "core_layout.base")
-            return ["core_layout"]
+            self.kernel.byte(struct, path)
         except Refused:
-            return [f"mem[{k}]" for k in range(self.length("module", "mem"))]
+            return False
+        return True
 
     def module(self, at):
         kernel, head = self.kernel, self.symbol("modules")
@@ -62,15 +67,17 @@ class Areas:
             module = (node - link) % TOP
             for path in paths:
                 base, size = (kernel.field(module, "module", f"{path}.{name}")[0] for name in ("base", "size"))
-                if base <= at < base + size:
+                if base and base <= at < base + size:
                     return f"{shown(self.text(module + kernel.byte('module', 'name'), most))}+{at - base}"
         return None
 
     def variable(self, first, at):
-        """The symbol nearest below an address, from the first one on."""
-        below = [row for row in self.rows if first <= row[0] <= at]
+        """The symbol nearest below an address, from the first one on, where it isn't the area's own."""
+        below = [row for row in self.rows if first <= row[0] <= at and row[1] != "__per_cpu_start"]
+        if not below:
+            return ""
         most = max(row[0] for row in below)
-        return f"{next(row[1] for row in below if row[0] == most)}+{at - most}"
+        return f" {next(row[1] for row in below if row[0] == most)}+{at - most}"
 
     def processor(self, at):
         memory = self.kernel.memory
@@ -80,7 +87,7 @@ class Areas:
         for number in range(min(memory.number(count, 0, 32)[0], PROCESSORS)):
             listed = (at - memory.place((offsets + 8 * number) % TOP)[3]) % TOP
             if first <= listed < end:
-                return f"{number} {self.variable(first, listed)}"
+                return f"{number}{self.variable(first, listed)}"
         return None
 
     def stacks(self):

@@ -3,6 +3,8 @@
 
 usage: certificates.py DUMP BTF MAP PLAN [MODULE]
 
+DUMP is a core file, BTF the bytes of its kernel's section .BTF, MAP its build's System.map, MODULE the bytes of a module's section .BTF.
+
 It stands on the second reader (`second.py`) alone and shares no code with kaudit. The text is `certificate STEPS`, then for each walk
 `step AUDIT start ADDRESS lists COUNT` and for each list `list COUNT` and its numbers, one a line: the nodes of a ring or a hash chain; a tree
 in preorder, 0 for a null; an xarray's entries in preorder, a node's followed by those of its slots; of a slab cache for each node of memory

@@ -29,7 +29,7 @@ PINNED = {("kc_expr/specs/Machine.antt", "parsed"): ("kc_expr/specs/Spelling.ant
 # What the clause on `clean` doesn't stand on: the first violation and its text (the law `checked` says when there is none),
 # the lines of refusals, and the other commands.
 NOT_CLEAN = {"audited_shown", "refusal_line", "ShownStand", "word_form", "layout_form", "show_form", "selftest_form"}
-NOT_CLEAN |= {"certify_form", "recheck_form", "CertifyEnds", "RecheckEnds", "Proves", "cert_text", "TextsTold"}
+NOT_CLEAN |= {"certify_form", "recheck_form", "CertifyEnds", "RecheckEnds", "Proves", "cert_text", "TextsTold", "AnswersAreRight"}
 
 # The crates that make counters of steps.
 MAKE_BLANKS = {"kc_app", "kc_cause", "kc_repair", "kc_why", "try_walks", "try_files"}
@@ -37,7 +37,8 @@ MAKE_BLANKS = {"kc_app", "kc_cause", "kc_repair", "kc_why", "try_walks", "try_fi
 # The crates whose purpose is to state the laws of others: they alone cite another's lemmas.
 STATE_LAWS = {"kc_laws", "kc_run_laws", "kc_recheck_laws"}
 
-BORROWED = re.compile(r"\bRattle\.(kc_\w+)\.proofs\.")
+# Another crate's lemmas, imported in definitions and proofs, or named in the code by `using`.
+BORROWED = re.compile(r"\b(kc_\w+)(?:\.|::)proofs(?:\.|::)")
 
 USE = re.compile(r"^\s*(?:ghost |pub |unfoldable )*use Rattle\.(kc_\w+)\.specs\.([\w.]+?)(?:\.\{([^}]*)\}| as (\w+))?;?\s*$", re.M)
 BEGINS = re.compile(r"^(?:(?:pub|abbrev|unfoldable|opaque|data|record) )+([^\s(:{]+)")

@@ -3,7 +3,8 @@
 
 usage: filtered.py KAUDIT FOLDER PLAN..
 
-FOLDER has `vmcore`, `btf`, `System.map` and the files `PLAN.toml`. A filtered dump leaves pages out: a segment's memory goes on
+FOLDER has `vmcore`, `btf`, `System.map` (a dump, the bytes of its kernel's section .BTF and its build's System.map) and the files
+`PLAN.toml`. A filtered dump leaves pages out: a segment's memory goes on
 after its bytes in the file (`p_memsz` above `p_filesz`). Where makedumpfile is installed it writes the copies, by
 `-E -d 1` (pages of zeros) and `-E -d 31`; a third copy, which needs no program, leaves out the pages of zeros as the first one does, at
 file offsets that are no multiple of 8. For each copy and plan the report with `tail = "absent"` and the one with

@@ -3,7 +3,8 @@
 
 usage: floor.py KAUDIT FOLDER PLAN..
 
-FOLDER has `vmcore`, `btf`, `System.map` and the plans `PLAN.toml`. Two floors are told:
+FOLDER has `vmcore`, `btf`, `System.map` (a dump, the bytes of its kernel's section .BTF and its build's System.map) and the plans
+`PLAN.toml`, which are plans/inodes.toml as `inodes`, the same with the page caches alone as `pages`, and any others. Two floors are told:
 
 - for each plan, the time that the program's own reads of the dump take alone: their places are told by strace, and a C program
   seeks and reads each;

@@ -1,17 +1,23 @@
 #!/usr/bin/env python3
-"""Tries kaudit and kmatch on random and on damaged files, for as long as one likes, and looks at how each run ends.
+"""Tries kaudit, kmatch and kwhy on random and on damaged files, for as long as one likes, and looks at how each run ends.
 
-usage: hostile.py KAUDIT KMATCH [--runs N] [--jobs N] [--seed N] [--keep FOLDER]
+usage: hostile.py KAUDIT KMATCH [KWHY] [--runs N] [--jobs N] [--seed N] [--why SHARE] [--seconds N] [--keep FOLDER]
 
-as `hostile.py crates/kaudit/out/kaudit crates/kmatch/out/kmatch --runs 200000 --jobs 4 --keep /tmp/found`. Each run is a small kernel made
-at random (`made.py`), of which words, bits, headers, page tables, types, rows or the plan are changed, or files of bytes that follow no
-grammar. It runs under a limit of 512 MiB and of ten seconds, and has to end
+as `hostile.py crates/kaudit/out/kaudit crates/kmatch/out/kmatch crates/kwhy/out/kwhy --runs 200000 --jobs 4 --keep found`. Each run is a small
+kernel made at random (`made.py`), of which words, bits, headers, page tables, types, rows or the plan are changed, or files of bytes that follow
+no grammar. Where KWHY is named it has SHARE of the runs, else 0.3: an address, `refs`, or the report that KAUDIT prints of the same files, whole or
+damaged. A run is under a limit of 512 MiB and of ten seconds on the clock, or --seconds where the machine has other work, and has to end
 
 - with a status from 0 to 6, never by a signal, and never with 4 or 5, nor 3 but for a name that no file has;
 - with one line or usage on standard error and nothing on standard output, or the other way round;
 - with a report in its one spelling, each of whose places stands in the dump: its word at its file offset, the offset that of its
   physical address, and the address led there by the page tables, each read by `second.py`, which shares no code with kaudit;
 - where `second.py` reads the files too, with the same status and the same texts.
+
+Of kwhy the places are those of the lines `place`, `entry`, `alias`, `near`, `repair` and `then`: each stands in the dump as it is printed, but for
+NEW, which is another number, and with which the second reader finds the root audit clean. Of an address and of `refs` the text is that of `why.py`,
+where it can read the files. A report that `check` refuses to print is refused by the same line, and one that it printed isn't, but where it was
+damaged since.
 
 A run that ends otherwise is printed, and its files are kept in FOLDER. It prints how many runs ended how, also where it is stopped by
 Ctrl-C or SIGTERM before all are done. With TMPDIR in memory (/dev/shm) it is three times as fast as on a disk.
@@ -23,7 +29,6 @@ import os
 import random
 import re
 import resource
-import shutil
 import signal
 import subprocess
 import sys
@@ -57,7 +62,17 @@ FOUND = re.compile(r"[0-9a-f]{16} [0-9a-f]{16} [0-9a-f]{16} [0-9a-f]{16}\n")
 SHOWN = re.compile(r"value -?(0|[1-9]\d*)\n(place [0-9a-f]{16} [0-9a-f]{16} [0-9a-f]{16} [0-9a-f]{16}\n){1,2}")
 LAYOUT = re.compile(r"(struct|union) \S* size (0|[1-9]\d*)\n(member \d+ (\d+|-) \S+\n)*")
 MATCHED = re.compile(r"(?s).*same (0|[1-9]\d*) differ (0|[1-9]\d*) unknown (0|[1-9]\d*)\n")
-FORMS = {"check": (CLEAN, BROKEN), "word": (FOUND, STOPPED), "show": (SHOWN, STOPPED), "layout": (LAYOUT, None), "kmatch": (MATCHED, MATCHED), "selftest": (CLEAN, BROKEN)}
+HEX = "[0-9a-f]{16}"
+CHANGED = f"{HEX} {HEX} {HEX} {HEX} {HEX}"
+# What a line of kwhy may be, by its first word.
+WHY = {
+    "address": HEX, "entry": f"[1-5] {HEX} {HEX} {HEX}", "page": "4096|2097152|1073741824", "place": f"(-|{HEX}) {HEX} ({HEX}|tail) {HEX}",
+    "stopped": f"M[1-6] [0-5] {HEX}", "alias": HEX, "near": f"{HEX} ({HEX} .+|stopped M[1-6] [0-5] {HEX})", "span": f"{HEX} {HEX}",
+    "words": r"0|[1-9]\d*", "repair": rf"{CHANGED}|none of (the first 4096|\d+) tried", "then": f"{CHANGED} [A-Z][1-9]? {HEX}", "clean": "",
+    "rule": "[A-Z][1-9]? .+", "expected": rf"{HEX} found {HEX} bits \d+",
+}
+NAMED = ("symbol", "module", "percpu", "stack", "descriptor", "cache", "held", "slab", "object", "pad", "past", "before", "encoded", "root", "audit", "list", "element")
+FORMS = {"check": (CLEAN, BROKEN), "word": (FOUND, STOPPED), "show": (SHOWN, STOPPED), "layout": (LAYOUT, None), "kmatch": (MATCHED, MATCHED), "kwhy": (None, None), "selftest": (CLEAN, BROKEN)}
 
 
 # How files are damaged.
@@ -230,7 +245,7 @@ def shuffled(rng, plan):
 class Case:
     """The files and the words of one run, by its number."""
 
-    def __init__(self, seed, btf):
+    def __init__(self, seed, btf, why=0):
         rng = self.rng = random.Random(seed)
         kernel = made.Made(rng)
         has_pids = rng.random() < 0.7
@@ -263,7 +278,8 @@ class Case:
             self.plan_kept = name != "z.toml"
         if rng.random() < 0.1:
             damage_tables(rng, self.files["z.core"]) if len(self.files["z.core"]) > 0x10000 else None
-        self.words = self.some_words()
+        self.plain = True  # the words are a command, and name the files that are there
+        self.words = self.why_words() if why and rng.random() < why else self.some_words()
 
     def some_words(self):
         rng, how = self.rng, self.rng.random()
@@ -279,6 +295,34 @@ class Case:
             return ["kmatch", "z.core", "z.btf", "z.map"]
         return [rng.choice(("check", "word", "", "help", "layout", "selftest", "--")), *[rng.choice(("z.core", "z.btf", "", "x" * 300))] * rng.randrange(7)]
 
+    def why_words(self):
+        """A command of kwhy."""
+        rng, how, files = self.rng, self.rng.random(), ["z.core", "z.btf", "z.map"]
+        if how < 0.35:
+            return ["kwhy", *files, rng.choice((self.some_address(), self.some_value()))]
+        if how < 0.55:
+            return ["kwhy", *files, "refs", rng.choice((self.some_address(), self.some_value(), self.some_value()))]
+        if how < 0.97:
+            return ["kwhy", *self.files, "z.report"]
+        self.plain = False
+        return ["kwhy", *(rng.choice((*self.files, "refs", "zz", "", "0", "x" * 300)) for _ in range(rng.randrange(8)))]
+
+    def some_value(self):
+        """A word that the dump holds, mostly, or its number's neighbour."""
+        words = memoryview(bytes(self.files["z.core"][0x2000:])[: max(len(self.files["z.core"]) - 0x2000, 0) // 8 * 8]).cast("Q")
+        word = self.rng.choice([word for word in words if word] or [0])
+        return f"{(word + self.rng.choice((0, 0, 0, 8, -8, 1))) % TOP:x}"
+
+    def add_report(self, out):
+        """The report that `check` printed, mostly whole."""
+        report, how = bytearray(out), self.rng.random()
+        if how < 0.15:
+            damage_bytes(self.rng, report)
+        elif how < 0.18:
+            report = bytearray(self.rng.randbytes(self.rng.randrange(2000)))
+        self.report_kept = report == out
+        self.files["z.report"] = report
+
     def some_address(self):
         rng = self.rng
         base = rng.choice((made.IMAGE, made.DIRECT, made.VMEMMAP, 0, TOP - 4096, 1 << 47, rng.randrange(TOP)))
@@ -288,9 +332,12 @@ class Case:
 def spoken(case, status, out, err):
     """What is wrong with how a run ended, by its texts alone."""
     name = case.words[0]
-    missing = status == 3 and not set(case.words[1:]) <= set(case.files) and err == "store failed\n" and not out
+    named = case.plain and name == "kwhy" or set(case.words[1:]) <= set(case.files)
+    missing = status == 3 and not named and err == "store failed\n" and not out
     if not 0 <= status <= 6 or status in (3, 4, 5) and not missing:
         return f"status {status}"
+    if name == "kwhy" and status == 0:
+        return None if not err and is_why(out) else "texts of an answer"
     if status in (0, 1):
         form = FORMS[name][status]
         if err or form is None or not form.fullmatch(out):
@@ -299,6 +346,111 @@ def spoken(case, status, out, err):
     if out or not LINE.fullmatch(err) or err.startswith("usage") != (status == 6):
         return "texts of a refusal"
     return None
+
+
+def is_why(out):
+    """Whether a text is made of lines that kwhy may print."""
+    if not out.endswith("\n") or not re.fullmatch(r"[\n -~]*", out):
+        return False
+    for line in out[:-1].split("\n"):
+        name, _, rest = line.partition(" ")
+        if not (name in NAMED and rest or name in WHY and re.fullmatch(WHY[name], rest, re.A)):
+            return False
+    return True
+
+
+def seen(memory, va):
+    """What kwhy prints of a word that is there, or of what stops its reading."""
+    try:
+        return "%016x" % memory.place(va)[3]
+    except second.Broken as found:
+        return "stopped %s %x %016x" % (found.rule, *(found.stop or (0, 0)))
+
+
+def placed_why(case, out):
+    """What is wrong with the words that kwhy prints."""
+    core = second.Core(bytes(case.files["z.core"]))
+    core.zero = is_zero(case)
+    info = second.Info(core)
+    memory, pa, refs = second.Memory(core, info.table, info.levels, info.mask), None, "refs" in case.words
+    for line in out.splitlines():
+        name, *words = line.split()
+        if name == "near" and not " ".join(words[1:]).startswith(seen(memory, int(words[0], 16))):
+            return "a word beside the address isn't in the dump"
+        if name == "alias" and memory.place(int(words[0], 16))[1] != pa:
+            return "an alias leads elsewhere"
+        if name == "entry":
+            words = ["-", *words[1:]]
+        if name not in ("place", "entry", "repair", "then") or words[0] == "none":
+            continue
+        va, (pa, word), origin = words[0], (int(words[k], 16) for k in (1, 3)), "tail" if words[2] == "tail" else int(words[2], 16)
+        if refs:
+            inside = any(start <= pa and pa + 8 <= start + size and offset + pa - start == origin for offset, start, size in core.loads)
+            if pa % 8 or not inside or second.u64(core.data, origin) != word:
+                return "a word of refs isn't in the dump"
+        elif core.origin(pa) != origin or core.word(pa) != word:
+            return "a place isn't in the dump"
+        if va != "-" and memory.place(int(va, 16)) != (int(va, 16), pa, origin, word):
+            return "an address doesn't lead to its place"
+        if name in ("repair", "then") and int(words[4], 16) == word:
+            return "a repair changes nothing"
+    return repaired(case, out)
+
+
+def repaired(case, out):
+    """Whether each root audit stands with the word that is said to repair it."""
+    import suspects  # which imports this file
+
+    for found in re.finditer(rf"^root (\S+)\n(?:(?!root ).*\n)*?repair {HEX} {HEX} ({HEX}) ({HEX}) ({HEX})$", out, re.M):
+        f = {name: bytes(data) for name, data in case.files.items()}
+        causes = suspects.Causes(case.files["z.core"][:], f["z.btf"], f["z.map"], f["z.toml"])
+        causes.put(int(found[2], 16), int(found[4], 16))
+        if causes.judge(causes.numbers[found[1]]) is not None:
+            return "a repair leaves the audit broken"
+    return None
+
+
+def why_compared(case, status, out, err, check):
+    """What the second readers tell otherwise of kwhy's answer; and whether they were asked."""
+    import why  # which is read only where kwhy is tried
+
+    f, words = {name: bytes(data) for name, data in case.files.items()}, case.words
+    if not case.plain:
+        return None, False
+    if "z.report" in words:
+        if check[0] == 2:
+            return (None if (status, err) == (2, check[2]) else f"report: check has {check}"), True
+        if case.report_kept:
+            return (None if status == 0 and (out == "clean\n") == (check[0] == 0) else "report: an answer is due"), True
+        return (None if status == 2 and err.startswith("refused report ") else "report: a refusal is due"), True
+    try:
+        core = second.Core(f["z.core"])
+        second.Info(core), second.Types(f["z.btf"]), second.symbols(f["z.map"])
+    except second.Refused as fault:
+        return (None if (status, err) == (2, f"refused {fault}\n") else f"kwhy: the second reader refuses {fault}"), True
+    if not re.fullmatch("(0x)?[0-9a-fA-F]{1,16}", words[-1]):
+        return (None if status == 6 else "kwhy: usage is due"), True
+    if status != 0:
+        return "kwhy: the second reader refuses nothing", True
+    try:
+        sights, at = why.Sights(f["z.core"], f["z.btf"], f["z.map"]), int(words[-1], 16)
+        told = refs_text(sights, at) if "refs" in words else sights.text(at)
+    except Exception:  # it reads kernels that are whole
+        return None, False
+    return (None if told == out else f"kwhy: the second reader has {told!r}"), True
+
+
+def refs_text(sights, value):
+    """The words that hold a value, as the second reader tells them."""
+    unknown, keys = "", (0, [])
+    try:
+        keys = sights.objects.keys() if sights.objects else keys
+    except second.Broken as broken:
+        unknown = f"encoded unknown {broken.rule} {broken.at:016x}\n"
+    except (second.Refused, TypeError):
+        pass
+    text = sights.why.refs(value, sights.why.encoded([value], keys)[value])
+    return re.sub(r"(words \d+\n)$", unknown + r"\1", text)
 
 
 def placed(case, out):
@@ -323,7 +475,7 @@ def placed(case, out):
 
 def is_zero(case):
     """Whether the plan says that tails read as zero."""
-    return case.words[0] == "check" and b'tail = "zero"' in bytes(case.files["z.toml"])
+    return (case.words[0] == "check" or "z.report" in case.words) and b'tail = "zero"' in bytes(case.files["z.toml"])
 
 
 def compared(case, status, out, err):
@@ -343,29 +495,50 @@ def compared(case, status, out, err):
     return (None if told == (status, out, err) else f"check: the second reader has {told}"), True
 
 
-def one(seed, programs, folder, names):
-    """Runs one case. What is wrong with it, how it ended, and whether the second reader was asked."""
-    case = Case(seed, BTF)
-    for name, data in case.files.items():
+def write(folder, files):
+    for name, data in files.items():
         with open(os.path.join(folder, name), "wb") as file:
             file.write(data)
-    program, words = (programs[1], case.words[1:]) if case.words[0] == "kmatch" else (programs[0], case.words)
+
+
+def ran(command, folder, seconds):
+    done = subprocess.run(command, cwd=folder, stdin=subprocess.DEVNULL, capture_output=True, timeout=seconds, close_fds=False)
+    return done.returncode, done.stdout.decode(), done.stderr.decode()
+
+
+def one(seed, programs, folder, why, seconds):
+    """Runs one case. What is wrong with it, how it ended, and whether the second reader was asked."""
+    case, check = Case(seed, BTF, why), None
+    write(folder, case.files)
+    program, words = (programs[case.words[0]], case.words[1:]) if case.words[0] in ("kmatch", "kwhy") else (programs["kaudit"], case.words)
     try:
-        done = subprocess.run([program] + words, cwd=folder, stdin=subprocess.DEVNULL, capture_output=True, timeout=10, close_fds=False)
+        if "z.report" in words:
+            check = ran([programs["kaudit"], "check", *case.files], folder, seconds)
+            case.add_report(check[1].encode())
+            write(folder, case.files)
+        status, out, err = ran([program] + words, folder, seconds)
     except subprocess.TimeoutExpired:
-        return case, "no end within ten seconds", None, False
-    status, out, err = done.returncode, done.stdout.decode(), done.stderr.decode()
+        return case, f"no end within {seconds} seconds\n  words {case.words}", None, False
     wrong, asked = spoken(case, status, out, err), False
     try:
         if not wrong and status in (0, 1) and case.words[0] in ("check", "word", "show"):
             wrong = placed(case, out)
+        if not wrong and status == 0 and case.words[0] == "kwhy":
+            wrong = placed_why(case, out)
         if not wrong:
-            wrong, asked = compared(case, status, out, err)
+            wrong, asked = why_compared(case, status, out, err, check) if case.words[0] == "kwhy" else compared(case, status, out, err)
     except Exception as fault:  # the second reader must read what kaudit reads
         wrong = f"the second reader fails: {fault!r}"
     if wrong:
         wrong += f"\n  words {case.words}\n  status {status}\n  out {out!r}\n  err {err!r}"
-    return case, wrong, (case.words[0] if case.words[0] in FORMS else "other words", status, rule_of(status, out, err)), asked
+    return case, wrong, (form_of(case), status, rule_of(status, out, err)), asked
+
+
+def form_of(case):
+    """The command of a run, of kwhy with its form."""
+    if case.words[0] != "kwhy":
+        return case.words[0] if case.words[0] in FORMS else "other words"
+    return "kwhy " + ("other words" if not case.plain else "report" if "z.report" in case.words else "refs" if "refs" in case.words else "address")
 
 
 def rule_of(status, out, err):
@@ -374,19 +547,20 @@ def rule_of(status, out, err):
 
 
 def work(task):
-    first, count, programs, keep = task
+    first, count, programs, keep, why, seconds = task
     resource.setrlimit(resource.RLIMIT_AS, (512 << 20, 512 << 20))
     ends, faults, asked = collections.Counter(), 0, 0
     with tempfile.TemporaryDirectory() as folder:
         for seed in range(first, first + count):
-            case, wrong, end, compared_too = one(seed, programs, folder, None)
+            case, wrong, end, compared_too = one(seed, programs, folder, why, seconds)
             ends[end] += 1
             asked += compared_too
             if wrong:
                 faults += 1
                 print(f"WRONG run {seed}: {wrong}", flush=True)
                 if keep:
-                    shutil.copytree(folder, os.path.join(keep, str(seed)), dirs_exist_ok=True)
+                    os.makedirs(os.path.join(keep, str(seed)), exist_ok=True)
+                    write(os.path.join(keep, str(seed)), case.files)
     return ends, faults, asked
 
 
@@ -403,14 +577,18 @@ def main():
     words = argparse.ArgumentParser()
     words.add_argument("kaudit")
     words.add_argument("kmatch")
+    words.add_argument("kwhy", nargs="?")
     words.add_argument("--runs", type=int, default=20000)
     words.add_argument("--jobs", type=int, default=2)
     words.add_argument("--seed", type=int, default=1)
+    words.add_argument("--why", type=float, default=0.3)
+    words.add_argument("--seconds", type=int, default=10)
     words.add_argument("--keep")
     asks = words.parse_args()
-    programs = os.path.abspath(asks.kaudit), os.path.abspath(asks.kmatch)
-    step = 500
-    tasks = [(asks.seed + k, min(step, asks.runs - k), programs, asks.keep) for k in range(0, asks.runs, step)]
+    programs = {name: os.path.abspath(path) for name, path in (("kaudit", asks.kaudit), ("kmatch", asks.kmatch), ("kwhy", asks.kwhy)) if path}
+    step = 50
+    why = asks.why if asks.kwhy else 0
+    tasks = [(asks.seed + k, min(step, asks.runs - k), programs, asks.keep, why, asks.seconds) for k in range(0, asks.runs, step)]
     ends, faults, asked = collections.Counter(), 0, 0
     signal.signal(signal.SIGTERM, signal.default_int_handler)
     try:

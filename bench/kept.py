@@ -3,7 +3,8 @@
 
 usage: kept.py OLD NEW FOLDER PLAN..
 
-OLD and NEW are two builds of kaudit; FOLDER has `vmcore`, `btf`, `System.map` and the plans `PLAN.toml`. For each plan it prints
+OLD and NEW are two builds of kaudit; FOLDER has `vmcore`, `btf`, `System.map` (a dump, the bytes of its
+kernel's section .BTF and its build's System.map) and the plans `PLAN.toml`. For each plan it prints
 the reads and seeks of each program, as strace counts them, and the least time of seven runs by turns, in seconds. Then, with NEW
 alone, the same plans on a copy of the dump whose memory is cut into 1,000 segments, and `word` on made dumps of 65,000
 segments: rising, falling, each around the one before, each inside the one before. It wants strace.

@@ -2,8 +2,9 @@
 
     bench/objects.py KWHY FOLDER [ADDRESS ..]
 
-FOLDER has the files vmcore, btf and System.map. Without addresses it takes some of the direct map and of partial slabs at random; and of each
-changed word that damage.txt there lists, and of a free list, a compound page and the ring of caches that it changes itself, in a copy of the
+FOLDER has the files vmcore, btf and System.map: a dump, the bytes of its kernel's section .BTF and its build's System.map.
+Without addresses it takes some of the direct map and of partial slabs at random; and of each
+changed word that damage.txt there lists (`reports.py` tells its form), and of a free list, a compound page and the ring of caches that it changes itself, in a copy of the
 dump with that word, its own address and some beside it. The second reader is `second.py`'s, and shares no code with the program.
 """
 import mmap
@@ -178,7 +179,8 @@ class Objects:
         lines = [line.split(" ") for line in self.lines(va)]
         if lines[-1][0] == "object":
             name = next(words[2] for words in lines if words[0] == "cache")
-            return f"object {name}+{lines[-1][5]}" + " free" * (lines[-1][6] == "free")
+            state = lines[-1][6]
+            return f"object {name}+{lines[-1][5]}" + ("" if state == "used" else f" {state}")
         return self.described(va)
 
 

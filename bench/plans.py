@@ -3,7 +3,7 @@
 
 usage: plans.py BTF MAP PLAN..
 
-It works on a copy of the crates, to which it adds a program that reads the three files and the plan, proves and builds it,
+BTF and MAP are the bytes of a kernel's section .BTF and its build's System.map. It works on a copy of the crates, to which it adds a program that reads the three files and the plan, proves and builds it,
 and prints for each plan, and for three of 256 audits that it makes, what the plan is, the time and the most memory.
 """
 import os

@@ -2,8 +2,9 @@
 
     bench/repairs.py KAUDIT KWHY FOLDER [NAME ..]
 
-FOLDER has the files vmcore, btf and System.map, and damage.txt with its plans: of each changed word a name, a plan, a file offset, the old
-and the new value, and the report. Each word is changed in a copy of the dump. A repair is the true one where it puts the old value back;
+FOLDER has the files vmcore, btf and System.map (a dump, the bytes of its kernel's section .BTF and its build's System.map), and damage.txt with the
+plans that it names: of each changed word a name, a plan, a file offset, the old and the new value, and the report, in the form that `reports.py`
+tells. Each word is changed in a copy of the dump. A repair is the true one where it puts the old value back;
 each that is printed is made in the copy, and `check` must find the root audit clean then. Prints of each the line of the repair, the
 seconds, and the memory in MiB; ends with 1 where a repair doesn't hold, or a run takes more than a second or 60 MiB.
 """

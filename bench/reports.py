@@ -3,10 +3,19 @@
 
 usage: reports.py KAUDIT FOLDER PLAN..
 
-FOLDER has `vmcore`, `btf` and `System.map`, and for each PLAN the files `PLAN.toml` and `PLAN.expected`. Where it has
-`damage.txt` too, each change there that names one of these plans is made in the dump, checked, and taken back. An entry
-is a line `## ..`, a line `plan P, file offset O, old W, new W, status N` with numbers in hex and words of eight bytes, and
-the wanted report. Each undamaged plan runs five times; the time is the least of them in seconds.
+FOLDER has `vmcore`, `btf` and `System.map` (a dump, the bytes of its kernel's section .BTF and its build's System.map), and for each PLAN the
+files `PLAN.toml` and `PLAN.expected`, which is the report that `check` has to print of the whole dump, byte for byte. Where it has `damage.txt`
+too, each change there that names one of these plans is made in the dump, checked, and taken back. That file has some lines of its own, which
+begin with no `## `, and then entries, with an empty line between two: a line `## NAME: WHAT`, a line `plan P.toml, file offset O, old W, new W,
+status N`, with numbers in hex and the value of a little-endian word of eight bytes at byte O of vmcore, before and after, and the wanted report:
+
+    ## super-prev: prev of the fifth super block names the second
+    plan inodes.toml, file offset 000000000e782008, old ffff88800485c000, new ffff88800485a800, status 1
+    broken
+    audit supers
+    ..
+
+Each undamaged plan runs five times; the time is the least of them in seconds.
 """
 import os
 import re

@@ -3,7 +3,8 @@
 
 usage: show.py KAUDIT FOLDER SYMBOL TYPE PATH [VMLINUX]
 
-FOLDER has `vmcore`, `btf` and `System.map`. Each program runs five times, by turns; the time is the least in
+FOLDER has `vmcore`, `btf` and `System.map`: a dump, the bytes of its kernel's section .BTF and its build's System.map.
+Each program runs five times, by turns; the time is the least in
 seconds, and the memory the greatest, in MiB. drgn reads the same number by `VMLINUX`, the kernel with its debugging
 symbols; where drgn or that file isn't there, it is left out.
 """

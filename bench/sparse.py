@@ -3,7 +3,7 @@
 
 usage: sparse.py KAUDIT SMALL_DUMP FOLDER
 
-It prints the time and the peak memory of each, and the ratio of the times. The last segment holds the words, so
+SMALL_DUMP is crates/kaudit/data/z.core. It prints the time and the peak memory of each, and the ratio of the times. The last segment holds the words, so
 the search goes through all of them.
 """
 import os

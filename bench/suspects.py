@@ -5,7 +5,7 @@ root audit that found it stands. It is written from the guide and from the defin
     bench/suspects.py KWHY FOLDER [NAME ..]
     bench/suspects.py KWHY --made COUNT [SEED]
 
-FOLDER is that of `repairs.py`; its plans may lie in a folder plans. Of each changed word that damage.txt lists, kwhy has to print the second
+FOLDER is that of `repairs.py`; its plans may lie in a folder plans. Of each changed word that damage.txt lists (`reports.py` tells its form), kwhy has to print the second
 reader's text; prints whether the repair is the old value, the second reader's seconds, and its text. With `--made` the dumps are COUNT small
 kernels (`made.py`) with some words changed at random; prints how many runs came to each rule and how. KWHY may be `-`, which runs nothing.
 Each trial walks the whole root audit again, in Python, so a plan of many elements takes a while. `cases.py` compares such texts with those of

@@ -3,7 +3,7 @@
 
 usage: syms.py MAP
 
-It works on a copy of the crates, with a program that reads a file's symbols over and over, and compiles `syms.c` beside it:
+MAP is a kernel's System.map. It works on a copy of the crates, with a program that reads a file's symbols over and over, and compiles `syms.c` beside it:
 once the checks alone, and once with a hash table too. It prints the time of a processor for each row, the least of seven
 runs in turns, and the ratios. The larger map has each row of the first one fifteen times, under names that differ by an ending.
 """

@@ -3,7 +3,8 @@ each form.
 
     bench/why.py KWHY FOLDER [ADDRESS ..]
 
-FOLDER has the files vmcore, btf and System.map (or z.core, z.btf and z.map); the addresses are in hex, and else are made from the map and
+FOLDER has the files vmcore, btf and System.map, which are a dump, the bytes of its kernel's section .BTF and its build's System.map (or z.core,
+z.btf and z.map, as crates/kaudit/data); the addresses are in hex, and else are made from the map and
 the page tables at random, and of words of the dump. The second reader is `second.py`'s core and page tables and a search of the file for
 eight bytes, and shares no code with the program.
 """
@@ -19,9 +20,28 @@ from objects import Objects, all_rows
 from second import IMAGE, TOP, Broken, Core, Info, Kernel, Memory, Refused, Types, address, dec_of, symbols, vmcoreinfo
 
 RUNS = 5
-PATTERNS = {0x5A: "uninitialized", 0x6B: "freed", 0xA5: "end", 0xAA: "unallocated", 0xBB: "redzone-free", 0xCC: "redzone-used"}
+POISON_H = """
+PAGE_POISON 0xaa
+SLUB_RED_INACTIVE 0xbb
+SLUB_RED_ACTIVE 0xcc
+POISON_INUSE 0x5a
+POISON_FREE 0x6b
+POISON_END 0xa5
+POISON_FREE_INITMEM 0xcc
+"""
 POISON = (0xDEAD000000000100, 0xDEAD000000000122)
 FILLS = ("zero", "pattern", "text")
+
+
+def patterns():
+    """The names that the kernel's include/linux/poison.h has for each byte, in its order."""
+    found = {}
+    for name, byte in (line.split() for line in POISON_H.split("\n") if line):
+        found.setdefault(int(byte, 0), []).append(name)
+    return {byte: "|".join(names) for byte, names in found.items()}
+
+
+PATTERNS = patterns()
 
 
 def entries(memory, va):
@@ -81,7 +101,7 @@ class Why:
         rows = symbols(map_)
         self.end = self.image_end(rows, info)
         self.base, self.phys_base = self.direct_base(rows, info), phys_base(self.core)
-        self.rows = [row for row in all_rows(map_, info.kaslr) if row[0] >= IMAGE]
+        self.rows = [row for row in all_rows(map_, info.kaslr) if row[0] >= IMAGE and row[1] != "__per_cpu_start"]
         self.lead = lambda value: "number"
 
     def image_end(self, rows, info):

@@ -3,9 +3,10 @@
 
 usage: words.py KAUDIT DUMP WORDS [TABLE]
 
-WORDS lists addresses as `## ADDRESS`, each followed by the wanted answer: the status, if it isn't 0, and the
-printed text. Words that are found are compared with the raw bytes of the dump too, by `od`. TABLE is `-`,
-the table that the dump's notes name, unless it is given.
+WORDS lists addresses in hex as `## ADDRESS`, each followed by the wanted answer: a line `status N`, or N alone, and the printed text. Where a
+line `-- from then on: status 0` stands in it, what is behind that counts alone. What stands before the first address, and lines that begin with
+one `#`, are passed over. Words that are found are compared with the raw bytes of the dump too, by `od`. TABLE is `-`, the table that the dump's
+notes name, unless it is given.
 """
 import re
 import subprocess

@@ -8,9 +8,16 @@ use Rattle.kc_outside.specs.Files.{Files as Told}
 use Rattle.kc_outside.specs.Texts.{with_piece}
 use Rattle.kc_found.specs.declared.verdict.Verdict.{Verdict}
 use Rattle.kc_found.specs.declared.verdict.Verdict.TheVariants.{Clean, Broken}
+use Rattle.kc_plan.specs.Planned.{AuditAt}
+use Rattle.kc_plan.specs.Stands.{PlanStands}
 use Rattle.kc_plan.specs.Verdicts.{verdict}
 use Rattle.kc_cert_text.specs.declared.certificate.CertStep.{CertStep}
+use Rattle.kc_memory.specs.Image.{Image}
+use Rattle.kc_recheck.specs.declared.against.CertAnswer.{CertAnswer}
+use Rattle.kc_recheck.specs.declared.against.CertAnswer.TheVariants.{Yes, No}
+use Rattle.kc_recheck.specs.Answers.{IsRight}
 use Rattle.kc_recheck.specs.Certificates.{answer}
+use Rattle.kc_recheck.specs.Laws.{AnswersAreRight}
 use Rattle.kc_cert_text.specs.CertTexts.{IsCertificate, IsNoCertificate, TextsTold, cert_in}
 use Rattle.kc_input.specs.declared.refusal.Refusal.{Refusal}
 use Rattle.kc_input.specs.declared.refusal.Refusal.TheVariants.{Certificate, TooLong}
@@ -99,37 +106,52 @@ gave cert all made steps ends old new err_old err_new is wrote =
 too_long : (bytes : List ℕ) → 2 ^ 28 < length bytes → nat_le (length bytes) (2 ^ 28) ≡ false
 too_long bytes more = grind (arith, nat_tests)
 
-cert_by : TextsTold → (cert : List CertStep) (all : Audited) (bytes : List ℕ) (ends : Status) (old new err_old err_new : Option (List ℕ))
+yes_stands : (i : Image) (audits : List AuditAt) (a : CertAnswer) → IsRight i audits a → answer_status a ≡ status.Done → PlanStands i audits
+yes_stands i audits (Yes counts) right done = right.0
+yes_stands i audits (No k) right done = absurd (let none : ⊥ = cc in none)
+
+-- an end with 0 is that of a certificate that fits
+done_stands : AnswersAreRight → (cert : List CertStep) (all : Audited) (made : Made (List CertStep)) (ends : Status) (old new err_old err_new : Option (List ℕ))
+    → Wrote cert (rest all made) ends old new err_old err_new → ends ≡ status.Done → PlanStands all.image all.audits
+done_stands law cert all None ends old new err_old err_new wrote done = absurd wrote
+done_stands law cert all (Some (Err refusal)) ends old new err_old err_new wrote done =
+    let refused : ends ≡ status.Refused = wrote.ends in
+    absurd (let no : status.Refused ≡ status.Done = sym refused ∙ done in let none : ⊥ = cc in none)
+done_stands law cert all (Some (Ok steps)) ends old new err_old err_new wrote done =
+    yes_stands all.image all.audits (answer all.image all.audits steps) (law all.image all.audits steps) (sym wrote.ends ∙ done)
+
+cert_by : AnswersAreRight → TextsTold → (cert : List CertStep) (all : Audited) (bytes : List ℕ) (ends : Status) (old new err_old err_new : Option (List ℕ))
     → Wrote cert (rest all (short_made (nat_le (length bytes) (2 ^ 28)) bytes)) ends old new err_old err_new → TellsCert all bytes ends old new err_old err_new
-cert_by texts cert all bytes ends old new err_old err_new wrote =
+cert_by law texts cert all bytes ends old new err_old err_new wrote =
     let made : Made (List CertStep) = short_made (nat_le (length bytes) (2 ^ 28)) bytes in
     record {
       told = λ steps few is. gave cert all made steps ends old new err_old err_new
           (ap (λ (b : Bool). short_made b bytes) (le-leb (length bytes) (2 ^ 28) few) ∙ ap (checked Certificate) (((texts bytes).cert steps).1 is)) wrote;
+      stands = done_stands law cert all made ends old new err_old err_new wrote;
       none = λ at few is. refused cert all made (Certificate at) ends old new err_old err_new
           (ap (λ (b : Bool). short_made b bytes) (le-leb (length bytes) (2 ^ 28) few) ∙ ap (checked Certificate) (((texts bytes).refused at).1 is)) wrote;
       long = λ more. refused cert all made (TooLong Report) ends old new err_old err_new (ap (λ (b : Bool). short_made b bytes) (too_long bytes more)) wrote;
     }
 
-recheck_by : TextsTold → (cert : List CertStep) (made : Made Audited) (file : Option (List ℕ)) (ends : Status) (old new err_old err_new : Option (List ℕ))
+recheck_by : AnswersAreRight → TextsTold → (cert : List CertStep) (made : Made Audited) (file : Option (List ℕ)) (ends : Status) (old new err_old err_new : Option (List ℕ))
     → Wrote cert (made >>= (λ all. rest all (cert_file file))) ends old new err_old err_new → RecheckBy made file ends old new err_old err_new
-recheck_by texts cert None file ends old new err_old err_new is = absurd is
-recheck_by texts cert (Some (Err refusal)) file ends old new err_old err_new is = is.ends
-recheck_by texts cert (Some (Ok all)) None ends old new err_old err_new is = absurd is
-recheck_by texts cert (Some (Ok all)) (Some bytes) ends old new err_old err_new is = cert_by texts cert all bytes ends old new err_old err_new is
+recheck_by law texts cert None file ends old new err_old err_new is = absurd is
+recheck_by law texts cert (Some (Err refusal)) file ends old new err_old err_new is = is.ends
+recheck_by law texts cert (Some (Ok all)) None ends old new err_old err_new is = absurd is
+recheck_by law texts cert (Some (Ok all)) (Some bytes) ends old new err_old err_new is = cert_by law texts cert all bytes ends old new err_old err_new is
 
-recheck_written : TextsTold → (cert : List CertStep) (words : List (List ℕ)) (files : Told) (ends : Status) (old new err_old err_new : Option (List ℕ))
+recheck_written : AnswersAreRight → TextsTold → (cert : List CertStep) (words : List (List ℕ)) (files : Told) (ends : Status) (old new err_old err_new : Option (List ℕ))
     → IsWritten (written_of cert words files) ends old new err_old err_new → RecheckEnds words files ends old new err_old err_new
-recheck_written texts cert words files ends old new err_old err_new is f same =
-    recheck_by texts cert (audited (files Dump f.files.dump) (files Btf f.files.btf) (files Map f.files.map) (files Plan f.files.plan)) (files Report f.cert) ends old new err_old err_new (rw same at is)
+recheck_written law texts cert words files ends old new err_old err_new is f same =
+    recheck_by law texts cert (audited (files Dump f.files.dump) (files Btf f.files.btf) (files Map f.files.map) (files Plan f.files.plan)) (files Report f.cert) ends old new err_old err_new (rw same at is)
 
-recheck_told : TextsTold → (cert : List CertStep) (words : List (List ℕ)) (files : Option Told) (ends : Status) (old new err_old err_new : Option (List ℕ))
+recheck_told : AnswersAreRight → TextsTold → (cert : List CertStep) (words : List (List ℕ)) (files : Option Told) (ends : Status) (old new err_old err_new : Option (List ℕ))
     → IsTold (written_of cert words) files ends old new err_old err_new → IfSome files (λ f. RecheckEnds words f ends old new err_old err_new)
-recheck_told texts cert words None ends old new err_old err_new is = tt
-recheck_told texts cert words (Some files) ends old new err_old err_new is = recheck_written texts cert words files ends old new err_old err_new is
+recheck_told law texts cert words None ends old new err_old err_new is = tt
+recheck_told law texts cert words (Some files) ends old new err_old err_new is = recheck_written law texts cert words files ends old new err_old err_new is
 
 -- and `recheck` by the certificate's file too
-pub answer_rechecks : TextsTold → (words : List (List ℕ)) (files : Option Told) (ends : Status) (old new err_old err_new : Option (List ℕ))
+pub answer_rechecks : AnswersAreRight → TextsTold → (words : List (List ℕ)) (files : Option Told) (ends : Status) (old new err_old err_new : Option (List ℕ))
     → OnTrue (is_answer ends) (IsToldBy words files ends old new err_old err_new) → OnTrue (is_answer ends) (IfSome files (λ f. RecheckEnds words f ends old new err_old err_new))
-answer_rechecks texts words files ends old new err_old err_new told =
-    on_true (is_answer ends) (λ is. recheck_told texts is.0 words files ends old new err_old err_new is.2) told
+answer_rechecks law texts words files ends old new err_old err_new told =
+    on_true (is_answer ends) (λ is. recheck_told law texts is.0 words files ends old new err_old err_new is.2) told

@@ -3,6 +3,7 @@ use Rattle.std.specs.Prelude.{◌≡◌, ℕ, ◌<◌, ◌≤◌, ◌^◌, List,
 use Rattle.kc_outside.specs.declared.store.Slot.TheVariants.{Dump, Btf, Map, Plan, Report}
 use Rattle.kc_outside.specs.Files.{Files as Told}
 use Rattle.kc_outside.specs.Texts.{with_piece}
+use Rattle.kc_plan.specs.Stands.{PlanStands}
 use Rattle.kc_plan.specs.Verdicts.{verdict}
 use Rattle.kc_cert_text.specs.declared.certificate.CertStep.{CertStep}
 use Rattle.kc_recheck.specs.Certificates.{answer}
@@ -38,11 +39,12 @@ abbrev pub CertifyEnds : List (List ℕ) → Told → Status → Option (List �
 CertifyEnds words files ends old new =
     (f : Files) → words ≡ certify_words f → CertifyBy (audited (files Dump f.dump) (files Btf f.btf) (files Map f.map) (files Plan f.plan)) ends old new
 
--- `recheck` tells of the certificate whose text a file is whether it fits; a file above 256 MiB and one that is no certificate's
--- text are refused
+-- `recheck` tells of the certificate whose text a file is whether it fits, and ends with 0 only where every structure that the plan
+-- reaches stands; a file above 256 MiB and one that isn't a certificate's text are refused
 pub record TellsCert (all : Audited) (bytes : List ℕ) (ends : Status) (old new err_old err_new : Option (List ℕ)) : Type 0 where
   pub told : (cert : List CertStep) → length bytes ≤ 2 ^ 28 → IsCertificate bytes cert
       → (ends ≡ answer_status (answer all.image all.audits cert)) × (new ≡ with_piece old (answer_line (answer all.image all.audits cert)))
+  pub stands : ends ≡ status.Done → PlanStands all.image all.audits
   pub none : (at : ℕ) → length bytes ≤ 2 ^ 28 → IsNoCertificate bytes at → (ends ≡ status.Refused) × (err_new ≡ with_piece err_old (refusal_line (Certificate at)))
   pub long : 2 ^ 28 < length bytes → (ends ≡ status.Refused) × (err_new ≡ with_piece err_old (refusal_line (TooLong Report)))
 

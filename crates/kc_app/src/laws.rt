@@ -1,11 +1,12 @@
 // What the definition of the output says.
 ghost use Rattle.kc_cert_text.specs.CertTexts.{TextsTold};
+ghost use Rattle.kc_recheck.specs.Laws.{AnswersAreRight};
 ghost use Rattle.kc_app.specs.Check.{ChecksStand, RootsTold};
 ghost use Rattle.kc_app.specs.Headline.{ChecksEnd};
 ghost use Rattle.kc_app.specs.ModuleHeadline.{ModuleChecksEnd};
 ghost use Rattle.kc_app.specs.Output.{ShownStand};
 
-use kc_cert::know_texts;
+use kc_cert::{know_answers, know_texts};
 use kc_memory::know_places;
 use kc_run::know_verdicts;
 use kc_view::know_values;
@@ -13,7 +14,7 @@ use kc_view::know_values;
 /// Does nothing. Every word of a dump that an output shows stands in the dump at the printed places. `check` shows that a
 /// dump is clean exactly where every structure that the plan reaches stands, and so it ends: with 0 there, with 1 where one
 /// doesn't stand, and with 2 where a file is refused. Of a plan of version 2 it shows so of each root audit. A
-/// certificate is read from exactly its text.
+/// certificate is read from exactly its text, and fits a dump only where every structure stands.
 pub fn know_shown()
     ensures shown { ShownStand }
     ensures checked { ChecksStand }
@@ -21,7 +22,9 @@ pub fn know_shown()
     ensures ends { ChecksEnd }
     ensures module_ends { ModuleChecksEnd }
     ensures texts { TextsTold }
+    ensures right { AnswersAreRight }
 {
+    know_answers();
     know_places();
     know_texts();
     know_values();

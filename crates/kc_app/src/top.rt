@@ -60,7 +60,8 @@ pub fn kaudit<S: Store, O: Sink, E: Sink>(
         (λ files. TookTrue (out_of (map string_bytes words.now) files) (O.taken out.old) (O.taken out.new))) }
 
     // `certify` ends so too, and prints a certificate of the dump where it ends with 0. `recheck` tells of the certificate whose text
-    // a file is whether it fits the dump, and refuses a file above 256 MiB or one that is no certificate's text.
+    // a file is whether it fits the dump, ends with 0 only where every root audit stands in the dump, and refuses a file above 256 MiB
+    // or one that isn't a certificate's text.
     ensures certified { OnTrue (is_answer result) (IfSome (S.files store.old)
         (λ files. CertifyEnds (map string_bytes words.now) files result (O.taken out.old) (O.taken out.new))) }
     ensures rechecked { OnTrue (is_answer result) (IfSome (S.files store.old)

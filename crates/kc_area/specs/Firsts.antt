@@ -3,9 +3,9 @@ use Rattle.std.specs.Prelude.{ℕ, ◌-◌, ◌&&◌, nat_le, nat_lt, if◌then�
 use Rattle.kc_found.specs.Trials.{and_then}
 use Rattle.kc_found.specs.Violations.{Violation}
 
--- the byte of a range that stands at an address, where the range of so many bytes has it
+-- the byte of a range that stands at an address, where the range of so many bytes has it; one at 0 is none
 abbrev pub byte_of : ℕ → ℕ → ℕ → Option ℕ
-byte_of base size address = if nat_le base address && nat_lt (address - base) size then Some (address - base) else None
+byte_of base size address = if nat_lt 0 base && (nat_le base address && nat_lt (address - base) size) then Some (address - base) else None
 
 -- what was found, or what comes of the rest
 abbrev pub or_else : {B : Type 0} → Result (Option B) Violation → Option B → Result (Option B) Violation

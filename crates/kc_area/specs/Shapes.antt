@@ -1,5 +1,5 @@
 -- Where the words stand that tell in which area an address lies. Source: the kernel's include/linux/module.h, `struct module`, with
--- `core_layout` (`struct module_layout`) up to 6.3 and `mem` (`struct module_memory`) from 6.4 on; kernel/module/main.c, `modules`;
+-- `core_layout` and `init_layout` (`struct module_layout`) up to 6.3 and `mem` (`struct module_memory`) from 6.4 on; kernel/module/main.c, `modules`;
 -- arch/x86/kernel/setup_percpu.c, `__per_cpu_offset`; kernel/smp.c, `nr_cpu_ids`; include/asm-generic/sections.h, `__per_cpu_start` and
 -- `__per_cpu_end`; include/linux/sched.h, `struct task_struct`; init/init_task.c, `init_task`; include/asm-generic/vmlinux.lds.h, INIT_TASK_DATA, by
 -- which `init_stack` is as long as a stack (THREAD_SIZE).
@@ -9,21 +9,35 @@ use Rattle.kc_kinds.specs.Kernels.{Kernel, address_in}
 use Rattle.kc_kinds.specs.Members.{◌>>=◌, inner_in, scalar_in, struct_named}
 use Rattle.kc_kinds.specs.Ring.{list_words}
 use Rattle.kc_kinds.specs.Tasks.{task_row, task_words}
+use Rattle.kc_layout.specs.declared.place.Field.{Field}
 use Rattle.kc_lookup.specs.Kernels.{elements_in, single}
 use Rattle.kc_area.specs.declared.shape.AreaShape.{AreaShape}
 use Rattle.kc_area.specs.declared.shape.ModuleShape.{ModuleShape}
 use Rattle.kc_area.specs.declared.shape.PartShape.{PartShape}
 use Rattle.kc_area.specs.declared.shape.ProcessorShape.{ProcessorShape}
 use Rattle.kc_area.specs.declared.shape.StackShape.{StackShape}
+use Rattle.kc_area.specs.Processors.{less}
 
--- a module's memory in one part
-unfoldable pub core_part : Types → Option ℕ → Option PartShape
-core_part types id = do
+-- how many bytes after `core_layout` a module's `init_layout` stands, which is the same struct
+unfoldable pub init_stride : Types → Option ℕ → Option ℕ → Option ℕ
+init_stride types layout id = do
+  core ← inner_in types layout id (codes "core_layout")
+  init ← inner_in types layout id (codes "init_layout")
+  Some (less init core)
+
+-- the part that a module keeps, and that of its init function where a kernel's types have one; it is gone after init
+abbrev pub parts_apart : Field → Field → Option ℕ → PartShape
+parts_apart base size None = record { base = base; size = size; count = 1; stride = 0 }
+parts_apart base size (Some stride) = record { base = base; size = size; count = 2; stride = stride }
+
+-- a module's memory in parts that have a member each
+unfoldable pub layout_parts : Types → Option ℕ → Option PartShape
+layout_parts types id = do
   base ← scalar_in types id (codes "core_layout.base")
   size ← scalar_in types id (codes "core_layout.size")
-  Some (record { base = base; size = size; count = 1; stride = 0 })
+  Some (parts_apart base size (init_stride types (struct_named types (codes "module_layout")) id))
 
--- a module's memory in several parts
+-- a module's memory in an array of parts
 unfoldable pub array_parts : Types → Option ℕ → Option PartShape
 array_parts types id = do
   array ← elements_in types id (codes "mem")
@@ -43,7 +57,7 @@ module_shape kernel = do
   head ← single (address_in kernel (codes "modules"))
   link ← inner_in kernel.types (struct_named kernel.types (codes "list_head")) (struct_named kernel.types (codes "module")) (codes "list")
   name ← elements_in kernel.types (struct_named kernel.types (codes "module")) (codes "name")
-  parts ← first_shape (core_part kernel.types (struct_named kernel.types (codes "module"))) (array_parts kernel.types (struct_named kernel.types (codes "module")))
+  parts ← first_shape (layout_parts kernel.types (struct_named kernel.types (codes "module"))) (array_parts kernel.types (struct_named kernel.types (codes "module")))
   Some (record { list = list; head = head; link = link; name = name; parts = parts })
 
 -- the areas of processors

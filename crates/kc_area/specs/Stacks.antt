@@ -1,6 +1,6 @@
 -- The task whose stack has an address. Source: the kernel's include/linux/sched.h, `stack`, `pid` and `comm` of `struct task_struct`; the tasks are
 -- those of the task list.
-use Rattle.std.specs.Prelude.{ℕ, nat_eq, if◌then◌else◌, Option, Some, None, Result, Ok}
+use Rattle.std.specs.Prelude.{ℕ, Option, Some, None, Result, Ok}
 use Rattle.kc_memory.specs.Image.{Image}
 use Rattle.kc_view.specs.Fields.{read_field, value_of}
 use Rattle.kc_view.specs.TaskLists.{task_list}
@@ -13,10 +13,6 @@ use Rattle.kc_area.specs.declared.shape.StackShape.{StackShape}
 use Rattle.kc_area.specs.declared.stacks.InStack.{InStack}
 use Rattle.kc_area.specs.Firsts.{byte_of, first_of}
 
--- the byte of a stack, where there is one
-abbrev pub stack_byte : ℕ → ℕ → ℕ → Option ℕ
-stack_byte stack size address = if nat_eq stack 0 then None else byte_of stack size address
-
 -- a task that has the address in its stack, with its number and its name
 abbrev pub owner : Image → StackShape → ℕ → Option ℕ → Result (Option InStack) Violation
 owner image shape task None = Ok None
@@ -27,7 +23,7 @@ owner image shape task (Some byte) =
 abbrev pub in_stack : Image → StackShape → ℕ → ℕ → Result (Option InStack) Violation
 in_stack image shape address task =
     and_then (read_field image (looked_at task) task shape.tasks.stack) (λ stack.
-    owner image shape task (stack_byte (value_of stack) shape.bytes address))
+    owner image shape task (byte_of (value_of stack) shape.bytes address))
 
 -- the first of the tasks that has it, in the order of the task list
 abbrev pub stack_at : Image → StackShape → ℕ → Result (Option InStack) Violation

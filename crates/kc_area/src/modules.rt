@@ -29,11 +29,11 @@ pub struct InModule {
     pub byte: u64,
 }
 
-// The byte of a range that stands at an address.
+// The byte of a range that stands at an address. A range at 0 is none.
 pub(crate) fn byte_of(base: u64, size: u64, address: u64) -> Option<u64>
     ensures { result ≡ byte_of base size address }
 {
-    if address >= base && address - base < size {
+    if base > 0 && address >= base && address - base < size {
         Some(address - base)
     } else {
         None

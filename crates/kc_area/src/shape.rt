@@ -5,7 +5,7 @@ ghost use Rattle.kc_kinds.specs.Inside.{AreTasksInside};
 ghost use Rattle.kc_kinds.specs.Kernels.{address_in, kernel};
 ghost use Rattle.kc_kinds.specs.Tasks.{task_row, task_words};
 ghost use Rattle.kc_lookup.specs.Kernels.{single};
-ghost use Rattle.kc_area.specs.Shapes.{area_shape, array_parts, core_part, first_shape, module_shape, or_other, processor_shape, stack_bytes, stack_shape};
+ghost use Rattle.kc_area.specs.Shapes.{area_shape, array_parts, first_shape, init_stride, layout_parts, module_shape, or_other, parts_apart, processor_shape, stack_bytes, stack_shape};
 
 use kc_btf::Btf;
 use kc_found::ListShape;
@@ -79,23 +79,43 @@ pub struct AreaShape {
     pub stacks: Option<StackShape>,
 }
 
-// A module's memory in one part.
-#[tactic(auto, unfolding(crate::specs::Shapes::core_part))]
-fn core_part(btf: &Btf, module_id: Option<u32>) -> Option<PartShape>
+// How many bytes after `core_layout` a module's `init_layout` stands, which is the same struct.
+#[tactic(auto, unfolding(crate::specs::Shapes::init_stride))]
+fn init_stride(btf: &Btf, layout: Option<u32>, module_id: Option<u32>) -> Option<u64>
     requires { IfSome module_id (λ id. id ≤ length btf.now.records) }
-    ensures { result ≡ core_part btf.now module_id }
+    ensures { result ≡ init_stride btf.now layout module_id }
 {
-    let base = scalar_in(btf, module_id, b"core_layout.base")?;
-    let size = scalar_in(btf, module_id, b"core_layout.size")?;
-    Some(PartShape {
-        base,
-        size,
-        count: 1,
-        stride: 0,
-    })
+    let core = inner_in(btf, layout, module_id, b"core_layout")?;
+    let init = inner_in(btf, layout, module_id, b"init_layout")?;
+    Some(init.wrapping_sub(core))
 }
 
-// A module's memory in several parts.
+// The part that a module keeps, and that of its init function where a kernel's types have one.
+fn parts_apart(base: Field, size: Field, stride: Option<u64>) -> PartShape
+    ensures { result ≡ parts_apart base size stride }
+{
+    PartShape {
+        base,
+        size,
+        count: if stride.is_some() { 2 } else { 1 },
+        stride: stride.unwrap_or(0),
+    }
+}
+
+// A module's memory in parts that have a member each.
+#[tactic(auto, unfolding(crate::specs::Shapes::layout_parts))]
+fn layout_parts(known: &Known<'_>, module_id: Option<u32>) -> Option<PartShape>
+    requires { IfSome module_id (λ id. id ≤ length known.now.btf.now.records) }
+    ensures { result ≡ layout_parts known.now.btf.now module_id }
+{
+    let base = scalar_in(known.btf, module_id, b"core_layout.base")?;
+    let size = scalar_in(known.btf, module_id, b"core_layout.size")?;
+    let layout = struct_named(known, b"module_layout");
+    let stride = init_stride(known.btf, layout, module_id);
+    Some(parts_apart(base, size, stride))
+}
+
+// A module's memory in an array of parts.
 #[tactic(auto, unfolding(crate::specs::Shapes::array_parts))]
 fn array_parts(btf: &Btf, module_id: Option<u32>) -> Option<PartShape>
     requires { IfSome module_id (λ id. id ≤ length btf.now.records) }
@@ -113,13 +133,13 @@ fn array_parts(btf: &Btf, module_id: Option<u32>) -> Option<PartShape>
 }
 
 // The memory of modules, as the kernel's types have it.
-fn parts_of(btf: &Btf, module_id: Option<u32>) -> Option<PartShape>
-    requires { IfSome module_id (λ id. id ≤ length btf.now.records) }
-    ensures { result ≡ first_shape (core_part btf.now module_id) (array_parts btf.now module_id) }
+fn parts_of(known: &Known<'_>, module_id: Option<u32>) -> Option<PartShape>
+    requires { IfSome module_id (λ id. id ≤ length known.now.btf.now.records) }
+    ensures { result ≡ first_shape (layout_parts known.now.btf.now module_id) (array_parts known.now.btf.now module_id) }
 {
-    match core_part(btf, module_id) {
+    match layout_parts(known, module_id) {
         Some(parts) => Some(parts),
-        None => array_parts(btf, module_id),
+        None => array_parts(known.btf, module_id),
     }
 }
 
@@ -134,7 +154,7 @@ fn module_shape(known: &Known<'_>) -> Option<ModuleShape>
     let module_id = struct_named(known, b"module");
     let link = inner_in(known.btf, node, module_id, b"list")?;
     let name = elements_in(known.btf, module_id, b"name")?;
-    let parts = parts_of(known.btf, module_id)?;
+    let parts = parts_of(known, module_id)?;
     Some(ModuleShape {
         list,
         head,

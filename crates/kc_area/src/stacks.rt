@@ -4,7 +4,7 @@ ghost use Rattle.kc_memory.specs.Stays.{SpaceStays};
 ghost use Rattle.kc_found.specs.Walks.{CountsWalkFaults, WalksAs};
 ghost use Rattle.kc_view.specs.TaskLists.{IsInside};
 ghost use Rattle.kc_area.specs.Firsts.{first_of};
-ghost use Rattle.kc_area.specs.Stacks.{in_stack, owner, stack_at, stack_byte};
+ghost use Rattle.kc_area.specs.Stacks.{in_stack, owner, stack_at};
 
 use crate::modules::byte_of;
 use crate::shape::StackShape;
@@ -28,17 +28,6 @@ pub struct InStack {
     pub comm: Name,
     /// The byte, counted from the stack's lowest one.
     pub byte: u64,
-}
-
-// The byte of a stack that stands at an address, where there is a stack.
-fn stack_byte(stack: u64, size: u64, address: u64) -> Option<u64>
-    ensures { result ≡ stack_byte stack size address }
-{
-    if stack == 0 {
-        None
-    } else {
-        byte_of(stack, size, address)
-    }
 }
 
 // A task that has this byte of its stack at the address.
@@ -88,7 +77,7 @@ fn in_stack<S: Space, L: Ledger>(
     let asked = looked_at(task);
     let view = view_at(btf, task);
     let stack = read_field(alloc, space, &asked, &view, &shape.tasks.stack, steps)?.value();
-    let byte = stack_byte(stack, shape.bytes, address);
+    let byte = byte_of(stack, shape.bytes, address);
     read_owner(alloc, space, btf, shape, task, byte, steps)
 }
 

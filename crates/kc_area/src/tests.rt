@@ -16,9 +16,9 @@ use std::test::Fail;
 // A file of types that has none: its header, and an empty name.
 const NO_TYPES: &[u8] = b"\x9f\xeb\x01\0\x18\0\0\0\0\0\0\0\0\0\0\0\0\0\0\0\x01\0\0\0\0";
 
-// A task at 1000, alone in its group at 2000, with a stack at 8000; a module at 3000, alone in the ring at 2800, with 100 bytes at 9000; and two processors
-// with areas at 20000 and 30000.
-const WORDS: [(u64, u64); 27] = [
+// A task at 1000, alone in its group at 2000, with a stack at 8000; a module at 3000, alone in the ring at 2800, with 100 bytes at 9000
+// and 50 at 9200; and two processors with areas at 20000 and 30000.
+const WORDS: [(u64, u64); 29] = [
     (1000, 8000),
     (1008, 1008),
     (1016, 1008),
@@ -39,6 +39,8 @@ const WORDS: [(u64, u64); 27] = [
     (3016, 0x3474_7865),
     (3024, 9000),
     (3032, 100),
+    (3040, 9200),
+    (3048, 50),
     (4000, 2),
     (4008, 20_000),
     (4016, 30_000),
@@ -49,9 +51,11 @@ const WORDS: [(u64, u64); 27] = [
 ];
 
 // An address, and the areas in which it lies.
-const CASES: [(u64, &str); 7] = [
+const CASES: [(u64, &str); 9] = [
     (9099, "ext4+99, no, no"),
     (9100, "no, no, no"),
+    (9249, "ext4+49, no, no"),
+    (9250, "no, no, no"),
     (20_000, "no, 0 at 0, no"),
     (30_063, "no, 1 at 63, no"),
     (30_064, "no, no, no"),
@@ -122,8 +126,8 @@ fn shape() -> AreaShape {
     let parts = PartShape {
         base: field(192, 64),
         size: field(256, 32),
-        count: 1,
-        stride: 0,
+        count: 2,
+        stride: 16,
     };
     let modules = ModuleShape {
         list: ListShape { next: 0, prev: 8 },

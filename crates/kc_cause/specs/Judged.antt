@@ -1,9 +1,10 @@
 -- What the code has of a plan on a dump, and what becomes of it.
-use Rattle.std.specs.Prelude.{◌≡◌, ⊤, ℕ, nat_eq, if◌then◌else◌, Bool, true, false, List, bytes_eq, IfSome, Option, Some, None, Result, Ok, Err}
+use Rattle.std.specs.Prelude.{◌≡◌, ⊤, ℕ, nat_eq, if◌then◌else◌, Bool, true, false, List, length, bytes_eq, IfSome, Option, Some, None, Result, Ok, Err}
 use Rattle.kc_memory.specs.Image.{Image}
 use Rattle.kc_found.specs.declared.verdict.RootVerdict.{RootVerdict}
 use Rattle.kc_found.specs.declared.verdict.Verdict.{Verdict}
 use Rattle.kc_plan.specs.declared.plan.Plan.{Plan}
+use Rattle.kc_plan.specs.Inside.{AreInside}
 use Rattle.kc_plan.specs.Planned.{AuditAt}
 use Rattle.kc_plan.specs.Roots.{FitEach, root_verdicts}
 use Rattle.kc_plan.specs.Verdicts.{FitsPlan, verdict}
@@ -16,6 +17,7 @@ use Rattle.kc_input.specs.declared.halt.Halt.{Halt}
 use Rattle.kc_input.specs.declared.halt.Halt.TheVariants.{Refused, Store, Memory}
 use Rattle.kc_input.specs.declared.refusal.Refusal.TheVariants as refusals
 use Rattle.kc_input.specs.declared.refusal.ReportFault.TheVariants.{Y2}
+use Rattle.kc_input.specs.Paging.{IsTable}
 use Rattle.kc_ends.specs.declared.answer.Answer.{Answer}
 use Rattle.kc_ends.specs.declared.answer.Answer.TheVariants.{Done, Broken}
 use Rattle.kc_view.specs.TaskLists.{IsInside}
@@ -77,6 +79,12 @@ over_plan o image = record {
 -- the type of a task is one of the types
 abbrev pub TasksAreInside : PlanOf → Type 0
 TasksAreInside o = IfSome o.shapes.words.areas.stacks (λ shape. IsInside shape.tasks o.types.now)
+
+-- the page tables stand where a table may, and the audits and the type of a task are of these types
+pub record FitsTogether (o : PlanOf) : Type 0 where
+  pub table : IsTable o.paging.table
+  pub types : AreInside (length o.types.now.records) o.plan.now.audits
+  pub tasks : TasksAreInside o
 
 -- an answer is this text
 abbrev pub Tells : List ℕ → Result Answer Halt → Type 0

@@ -1,11 +1,11 @@
 // The files of a report, and what explains it.
-ghost use Rattle.std.specs.Prelude.{◌≡◌, ◌≤◌, ◌∷◌, [], ℕ, List, length, IfSome};
+ghost use Rattle.std.specs.Prelude.{◌≡◌, ◌≤◌, ℕ, List, length, IfSome};
 ghost use Rattle.kc_outside.specs.declared.store.Slot.{Slot};
 ghost use Rattle.kc_outside.specs.declared.store.Slot.TheVariants.{Dump, Map};
 ghost use Rattle.kc_outside.specs.Counts.{Rose};
 ghost use Rattle.kc_outside.specs.Files.{OthersStay, content};
 ghost use Rattle.kc_memory.specs.Stays.{FramesStay};
-ghost use Rattle.kc_phys.specs.Stored.{AreInside, stored};
+ghost use Rattle.kc_phys.specs.Stored.{AreInside};
 ghost use Rattle.kc_mem.specs.Paged.{with_paging};
 ghost use Rattle.kc_view.specs.TaskLists.{IsInside};
 ghost use Rattle.kc_plan.specs.Inside.{AreInside as TypesAreInside};
@@ -17,18 +17,19 @@ ghost use Rattle.kc_input.specs.Slots.{RefusesIn};
 ghost use Rattle.kc_ends.specs.Answers.{Prints, PrintsOf, PrintsOfBytes, StayBehind};
 ghost use Rattle.kc_cause.specs.Explained.{cause_made, causes_text, compared, explained_written, or_clean, report_file, report_passed};
 ghost use Rattle.kc_cause.specs.Files.{cause_asked, explained_of, report_files};
-ghost use Rattle.kc_cause.specs.Judged.{Compares, FitsJudged, JudgesAs, TasksAreInside, Tells, is_reported, over_plan};
+ghost use Rattle.kc_cause.specs.Judged.{Compares, FitsJudged, FitsTogether, JudgesAs, Tells, is_reported, over_plan};
 
-use crate::explained::{Written, explained_text};
+use crate::explained::explained_text;
 use crate::held::{Held, PlanFiles, Planned, find_plan, names_of, read_held};
-use crate::judged::{Judged, JudgedOver, PlanOf, judge_over, report_text};
+use crate::judged::{Judged, PlanOf, judge_over, report_text};
+use crate::repairs::Repairable;
+use crate::returned::Returned;
 use kc_ends::Answer;
 use kc_input::{Halt, Refusal, ReportFault, paging_by, read_report_file};
 use kc_outside::Store;
 use kc_phys::{Phys, Room};
 use kc_report::{ReportStop, read_report};
 use kc_run::RunStop;
-use kc_word::PageCfg;
 use std::alloc::Global;
 
 /// A report, with the files of its audit.
@@ -127,48 +128,38 @@ fn explain_held<S: Store>(
         plan: &planned.plan,
         types: &held.types,
         shapes: planned.shapes,
+        paging: paging_by(held.info),
     };
-    let paging = paging_by(held.info);
     let memory = Phys::over(store, room);
-    let ExplainedOver { memory, answer } = explain_over(memory, &over, paging, report);
+    let Returned { memory, answer } = explain_over(memory, &over, report);
     let _store = memory.into_store();
     answer
 }
 
-// What explains a report, and the memory that was asked, handed back.
-#[derive(Drop)]
-struct ExplainedOver<'s, S: Store> {
-    memory: Phys<'s, S>,
-    answer: Result<Answer, Halt>,
-}
-
 // The same over the physical memory of the dump.
-fn explain_over<'s, S: Store>(
-    memory: Phys<'s, S>,
+fn explain_over<F: Repairable>(
+    memory: F,
     over: &PlanOf<'_>,
-    paging: PageCfg,
     report: &[u8],
-) -> ExplainedOver<'s, S>
-    requires table { IsTable paging.table }
-    requires types { TypesAreInside (length over.now.types.now.records) over.now.plan.now.audits }
-    requires tasks { TasksAreInside over.now }
+) -> Returned<F, Result<Answer, Halt>>
+    requires over { FitsTogether over.now }
 
-    ensures output { IfSome (with_paging paging (stored memory.entry.segments.items memory.entry.tail (content (S.files memory.entry.store.now) Dump (S.opened memory.entry.store.now Dump)))) (λ image.
+    ensures output { IfSome (with_paging over.now.paging (F.image memory)) (λ image.
         Prints explained_written (compared (over_plan over.now image) report.now) result.answer) }
     ensures refused { RefusesIn Slot.Report result.answer }
-    ensures stays { FramesStay (λ p. stored p.segments.items p.tail (content (S.files p.store.now) Dump (S.opened p.store.now Dump))) (λ p. S.files p.store.now) (λ p. p.store.ghost_name ∷ []) memory.entry result.memory }
-    ensures later { S.faults memory.entry.store.now ≤ S.faults result.memory.store.now }
-    ensures quiet { UnlessStore result.answer (S.faults result.memory.store.now ≡ S.faults memory.entry.store.now) }
-    ensures cause { OnStore result.answer (Rose (S.faults memory.entry.store.now) (S.faults result.memory.store.now)) }
+    ensures stays { FramesStay F.image F.files F.through memory result.memory }
+    ensures later { F.faults memory ≤ F.faults result.memory }
+    ensures quiet { UnlessStore result.answer (F.faults result.memory ≡ F.faults memory) }
+    ensures cause { OnStore result.answer (Rose (F.faults memory) (F.faults result.memory)) }
 {
-    let JudgedOver { memory, judged } = judge_over(memory, over, paging);
-    match judged {
-        Ok(judged) => explain_judged(memory, over, paging, &judged, report),
-        Err(RunStop::Fault) => ExplainedOver {
+    let Returned { memory, answer } = judge_over(memory, over);
+    match answer {
+        Ok(judged) => explain_judged(memory, over, &judged, report),
+        Err(RunStop::Fault) => Returned {
             memory,
             answer: Err(Halt::Store),
         },
-        Err(RunStop::NoMemory) => ExplainedOver {
+        Err(RunStop::NoMemory) => Returned {
             memory,
             answer: Err(Halt::Memory),
         },
@@ -176,30 +167,27 @@ fn explain_over<'s, S: Store>(
 }
 
 // The same of what was judged.
-fn explain_judged<'s, S: Store>(
-    memory: Phys<'s, S>,
+fn explain_judged<F: Repairable>(
+    memory: F,
     over: &PlanOf<'_>,
-    paging: PageCfg,
     judged: &Judged,
     report: &[u8],
-) -> ExplainedOver<'s, S>
-    requires table { IsTable paging.table }
-    requires types { TypesAreInside (length over.now.types.now.records) over.now.plan.now.audits }
-    requires tasks { TasksAreInside over.now }
+) -> Returned<F, Result<Answer, Halt>>
+    requires over { FitsTogether over.now }
     requires fits { FitsJudged (length over.now.plan.now.audits) (plan_seen over.now.plan.now) judged.now }
-    requires says { IfSome (with_paging paging (stored memory.segments.items memory.tail (content (S.files memory.store.now) Dump (S.opened memory.store.now Dump)))) (λ image. JudgesAs image over.now.plan.now judged.now) }
+    requires says { IfSome (with_paging over.now.paging (F.image memory)) (λ image. JudgesAs image over.now.plan.now judged.now) }
 
-    ensures output { IfSome (with_paging paging (stored memory.entry.segments.items memory.entry.tail (content (S.files memory.entry.store.now) Dump (S.opened memory.entry.store.now Dump)))) (λ image.
+    ensures output { IfSome (with_paging over.now.paging (F.image memory)) (λ image.
         Prints explained_written (compared (over_plan over.now image) report.now) result.answer) }
     ensures refused { RefusesIn Slot.Report result.answer }
-    ensures stays { FramesStay (λ p. stored p.segments.items p.tail (content (S.files p.store.now) Dump (S.opened p.store.now Dump))) (λ p. S.files p.store.now) (λ p. p.store.ghost_name ∷ []) memory.entry result.memory }
-    ensures later { S.faults memory.entry.store.now ≤ S.faults result.memory.store.now }
-    ensures quiet { UnlessStore result.answer (S.faults result.memory.store.now ≡ S.faults memory.entry.store.now) }
-    ensures cause { OnStore result.answer (Rose (S.faults memory.entry.store.now) (S.faults result.memory.store.now)) }
+    ensures stays { FramesStay F.image F.files F.through memory result.memory }
+    ensures later { F.faults memory ≤ F.faults result.memory }
+    ensures quiet { UnlessStore result.answer (F.faults result.memory ≡ F.faults memory) }
+    ensures cause { OnStore result.answer (Rose (F.faults memory) (F.faults result.memory)) }
 {
     match compare(over, judged, report) {
-        Ok(()) => tell(memory, over, paging, judged),
-        Err(halt) => ExplainedOver {
+        Ok(()) => tell(memory, over, judged),
+        Err(halt) => Returned {
             memory,
             answer: Err(halt),
         },
@@ -221,30 +209,27 @@ fn compare(over: &PlanOf<'_>, judged: &Judged, report: &[u8]) -> Result<(), Halt
 }
 
 // The answer on what was judged.
-fn tell<'s, S: Store>(
-    memory: Phys<'s, S>,
+fn tell<F: Repairable>(
+    memory: F,
     over: &PlanOf<'_>,
-    paging: PageCfg,
     judged: &Judged,
-) -> ExplainedOver<'s, S>
-    requires table { IsTable paging.table }
-    requires types { TypesAreInside (length over.now.types.now.records) over.now.plan.now.audits }
-    requires tasks { TasksAreInside over.now }
+) -> Returned<F, Result<Answer, Halt>>
+    requires over { FitsTogether over.now }
     requires fits { FitsJudged (length over.now.plan.now.audits) (plan_seen over.now.plan.now) judged.now }
 
-    ensures says { IfSome (with_paging paging (stored memory.entry.segments.items memory.entry.tail (content (S.files memory.entry.store.now) Dump (S.opened memory.entry.store.now Dump)))) (λ image.
+    ensures says { IfSome (with_paging over.now.paging (F.image memory)) (λ image.
         Tells (or_clean (causes_text (over_plan over.now image) judged.now.roots)) result.answer) }
     ensures not_refused { NotRefused result.answer }
-    ensures stays { FramesStay (λ p. stored p.segments.items p.tail (content (S.files p.store.now) Dump (S.opened p.store.now Dump))) (λ p. S.files p.store.now) (λ p. p.store.ghost_name ∷ []) memory.entry result.memory }
-    ensures later { S.faults memory.entry.store.now ≤ S.faults result.memory.store.now }
-    ensures quiet { UnlessStore result.answer (S.faults result.memory.store.now ≡ S.faults memory.entry.store.now) }
-    ensures cause { OnStore result.answer (Rose (S.faults memory.entry.store.now) (S.faults result.memory.store.now)) }
+    ensures stays { FramesStay F.image F.files F.through memory result.memory }
+    ensures later { F.faults memory ≤ F.faults result.memory }
+    ensures quiet { UnlessStore result.answer (F.faults result.memory ≡ F.faults memory) }
+    ensures cause { OnStore result.answer (Rose (F.faults memory) (F.faults result.memory)) }
 {
-    let Written { memory, text } = explained_text(memory, over, paging, &judged.roots);
-    let answer = match text {
+    let Returned { memory, answer } = explained_text(memory, over, &judged.roots);
+    let answer = match answer {
         Ok(text) => Ok(Answer::Done(text)),
         Err(RunStop::Fault) => Err(Halt::Store),
         Err(RunStop::NoMemory) => Err(Halt::Memory),
     };
-    ExplainedOver { memory, answer }
+    Returned { memory, answer }
 }

@@ -1,9 +1,6 @@
 // What a plan comes to on a dump.
-ghost use Rattle.std.specs.Prelude.{◌≡◌, ◌<◌, ◌∷◌, [], length, IfOk, IfSome};
-ghost use Rattle.kc_outside.specs.declared.store.Slot.TheVariants.{Dump};
-ghost use Rattle.kc_outside.specs.Files.{content};
+ghost use Rattle.std.specs.Prelude.{◌≡◌, ◌<◌, length, IfOk, IfSome};
 ghost use Rattle.kc_memory.specs.Stays.{FramesStay, SpaceStays};
-ghost use Rattle.kc_phys.specs.Stored.{stored};
 ghost use Rattle.kc_tlb.specs.Entries.{AreEmpty};
 ghost use Rattle.kc_mem.specs.Paged.{with_paging};
 ghost use Rattle.kc_plan.specs.Inside.{AreInside as TypesAreInside};
@@ -11,14 +8,13 @@ ghost use Rattle.kc_plan.specs.Verdicts.{FitsPlan};
 ghost use Rattle.kc_plan.specs.Views.{plan_seen};
 ghost use Rattle.kc_report.specs.IsReport.{report_text};
 ghost use Rattle.kc_run.specs.Answers.{CountsRunFaults};
-ghost use Rattle.kc_input.specs.Paging.{IsTable};
-ghost use Rattle.kc_cause.specs.Judged.{AreOfPlan, FitsJudged, JudgesAs, report_of_judged, whole_verdict};
+ghost use Rattle.kc_cause.specs.Judged.{AreOfPlan, FitsJudged, FitsTogether, JudgesAs, report_of_judged, whole_verdict};
 
+use crate::returned::Returned;
 use kc_btf::Btf;
 use kc_found::{Space, Verdict, Verdicts};
 use kc_mem::Memory;
-use kc_outside::Store;
-use kc_phys::Phys;
+use kc_memory::Frames;
 use kc_plan::Plan;
 use kc_report::{PlanNames, report_each, report_of, text};
 use kc_run::{RunStop, run, run_each};
@@ -52,6 +48,8 @@ pub(crate) struct PlanOf<'p> {
     pub types: &'p Btf,
     /// What tells of an address.
     pub shapes: Shapes<'p>,
+    /// The page tables of the dump.
+    pub paging: PageCfg,
 }
 
 // The verdict on all audits, where the plan asks for one.
@@ -92,38 +90,31 @@ fn judge<M: Space, L: Ledger>(
     Ok(Judged { whole, roots })
 }
 
-/// What a plan comes to over a memory, which is handed back.
-#[derive(Drop)]
-pub(crate) struct JudgedOver<'s, S: Store> {
-    pub(crate) memory: Phys<'s, S>,
-    pub(crate) judged: Result<Judged, RunStop>,
-}
-
 // The same over the physical memory of a dump, with places for translations, and steps on a blank of the caller's.
-fn judge_counted<'s, S: Store, L: Ledger>(
-    memory: Phys<'s, S>,
+fn judge_counted<F: Frames, L: Ledger>(
+    memory: F,
     tlb: Tlb,
     over: &PlanOf<'_>,
     blank: Blank,
-) -> JudgedOver<'s, S>
+) -> Returned<F, Result<Judged, RunStop>>
     requires name { blank.name ≡ L.name }
     requires parts { blank.parts ≡ L.parts }
     requires some { 0 < L.parts }
     requires types { TypesAreInside (length over.now.types.now.records) over.now.plan.now.audits }
     requires empty { AreEmpty tlb.places.items }
 
-    ensures says { IfSome (with_paging tlb.paging (stored memory.entry.segments.items memory.entry.tail (content (S.files memory.entry.store.now) Dump (S.opened memory.entry.store.now Dump))))
-        (λ image. IfOk result.judged (JudgesAs image over.now.plan.now)) }
-    ensures fits { IfOk result.judged (FitsJudged (length over.now.plan.now.audits) (plan_seen over.now.plan.now)) }
-    ensures stays { FramesStay (λ p. stored p.segments.items p.tail (content (S.files p.store.now) Dump (S.opened p.store.now Dump))) (λ p. S.files p.store.now) (λ p. p.store.ghost_name ∷ []) memory.entry result.memory }
-    ensures cause { CountsRunFaults result.judged (S.faults memory.entry.store.now) (S.faults result.memory.store.now) }
+    ensures says { IfSome (with_paging tlb.paging (F.image memory))
+        (λ image. IfOk result.answer (JudgesAs image over.now.plan.now)) }
+    ensures fits { IfOk result.answer (FitsJudged (length over.now.plan.now.audits) (plan_seen over.now.plan.now)) }
+    ensures stays { FramesStay F.image F.files F.through memory result.memory }
+    ensures cause { CountsRunFaults result.answer (F.faults memory) (F.faults result.memory) }
 {
     let mut steps = Steps::<L>::new(blank);
     let mut space = Memory::over(memory, tlb);
-    let judged = judge(over, &mut space, &mut steps);
-    JudgedOver {
+    let answer = judge(over, &mut space, &mut steps);
+    Returned {
         memory: space.into_frames(),
-        judged,
+        answer,
     }
 }
 
@@ -132,25 +123,23 @@ fn judge_counted<'s, S: Store, L: Ledger>(
 /// # Errors
 ///
 /// A failed call of the store; no memory was left.
-pub(crate) fn judge_over<'s, S: Store>(
-    memory: Phys<'s, S>,
+pub(crate) fn judge_over<F: Frames>(
+    memory: F,
     over: &PlanOf<'_>,
-    paging: PageCfg,
-) -> JudgedOver<'s, S>
-    requires table { IsTable paging.table }
-    requires types { TypesAreInside (length over.now.types.now.records) over.now.plan.now.audits }
+) -> Returned<F, Result<Judged, RunStop>>
+    requires over { FitsTogether over.now }
 
-    ensures says { IfSome (with_paging paging (stored memory.entry.segments.items memory.entry.tail (content (S.files memory.entry.store.now) Dump (S.opened memory.entry.store.now Dump))))
-        (λ image. IfOk result.judged (JudgesAs image over.now.plan.now)) }
-    ensures fits { IfOk result.judged (FitsJudged (length over.now.plan.now.audits) (plan_seen over.now.plan.now)) }
-    ensures stays { FramesStay (λ p. stored p.segments.items p.tail (content (S.files p.store.now) Dump (S.opened p.store.now Dump))) (λ p. S.files p.store.now) (λ p. p.store.ghost_name ∷ []) memory.entry result.memory }
-    ensures cause { CountsRunFaults result.judged (S.faults memory.entry.store.now) (S.faults result.memory.store.now) }
+    ensures says { IfSome (with_paging over.now.paging (F.image memory))
+        (λ image. IfOk result.answer (JudgesAs image over.now.plan.now)) }
+    ensures fits { IfOk result.answer (FitsJudged (length over.now.plan.now.audits) (plan_seen over.now.plan.now)) }
+    ensures stays { FramesStay F.image F.files F.through memory result.memory }
+    ensures cause { CountsRunFaults result.answer (F.faults memory) (F.faults result.memory) }
 {
-    match Tlb::new(over.alloc, paging, KEPT) {
-        Ok(tlb) => judge_counted::<S, Brand>(memory, tlb, over, Blank::new(1)),
-        Err(NoMemory) => JudgedOver {
+    match Tlb::new(over.alloc, over.paging, KEPT) {
+        Ok(tlb) => judge_counted::<F, Brand>(memory, tlb, over, Blank::new(1)),
+        Err(NoMemory) => Returned {
             memory,
-            judged: Err(RunStop::NoMemory),
+            answer: Err(RunStop::NoMemory),
         },
     }
 }

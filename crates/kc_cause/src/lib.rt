@@ -9,6 +9,7 @@ mod laws;
 mod lines;
 mod places;
 mod repairs;
+mod returned;
 mod rings;
 mod sentences;
 mod suspected;

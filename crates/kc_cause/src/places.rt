@@ -1,34 +1,28 @@
 // The list in which a violation lies, and the words that show it, with what is told of their addresses.
-ghost use Rattle.std.specs.Prelude.{◌≡◌, ◌<◌, ◌++◌, ◌∷◌, [], length, IfOk, IfSome, OnOk};
-ghost use Rattle.kc_outside.specs.declared.store.Slot.TheVariants.{Dump};
-ghost use Rattle.kc_outside.specs.Files.{content};
+ghost use Rattle.std.specs.Prelude.{◌≡◌, ◌<◌, ◌++◌, length, IfOk, IfSome, OnOk};
 ghost use Rattle.kc_memory.specs.Stays.{FramesStay, SpaceStays};
-ghost use Rattle.kc_phys.specs.Stored.{stored};
 ghost use Rattle.kc_tlb.specs.Entries.{AreEmpty};
 ghost use Rattle.kc_mem.specs.Paged.{with_paging};
 ghost use Rattle.kc_text.specs.Compose.{texts};
 ghost use Rattle.kc_run.specs.Answers.{CountsRunFaults};
-ghost use Rattle.kc_input.specs.Paging.{IsTable};
 ghost use Rattle.kc_plan.specs.Inside.{AreInside};
 ghost use Rattle.kc_cause.specs.Explained.{place_told, shown_lines};
-ghost use Rattle.kc_cause.specs.Judged.{TasksAreInside, over_plan};
+ghost use Rattle.kc_cause.specs.Judged.{FitsTogether, TasksAreInside, over_plan};
 ghost use Rattle.kc_told.specs.Objects.{told_of};
 ghost use Rattle.kc_told.specs.Views.{shapes_view, told_view};
 
 use crate::judged::PlanOf;
-use crate::repairs::Wrote;
+use crate::returned::Returned;
 use crate::rings::push_ring;
 use kc_found::{Found, Places, Space};
 use kc_mem::Memory;
-use kc_memory::Place;
-use kc_outside::Store;
-use kc_phys::Phys;
+use kc_memory::{Frames, Place};
 use kc_report::push_place;
 use kc_run::RunStop;
 use kc_tlb::Tlb;
 use kc_told::{Told, push_told, read_told};
 use kc_where::LookStop;
-use kc_word::{NoMemory, PageCfg, Steps};
+use kc_word::{NoMemory, Steps};
 use std::marker::Brand;
 use std::sync::ledger::{Blank, Ledger};
 
@@ -120,14 +114,14 @@ fn push_shown<M: Space, L: Ledger>(
 }
 
 // The same over the physical memory of a dump, with places for translations, and steps on a blank of the caller's.
-fn push_counted<'s, S: Store, L: Ledger>(
-    memory: Phys<'s, S>,
+fn push_counted<F: Frames, L: Ledger>(
+    memory: F,
     tlb: Tlb,
     text: &mut Vec<u8>,
     over: &PlanOf<'_>,
     found: &Found,
     blank: Blank,
-) -> Wrote<'s, S>
+) -> Returned<F, Result<(), RunStop>>
     requires name { blank.name ≡ L.name }
     requires parts { blank.parts ≡ L.parts }
     requires some { 0 < L.parts }
@@ -136,43 +130,40 @@ fn push_counted<'s, S: Store, L: Ledger>(
     requires found { found.now.audit < length over.now.plan.now.audits }
     requires empty { AreEmpty tlb.places.items }
 
-    ensures added { OnOk result.done (IfSome (with_paging tlb.paging (stored memory.entry.segments.items memory.entry.tail (content (S.files memory.entry.store.now) Dump (S.opened memory.entry.store.now Dump)))) (λ image.
+    ensures added { OnOk result.answer (IfSome (with_paging tlb.paging (F.image memory)) (λ image.
         text.new.items ≡ text.old.items ++ shown_lines (over_plan over.now image) found.now)) }
-    ensures stays { FramesStay (λ p. stored p.segments.items p.tail (content (S.files p.store.now) Dump (S.opened p.store.now Dump))) (λ p. S.files p.store.now) (λ p. p.store.ghost_name ∷ []) memory.entry result.memory }
-    ensures cause { CountsRunFaults result.done (S.faults memory.entry.store.now) (S.faults result.memory.store.now) }
+    ensures stays { FramesStay F.image F.files F.through memory result.memory }
+    ensures cause { CountsRunFaults result.answer (F.faults memory) (F.faults result.memory) }
 {
     let mut steps = Steps::<L>::new(blank);
     let mut space = Memory::over(memory, tlb);
-    let done = push_shown(text, over, &mut space, found, &mut steps);
-    Wrote {
+    let answer = push_shown(text, over, &mut space, found, &mut steps);
+    Returned {
         memory: space.into_frames(),
-        done,
+        answer,
     }
 }
 
 /// Adds the list in which a violation lies, where that is told, and the words that show it, each with what is told of its address.
-pub(crate) fn push_shown_over<'s, S: Store>(
-    memory: Phys<'s, S>,
+pub(crate) fn push_shown_over<F: Frames>(
+    memory: F,
     text: &mut Vec<u8>,
     over: &PlanOf<'_>,
-    paging: PageCfg,
     found: &Found,
-) -> Wrote<'s, S>
-    requires table { IsTable paging.table }
-    requires tasks { TasksAreInside over.now }
-    requires types { AreInside (length over.now.types.now.records) over.now.plan.now.audits }
+) -> Returned<F, Result<(), RunStop>>
+    requires over { FitsTogether over.now }
     requires found { found.now.audit < length over.now.plan.now.audits }
 
-    ensures added { OnOk result.done (IfSome (with_paging paging (stored memory.entry.segments.items memory.entry.tail (content (S.files memory.entry.store.now) Dump (S.opened memory.entry.store.now Dump)))) (λ image.
+    ensures added { OnOk result.answer (IfSome (with_paging over.now.paging (F.image memory)) (λ image.
         text.new.items ≡ text.old.items ++ shown_lines (over_plan over.now image) found.now)) }
-    ensures stays { FramesStay (λ p. stored p.segments.items p.tail (content (S.files p.store.now) Dump (S.opened p.store.now Dump))) (λ p. S.files p.store.now) (λ p. p.store.ghost_name ∷ []) memory.entry result.memory }
-    ensures cause { CountsRunFaults result.done (S.faults memory.entry.store.now) (S.faults result.memory.store.now) }
+    ensures stays { FramesStay F.image F.files F.through memory result.memory }
+    ensures cause { CountsRunFaults result.answer (F.faults memory) (F.faults result.memory) }
 {
-    match Tlb::new(over.alloc, paging, KEPT) {
-        Ok(tlb) => push_counted::<S, Brand>(memory, tlb, text, over, found, Blank::new(1)),
-        Err(NoMemory) => Wrote {
+    match Tlb::new(over.alloc, over.paging, KEPT) {
+        Ok(tlb) => push_counted::<F, Brand>(memory, tlb, text, over, found, Blank::new(1)),
+        Err(NoMemory) => Returned {
             memory,
-            done: Err(RunStop::NoMemory),
+            answer: Err(RunStop::NoMemory),
         },
     }
 }

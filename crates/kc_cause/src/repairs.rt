@@ -1,22 +1,22 @@
 // What repairs a violation, and its lines.
-ghost use Rattle.std.specs.Prelude.{◌≡◌, ◌∷◌, [], ◌++◌, ◌<◌, length, OnOk, IfSome};
-ghost use Rattle.kc_outside.specs.declared.store.Slot.TheVariants.{Dump};
-ghost use Rattle.kc_outside.specs.Files.{content};
+ghost use Rattle.std.specs.Prelude.{◌≡◌, ◌++◌, ◌<◌, length, OnOk, IfOk, IfSome};
 ghost use Rattle.kc_memory.specs.Stays.{FramesStay};
-ghost use Rattle.kc_phys.specs.Stored.{stored};
 ghost use Rattle.kc_mem.specs.Paged.{with_paging};
 ghost use Rattle.kc_plan.specs.Inside.{AreInside as TypesAreInside};
 ghost use Rattle.kc_plan.specs.Views.{plan_seen};
 ghost use Rattle.kc_run.specs.Answers.{CountsRunFaults};
+ghost use Rattle.kc_repair.specs.Repairs.{repair_of};
 ghost use Rattle.kc_input.specs.Paging.{IsTable};
 ghost use Rattle.kc_cause.specs.Explained.{repairs_as, repairs_found};
-ghost use Rattle.kc_cause.specs.Judged.{over_plan};
+ghost use Rattle.kc_cause.specs.Judged.{FitsTogether, over_plan};
 ghost use Rattle.kc_cause.specs.Lines.{next_line, next_lines, repair_lines, suspect_part, tried_part};
 
 use crate::judged::PlanOf;
-use crate::suspected::{AsRingOver, as_ring_over};
+use crate::returned::Returned;
+use crate::suspected::as_ring_over;
 use kc_found::Found;
 use kc_kinds::Kind;
+use kc_memory::Frames;
 use kc_outside::Store;
 use kc_phys::Phys;
 use kc_repair::{Next, Repair, Repaired, RootAudit, repair_over};
@@ -25,6 +25,7 @@ use kc_run::{RunStop, root_at};
 use kc_suspect::Suspect;
 use kc_text::{push, push_decimal, push_hex};
 use kc_word::{NoMemory, PageCfg};
+use std::alloc::Global;
 
 // Adds a word that is suspected: the four columns of a place, and the number that it may have held.
 fn push_suspect(text: &mut Vec<u8>, suspect: Suspect) -> Result<(), NoMemory>
@@ -92,89 +93,106 @@ fn push_repair(text: &mut Vec<u8>, repair: &Repair) -> Result<(), NoMemory>
     }
 }
 
-/// What adding lines came to, and the memory that was asked, handed back.
-#[derive(Drop)]
-pub(crate) struct Wrote<'s, S: Store> {
-    pub(crate) memory: Phys<'s, S>,
-    pub(crate) done: Result<(), RunStop>,
+/// A physical memory over which repairs are tried.
+pub(crate) trait Repairable: Frames {
+    /// What repairs a violation that a root audit found, in an audit of this kind, and the memory. It fails where reading the dump does,
+    /// whose count of faults then rose, or where no memory was left.
+    fn repair(
+        self,
+        alloc: Global,
+        paging: PageCfg,
+        audit: &RootAudit<'_>,
+        kind: &Kind,
+        found: &Found,
+    ) -> Returned<Self, Result<Repair, RunStop>>
+    where
+        Self: Sized,
+        requires table { IsTable paging.table }
+        requires root { audit.now.root.audit < length audit.now.plan.now.audits }
+        requires types { TypesAreInside (length audit.now.types.now.records) audit.now.plan.now.audits }
+
+        ensures exact { IfOk result.answer (λ repair. IfSome (with_paging paging (Self.image self))
+            (λ image. repair ≡ repair_of image (plan_seen audit.now.plan.now) (audit.now.root.audit, audit.now.root.start) kind.now found.now)) }
+        ensures stays { FramesStay Self.image Self.files Self.through self result.memory }
+        ensures cause { CountsRunFaults result.answer (Self.faults self) (Self.faults result.memory) };
+}
+
+impl<'s, S: Store> Repairable for Phys<'s, S> {
+    fn repair(
+        self,
+        alloc: Global,
+        paging: PageCfg,
+        audit: &RootAudit<'_>,
+        kind: &Kind,
+        found: &Found,
+    ) -> Returned<Self, Result<Repair, RunStop>> {
+        let Repaired { memory, repair } = repair_over(alloc, self, paging, audit, kind, found);
+        Returned {
+            memory,
+            answer: repair,
+        }
+    }
 }
 
 // Adds the lines of what repairs a violation of a kind of structure under the root audit with a number.
-fn push_repairs_as<'s, S: Store>(
-    memory: Phys<'s, S>,
+fn push_repairs_as<F: Repairable>(
+    memory: F,
     text: &mut Vec<u8>,
     over: &PlanOf<'_>,
-    paging: PageCfg,
     root: u32,
     kind: &Kind,
     found: &Found,
-) -> Wrote<'s, S>
-    requires table { IsTable paging.table }
-    requires types { TypesAreInside (length over.now.types.now.records) over.now.plan.now.audits }
+) -> Returned<F, Result<(), RunStop>>
+    requires over { FitsTogether over.now }
 
-    ensures added { OnOk result.done (IfSome (with_paging paging (stored memory.entry.segments.items memory.entry.tail (content (S.files memory.entry.store.now) Dump (S.opened memory.entry.store.now Dump)))) (λ image.
+    ensures added { OnOk result.answer (IfSome (with_paging over.now.paging (F.image memory)) (λ image.
         text.new.items ≡ text.old.items ++ repairs_as (over_plan over.now image) root kind.now found.now)) }
-    ensures stays { FramesStay (λ p. stored p.segments.items p.tail (content (S.files p.store.now) Dump (S.opened p.store.now Dump))) (λ p. S.files p.store.now) (λ p. p.store.ghost_name ∷ []) memory.entry result.memory }
-    ensures cause { CountsRunFaults result.done (S.faults memory.entry.store.now) (S.faults result.memory.store.now) }
+    ensures stays { FramesStay F.image F.files F.through memory result.memory }
+    ensures cause { CountsRunFaults result.answer (F.faults memory) (F.faults result.memory) }
 {
-    let PlanOf {
-        alloc,
-        plan,
-        types,
-        ..
-    } = *over;
+    let PlanOf { plan, types, .. } = *over;
     let Some(root) = root_at(plan, root) else {
-        return Wrote {
+        return Returned {
             memory,
-            done: Ok(()),
+            answer: Ok(()),
         };
     };
     let audit = RootAudit { plan, types, root };
-    let Repaired { memory, repair } = repair_over(alloc, memory, paging, &audit, kind, found);
-    let done = match repair {
+    let Returned { memory, answer } = memory.repair(over.alloc, over.paging, &audit, kind, found);
+    let answer = match answer {
         Ok(repair) => match push_repair(text, &repair) {
             Ok(()) => Ok(()),
             Err(NoMemory) => Err(RunStop::NoMemory),
         },
         Err(stop) => Err(stop),
     };
-    Wrote { memory, done }
+    Returned { memory, answer }
 }
 
 /// Adds the lines of what repairs a violation under the root audit with a number, as it is suspected.
-pub(crate) fn push_repairs<'s, S: Store>(
-    memory: Phys<'s, S>,
+pub(crate) fn push_repairs<F: Repairable>(
+    memory: F,
     text: &mut Vec<u8>,
     over: &PlanOf<'_>,
-    paging: PageCfg,
     root: u32,
     found: &Found,
-) -> Wrote<'s, S>
-    requires table { IsTable paging.table }
-    requires types { TypesAreInside (length over.now.types.now.records) over.now.plan.now.audits }
+) -> Returned<F, Result<(), RunStop>>
+    requires over { FitsTogether over.now }
     requires found { found.now.audit < length over.now.plan.now.audits }
 
-    ensures added { OnOk result.done (IfSome (with_paging paging (stored memory.entry.segments.items memory.entry.tail (content (S.files memory.entry.store.now) Dump (S.opened memory.entry.store.now Dump)))) (λ image.
+    ensures added { OnOk result.answer (IfSome (with_paging over.now.paging (F.image memory)) (λ image.
         text.new.items ≡ text.old.items ++ repairs_found (over_plan over.now image) root found.now)) }
-    ensures stays { FramesStay (λ p. stored p.segments.items p.tail (content (S.files p.store.now) Dump (S.opened p.store.now Dump))) (λ p. S.files p.store.now) (λ p. p.store.ghost_name ∷ []) memory.entry result.memory }
-    ensures cause { CountsRunFaults result.done (S.faults memory.entry.store.now) (S.faults result.memory.store.now) }
+    ensures stays { FramesStay F.image F.files F.through memory result.memory }
+    ensures cause { CountsRunFaults result.answer (F.faults memory) (F.faults result.memory) }
 {
     let kind = &over.plan.audit(found.audit).kind;
-    let AsRingOver { memory, ring } = as_ring_over(memory, over, paging, kind, found);
-    match ring {
-        Ok(Some(ring)) => push_repairs_as(
+    let Returned { memory, answer } = as_ring_over(memory, over, kind, found);
+    match answer {
+        Ok(Some(ring)) => push_repairs_as(memory, text, over, root, &ring.kind, &ring.found),
+        Ok(None) => push_repairs_as(memory, text, over, root, kind, found),
+        Err(stop) => Returned {
             memory,
-            text,
-            over,
-            paging,
-            root,
-            &ring.kind,
-            &ring.found,
-        ),
-        Ok(None) => push_repairs_as(memory, text, over, paging, root, kind, found),
-        Err(stop) => Wrote {
-            memory,
-            done: Err(stop),
+            answer: Err(stop),
         },
     }
 }

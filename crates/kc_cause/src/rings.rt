@@ -1,10 +1,11 @@
 // In which list of tasks or of a slab cache a violation lies, and what of it has the pointer.
-ghost use Rattle.std.specs.Prelude.{◌≡◌, ◌≤◌, ◌++◌, [], codes, length, max, option_map, option_and_then, IfSome, OnOk};
+ghost use Rattle.std.specs.Prelude.{◌≡◌, ◌≤◌, ◌++◌, [], codes, length, max, option_map, option_and_then, IfOk, IfSome, OnOk};
 ghost use Rattle.std.specs.Option.{option_map_or};
 ghost use Rattle.kc_memory.specs.Stays.{SpaceStays};
 ghost use Rattle.kc_text.specs.Text.{hex};
 ghost use Rattle.kc_run.specs.Answers.{CountsRunFaults};
 ghost use Rattle.kc_kinds.specs.Inside.{KindInside};
+ghost use Rattle.kc_view.specs.TaskLists.{IsInside};
 ghost use Rattle.kc_which.specs.CacheRings.{cache_ring, slab_in};
 ghost use Rattle.kc_which.specs.TaskRings.{task_in, task_ring};
 ghost use Rattle.kc_cause.specs.Rings.{cache_lines, ring_lines, task_lines, task_list_line, typed_slab, typed_task};
@@ -25,6 +26,45 @@ use kc_which::{
 };
 use kc_word::{NoMemory, Steps};
 use std::sync::ledger::Ledger;
+
+// The ring of tasks in which a violation lies.
+pub(crate) fn task_ring<M: Space, L: Ledger>(
+    over: &PlanOf<'_>,
+    memory: &mut M,
+    shape: &TaskShape,
+    found: &Found,
+    steps: &mut Steps<L>,
+) -> Result<Option<TaskRing>, RunStop>
+    requires { IsInside shape.now over.now.types.now }
+    ensures exact { IfSome (M.image memory.old) (λ image. IfOk result (λ r. r ≡ task_ring image shape.now found.now)) }
+    ensures stays { SpaceStays M.image M.files M.through M.most memory.old memory.new }
+    ensures cause { CountsRunFaults result (M.faults memory.old) (M.faults memory.new) }
+{
+    match find_task_ring(over.alloc, memory, over.types, shape, found, steps) {
+        Ok(ring) => Ok(ring),
+        Err(WalkStop::NoMemory) => Err(RunStop::NoMemory),
+        Err(WalkStop::Fault | WalkStop::Broken(_)) => Err(RunStop::Fault),
+    }
+}
+
+// The partial list in which one lies.
+pub(crate) fn cache_ring<M: Space, L: Ledger>(
+    over: &PlanOf<'_>,
+    memory: &mut M,
+    shape: &SlubShape,
+    found: &Found,
+    steps: &mut Steps<L>,
+) -> Result<Option<CacheRing>, RunStop>
+    ensures exact { IfSome (M.image memory.old) (λ image. IfOk result (λ r. r ≡ cache_ring image shape.now found.now)) }
+    ensures stays { SpaceStays M.image M.files M.through M.most memory.old memory.new }
+    ensures cause { CountsRunFaults result (M.faults memory.old) (M.faults memory.new) }
+{
+    match find_cache_ring(over.alloc, memory, shape, found, steps) {
+        Ok(list) => Ok(list),
+        Err(WalkStop::NoMemory) => Err(RunStop::NoMemory),
+        Err(WalkStop::Fault | WalkStop::Broken(_)) => Err(RunStop::Fault),
+    }
+}
 
 // A label, a number of 16 digits, and the line's end.
 fn push_listed(text: &mut Vec<u8>, label: &[u8], at: u64) -> Result<(), NoMemory>
@@ -98,11 +138,8 @@ fn push_task_ring<M: Space, L: Ledger>(
     ensures stays { SpaceStays M.image M.files M.through M.most memory.old memory.new }
     ensures cause { CountsRunFaults result (M.faults memory.old) (M.faults memory.new) }
 {
-    let ring = match find_task_ring(over.alloc, memory, over.types, shape, found, steps) {
-        Ok(Some(ring)) => ring,
-        Ok(None) => return Ok(()),
-        Err(WalkStop::NoMemory) => return Err(RunStop::NoMemory),
-        Err(WalkStop::Fault | WalkStop::Broken(_)) => return Err(RunStop::Fault),
+    let Some(ring) = task_ring(over, memory, shape, found, steps)? else {
+        return Ok(());
     };
     match push_tasks(text, over, shape, found, ring) {
         Ok(()) => Ok(()),
@@ -163,11 +200,8 @@ fn push_cache_ring<M: Space, L: Ledger>(
     ensures stays { SpaceStays M.image M.files M.through M.most memory.old memory.new }
     ensures cause { CountsRunFaults result (M.faults memory.old) (M.faults memory.new) }
 {
-    let list = match find_cache_ring(over.alloc, memory, shape, found, steps) {
-        Ok(Some(list)) => list,
-        Ok(None) => return Ok(()),
-        Err(WalkStop::NoMemory) => return Err(RunStop::NoMemory),
-        Err(WalkStop::Fault | WalkStop::Broken(_)) => return Err(RunStop::Fault),
+    let Some(list) = cache_ring(over, memory, shape, found, steps)? else {
+        return Ok(());
     };
     match push_partial(text, over, shape, found, list) {
         Ok(()) => Ok(()),

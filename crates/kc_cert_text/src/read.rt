@@ -90,10 +90,7 @@ fn read_numbers<'a>(
 {
     let mut rest = bytes;
     for _ in 0..count {
-        match next_number(list, rest) {
-            Ok(next) => rest = next,
-            Err(stop) => return Err(stop),
-        }
+        rest = next_number(list, rest)?;
     }
     Ok(rest)
 }
@@ -121,10 +118,7 @@ fn next_list<'a>(
         Err(stop) => return Err(ReadStop::At(stop)),
     };
     let mut list = Walked::new(alloc);
-    let rest = match counted_numbers(&mut list, rest) {
-        Ok(rest) => rest,
-        Err(stop) => return Err(stop),
-    };
+    let rest = counted_numbers(&mut list, rest)?;
     match lists.push(list) {
         Ok(()) => Ok(rest),
         Err(NoMemory) => Err(ReadStop::NoMemory),
@@ -142,10 +136,7 @@ fn read_lists<'a>(
 {
     let mut rest = bytes;
     for _ in 0..count {
-        match next_list(alloc, lists, rest) {
-            Ok(next) => rest = next,
-            Err(stop) => return Err(stop),
-        }
+        rest = next_list(alloc, lists, rest)?;
     }
     Ok(rest)
 }
@@ -190,10 +181,7 @@ fn next_step<'a>(
         Err(stop) => return Err(ReadStop::At(stop)),
     };
     let mut lists = Lists::new(alloc);
-    let rest = match counted_lists(alloc, &mut lists, rest) {
-        Ok(rest) => rest,
-        Err(stop) => return Err(stop),
-    };
+    let rest = counted_lists(alloc, &mut lists, rest)?;
     let step = CertStep {
         audit: head.0,
         start: head.1,
@@ -216,10 +204,7 @@ fn read_steps<'a>(
 {
     let mut rest = bytes;
     for _ in 0..count {
-        match next_step(alloc, cert, rest) {
-            Ok(next) => rest = next,
-            Err(stop) => return Err(stop),
-        }
+        rest = next_step(alloc, cert, rest)?;
     }
     Ok(rest)
 }

@@ -33,10 +33,7 @@ use std::sync::ledger::Ledger;
 fn single(alloc: Global, walked: Result<Walked, WalkStop>) -> Result<Lists, WalkStop>
     ensures { IsSingle walked result }
 {
-    let list = match walked {
-        Ok(list) => list,
-        Err(stop) => return Err(stop),
-    };
+    let list = walked?;
     let mut lists = Lists::new(alloc);
     match lists.push(list) {
         Ok(()) => Ok(lists),
@@ -74,10 +71,7 @@ fn tree_numbers<S: Space, L: Ledger>(
     ensures stays { SpaceStays S.image S.files S.through S.most space.old space.new }
     ensures cause { CountsWalkFaults result (S.faults space.old) (S.faults space.new) }
 {
-    let nodes = match rb_walk(alloc, space, shape, asked.start, asked.audit, steps) {
-        Ok(nodes) => nodes,
-        Err(stop) => return Err(stop),
-    };
+    let nodes = rb_walk(alloc, space, shape, asked.start, asked.audit, steps)?;
     match collect_tree(alloc, space, shape, asked.start, &nodes, steps) {
         Ok(numbers) => Ok(numbers),
         Err(Halt::Unfit) => Err(gone(alloc, asked, Rule::R1)),
@@ -101,10 +95,7 @@ fn array_entries<S: Space, L: Ledger>(
     ensures cause { CountsWalkFaults result (S.faults space.old) (S.faults space.new) }
 {
     know_entries();
-    match xa_walk(alloc, space, shape, asked.start, asked.audit, steps) {
-        Ok(_) => {}
-        Err(stop) => return Err(stop),
-    }
+    xa_walk(alloc, space, shape, asked.start, asked.audit, steps)?;
     match list_xarray(alloc, space, shape, asked.start, steps) {
         Ok(numbers) => Ok(numbers),
         Err(Halt::Unfit) => Err(gone(alloc, asked, Rule::X1)),
@@ -135,10 +126,8 @@ fn cache_lists<S: Space, L: Ledger>(
     let mut kept = Kept {
         lists: Lists::new(alloc),
     };
-    match cache_walk_by(alloc, space, &mut kept, asked, btf, shape, steps) {
-        Ok(_) => Ok(kept.lists),
-        Err(stop) => Err(stop),
-    }
+    cache_walk_by(alloc, space, &mut kept, asked, btf, shape, steps)?;
+    Ok(kept.lists)
 }
 
 // The lists of tasks, as they are walked.
@@ -163,10 +152,8 @@ fn task_lists<S: Space, L: Ledger>(
     let mut kept = Kept {
         lists: Lists::new(alloc),
     };
-    match tasks_walk_by(alloc, space, &mut kept, asked, btf, shape, steps) {
-        Ok(_) => Ok(kept.lists),
-        Err(stop) => Err(stop),
-    }
+    tasks_walk_by(alloc, space, &mut kept, asked, btf, shape, steps)?;
+    Ok(kept.lists)
 }
 
 // The lists of a table of process ids, as it is walked.

@@ -140,10 +140,7 @@ fn look<S: Space, L: Ledger>(
     ensures cause { CountsWalkFaults result (S.faults space.old) (S.faults space.new) }
 {
     know_walked();
-    let lists = match collect_shape(alloc, space, known.btf, &audit.kind, asked, steps) {
-        Ok(lists) => lists,
-        Err(stop) => return Err(stop),
-    };
+    let lists = collect_shape(alloc, space, known.btf, &audit.kind, asked, steps)?;
     let nodes = match nodes_in(alloc, &audit.kind, &lists) {
         Ok(nodes) => nodes,
         Err(NoMemory) => return Err(WalkStop::NoMemory),
@@ -187,10 +184,7 @@ fn look_nodes<S: Space, L: Ledger>(
 {
     for i in 0..nodes.len() {
         let element = container_of(audit.link, *nodes.get(i));
-        match look_below(alloc, known, space, draft, audit, asked, element, steps) {
-            Ok(()) => {}
-            Err(stop) => return Err(stop),
-        }
+        look_below(alloc, known, space, draft, audit, asked, element, steps)?;
     }
     Ok(())
 }
@@ -225,7 +219,7 @@ fn look_below<S: Space, L: Ledger>(
     ensures stays { SpaceStays S.image S.files S.through S.most space.old space.new }
     ensures cause { CountsWalkFaults result (S.faults space.old) (S.faults space.new) }
 {
-    match look_checks(
+    look_checks(
         alloc,
         known.btf,
         space,
@@ -233,19 +227,13 @@ fn look_below<S: Space, L: Ledger>(
         &audit.checks,
         element,
         steps,
-    ) {
-        Ok(()) => {}
-        Err(stop) => return Err(stop),
-    }
+    )?;
     for i in 0..audit.each.len() {
         let base = Asked {
             audit: *audit.each.get(i),
             start: element,
         };
-        match enter(alloc, known, space, draft, &base, steps) {
-            Ok(()) => {}
-            Err(stop) => return Err(stop),
-        }
+        enter(alloc, known, space, draft, &base, steps)?;
     }
     Ok(())
 }

@@ -46,14 +46,8 @@ fn list_numbers<S: Space, L: Ledger>(
 {
     let mut numbers = Walked::new(alloc);
     while let Some(spot) = pending.pop() {
-        match push_number(&mut numbers, spot.word.value) {
-            Ok(()) => {}
-            Err(halt) => return Err(halt),
-        }
-        match pass_spot(alloc, space, shape, asked, claims, pending, &spot, steps) {
-            Ok(()) => {}
-            Err(halt) => return Err(halt),
-        }
+        push_number(&mut numbers, spot.word.value)?;
+        pass_spot(alloc, space, shape, asked, claims, pending, &spot, steps)?;
     }
     Ok(numbers)
 }
@@ -77,10 +71,7 @@ pub fn list_xarray<S: Space, L: Ledger>(
 {
     let mut claims = Claims::new(alloc);
     let mut pending = Vec::new(alloc);
-    match enter_head(alloc, space, shape, start, &mut claims, &mut pending, steps) {
-        Ok(()) => {}
-        Err(halt) => return Err(halt),
-    }
+    enter_head(alloc, space, shape, start, &mut claims, &mut pending, steps)?;
     let asked = Asked { audit: 0, start };
     list_numbers(
         alloc,

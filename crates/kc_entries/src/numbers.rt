@@ -70,14 +70,8 @@ fn test_numbers<S: Space, L: Ledger>(
         if number != spot.word.value {
             return Err(Halt::Unfit);
         }
-        match push_pointer(&mut items, shape, &spot) {
-            Ok(()) => {}
-            Err(halt) => return Err(halt),
-        }
-        match pass_spot(alloc, space, shape, asked, claims, pending, &spot, steps) {
-            Ok(()) => {}
-            Err(halt) => return Err(halt),
-        }
+        push_pointer(&mut items, shape, &spot)?;
+        pass_spot(alloc, space, shape, asked, claims, pending, &spot, steps)?;
     }
     if pending.len() == 0 {
         Ok(items)
@@ -110,10 +104,7 @@ pub fn xarray_items<S: Space, L: Ledger>(
 {
     let mut claims = Claims::new(alloc);
     let mut pending = Vec::new(alloc);
-    match enter_head(alloc, space, shape, start, &mut claims, &mut pending, steps) {
-        Ok(()) => {}
-        Err(halt) => return Err(halt),
-    }
+    enter_head(alloc, space, shape, start, &mut claims, &mut pending, steps)?;
     let asked = Asked { audit: 0, start };
     test_numbers(
         alloc,
@@ -146,10 +137,8 @@ pub fn test_xarray<S: Space, L: Ledger>(
     ensures stays { SpaceStays S.image S.files S.through S.most space.old space.new }
     ensures cause { CountsTestFaults result (S.faults space.old) (S.faults space.new) }
 {
-    match xarray_items(alloc, space, shape, start, numbers, steps) {
-        Ok(_) => Ok(()),
-        Err(halt) => Err(halt),
-    }
+    xarray_items(alloc, space, shape, start, numbers, steps)?;
+    Ok(())
 }
 
 /// The pointers among entries, in their order: the numbers that aren't 0 and whose bits 1:0 are 0.

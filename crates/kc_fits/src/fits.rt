@@ -61,10 +61,7 @@ fn test_elements<S: Space, L: Ledger>(
 {
     for i in 0..nodes.len() {
         let element = container_of(audit.link, *nodes.get(i));
-        match test_checks(alloc, btf, space, audit, asked, element, steps) {
-            Ok(()) => {}
-            Err(halt) => return Err(halt),
-        }
+        test_checks(alloc, btf, space, audit, asked, element, steps)?;
     }
     Ok(())
 }
@@ -98,9 +95,6 @@ pub fn test_step<S: Space, L: Ledger>(
     if step.audit != asked.audit || step.start != asked.start {
         return Err(Halt::Unfit);
     }
-    match test_shape(alloc, space, btf, &audit.kind, asked, &step.lists, steps) {
-        Ok(()) => {}
-        Err(halt) => return Err(halt),
-    }
+    test_shape(alloc, space, btf, &audit.kind, asked, &step.lists, steps)?;
     test_elements(alloc, btf, space, audit, asked, nodes, steps)
 }

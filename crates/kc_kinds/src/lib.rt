@@ -19,6 +19,6 @@ mod xarray;
 pub use kind::Kind;
 pub use kinds::{Sort, needs_of, row_of, shape_of, sort_of};
 pub use known::Known;
-pub use members::is_struct;
+pub use members::{inner_in, is_struct, scalar_in, struct_named};
 pub use needs::{Need, Needs};
 pub use row::{Own, Row};

@@ -7,8 +7,9 @@ use crate::known::Known;
 use kc_btf::Btf;
 use kc_layout::{Field, array_under, compound_under, locate, resolve};
 
-// The number of the struct with a name.
-pub(crate) fn struct_named(known: &Known<'_>, name: &[u8]) -> Option<u32>
+/// The number of the struct or union with a name, or else of the one that a typedef with that name stands for. `None` where there is
+/// neither.
+pub fn struct_named(known: &Known<'_>, name: &[u8]) -> Option<u32>
     ensures exact { result ≡ struct_named known.now.btf.now name.now }
     ensures there { IfSome result (λ id. id ≤ length known.now.btf.now.records) }
 {
@@ -91,8 +92,9 @@ pub fn is_struct(btf: &Btf, ty: u32, wanted: Option<u32>) -> bool
     }
 }
 
-// The byte of a member in a struct, where the member is this struct.
-pub(crate) fn inner_in(btf: &Btf, wanted: Option<u32>, id: Option<u32>, name: &[u8]) -> Option<u64>
+/// The offset in bytes of a member in a struct, where the member is the wanted struct under its modifiers. `None` where one of the two
+/// structs isn't there, where no path of that name leads to a member, and where the member is of another type.
+pub fn inner_in(btf: &Btf, wanted: Option<u32>, id: Option<u32>, name: &[u8]) -> Option<u64>
     requires { IfSome id (λ id. id ≤ length btf.now.records) }
     ensures { result ≡ inner_in btf.now wanted id name.now }
 {
@@ -122,9 +124,10 @@ pub(crate) fn array_in(btf: &Btf, wanted: Option<u32>, id: Option<u32>, name: &[
     }
 }
 
-// The number that a member of a struct is, where it is one.
+/// The number that a member of a struct is, with its place in bits from the struct's start. `None` where the struct isn't there, where
+/// no path of that name leads to a number, and where a pointer has to be followed to it.
 #[tactic(auto, using(crate::proofs::BitsLemmas::field_kept, crate::proofs::BitsLemmas::field_led))]
-pub(crate) fn scalar_in(btf: &Btf, id: Option<u32>, name: &[u8]) -> Option<Field>
+pub fn scalar_in(btf: &Btf, id: Option<u32>, name: &[u8]) -> Option<Field>
     requires { IfSome id (λ id. id ≤ length btf.now.records) }
     ensures exact { result ≡ scalar_in btf.now id name.now }
     ensures there { IfSome result (λ field. field.ty ≤ length btf.now.records) }

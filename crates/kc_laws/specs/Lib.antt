@@ -1,4 +1,5 @@
 pub mod Chains
+pub mod First
 pub mod Formats
 pub mod Lists
 pub mod Pairs

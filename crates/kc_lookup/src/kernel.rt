@@ -1,14 +1,14 @@
 // What a kernel's types and symbols have.
 ghost use Rattle.std.specs.Prelude.{◌≡◌, ◌≤◌, codes, length, IfSome};
 ghost use Rattle.kc_kinds.specs.Kernels.{address_in, kernel};
-ghost use Rattle.kc_kinds.specs.Members.{inner_in, scalar_in, struct_named};
+ghost use Rattle.kc_kinds.specs.Members.{struct_named};
 ghost use Rattle.kc_kinds.specs.Ring.{list_words};
 ghost use Rattle.kc_lookup.specs.Kernels.{elements_in, elements_of, single};
 
 use kc_btf::{ArrayOf, Btf};
 use kc_found::ListShape;
-use kc_kinds::{Kind, Known, Own, Sort, is_struct, row_of, shape_of};
-use kc_layout::{Field, array_under, compound_under, locate, resolve, size_of};
+use kc_kinds::{Kind, Known, Own, Sort, row_of, shape_of};
+use kc_layout::{array_under, locate, size_of};
 
 /// An array in a struct, of 64 elements at most.
 #[derive(Clone, Copy, Debug, PartialEq, Eq)]
@@ -19,46 +19,6 @@ pub struct Elements {
     pub count: u8,
     /// The size of an element in bytes.
     pub size: u64,
-}
-
-/// The number of the struct or union with a name.
-pub fn struct_named(known: &Known<'_>, name: &[u8]) -> Option<u32>
-    ensures exact { result ≡ struct_named known.now.btf.now name.now }
-    ensures there { IfSome result (λ id. id ≤ length known.now.btf.now.records) }
-{
-    let id = known.names.find(known.btf, name)?;
-    Some(compound_under(known.btf, id)?.id)
-}
-
-/// The number that a member of a struct is, where it is one and no pointer leads to it.
-#[tactic(auto, using(kc_kinds::proofs::BitsLemmas::field_kept, kc_kinds::proofs::BitsLemmas::field_led))]
-pub fn scalar_in(btf: &Btf, id: Option<u32>, name: &[u8]) -> Option<Field>
-    requires { IfSome id (λ id. id ≤ length btf.now.records) }
-    ensures { result ≡ scalar_in btf.now id name.now }
-{
-    let Ok(field) = resolve(btf, id?, name) else {
-        return None;
-    };
-    if field.hops.count == 0 {
-        Some(field)
-    } else {
-        None
-    }
-}
-
-/// The byte of a member in a struct, where the member is this struct.
-pub fn inner_in(btf: &Btf, wanted: Option<u32>, id: Option<u32>, name: &[u8]) -> Option<u64>
-    requires { IfSome id (λ id. id ≤ length btf.now.records) }
-    ensures { result ≡ inner_in btf.now wanted id name.now }
-{
-    let Ok(place) = locate(btf, id?, name) else {
-        return None;
-    };
-    if is_struct(btf, place.ty, wanted) {
-        Some(place.byte)
-    } else {
-        None
-    }
 }
 
 // An array that stands at a byte of a struct.

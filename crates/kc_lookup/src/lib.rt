@@ -7,7 +7,8 @@ mod known;
 mod text;
 mod views;
 
-pub use kernel::{Elements, elements_in, inner_in, list_words, scalar_in, single, struct_named};
+pub use kc_kinds::{inner_in, scalar_in, struct_named};
+pub use kernel::{Elements, elements_in, list_words, single};
 pub use known::read_known;
 pub use text::read_text;
 pub use views::{looked_at, view_at};

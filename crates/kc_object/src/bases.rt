@@ -2,36 +2,14 @@
 ghost use Rattle.std.specs.Prelude.{◌≡◌, ◌+◌, ◌≤◌};
 ghost use Rattle.kc_memory.specs.Stays.{SpaceStays};
 ghost use Rattle.kc_found.specs.Walks.{CountsWalkFaults, WalksAs};
-ghost use Rattle.kc_view.specs.Caches.{base_of};
 ghost use Rattle.kc_object.specs.Pages.{bases_at};
 
-use kc_found::{Asked, Space, WalkStop, stopped};
-use kc_view::{Base, SlubBases, SlubShape};
+use kc_found::{Asked, Space, WalkStop};
+use kc_slub::read_base;
+use kc_view::{SlubBases, SlubShape};
 use kc_word::Steps;
 use std::alloc::Global;
 use std::sync::ledger::Ledger;
-
-// A base, which may be a word of memory.
-fn read_base<S: Space, L: Ledger>(
-    alloc: Global,
-    space: &mut S,
-    asked: &Asked,
-    base: Base,
-    steps: &mut Steps<L>,
-) -> Result<u64, WalkStop>
-    ensures exact { WalksAs (λ n. n) (λ i. base_of i asked.now base) (S.image space.old) result }
-    ensures steps { steps.new ≤ steps.old + 6 }
-    ensures stays { SpaceStays S.image S.files S.through S.most space.old space.new }
-    ensures cause { CountsWalkFaults result (S.faults space.old) (S.faults space.new) }
-{
-    match base {
-        Base::Is(number) => Ok(number),
-        Base::At(at) => match space.word(at, steps) {
-            Ok(word) => Ok(word.value),
-            Err(stop) => Err(stopped(alloc, asked, stop, None)),
-        },
-    }
-}
 
 // Where page descriptors and physical memory begin.
 pub(crate) fn read_bases<S: Space, L: Ledger>(

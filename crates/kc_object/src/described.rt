@@ -8,6 +8,7 @@ use crate::bases::read_bases;
 use crate::shape::ObjectShape;
 use kc_found::{Space, WalkStop};
 use kc_lookup::looked_at;
+use kc_slub::page_of;
 use kc_view::SlubBases;
 use kc_word::Steps;
 use std::alloc::Global;
@@ -26,14 +27,13 @@ pub struct Described {
 fn described_by(shape: &ObjectShape, bases: &SlubBases, address: u64) -> Option<Described>
     ensures { result ≡ described_by shape.now bases.now address }
 {
-    let above = address.wrapping_sub(bases.vmemmap);
-    let number = above / shape.slub.page_size;
+    let number = page_of(&shape.slub, bases, address);
     if number >= shape.pages {
         return None;
     }
     Some(Described {
         number,
-        byte: above % shape.slub.page_size,
+        byte: address.wrapping_sub(bases.vmemmap) % shape.slub.page_size,
     })
 }
 

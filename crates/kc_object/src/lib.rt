@@ -10,7 +10,6 @@ mod held;
 mod kernel;
 mod keys;
 mod laws;
-mod objects;
 mod page;
 mod shape;
 mod slab;

@@ -2,28 +2,25 @@
 ghost use Rattle.std.specs.Prelude.{◌≡◌, ◌≤◌, ◌+◌, ◌*◌, ◌<◌, ◌^◌, IsTrue, Ok};
 ghost use Rattle.kc_memory.specs.Stays.{SpaceStays};
 ghost use Rattle.kc_found.specs.Walks.{CountsWalkFaults, WalksAs};
-ghost use Rattle.kc_view.specs.Caches.{grid_of, is_descriptor, page_of};
+ghost use Rattle.kc_view.specs.Caches.{is_descriptor};
 ghost use Rattle.kc_object.specs.Bounds.{WithinWalks};
 ghost use Rattle.kc_object.specs.Slabs.{is_listed, slab_at, slab_of, slab_with, start_of};
 
 use crate::cache::{Cache, read_cache};
 use crate::counts::{SlabCounts, read_counts};
 use crate::free::{FreeSpot, tell_free};
-use crate::objects::read_objects;
 use crate::shape::ObjectShape;
 use crate::spot::{Spot, spot_of};
 use kc_btf::Btf;
 use kc_fields::read_field;
-use kc_found::{Found, Grid, Rule, Space, WalkStop, Walked, broken_field};
+use kc_found::{Found, Rule, Space, WalkStop, Walked, broken_field};
 use kc_list::ring;
 use kc_lookup::{looked_at, view_at};
-use kc_view::{FieldNumber, SlabObjects, SlubBases, SlubShape};
+use kc_slub::{grid_of, is_descriptor, page_of, read_objects};
+use kc_view::{FieldNumber, SlabObjects, SlubBases};
 use kc_word::Steps;
 use std::alloc::Global;
 use std::sync::ledger::Ledger;
-
-// A physical address has 52 bits, so the number of a page is below this one.
-const PAGES: u64 = 1 << 40;
 
 /// A slab, and where a byte lies in it.
 #[derive(Drop)]
@@ -40,43 +37,6 @@ pub struct Slab {
     pub spot: Spot,
     /// Where in its own free list the byte's object stands, or why that list can't be told.
     pub free: Result<FreeSpot, Found>,
-}
-
-// The number of the page that a descriptor stands for.
-fn page_of(shape: &SlubShape, bases: &SlubBases, slab: u64) -> u64
-    ensures { result ≡ page_of shape.now bases.now slab }
-{
-    slab.wrapping_sub(bases.vmemmap) / shape.page_size
-}
-
-// A page has its descriptor there.
-fn is_descriptor(shape: &SlubShape, bases: &SlubBases, slab: u64) -> bool
-    ensures { result ≡ is_descriptor shape.now bases.now slab }
-{
-    slab.wrapping_sub(bases.vmemmap) % shape.page_size == 0 && page_of(shape, bases, slab) < PAGES
-}
-
-// Where a slab's objects lie.
-fn grid_of(
-    shape: &SlubShape,
-    bases: &SlubBases,
-    objects: &SlabObjects,
-    slab: u64,
-    count: u64,
-) -> Grid
-    ensures { result ≡ grid_of shape.now bases.now objects.now slab count }
-{
-    let page = page_of(shape, bases, slab).wrapping_mul(4096);
-    Grid {
-        base: bases
-            .direct
-            .wrapping_add(page)
-            .wrapping_add(objects.left_pad),
-        size: objects.size,
-        objects: count,
-        offset: objects.offset,
-        random: objects.random,
-    }
 }
 
 // A slab whose objects lie so, in its cache.

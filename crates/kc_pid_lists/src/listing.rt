@@ -95,17 +95,9 @@ pub fn list_pids<S: Space, L: Ledger>(
     know_entries();
     know_hash_chains();
     know_pid_lists();
-    let items = match ids_in(alloc, space, asked, shape, steps) {
-        Ok(items) => items,
-        Err(stop) => return Err(stop),
-    };
-    let numbers = match table_numbers(alloc, space, asked, shape, steps) {
-        Ok(numbers) => numbers,
-        Err(stop) => return Err(stop),
-    };
+    let items = ids_in(alloc, space, asked, shape, steps)?;
+    let numbers = table_numbers(alloc, space, asked, shape, steps)?;
     let mut kept = kept_behind(alloc, numbers)?;
-    match pids_walk_by(alloc, space, &mut kept, asked, btf, shape, &items, steps) {
-        Ok(()) => Ok(kept.lists),
-        Err(stop) => Err(stop),
-    }
+    pids_walk_by(alloc, space, &mut kept, asked, btf, shape, &items, steps)?;
+    Ok(kept.lists)
 }

@@ -45,10 +45,7 @@ pub fn test_pids<S: Space, L: Ledger>(
     }
     let numbers = lists.get(0);
     let table = asked.start.wrapping_add(shape.idr_rt);
-    let items = match xarray_items(alloc, space, &shape.xa, table, numbers, steps) {
-        Ok(items) => items,
-        Err(halt) => return Err(halt),
-    };
+    let items = xarray_items(alloc, space, &shape.xa, table, numbers, steps)?;
     let mut chains = GivenLists { lists, at: 1 };
     match pids_walk_by(alloc, space, &mut chains, asked, btf, shape, &items, steps) {
         Ok(()) => {}

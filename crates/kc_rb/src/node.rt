@@ -1,9 +1,11 @@
 // The site of a node.
-ghost use Rattle.std.specs.Prelude.{◌≡◌, ◌+◌, ◌*◌, ◌^◌, ◌<◌, ◌≤◌, length, Ok, IfOk, IfSome, OnOk};
+ghost use Rattle.std.specs.Prelude.{◌≡◌, ◌+◌, ◌*◌, ◌^◌, ◌<◌, ◌≤◌, length, Ok, IfNone, IfOk, IfSome, OnErr, OnOk};
 ghost use Rattle.kc_memory.specs.Stays.{SpaceStays};
 ghost use Rattle.kc_memory.specs.Translation.{vword};
 ghost use Rattle.kc_found.specs.RbTrees.{course_of, key_of, links_of, node_site, reads_of};
+ghost use Rattle.kc_found.specs.Trials.{passed};
 ghost use Rattle.kc_found.specs.Walks.{CountsWalkFaults, IsNamed, TakesAs};
+ghost use Rattle.kc_rb.specs.Steps.{before_key, key_words};
 
 use crate::reading::{enter_links, read_key};
 use crate::rules::{judge_key, judge_links};
@@ -32,27 +34,23 @@ pub fn enter_node<S: Space, L: Ledger>(
     ensures site { TakesAs (λ i. node_site (course_of i shape.now asked.now) spot.now) claims.old claims.new (S.image space.old) result }
     ensures named { IsNamed result asked.now.audit asked.now.start }
     ensures steps { steps.new ≤ steps.old + 5 * S.most space.old }
+    // Three words and those that hold the key; and only the three where one of them is missed or was taken, where they
+    // break R1 to R3, or where the tree has no keys.
+    ensures words { IfOk result (λ p. steps.new ≤ steps.old + (3 + key_words p.1) * S.most space.old) }
+    ensures unread { IfSome (S.image space.old) (λ i. OnErr (passed claims.old (before_key (course_of i shape.now asked.now) spot.now)) (steps.new ≤ steps.old + 3 * S.most space.old)) }
+    ensures keyless { IfNone shape.now.key (steps.new ≤ steps.old + 3 * S.most space.old) }
     ensures more { OnOk result (length claims.new ≡ length claims.old + 3) }
     ensures fits { OnOk result (length claims.new < 2 ^ 64) }
 
     ensures stays { SpaceStays S.image S.files S.through S.most space.old space.new }
     ensures cause { CountsWalkFaults result (S.faults space.old) (S.faults space.new) }
 {
-    let links = match enter_links(alloc, space, shape, asked, claims, spot.link, steps) {
-        Ok(links) => links,
-        Err(stop) => return Err(stop),
-    };
-    match judge_links(alloc, asked, spot, &links) {
-        Ok(()) => {}
-        Err(stop) => return Err(stop),
-    }
+    let links = enter_links(alloc, space, shape, asked, claims, spot.link, steps)?;
+    judge_links(alloc, asked, spot, &links)?;
     let key = match read_key(space, shape, spot.link.value, steps) {
         Ok(key) => key,
         Err(stop) => return Err(stopped(alloc, asked, stop, Some(spot.link))),
     };
-    match judge_key(alloc, asked, shape.unique, spot, &key) {
-        Ok(()) => {}
-        Err(stop) => return Err(stop),
-    }
+    judge_key(alloc, asked, shape.unique, spot, &key)?;
     Ok((links, key))
 }

@@ -1,12 +1,14 @@
 // The words of heads and nodes, and keys.
-ghost use Rattle.std.specs.Prelude.{◌≡◌, ℕ, ◌+◌, ◌-◌, ◌*◌, ◌%◌, ◌^◌, ◌<◌, ◌≤◌, length, Ok, Some, None, IfOk, IfSome, OnOk};
+ghost use Rattle.std.specs.Prelude.{◌≡◌, ℕ, ◌+◌, ◌-◌, ◌*◌, ◌%◌, ◌^◌, ◌<◌, ◌≤◌, length, Ok, Some, None, IfNone, IfOk, IfSome, OnOk};
+ghost use Rattle.kc_memory.specs.Bits.{first_bit, word_of};
 ghost use Rattle.kc_memory.specs.Space.{AnswersAs};
 ghost use Rattle.kc_memory.specs.Stays.{CountsFaults, SpaceStays};
 ghost use Rattle.kc_memory.specs.Translation.{vword};
-ghost use Rattle.kc_found.specs.RbTrees.{byte_of as byte_at, head_claims, head_of, key_at, key_of, leftmost_claims, leftmost_of, links_of, node_claims, reads_of, where_ok};
+ghost use Rattle.kc_found.specs.RbTrees.{byte_of as byte_at, element_of, head_claims, head_of, key_at, key_of, leftmost_claims, leftmost_of, links_of, node_claims, reads_of, where_ok};
 ghost use Rattle.kc_found.specs.Trials.{passed};
 ghost use Rattle.kc_found.specs.Violations.{missed};
 ghost use Rattle.kc_found.specs.Walks.{CountsWalkFaults, IsNamed, IsWalk, OnWalkFault, TakesAs};
+ghost use Rattle.kc_rb.specs.Steps.{KeyWithin};
 
 use kc_found::{
     Asked, Claims, RbHead, RbKey, RbLinks, RbShape, Space, Stop, VWord, WalkStop, read_bits,
@@ -48,6 +50,7 @@ fn read_leftmost<S: Space, L: Ledger>(
 ) -> Result<Option<VWord>, Stop>
     ensures words { AnswersAs (λ i. leftmost_of (vword i) start leftmost) (S.image space.old) result }
     ensures steps { steps.new ≤ steps.old + S.most space.old }
+    ensures unread { IfNone leftmost (steps.new ≡ steps.old) }
 
     ensures stays { SpaceStays S.image S.files S.through S.most space.old space.new }
     ensures cause { CountsFaults result (S.faults space.old) (S.faults space.new) }
@@ -70,6 +73,7 @@ fn read_head<S: Space, L: Ledger>(
 ) -> Result<RbHead, Stop>
     ensures words { AnswersAs (λ i. head_of (vword i) shape.now start) (S.image space.old) result }
     ensures steps { steps.new ≤ steps.old + 2 * S.most space.old }
+    ensures single { IfNone shape.now.leftmost (steps.new ≤ steps.old + S.most space.old) }
 
     ensures stays { SpaceStays S.image S.files S.through S.most space.old space.new }
     ensures cause { CountsFaults result (S.faults space.old) (S.faults space.new) }
@@ -95,6 +99,8 @@ fn read_key_at<S: Space, L: Ledger>(
 ) -> Result<Option<RbKey>, Stop>
     ensures key { AnswersAs (λ i. key_at (reads_of i) element key) (S.image space.old) result }
     ensures steps { steps.new ≤ steps.old + 2 * S.most space.old }
+    ensures unread { IfNone key (steps.new ≡ steps.old) }
+    ensures one_word { IfSome key (λ b. KeyWithin result (word_of (first_bit element b.bit)) (S.most space.old) steps.old steps.new) }
 
     ensures stays { SpaceStays S.image S.files S.through S.most space.old space.new }
     ensures cause { CountsFaults result (S.faults space.old) (S.faults space.new) }
@@ -120,6 +126,8 @@ pub(crate) fn read_key<S: Space, L: Ledger>(
 ) -> Result<Option<RbKey>, Stop>
     ensures key { AnswersAs (λ i. key_of (reads_of i) shape.now node) (S.image space.old) result }
     ensures steps { steps.new ≤ steps.old + 2 * S.most space.old }
+    ensures unread { IfNone shape.now.key (steps.new ≡ steps.old) }
+    ensures one_word { IfSome shape.now.key (λ b. KeyWithin result (word_of (first_bit (element_of shape.now node) b.bit)) (S.most space.old) steps.old steps.new) }
 
     ensures stays { SpaceStays S.image S.files S.through S.most space.old space.new }
     ensures cause { CountsFaults result (S.faults space.old) (S.faults space.new) }
@@ -163,6 +171,8 @@ pub fn enter_head<S: Space, L: Ledger>(
     ensures site { TakesAs (λ i. where_ok (head_of (vword i) shape.now asked.now.start) (missed asked.now None) (head_claims asked.now)) claims.old claims.new (S.image space.old) result }
     ensures named { IsNamed result asked.now.audit asked.now.start }
     ensures steps { steps.new ≤ steps.old + 2 * S.most space.old }
+    // No second word where the root isn't a cached one.
+    ensures single { IfNone shape.now.leftmost (steps.new ≤ steps.old + S.most space.old) }
     ensures fits { OnOk result (length claims.new < 2 ^ 64) }
 
     ensures stays { SpaceStays S.image S.files S.through S.most space.old space.new }

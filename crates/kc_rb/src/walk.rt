@@ -79,10 +79,7 @@ fn walk_tree<S: Space, L: Ledger>(
     ensures cause { CountsWalkFaults result (S.faults space.old) (S.faults space.new) }
 {
     let mut claims = Claims::new(alloc);
-    let head = match enter_head(alloc, space, shape, asked, &mut claims, steps) {
-        Ok(head) => head,
-        Err(stop) => return Err(stop),
-    };
+    let head = enter_head(alloc, space, shape, asked, &mut claims, steps)?;
     let mut walked = Walked::new(alloc);
     let mut pending = Vec::new(alloc);
     push_task(&mut pending, Task::Visit(root_of(head.root), 0))?;
@@ -96,23 +93,15 @@ fn walk_tree<S: Space, L: Ledger>(
             Task::Visit(spot, depth) => (spot, depth),
         };
         if spot.link.value == 0 {
-            let number = match judge_null(alloc, asked, &spot, first) {
-                Ok(number) => number,
-                Err(stop) => return Err(stop),
-            };
+            let number = judge_null(alloc, asked, &spot, first)?;
             first = Some(number);
             continue;
         }
-        let (links, key) = match enter_node(alloc, space, shape, asked, &mut claims, &spot, steps) {
-            Ok(entered) => entered,
-            Err(stop) => return Err(stop),
-        };
+        let (links, key) = enter_node(alloc, space, shape, asked, &mut claims, &spot, steps)?;
         push_children(&mut pending, &spot, &links, &key, depth + 1)?;
     }
-    match judge_leftmost(alloc, asked, &head.leftmost, &walked) {
-        Ok(()) => Ok(walked),
-        Err(stop) => Err(stop),
-    }
+    judge_leftmost(alloc, asked, &head.leftmost, &walked)?;
+    Ok(walked)
 }
 
 /// The nodes of the red-black tree with a root at virtual address `start`, from left to right. The audit's number is

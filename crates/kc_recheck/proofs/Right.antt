@@ -28,6 +28,7 @@ use Rattle.kc_recheck.specs.declared.against.CertAnswer.TheVariants.{Yes, No}
 use Rattle.kc_recheck.specs.declared.nest.Cursor.{Cursor}
 use Rattle.kc_shape.specs.declared.halt.Halt.TheVariants.{Unfit}
 use Rattle.kc_recheck.specs.Answers.{IsRight, JudgesAs, progress}
+use Rattle.kc_recheck.specs.Laws.{AnswersAreRight}
 use Rattle.kc_fits.specs.Fits.{all_hold, checks_hold, fits}
 use Rattle.kc_recheck.specs.Certificates.{Progress, Judged, Judge, answer, answer_by, answer_of, below_judged, each_judged, entry_judged, judged, nodes_judged, after_walk, number_of, roots_judged, walk_judged}
 use Rattle.kc_fits.specs.Walked.{ShapesAreWalked}
@@ -146,6 +147,17 @@ right laws clean i audits steps after e =
     let whole = each_tallied (λ r. judged i audits 0 r.0 r.1) (λ r. seen (world i) audits 0 r.0 r.1) (roots 0 audits) (record { left = steps; counts = zeros audits }) after (λ r q s is. judged_tallied laws i audits 0 r.0 r.1 q s is) e in
     let is : verdict i audits ≡ Clean after.counts = ends_clean {A = ℕ} (Some i) audits after.counts 0 whole in
     ((clean i audits).0 (clean_is (verdict i audits) after.counts is), is)
+
+left_right : (i : Image) (audits : List AuditAt) (steps left : List CertStep) (counts : List AuditCount) → IsRight i audits (Yes counts) → IsRight i audits (answer_by steps counts left)
+left_right i audits steps [] counts is = is
+left_right i audits steps (s ∷ left) counts is = tt
+
+judged_right : (i : Image) (audits : List AuditAt) (steps : List CertStep) (j : Judged) → ((after : Progress) → j ≡ Ok after → IsRight i audits (Yes after.counts)) → IsRight i audits (answer_of steps j)
+judged_right i audits steps (Ok p) is = left_right i audits steps p.left p.counts (is p refl)
+judged_right i audits steps (Err left) is = tt
+
+pub answer_right : ShapesAreWalked → CleanWhereStanding → AnswersAreRight
+answer_right laws clean i audits steps = judged_right i audits steps (roots_judged i audits (record { left = steps; counts = zeros audits })) (λ after is. right laws clean i audits steps after is)
 
 -- what the answer is
 pub some_answer : (steps left : List CertStep) (counts : List AuditCount) → 1 ≤ length left → answer_by steps counts left ≡ No (number_of steps left)

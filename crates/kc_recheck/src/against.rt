@@ -96,10 +96,7 @@ fn enter_roots<S: Space, L: Ledger>(
 {
     for number in 0..known.plan.count() {
         let start = &known.plan.audit(number).start;
-        match enter_root(alloc, known, space, cursor, number, start, steps) {
-            Ok(()) => {}
-            Err(halt) => return Err(halt),
-        }
+        enter_root(alloc, known, space, cursor, number, start, steps)?;
     }
     Ok(())
 }

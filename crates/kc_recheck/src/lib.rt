@@ -3,6 +3,8 @@
 #![tactic(auto)]
 
 mod against;
+mod laws;
 mod nest;
 
 pub use against::{CertAnswer, RecheckStop, recheck};
+pub use laws::know_answers;

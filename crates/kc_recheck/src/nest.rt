@@ -127,18 +127,12 @@ fn look<S: Space, L: Ledger>(
         Ok(nodes) => nodes,
         Err(NoMemory) => return Err(Halt::NoMemory),
     };
-    match test_step(alloc, known.btf, space, audit, asked, step, &nodes, steps) {
-        Ok(()) => {}
-        Err(halt) => return Err(halt),
-    }
+    test_step(alloc, known.btf, space, audit, asked, step, &nodes, steps)?;
     cursor.at += 1;
     count_walk(&mut cursor.counts, asked.audit, nodes.len());
     for i in 0..nodes.len() {
         let element = container_of(audit.link, *nodes.get(i));
-        match look_below(alloc, known, space, cursor, audit, asked, element, steps) {
-            Ok(()) => {}
-            Err(halt) => return Err(halt),
-        }
+        look_below(alloc, known, space, cursor, audit, asked, element, steps)?;
     }
     Ok(())
 }
@@ -175,10 +169,7 @@ fn look_below<S: Space, L: Ledger>(
             audit: *audit.each.get(i),
             start: element,
         };
-        match enter(alloc, known, space, cursor, &base, steps) {
-            Ok(()) => {}
-            Err(halt) => return Err(halt),
-        }
+        enter(alloc, known, space, cursor, &base, steps)?;
     }
     Ok(())
 }

@@ -1,7 +1,9 @@
 // The lines of reports, read back.
-ghost use Rattle.std.specs.Prelude.{◌≡◌, ◌≤◌, Bool, Some, None};
+ghost use Rattle.std.specs.Prelude.{◌≡◌, ◌≤◌, Bool, Some, None, codes};
 ghost use Rattle.kc_text.specs.Answers.{Gives};
-ghost use Rattle.kc_report.specs.Formats.{line_format, origin_format, place_format, read_number, stop_format};
+ghost use Rattle.kc_text.specs.Compose.{followed};
+ghost use Rattle.kc_text.specs.Readers.{hex16};
+ghost use Rattle.kc_report.specs.Formats.{line_format, origin_format, place_format, read_number, rule_format, stop_format};
 ghost use Rattle.kc_report.specs.Heads.{HeadGives};
 ghost use Rattle.kc_report.specs.Report.{stop_levels};
 
@@ -112,6 +114,15 @@ fn read_or_none<'a>(bytes: &'a [u8], none: &[u8]) -> Result<(Option<u64>, &'a [u
     }
 }
 
+// Reads a number in hex that ends its line.
+fn read_hex_line(bytes: &[u8]) -> Result<(u64, &[u8]), &[u8]>
+    ensures { Gives (λ r. (r.0, r.1.now)) result ((followed hex16 (codes "\n")).read bytes.now) }
+{
+    let (n, after) = read_hex16(bytes)?;
+    let rest = read_literal(after, b"\n")?;
+    Ok((n, rest))
+}
+
 // Reads where a word comes from: its file offset, or that it stands in a segment's tail.
 fn read_origin(bytes: &[u8]) -> Result<(Origin, &[u8]), &[u8]>
     ensures { Gives (λ r. (r.0, r.1.now)) result (origin_format.read bytes.now) }
@@ -148,8 +159,7 @@ fn read_stop_line(bytes: &[u8], low: u8, high: u8) -> Result<(Option<(u8, u64)>,
     let rest = read_literal(bytes, b"stop ")?;
     let (level, rest) = read_digit(rest, low, high)?;
     let rest = read_literal(rest, b" ")?;
-    let (pa, rest) = read_hex16(rest)?;
-    let rest = read_literal(rest, b"\n")?;
+    let (pa, rest) = read_hex_line(rest)?;
     Ok((Some((level, pa)), rest))
 }
 
@@ -164,6 +174,15 @@ fn read_stop(bytes: &[u8], rule: Rule) -> Result<(Option<(u8, u64)>, &[u8]), &[u
     }
 }
 
+// Reads a rule that ends its line.
+fn read_rule(bytes: &[u8]) -> Result<(Rule, &[u8]), &[u8]>
+    ensures { Gives (λ r. (r.0, r.1.now)) result ((followed rule_format (codes "\n")).read bytes.now) }
+{
+    let (coded, after) = read_one_of(bytes, &CODES)?;
+    let rest = read_literal(after, b"\n")?;
+    Ok((coded.0, rest))
+}
+
 // Reads a report of a violation up to its places.
 pub fn read_head(bytes: &[u8]) -> Result<(Head<'_>, &[u8]), &[u8]>
     ensures { (more : Bool) → HeadGives more result bytes.now }
@@ -171,14 +190,11 @@ pub fn read_head(bytes: &[u8]) -> Result<(Head<'_>, &[u8]), &[u8]>
     let rest = read_literal(bytes, b"broken\naudit ")?;
     let (audit, rest) = read_name(rest, b'\n')?;
     let rest = read_literal(rest, b"start ")?;
-    let (start, rest) = read_hex16(rest)?;
-    let rest = read_literal(rest, b"\n")?;
+    let (start, rest) = read_hex_line(rest)?;
     let rest = read_literal(rest, b"rule ")?;
-    let (Coded(rule), rest) = read_one_of(rest, &CODES)?;
-    let rest = read_literal(rest, b"\n")?;
+    let (rule, rest) = read_rule(rest)?;
     let rest = read_literal(rest, b"at ")?;
-    let (at, rest) = read_hex16(rest)?;
-    let rest = read_literal(rest, b"\n")?;
+    let (at, rest) = read_hex_line(rest)?;
     let rest = read_literal(rest, b"expected ")?;
     let (expected, rest) = read_or_none(rest, b"none")?;
     let rest = read_literal(rest, b"\n")?;

@@ -154,10 +154,7 @@ fn look_check<S: Space, L: Ledger>(
     ensures stays { SpaceStays S.image S.files S.through S.most space.old space.new }
     ensures cause { CountsWalkFaults result (S.faults space.old) (S.faults space.new) }
 {
-    let numbers = match read_fields(alloc, space, asked, element, &check.fields, steps) {
-        Ok(numbers) => numbers,
-        Err(stop) => return Err(stop),
-    };
+    let numbers = read_fields(alloc, space, asked, element, &check.fields, steps)?;
     match holds(alloc, check, &numbers) {
         Ok(true) => Ok(()),
         Ok(false) => Err(fails(alloc, asked, element.at(), &numbers)),
@@ -192,10 +189,7 @@ pub fn look_checks<S: Space, L: Ledger>(
 {
     let view = View::new(btf, NO_TYPE, element);
     for i in 0..checks.len() {
-        match look_check(alloc, space, asked, &view, checks.get(i), steps) {
-            Ok(()) => {}
-            Err(stop) => return Err(stop),
-        }
+        look_check(alloc, space, asked, &view, checks.get(i), steps)?;
     }
     Ok(())
 }

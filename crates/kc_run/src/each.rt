@@ -129,14 +129,12 @@ fn root_verdict<S: Space, L: Ledger>(
         Ok(audits) => audits,
         Err(NoMemory) => return Err(RunStop::NoMemory),
     };
-    match judged(alloc, known, space, root, &audits, steps) {
-        Ok(verdict) => Ok(RootVerdict {
-            root: root.audit,
-            audits,
-            verdict,
-        }),
-        Err(stop) => Err(stop),
-    }
+    let verdict = judged(alloc, known, space, root, &audits, steps)?;
+    Ok(RootVerdict {
+        root: root.audit,
+        audits,
+        verdict,
+    })
 }
 
 /// The root audit with a number in the plan, with its symbol's address, or `None` exactly where the audit with that number
@@ -217,10 +215,7 @@ fn add_root<S: Space, L: Ledger>(
         audit: number,
         start: *symbol,
     };
-    let verdict = match root_verdict(alloc, known, space, &root, steps) {
-        Ok(verdict) => verdict,
-        Err(stop) => return Err(stop),
-    };
+    let verdict = root_verdict(alloc, known, space, &root, steps)?;
     match verdicts.push(verdict) {
         Ok(()) => Ok(()),
         Err(NoMemory) => Err(RunStop::NoMemory),
@@ -262,10 +257,7 @@ pub fn run_each<S: Space, L: Ledger>(
     let mut verdicts = Verdicts::new(alloc);
     for number in 0..plan.count() {
         let start = &plan.audit(number).start;
-        match add_root(alloc, &known, space, &mut verdicts, number, start, steps) {
-            Ok(()) => {}
-            Err(stop) => return Err(stop),
-        }
+        add_root(alloc, &known, space, &mut verdicts, number, start, steps)?;
     }
     Ok(verdicts)
 }

@@ -37,10 +37,7 @@ pub(crate) fn xarray<S: Space, L: Ledger>(
     ensures stays { SpaceStays S.image S.files S.through S.most space.old space.new }
     ensures cause { CountsWalkFaults result (S.faults space.old) (S.faults space.new) }
 {
-    let items = match xa_walk(alloc, space, shape, asked.start, asked.audit, steps) {
-        Ok(items) => items,
-        Err(stop) => return Err(stop),
-    };
+    let items = xa_walk(alloc, space, shape, asked.start, asked.audit, steps)?;
     match entries_of(alloc, &items) {
         Ok(nodes) => Ok(nodes),
         Err(NoMemory) => Err(WalkStop::NoMemory),

@@ -106,17 +106,11 @@ fn look<S: Space, L: Ledger>(
     ensures stays { SpaceStays S.image S.files S.through S.most space.old space.new }
     ensures cause { CountsWalkFaults result (S.faults space.old) (S.faults space.new) }
 {
-    let nodes = match walk(alloc, known.btf, space, &audit.kind, asked, steps) {
-        Ok(nodes) => nodes,
-        Err(stop) => return Err(stop),
-    };
+    let nodes = walk(alloc, known.btf, space, &audit.kind, asked, steps)?;
     count_walk(counts, asked.audit, nodes.len());
     for i in 0..nodes.len() {
         let element = container_of(audit.link, *nodes.get(i));
-        match look_below(alloc, known, space, counts, audit, asked, element, steps) {
-            Ok(()) => {}
-            Err(stop) => return Err(stop),
-        }
+        look_below(alloc, known, space, counts, audit, asked, element, steps)?;
     }
     Ok(())
 }
@@ -148,7 +142,7 @@ fn look_below<S: Space, L: Ledger>(
     ensures stays { SpaceStays S.image S.files S.through S.most space.old space.new }
     ensures cause { CountsWalkFaults result (S.faults space.old) (S.faults space.new) }
 {
-    match look_checks(
+    look_checks(
         alloc,
         known.btf,
         space,
@@ -156,19 +150,13 @@ fn look_below<S: Space, L: Ledger>(
         &audit.checks,
         element,
         steps,
-    ) {
-        Ok(()) => {}
-        Err(stop) => return Err(stop),
-    }
+    )?;
     for i in 0..audit.each.len() {
         let base = Asked {
             audit: *audit.each.get(i),
             start: element,
         };
-        match enter(alloc, known, space, counts, &base, steps) {
-            Ok(()) => {}
-            Err(stop) => return Err(stop),
-        }
+        enter(alloc, known, space, counts, &base, steps)?;
     }
     Ok(())
 }

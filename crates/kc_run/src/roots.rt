@@ -86,10 +86,7 @@ fn enter_roots<S: Space, L: Ledger>(
 {
     for number in 0..known.plan.count() {
         let start = &known.plan.audit(number).start;
-        match enter_root(alloc, known, space, counts, number, start, steps) {
-            Ok(()) => {}
-            Err(stop) => return Err(stop),
-        }
+        enter_root(alloc, known, space, counts, number, start, steps)?;
     }
     Ok(())
 }

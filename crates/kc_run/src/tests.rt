@@ -1,13 +1,13 @@
 // The audits of a plan over a few words. Further cases stand in files, which the program try_walks tries.
-ghost use Rattle.std.specs.Prelude.{◌≡◌, ◌<◌, length};
+ghost use Rattle.std.specs.Prelude.{◌≡◌, ◌<◌, length, IfSome};
 ghost use Rattle.kc_plan.specs.Inside.{AreInside};
 
-use crate::{RunStop, run, run_each};
+use crate::{run, run_each};
 use kc_btf::Btf;
 use kc_fixture::{MAP, btf_file};
-use kc_found::{Counts, ListSpace, Origin, VWord, Verdict};
+use kc_found::{Counts, ListSpace, Origin, Space, VWord, Verdict, Verdicts};
 use kc_notes::Info;
-use kc_plan::{Plan, PlanStop, read_plan};
+use kc_plan::{Plan, read_plan};
 use kc_syms::Symbols;
 use kc_word::Steps;
 use std::alloc::{AllocError, Global};
@@ -54,24 +54,6 @@ element = 'task_struct'
 link = 'thread_node'
 ";
 
-// What is added to the plan, a word that is changed, if it has an address of these, and the verdict: of each audit the walks and
-// the elements; or the audit, the rule and the address.
-const CASES: [(&str, u64, u64, &str); 5] = [
-    ("", 0, 0, "clean 1 1 1 2"),
-    ("", 0xd050, 0, "1 N ffff88800000d050"),
-    ("optional = true", 0xd050, 0, "clean 1 1 0 0"),
-    ("", 0xb010, 0, "0 L1 ffffffff8000b010"),
-    ("check = ['2 - 2']", 0, 0, "1 C ffff88800000d000"),
-];
-
-const INFO: Info = Info {
-    table: 0x1000,
-    five: false,
-    sme: 0,
-    kaslr: 0,
-    phys_base: 0,
-};
-
 // A chain of one item, and its audit beside the nested ones.
 const CHAIN: [(u64, u64); 3] = [
     (0xb140, DIRECT + 0x11010),
@@ -88,33 +70,48 @@ element = 'item'
 link = 'hnode'
 ";
 
-// A word that is changed, if it has an address of these; the verdict, and those on the root audits 0 and 2.
-const ROOTS: [(u64, u64, &str, &str); 4] = [
-    (0, 0, "clean 1 1 1 2 1 1", "0 clean 1 1 1 2; 2 clean 1 1; "),
+// What is added to the plan, a word that is zero, if it has an address of these, and what is told: of each audit the walks and the
+// elements, or the audit, the rule and the address; and then the same for each root audit by itself.
+const CASES: [(&str, u64, &str); 9] = [
+    ("", 0, "clean 1 1 1 2; 0 clean 1 1 1 2"),
+    ("", 0xd050, "1 N ffff88800000d050; 0 1 N ffff88800000d050"),
+    ("optional = true", 0xd050, "clean 1 1 0 0; 0 clean 1 1 0 0"),
+    ("", 0xb010, "0 L1 ffffffff8000b010; 0 0 L1 ffffffff8000b010"),
     (
+        "check = ['2 - 2']",
+        0,
+        "1 C ffff88800000d000; 0 1 C ffff88800000d000",
+    ),
+    (THIRD, 0, "clean 1 1 1 2 1 1; 0 clean 1 1 1 2; 2 clean 1 1"),
+    (
+        THIRD,
         0xd060,
-        0,
-        "1 L1 ffff88800000d060",
-        "0 1 L1 ffff88800000d060; 2 clean 1 1; ",
+        "1 L1 ffff88800000d060; 0 1 L1 ffff88800000d060; 2 clean 1 1",
     ),
     (
+        THIRD,
         0x11018,
-        0,
-        "2 H1 ffff888000011018",
-        "0 clean 1 1 1 2; 2 2 H1 ffff888000011018; ",
+        "2 H1 ffff888000011018; 0 clean 1 1 1 2; 2 2 H1 ffff888000011018",
     ),
     (
+        THIRD,
         0xb010,
-        0,
-        "0 L1 ffffffff8000b010",
-        "0 0 L1 ffffffff8000b010; 2 clean 1 1; ",
+        "0 L1 ffffffff8000b010; 0 0 L1 ffffffff8000b010; 2 clean 1 1",
     ),
 ];
 
+const INFO: Info = Info {
+    table: 0x1000,
+    five: false,
+    sme: 0,
+    kaslr: 0,
+    phys_base: 0,
+};
+
 // Each word by its two addresses. Of two words with one address the first counts.
-fn space_of(alloc: Global, changed: (u64, u64)) -> Result<ListSpace, AllocError> {
+fn space_of(alloc: Global, zero: u64) -> Result<ListSpace, AllocError> {
     let mut words = Vec::new(alloc);
-    for (pa, value) in [[changed].as_slice(), WORDS.as_slice(), CHAIN.as_slice()]
+    for (pa, value) in [[(zero, 0)].as_slice(), WORDS.as_slice(), CHAIN.as_slice()]
         .iter()
         .copied()
         .flatten()
@@ -148,93 +145,59 @@ fn told(alloc: Global, verdict: &Verdict) -> Result<String, AllocError> {
     }
 }
 
-fn stop_text(alloc: Global, stop: RunStop) -> Result<String, AllocError> {
-    match stop {
-        RunStop::Fault => String::from_str(alloc, "failed"),
-        RunStop::NoMemory => String::from_str(alloc, "out of memory"),
-    }
-}
-
-fn verdict<L: Ledger>(
-    alloc: Global,
-    plan: &Plan,
-    btf: &Btf,
-    space: &mut ListSpace,
-    blank: Blank,
-) -> Result<String, AllocError>
-    requires name { blank.name ≡ L.name }
-    requires parts { blank.parts ≡ L.parts }
-    requires some { 0 < L.parts }
-    requires types { AreInside (length btf.now.records) plan.now.audits }
-{
-    let mut steps = Steps::<L>::new(blank);
-    match run(alloc, plan, btf, space, &mut steps) {
-        Ok(verdict) => told(alloc, &verdict),
-        Err(stop) => stop_text(alloc, stop),
-    }
-}
-
-// The root audits with their verdicts.
-fn verdicts<L: Ledger>(
-    alloc: Global,
-    plan: &Plan,
-    btf: &Btf,
-    space: &mut ListSpace,
-    blank: Blank,
-) -> Result<String, AllocError>
-    requires name { blank.name ≡ L.name }
-    requires parts { blank.parts ≡ L.parts }
-    requires some { 0 < L.parts }
-    requires types { AreInside (length btf.now.records) plan.now.audits }
-{
-    let mut steps = Steps::<L>::new(blank);
-    let found = match run_each(alloc, plan, btf, space, &mut steps) {
-        Ok(found) => found,
-        Err(stop) => return stop_text(alloc, stop),
-    };
-    let mut text = String::new(alloc);
-    for root in found.as_slice() {
+// The verdict on all audits, and those on each root audit.
+fn verdict_text(alloc: Global, all: &Verdict, each: &Verdicts) -> Result<String, AllocError> {
+    let mut text = told(alloc, all)?;
+    for root in each.as_slice() {
         let verdict = told(alloc, &root.verdict)?;
-        write!(&mut text, "{} {verdict}; ", root.root)?;
+        write!(&mut text, "; {} {verdict}", root.root)?;
     }
     Ok(text)
+}
+
+fn answer<S: Space, L: Ledger>(
+    alloc: Global,
+    plan: &Plan,
+    btf: &Btf,
+    space: &mut S,
+    blank: Blank,
+) -> Result<String, AllocError>
+    requires name { blank.name ≡ L.name }
+    requires parts { blank.parts ≡ L.parts }
+    requires some { 0 < L.parts }
+    requires types { AreInside (length btf.now.records) plan.now.audits }
+{
+    let mut steps = Steps::<L>::new(blank);
+    let Ok(all) = run(alloc, plan, btf, space, &mut steps) else {
+        return String::from_str(alloc, "no verdict");
+    };
+    let Ok(each) = run_each(alloc, plan, btf, space, &mut steps) else {
+        return String::from_str(alloc, "no verdicts");
+    };
+    verdict_text(alloc, &all, &each)
+}
+
+// The plan of a text, over the types and symbols of the made dump.
+fn plan_of(alloc: Global, text: &str, btf: &Btf) -> Option<Plan>
+    ensures { IfSome result (λ plan. AreInside (length btf.now.records) plan.audits) }
+{
+    let symbols = Symbols::read(alloc, MAP.as_bytes()).ok()?;
+    read_plan(alloc, text.as_bytes(), btf, &symbols, &INFO).ok()
 }
 
 #[test]
 fn each_audit_is_made_where_it_begins(rt: HostRuntime) -> Result<(), Fail> {
     let alloc = rt.alloc();
     let btf = Btf::read(alloc, btf_file(alloc)?)?;
-    let symbols = Symbols::read(alloc, MAP.as_bytes())?;
-    for (more, at, value, wanted) in CASES {
+    for (more, zero, wanted) in CASES {
         let text = format!(in alloc; "{NEST}{more}")?;
-        match read_plan(alloc, text.as_bytes(), &btf, &symbols, &INFO) {
-            Ok(plan) => {
-                let mut space = space_of(alloc, (at, value))?;
-                let found = verdict::<Brand>(alloc, &plan, &btf, &mut space, Blank::new(1))?;
-                assert_eq!(rt; found.as_str(), wanted, "{more} {at:x}={value:x}");
-            }
-            Err(PlanStop::Fault(_) | PlanStop::NoMemory) => assert!(rt; false, "{more}"),
-        }
-    }
-    Ok(())
-}
-
-#[test]
-fn each_root_audit_has_its_verdict(rt: HostRuntime) -> Result<(), Fail> {
-    let alloc = rt.alloc();
-    let btf = Btf::read(alloc, btf_file(alloc)?)?;
-    let symbols = Symbols::read(alloc, MAP.as_bytes())?;
-    let text = format!(in alloc; "{NEST}{THIRD}")?;
-    let Ok(plan) = read_plan(alloc, text.as_bytes(), &btf, &symbols, &INFO) else {
-        assert!(rt; false, "refused");
-        return Ok(());
-    };
-    for (at, value, all, each) in ROOTS {
-        let mut space = space_of(alloc, (at, value))?;
-        let found = verdict::<Brand>(alloc, &plan, &btf, &mut space, Blank::new(1))?;
-        assert_eq!(rt; found.as_str(), all, "{at:x}={value:x}");
-        let found = verdicts::<Brand>(alloc, &plan, &btf, &mut space, Blank::new(1))?;
-        assert_eq!(rt; found.as_str(), each, "{at:x}={value:x}");
+        let Some(plan) = plan_of(alloc, &text, &btf) else {
+            assert!(rt; false, "{more}");
+            return Ok(());
+        };
+        let mut space = space_of(alloc, zero)?;
+        let found = answer::<ListSpace, Brand>(alloc, &plan, &btf, &mut space, Blank::new(1))?;
+        assert_eq!(rt; found.as_str(), wanted, "{more} {zero:x}");
     }
     Ok(())
 }

@@ -63,14 +63,8 @@ fn collect<S: Space, L: Ledger>(
         if node == 0 {
             continue;
         }
-        let right = match pointer_at(space, node.wrapping_add(shape.right), steps) {
-            Ok(right) => right,
-            Err(halt) => return Err(halt),
-        };
-        let left = match pointer_at(space, node.wrapping_add(shape.left), steps) {
-            Ok(left) => left,
-            Err(halt) => return Err(halt),
-        };
+        let right = pointer_at(space, node.wrapping_add(shape.right), steps)?;
+        let left = pointer_at(space, node.wrapping_add(shape.left), steps)?;
         match pending.push(right) {
             Ok(()) => {}
             Err(_) => return Err(Halt::NoMemory),
@@ -109,9 +103,6 @@ pub fn collect_tree<S: Space, L: Ledger>(
 {
     know_shapes();
     let limit = 2 * nodes.as_slice().len() + 1;
-    let root = match pointer_at(space, start.wrapping_add(shape.root), steps) {
-        Ok(root) => root,
-        Err(halt) => return Err(halt),
-    };
+    let root = pointer_at(space, start.wrapping_add(shape.root), steps)?;
     collect(alloc, space, shape, root, limit, steps)
 }

@@ -79,10 +79,7 @@ fn test_numbers<S: Space, L: Ledger>(
     ensures cause { CountsTestFaults result (S.faults space.old) (S.faults space.new) }
 {
     let mut pending = Vec::new(alloc);
-    match push_spot(&mut pending, root) {
-        Ok(()) => {}
-        Err(halt) => return Err(halt),
-    }
+    push_spot(&mut pending, root)?;
     let mut first = None;
     for i in 0..numbers.len() {
         let number = *numbers.get(i);
@@ -105,10 +102,7 @@ fn test_numbers<S: Space, L: Ledger>(
             Ok(entered) => entered,
             Err(stop) => return Err(halt_of(stop)),
         };
-        match push_children(&mut pending, &spot, &links, &key) {
-            Ok(()) => {}
-            Err(halt) => return Err(halt),
-        }
+        push_children(&mut pending, &spot, &links, &key)?;
     }
     if pending.len() == 0 {
         Ok(())
@@ -130,20 +124,14 @@ pub fn turned(alloc: Global, numbers: &Walked) -> Result<Walked, NoMemory>
     for i in 0..numbers.len() {
         let number = *numbers.get(i);
         if number != 0 {
-            match above.push(number) {
-                Ok(()) => {}
-                Err(_) => return Err(NoMemory),
-            }
+            above.push(number)?;
             continue;
         }
         let node = match above.pop() {
             Some(node) => node,
             None => return Ok(nodes),
         };
-        match nodes.push(node) {
-            Ok(()) => {}
-            Err(NoMemory) => return Err(NoMemory),
-        }
+        nodes.push(node)?;
     }
     Ok(nodes)
 }
@@ -195,7 +183,7 @@ pub fn test_tree<S: Space, L: Ledger>(
         Ok(head) => head,
         Err(stop) => return Err(halt_of(stop)),
     };
-    match test_numbers(
+    test_numbers(
         alloc,
         space,
         shape,
@@ -204,10 +192,7 @@ pub fn test_tree<S: Space, L: Ledger>(
         root_of(head.root),
         numbers,
         steps,
-    ) {
-        Ok(()) => {}
-        Err(halt) => return Err(halt),
-    }
+    )?;
     match is_first(alloc, &head.leftmost, numbers) {
         Ok(true) => Ok(()),
         Ok(false) => Err(Halt::Unfit),

@@ -108,20 +108,14 @@ fn meet_nodes<S: Space, L: Ledger>(
     for i in 0..nodes.len() {
         let node = *nodes.get(i);
         let next = node_or(nodes, i + 1, linking.end);
-        match meet(space, claims, node.wrapping_add(linking.next), next, steps) {
-            Ok(()) => {}
-            Err(halt) => return Err(halt),
-        }
-        match meet(
+        meet(space, claims, node.wrapping_add(linking.next), next, steps)?;
+        meet(
             space,
             claims,
             node.wrapping_add(linking.back),
             before,
             steps,
-        ) {
-            Ok(()) => {}
-            Err(halt) => return Err(halt),
-        }
+        )?;
         before = led_back(linking.from, node);
     }
     Ok(())
@@ -162,15 +156,9 @@ fn meet_ring<S: Space, L: Ledger>(
     ensures cause { CountsTestFaults result (S.faults space.old) (S.faults space.new) }
 {
     let first = node_or(nodes, 0, head);
-    match meet(space, claims, head.wrapping_add(shape.next), first, steps) {
-        Ok(()) => {}
-        Err(halt) => return Err(halt),
-    }
+    meet(space, claims, head.wrapping_add(shape.next), first, steps)?;
     let last = last_or(nodes, head);
-    match meet(space, claims, head.wrapping_add(shape.prev), last, steps) {
-        Ok(()) => {}
-        Err(halt) => return Err(halt),
-    }
+    meet(space, claims, head.wrapping_add(shape.prev), last, steps)?;
     let linking = Linking {
         next: shape.next,
         back: shape.prev,
@@ -197,10 +185,7 @@ fn meet_chain<S: Space, L: Ledger>(
 {
     let from = head.wrapping_add(shape.first);
     let first = node_or(nodes, 0, 0);
-    match meet(space, claims, from, first, steps) {
-        Ok(()) => {}
-        Err(halt) => return Err(halt),
-    }
+    meet(space, claims, from, first, steps)?;
     let linking = Linking {
         next: shape.next,
         back: shape.pprev,

@@ -12,8 +12,12 @@ use kc_word::{Bits, Steps};
 use std::alloc::Global;
 use std::sync::ledger::Ledger;
 
-// A base, which may be a word of memory.
-fn read_base<S: Space, L: Ledger>(
+/// A base: a number that is known, or the word of memory at a virtual address.
+///
+/// # Errors
+///
+/// The violation by the stop of that word, a failure of the space, whose count of faults then rose, or out of memory.
+pub fn read_base<S: Space, L: Ledger>(
     alloc: Global,
     space: &mut S,
     asked: &Asked,
@@ -121,8 +125,13 @@ fn read_optional<S: Space, L: Ledger>(
     }
 }
 
-// How the objects of the cache lie in its slabs.
-pub(crate) fn read_objects<S: Space, L: Ledger>(
+/// How the objects of the cache at which a walk starts lie in its slabs, in bytes; rule U3 of the field `size`, which has to hold a
+/// free pointer at the cache's offset.
+///
+/// # Errors
+///
+/// The first violation, a failure of the space, whose count of faults then rose, or out of memory.
+pub fn read_objects<S: Space, L: Ledger>(
     alloc: Global,
     space: &mut S,
     asked: &Asked,

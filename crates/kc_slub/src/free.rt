@@ -1,5 +1,5 @@
 // Free lists.
-ghost use Rattle.std.specs.Prelude.{◌≡◌, ℕ, ◌+◌, ◌*◌, ◌^◌, ◌<◌, ◌≤◌, ◌∷◌, ◌++◌, [], length, Ok, Some, IfOk, IfSome, OnOk};
+ghost use Rattle.std.specs.Prelude.{◌≡◌, ℕ, ◌+◌, ◌*◌, ◌^◌, ◌<◌, ◌≤◌, ◌∷◌, ◌++◌, [], length, None, Ok, Some, IfOk, IfSome, OnOk};
 ghost use Rattle.kc_memory.specs.Stays.{SpaceStays};
 ghost use Rattle.kc_found.specs.FiniteLists.{FreeChain, NoFreeChain};
 ghost use Rattle.kc_found.specs.FreeLists.{IsGrid, decoded, free_list, free_next, free_site, is_object, led_by, low_word, number_in, number_taken, places_taken, pointer_at, pointer_by};
@@ -104,6 +104,7 @@ fn enter_number<S: Space, L: Ledger>(
         (S.image space.old) result }
     ensures named { IsNamed result asked.now.audit asked.now.start }
     ensures steps { steps.new ≤ steps.old + 2 * S.most space.old }
+    ensures one_word { IfOk result (λ n. n.second ≡ None → steps.new ≤ steps.old + S.most space.old) }
 
     ensures stays { SpaceStays S.image S.files S.through S.most space.old space.new }
     ensures cause { CountsWalkFaults result (S.faults space.old) (S.faults space.new) }

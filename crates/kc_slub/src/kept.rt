@@ -83,10 +83,7 @@ impl Chains for Kept {
         first: Scalar,
         steps: &mut Steps<L>,
     ) -> Result<Walked, WalkStop> {
-        let objects = match free_walk(alloc, space, grid, first, asked.audit, asked.start, steps) {
-            Ok(objects) => objects,
-            Err(stop) => return Err(stop),
-        };
+        let objects = free_walk(alloc, space, grid, first, asked.audit, asked.start, steps)?;
         keep(alloc, &mut self.lists, &objects)?;
         Ok(objects)
     }

@@ -10,10 +10,12 @@ mod slab;
 mod walk;
 mod walks;
 
+pub use cache::{read_base, read_objects};
 pub use counted::free_walk_counted;
 pub use free::{decode, enter_object, free_next, free_walk};
 pub use kept::Kept;
 pub use laws::{know_caches, know_free_lists};
+pub use slab::{grid_of, is_descriptor, page_of};
 pub use walk::{cache_walk, cache_walk_by};
 
 #[cfg(test)]

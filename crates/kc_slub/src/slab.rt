@@ -18,22 +18,25 @@ use std::sync::ledger::Ledger;
 // A physical address has 52 bits, so the number of a page is below this one.
 const PAGES: u64 = 1 << 40;
 
-// The number of the page that a descriptor stands for.
-fn page_of(shape: &SlubShape, bases: &SlubBases, slab: u64) -> u64
+/// The number of the page that the descriptor at virtual address `slab` stands for, in pages of 4096 bytes. Differences of addresses
+/// wrap at 2^64.
+pub fn page_of(shape: &SlubShape, bases: &SlubBases, slab: u64) -> u64
     ensures { result ≡ page_of shape.now bases.now slab }
 {
     slab.wrapping_sub(bases.vmemmap) / shape.page_size
 }
 
-// A page has its descriptor there.
-fn is_descriptor(shape: &SlubShape, bases: &SlubBases, slab: u64) -> bool
+/// Whether a page has its descriptor at virtual address `slab`: it stands a whole number of descriptors behind the first one, and the
+/// page's number is below 2^40.
+pub fn is_descriptor(shape: &SlubShape, bases: &SlubBases, slab: u64) -> bool
     ensures { result ≡ is_descriptor shape.now bases.now slab }
 {
     slab.wrapping_sub(bases.vmemmap) % shape.page_size == 0 && page_of(shape, bases, slab) < PAGES
 }
 
-// Where a slab's objects lie.
-fn grid_of(
+/// Where the objects of a slab lie, so many of them, by the virtual address `slab` of its descriptor and by how the objects of its
+/// cache lie in a slab.
+pub fn grid_of(
     shape: &SlubShape,
     bases: &SlubBases,
     objects: &SlabObjects,

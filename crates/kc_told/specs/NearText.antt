@@ -1,5 +1,5 @@
 -- What is printed of where a word beside an address leads to.
-use Rattle.std.specs.Prelude.{ℕ, Bool, true, false, if◌then◌else◌, List, [], ◌++◌, codes, decimal, is_some, map, Option, Some, None, Result, Ok, Err}
+use Rattle.std.specs.Prelude.{ℕ, Bool, true, false, List, [], ◌++◌, codes, decimal, map, Option, Some, None, Result, Ok, Err}
 use Rattle.kc_text.specs.Text.{hex, visible}
 use Rattle.kc_found.specs.Violations.{Violation}
 use Rattle.kc_object.specs.declared.described.Described.{Described}
@@ -10,18 +10,25 @@ use Rattle.kc_object.specs.declared.spot.Spot.{Spot}
 use Rattle.kc_object.specs.declared.spot.Spot.TheVariants.{Object}
 use Rattle.kc_told.specs.declared.near.Lead.{Lead}
 
--- a byte of an object: the name of the object's cache, the byte, and whether its slab's free list has the object
+-- a byte of an object: the name of the object's cache, the byte, and what is said of whether the object is free
 pub record InObject : Type 0 where
   pub name : List ℕ
   pub byte : ℕ
-  pub free : Bool
+  pub mark : List ℕ
 
-abbrev pub is_free : Result FreeSpot Violation → Bool
-is_free (Ok free) = is_some free.place
-is_free (Err v) = false
+-- free where the slab's own list has it; where it doesn't, a processor that owns the slab may have it in a list of its own
+abbrev pub place_mark : Option ℕ → Bool → List ℕ
+place_mark (Some place) frozen = codes " free"
+place_mark None true = codes " frozen"
+place_mark None false = []
+
+-- where the list is broken before it comes to the object, that isn't known
+abbrev pub free_mark : Result FreeSpot Violation → Bool → List ℕ
+free_mark (Ok free) frozen = place_mark free.place frozen
+free_mark (Err v) frozen = codes " unknown"
 
 abbrev pub spot_in : Slab → Spot → Option InObject
-spot_in s (Object o) = Some (record { name = s.cache.name; byte = o.byte; free = is_free s.free })
+spot_in s (Object o) = Some (record { name = s.cache.name; byte = o.byte; mark = free_mark s.free s.counts.frozen })
 spot_in s _ = None
 
 abbrev pub slab_in : Result (Option Slab) Violation → Option InObject
@@ -35,11 +42,8 @@ object_in None = None
 object_in (Some (Ok h)) = slab_in h.slab
 object_in (Some (Err v)) = None
 
-abbrev pub free_mark : Bool → List ℕ
-free_mark free = if free then codes " free" else []
-
 abbrev pub in_object_text : InObject → List ℕ
-in_object_text o = codes "object " ++ map visible o.name ++ codes "+" ++ decimal o.byte ++ free_mark o.free
+in_object_text o = codes "object " ++ map visible o.name ++ codes "+" ++ decimal o.byte ++ o.mark
 
 -- the page whose descriptor it is, by its number
 abbrev pub descriptor_text : Described → List ℕ

@@ -72,17 +72,15 @@ abbrev pub number_text : Option SymbolAt → Lead → ℕ → List ℕ
 number_text None lead value = lead_text lead
 number_text (Some s) lead value = codes "image " ++ symbol_text s value
 
--- a byte that the kernel fills memory with, and what it tells there. Source: the kernel's include/linux/poison.h: POISON_INUSE ("for
--- use-uninitialised poisoning"), POISON_FREE ("for use-after-free poisoning"), POISON_END ("end-byte of poisoning"), PAGE_POISON (of a page that
--- isn't allocated), SLUB_RED_INACTIVE and SLUB_RED_ACTIVE (the red zone of an object that is free, or in use)
+-- a byte that the kernel fills memory with, by its names in the kernel's include/linux/poison.h: what it tells hangs on where it stands
 abbrev pub pattern_text : ℕ → List ℕ
 pattern_text byte =
-    if byte == 0x5a then codes "pattern 5a uninitialized"
-    else (if byte == 0x6b then codes "pattern 6b freed"
-    else (if byte == 0xa5 then codes "pattern a5 end"
-    else (if byte == 0xaa then codes "pattern aa unallocated"
-    else (if byte == 0xbb then codes "pattern bb redzone-free"
-    else (if byte == 0xcc then codes "pattern cc redzone-used"
+    if byte == 0x5a then codes "pattern 5a POISON_INUSE"
+    else (if byte == 0x6b then codes "pattern 6b POISON_FREE"
+    else (if byte == 0xa5 then codes "pattern a5 POISON_END"
+    else (if byte == 0xaa then codes "pattern aa PAGE_POISON"
+    else (if byte == 0xbb then codes "pattern bb SLUB_RED_INACTIVE"
+    else (if byte == 0xcc then codes "pattern cc SLUB_RED_ACTIVE|POISON_FREE_INITMEM"
     else codes "pattern")))))
 
 -- what a word says

@@ -14,4 +14,4 @@ abbrev pub told_view : CodeTold → Told
 told_view t = record { areas = t.areas; held = t.held; holders = map symbol_view t.holders.items }
 
 abbrev pub in_object_view : CodeInObject → InObject
-in_object_view o = record { name = o.name.now; byte = o.byte; free = o.free }
+in_object_view o = record { name = o.name.now; byte = o.byte; mark = o.mark.now }

@@ -69,7 +69,7 @@ fn tell_described<S: Space, L: Ledger>(
     }
 }
 
-// What an address leads to.
+// What an address leads to; where the kernel lacks what that asks for, its word isn't read.
 fn lead_at<S: Space, L: Ledger>(
     alloc: Global,
     space: &mut S,
@@ -82,6 +82,9 @@ fn lead_at<S: Space, L: Ledger>(
     ensures stays { SpaceStays S.image S.files S.through S.most space.old space.new }
     ensures cause { CountsLookFaults result (S.faults space.old) (S.faults space.new) }
 {
+    if shape.is_none() {
+        return Ok(nothing());
+    }
     let word = read_word(space, word_start(address), steps)?;
     let held = tell_held(alloc, space, types, shape, address, &word, steps)?;
     let described = tell_described(alloc, space, shape, address, &word, steps)?;

@@ -1,6 +1,6 @@
 // What is printed of where a word beside an address leads to.
 ghost use Rattle.std.specs.Prelude.{◌≡◌, ◌++◌, option_map, OnOk};
-ghost use Rattle.kc_told.specs.NearText.{described_text, descriptor_text, free_mark, in_object_text, is_free, lead_text, object_in};
+ghost use Rattle.kc_told.specs.NearText.{described_text, descriptor_text, free_mark, in_object_text, lead_text, object_in, place_mark};
 ghost use Rattle.kc_told.specs.Views.{in_object_view};
 
 use crate::near::Lead;
@@ -16,17 +16,29 @@ pub(crate) struct InObject<'h> {
     pub(crate) name: &'h Name,
     // The byte, counted from the object's first one.
     pub(crate) byte: u64,
-    // Whether its slab's free list has the object.
-    pub(crate) free: bool,
+    // What is said of whether the object is free.
+    pub(crate) mark: &'static [u8],
 }
 
-// Whether a slab's free list has an object.
-fn is_free(free: &Result<FreeSpot, Found>) -> bool
-    ensures { result ≡ is_free free.now }
+// What is said of an object by where its slab's own free list has it; where it doesn't, a processor that owns the slab may have it in a
+// list of its own.
+fn place_mark(place: Option<u64>, frozen: bool) -> &'static [u8]
+    ensures { result.now ≡ place_mark place frozen }
+{
+    match place {
+        Some(_) => b" free",
+        None if frozen => b" frozen",
+        None => b"",
+    }
+}
+
+// The same, where that list may be broken before it comes to the object.
+fn free_mark(free: &Result<FreeSpot, Found>, frozen: bool) -> &'static [u8]
+    ensures { result.now ≡ free_mark free.now frozen }
 {
     match free {
-        Ok(free) => free.place.is_some(),
-        Err(_) => false,
+        Ok(free) => place_mark(free.place, frozen),
+        Err(_) => b" unknown",
     }
 }
 
@@ -44,7 +56,7 @@ fn object_in(held: &Option<Result<Held, Found>>) -> Option<InObject<'_>>
         Spot::Object(object) => Some(InObject {
             name: &slab.cache.name,
             byte: object.byte,
-            free: is_free(&slab.free),
+            mark: free_mark(&slab.free, slab.counts.frozen),
         }),
         _ => None,
     }
@@ -56,14 +68,7 @@ fn push_in_object(text: &mut Vec<u8>, object: &InObject<'_>) -> Result<(), NoMem
     push(text, b"object ")?;
     push_name(text, object.name.as_slice())?;
     push_numbered(text, b"+", object.byte)?;
-    push(text, free_mark(object.free))
-}
-
-// Said of an object that is free.
-fn free_mark(free: bool) -> &'static [u8]
-    ensures { result.now ≡ free_mark free }
-{
-    if free { b" free" } else { b"" }
+    push(text, object.mark)
 }
 
 // The page whose descriptor it is.

@@ -171,17 +171,17 @@ fn push_visible(text: &mut Vec<u8>, value: u64) -> Result<(), NoMemory>
     push(text, b"\"")
 }
 
-// A byte that the kernel fills memory with, and what it tells there.
+// A byte that the kernel fills memory with, by the kernel's names of it.
 fn pattern_text(byte: u8) -> &'static [u8]
     ensures { result.now ≡ pattern_text byte }
 {
     match byte {
-        0x5a => b"pattern 5a uninitialized",
-        0x6b => b"pattern 6b freed",
-        0xa5 => b"pattern a5 end",
-        0xaa => b"pattern aa unallocated",
-        0xbb => b"pattern bb redzone-free",
-        0xcc => b"pattern cc redzone-used",
+        0x5a => b"pattern 5a POISON_INUSE",
+        0x6b => b"pattern 6b POISON_FREE",
+        0xa5 => b"pattern a5 POISON_END",
+        0xaa => b"pattern aa PAGE_POISON",
+        0xbb => b"pattern bb SLUB_RED_INACTIVE",
+        0xcc => b"pattern cc SLUB_RED_ACTIVE|POISON_FREE_INITMEM",
         _ => b"pattern",
     }
 }

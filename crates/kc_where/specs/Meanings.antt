@@ -1,6 +1,6 @@
 -- What a word says by itself, where nothing is known of its type.
 -- Source: the kernel's include/linux/poison.h: LIST_POISON1 and LIST_POISON2, POISON_INUSE (5a), POISON_FREE (6b), POISON_END (a5),
--- PAGE_POISON (aa), SLUB_RED_INACTIVE (bb) and SLUB_RED_ACTIVE (cc).
+-- PAGE_POISON (aa), SLUB_RED_INACTIVE (bb), SLUB_RED_ACTIVE and POISON_FREE_INITMEM (cc).
 use Rattle.std.specs.Prelude.{ℕ, ◌*◌, ◌%◌, ◌==◌, ◌&&◌, ◌||◌, Bool, nat_le, nat_lt, if◌then◌else◌}
 use Rattle.std.specs.Int.{to_le_bytes, w64}
 use Rattle.std.specs.List.{list_all}
@@ -8,7 +8,7 @@ use Rattle.kc_found.specs.Nodes.{is_poison}
 use Rattle.kc_where.specs.declared.meaning.Meaning.{Meaning}
 use Rattle.kc_where.specs.declared.meaning.Meaning.TheVariants.{Zero, Own, Unlisted, Pattern, Text, Small, Number}
 
--- a byte that the kernel fills memory with which isn't in use
+-- a byte that the kernel fills memory with
 abbrev pub is_pattern : ℕ → Bool
 is_pattern b = (b == 0x5a) || (b == 0x6b) || (b == 0xa5) || (b == 0xaa) || (b == 0xbb) || (b == 0xcc)
 

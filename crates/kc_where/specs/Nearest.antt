@@ -1,6 +1,7 @@
 -- The symbol that stands nearest below an address, or at it.
-use Rattle.std.specs.Prelude.{ℕ, ◌&&◌, Bool, false, codes, nat_le, nat_lt, if◌then◌else◌, List, [], ◌∷◌, Option, Some, None}
+use Rattle.std.specs.Prelude.{ℕ, ◌&&◌, Bool, false, not, codes, nat_le, nat_lt, if◌then◌else◌, List, [], ◌∷◌, Option, Some, None}
 use Rattle.std.specs.Result.{result_ok}
+use Rattle.std.specs.Str.{bytes_eq}
 use Rattle.kc_syms.specs.Addresses.{at_run, common_of}
 use Rattle.kc_syms.specs.Rows.{RowText, addresses}
 
@@ -9,10 +10,14 @@ pub record SymbolAt : Type 0 where
   pub name : List ℕ
   pub address : ℕ
 
+-- where the variables of processors begin, which none of them is named for
+abbrev pub is_area_start : List ℕ → Bool
+is_area_start name = bytes_eq name (codes "__per_cpu_start")
+
 -- one that a row lists, where its address at run time is this one or a higher one, and isn't above an address
 abbrev pub below : ℕ → ℕ → ℕ → ℕ → List ℕ → Option SymbolAt
 below from kaslr address listed name =
-    if nat_le from (at_run kaslr listed) && nat_le (at_run kaslr listed) address
+    if nat_le from (at_run kaslr listed) && nat_le (at_run kaslr listed) address && not (is_area_start name)
     then Some (record { name = name; address = at_run kaslr listed }) else None
 
 -- the one at the higher address, and of two at the same the first

@@ -8,11 +8,12 @@ ghost use Rattle.kc_where.specs.Meanings.{is_filled, is_pattern, is_text, is_vis
 pub enum Meaning {
     /// Zero.
     Zero,
-    /// The word's own address, as in the head of an empty list and in a node that `list_del_init` took out.
+    /// The word's own address, as in the head of an empty list, in a node that `list_del_init` took out, and in one of a tree that
+    /// `RB_CLEAR_NODE` marks as in none.
     Own,
     /// A pointer that the kernel leaves in a list's node that it took out.
     Unlisted,
-    /// One byte eight times, which the kernel fills memory with that isn't in use.
+    /// One byte eight times, which the kernel fills memory with.
     Pattern(u8),
     /// Eight visible characters of ASCII, or spaces.
     Text,
@@ -29,7 +30,7 @@ fn is_poison(value: u64) -> bool
     value == 0xdead_0000_0000_0100 || value == 0xdead_0000_0000_0122
 }
 
-// Whether the kernel fills memory with this byte which isn't in use.
+// Whether the kernel fills memory with this byte.
 fn is_pattern(byte: u8) -> bool
     ensures { result ≡ is_pattern byte }
 {

@@ -2,7 +2,7 @@
 ghost use Rattle.std.specs.Prelude.{◌≡◌, List, Ok, option_map};
 ghost use Rattle.kc_syms.specs.Addresses.{at_run};
 ghost use Rattle.kc_syms.specs.Rows.{RowText, lines, rows};
-ghost use Rattle.kc_where.specs.Nearest.{below, higher, nearest};
+ghost use Rattle.kc_where.specs.Nearest.{below, higher, is_area_start, nearest};
 ghost use Rattle.kc_where.specs.Views.{row_view, symbol_view};
 ghost use Rattle.kc_where.specs.Lines.{in_line, in_lines, row_in};
 
@@ -32,12 +32,19 @@ pub(crate) fn at_run(kaslr: u64, listed: u64) -> u64
     }
 }
 
+// Whether a name is that of where the variables of processors begin: at the same address stands the first of these.
+fn is_area_start(name: &[u8]) -> bool
+    ensures { result ≡ is_area_start name.now }
+{
+    name == b"__per_cpu_start".as_slice()
+}
+
 // A symbol at an address or above it, where it isn't above another one.
 fn below(from: u64, kaslr: u64, address: u64, listed: u64, name: &[u8]) -> Option<Symbol<'_>>
     ensures { option_map symbol_view result ≡ below from kaslr address listed name.now }
 {
     let at = at_run(kaslr, listed);
-    if at >= from && at <= address {
+    if at >= from && at <= address && !is_area_start(name) {
         Some(Symbol { name, address: at })
     } else {
         None
@@ -84,7 +91,8 @@ fn higher<'m>(a: Option<Symbol<'m>>, b: Option<Symbol<'m>>) -> Option<Symbol<'m>
 }
 
 /// The symbol that stands nearest below an address, or at it, of those from another address on, where KASLR moved the image by `kaslr`
-/// bytes; of several at one address the first row's. `map` is a System.map that `kc_syms::Symbols` reads. It takes no memory.
+/// bytes; of several at one address the first row's. `__per_cpu_start` is passed over, for it names no variable. `map` is a System.map
+/// that `kc_syms::Symbols` reads. It takes no memory.
 pub fn nearest(map: &[u8], from: u64, kaslr: u64, address: u64) -> Option<Symbol<'_>>
     ensures lines { option_map symbol_view result ≡ in_lines from kaslr address (lines map.now) }
     ensures rows { (listed : List RowText) → rows map.now ≡ Ok listed → option_map symbol_view result ≡ nearest from kaslr address listed }

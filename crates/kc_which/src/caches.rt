@@ -34,8 +34,8 @@ pub enum SlabElement {
     Node(u64),
 }
 
-// The head of a list.
-fn partial_head(shape: &SlubShape, list: CacheRing) -> u64
+/// The virtual address of the head of a list.
+pub fn partial_head(shape: &SlubShape, list: CacheRing) -> u64
     ensures { result ≡ partial_head shape.now list }
 {
     list.knode.wrapping_add(shape.partial)

@@ -7,9 +7,9 @@ mod ends;
 mod laws;
 mod tasks;
 
-pub use caches::{CacheRing, SlabElement, find_cache_ring, slab_in};
+pub use caches::{CacheRing, SlabElement, find_cache_ring, partial_head, slab_in};
 pub use laws::know_rings;
-pub use tasks::{TaskElement, TaskRing, find_task_ring, task_in};
+pub use tasks::{TaskElement, TaskRing, find_task_ring, ring_head, task_in};
 
 #[cfg(test)]
 mod tests;

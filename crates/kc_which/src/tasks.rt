@@ -44,8 +44,8 @@ fn task_of(offset: u64, node: u64) -> u64
     node.wrapping_sub(offset)
 }
 
-// The head of a ring, where the walk of the tasks starts at a task.
-fn ring_head(shape: &TaskShape, start: u64, ring: TaskRing) -> u64
+/// The virtual address of the head of a ring, where the walk of the tasks starts at a task.
+pub fn ring_head(shape: &TaskShape, start: u64, ring: TaskRing) -> u64
     ensures { result ≡ ring_head shape.now start ring }
 {
     match ring {

@@ -43,12 +43,8 @@ const CACHE_WORDS: [(u64, u64); 6] = [
 ];
 
 // A `prev` that is 0, if one of these has the address, and what a violation of L1 there is about.
-const CASES: [(u64, &str); 7] = [
+const CASES: [(u64, &str); 5] = [
     (1016, "Some(Tasks) Some(Task(1000))"),
-    (
-        1096,
-        "Some(Threads { leader: 1000, signal: 3000 }) Some(Task(1000))",
-    ),
     (
         2096,
         "Some(Threads { leader: 1000, signal: 3000 }) Some(Task(2000))",
@@ -57,7 +53,6 @@ const CASES: [(u64, &str); 7] = [
         3008,
         "Some(Threads { leader: 1000, signal: 3000 }) Some(Signal(3000))",
     ),
-    (1048, "Some(Children { parent: 1000 }) Some(Task(1000))"),
     (2048, "Some(Children { parent: 2000 }) Some(Task(2000))"),
     (2000, "None None"),
 ];

@@ -31,49 +31,46 @@ impl Walks for Views {
         let mut space = file.memory(alloc, "", file.section("words")?)?;
         let words: Vec<&str> = given.split(' ').collect(alloc)?;
         match words.as_slice() {
-            ["number", at, offsets, bit] => {
-                let view = View::new(&btf, 0, file.number(at)?);
-                let bit = file.number(bit)?;
-                number(
-                    alloc,
-                    &view,
-                    &mut space,
-                    hops(alloc, file, offsets)?,
-                    bit,
-                    steps,
-                )
-            }
-            ["address", at, offsets] => {
-                let view = View::new(&btf, 0, file.number(at)?);
-                address(alloc, &view, &mut space, hops(alloc, file, offsets)?, steps)
-            }
-            ["path", at, offsets, byte] => {
-                let view = View::new(&btf, 0, file.number(at)?);
-                let byte = file.number(byte)?;
-                path(
-                    alloc,
-                    &view,
-                    &mut space,
-                    hops(alloc, file, offsets)?,
-                    byte,
-                    steps,
-                )
-            }
             ["part", at, offsets, byte] => {
                 let view = View::new(&btf, 0, file.number(at)?);
-                part(
-                    alloc,
-                    &view,
-                    hops(alloc, file, offsets)?,
-                    file.number(byte)?,
-                )
+                let hops = hops(alloc, file, offsets)?;
+                part(alloc, &view, hops, file.number(byte)?)
             }
             ["element", ty, at, index] => {
                 let ty = ty.parse::<u32>()?;
                 element(alloc, &btf, ty, file.number(at)?, file.number(index)?)
             }
-            _ => bail!("an unknown question"),
+            read => in_memory(alloc, file, &btf, &mut space, read, steps),
         }
+    }
+}
+
+// What is read of memory: a number, the address behind pointers, or where a path leads.
+fn in_memory<L: Ledger>(
+    alloc: Global,
+    file: &CaseFile,
+    btf: &Btf,
+    space: &mut ListSpace,
+    words: &[&str],
+    steps: &mut Steps<L>,
+) -> Result<String> {
+    match words {
+        ["number", at, offsets, bit] => {
+            let view = View::new(btf, 0, file.number(at)?);
+            let hops = hops(alloc, file, offsets)?;
+            number(alloc, &view, space, hops, file.number(bit)?, steps)
+        }
+        ["address", at, offsets] => {
+            let view = View::new(btf, 0, file.number(at)?);
+            let hops = hops(alloc, file, offsets)?;
+            address(alloc, &view, space, hops, steps)
+        }
+        ["path", at, offsets, byte] => {
+            let view = View::new(btf, 0, file.number(at)?);
+            let hops = hops(alloc, file, offsets)?;
+            path(alloc, &view, space, hops, file.number(byte)?, steps)
+        }
+        _ => bail!("an unknown question"),
     }
 }
 

@@ -21,3 +21,6 @@ returns-clause-module_ends c = module_checks_end (checks_stand c.know_verdicts.e
 
 pub returns-clause-texts : goal.returns-clause-texts
 returns-clause-texts c = c.know_texts.ensures
+
+pub returns-clause-right : goal.returns-clause-right
+returns-clause-right c = c.know_answers.ensures

@@ -46,7 +46,7 @@ returns-clause-certified g c =
 
 pub returns-clause-rechecked : goal.returns-clause-rechecked
 returns-clause-rechecked g c =
-    answer_rechecks c.know_shown.ensures.texts (map string_bytes c.args.words.now) (g.S.Store.files c.args.store.now) c.finish.result (g.O.Sink.taken c.args.out.now) (g.O.Sink.taken c.finish.new.out) (g.E.Sink.taken c.args.err.now) (g.E.Sink.taken c.finish.new.err)
+    answer_rechecks c.know_shown.ensures.right c.know_shown.ensures.texts (map string_bytes c.args.words.now) (g.S.Store.files c.args.store.now) c.finish.result (g.O.Sink.taken c.args.out.now) (g.O.Sink.taken c.finish.new.out) (g.E.Sink.taken c.args.err.now) (g.E.Sink.taken c.finish.new.err)
     (returns-clause-told g c)
 
 pub returns-clause-unopened : goal.returns-clause-unopened

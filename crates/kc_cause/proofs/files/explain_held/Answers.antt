@@ -9,4 +9,4 @@ returns-clause-output g c =
     held_prints (content (g.S.Store.files c.args.store.now) Dump (g.S.Store.opened c.args.store.now Dump)) (content (g.S.Store.files c.over-memory.result.store.now) Dump (g.S.Store.opened c.over-memory.result.store.now Dump))
     c.args.held.now c.args.planned.now c.over-memory.result.segments.items c.over-memory.result.tail c.args.report.now c.explain_over-memory.result.answer
     (ap (λ st. content (g.S.Store.files st) Dump (g.S.Store.opened st Dump)) c.over-memory.ensures.store) (search rules) (search rules)
-    (rw c.paging_by-paging.ensures at c.explain_over-memory.ensures.output)
+    (rw c.paging_by.ensures at c.explain_over-memory.ensures.output)

@@ -1,7 +1,4 @@
 use Rattle.std.proofs.Common.{ap}
-use Rattle.kc_outside.specs.declared.store.Slot.TheVariants.{Dump}
-use Rattle.kc_outside.specs.Files.{content}
-use Rattle.kc_phys.specs.Stored.{stored}
 use Rattle.kc_mem.specs.Paged.{with_paging}
 use Rattle.kc_input.specs.declared.halt.Halt.TheVariants.{Store, Memory}
 use Rattle.kc_cause.proofs.FileLemmas.{judged_told, stops_told}
@@ -9,11 +6,11 @@ use Rattle.kc_cause.proofs.files.explain_over.Goals as goal
 
 pub returns-in-Ok-clause-output : goal.returns-in-Ok-clause-output
 returns-in-Ok-clause-output g c =
-    judged_told c.args.over.now (with_paging c.args.paging (stored c.args.memory.segments.items c.args.memory.tail (content (g.S.Store.files c.args.memory.store.now) Dump (g.S.Store.opened c.args.memory.store.now Dump)))) _ c.args.report.now c.explain_judged.result.answer
-    (ap (with_paging c.args.paging) c.judge_over-memory.ensures.stays.same_image) c.explain_judged.ensures.output
+    judged_told c.args.over.now (with_paging c.args.over.now.paging (g.F.Frames.image c.args.memory)) _ c.args.report.now c.explain_judged.result.answer
+    (ap (with_paging c.args.over.now.paging) c.judge_over-memory.ensures.stays.same_image) c.explain_judged.ensures.output
 
 pub returns-in-Err-Fault-clause-output : goal.returns-in-Err-Fault-clause-output
-returns-in-Err-Fault-clause-output g c = stops_told c.args.over.now (with_paging c.args.paging (stored c.args.memory.segments.items c.args.memory.tail (content (g.S.Store.files c.args.memory.store.now) Dump (g.S.Store.opened c.args.memory.store.now Dump)))) c.args.report.now Store tt
+returns-in-Err-Fault-clause-output g c = stops_told c.args.over.now (with_paging c.args.over.now.paging (g.F.Frames.image c.args.memory)) c.args.report.now Store tt
 
 pub returns-in-Err-NoMemory-clause-output : goal.returns-in-Err-NoMemory-clause-output
-returns-in-Err-NoMemory-clause-output g c = stops_told c.args.over.now (with_paging c.args.paging (stored c.args.memory.segments.items c.args.memory.tail (content (g.S.Store.files c.args.memory.store.now) Dump (g.S.Store.opened c.args.memory.store.now Dump)))) c.args.report.now Memory tt
+returns-in-Err-NoMemory-clause-output g c = stops_told c.args.over.now (with_paging c.args.over.now.paging (g.F.Frames.image c.args.memory)) c.args.report.now Memory tt

@@ -1,4 +1,4 @@
-use Rattle.std.proofs.Common.{refl, rules, arith, sym, ◌∙◌}
+use Rattle.std.proofs.Common.{refl, rules, arith, sym, ◌∙◌, ◌≡◌, Err}
 use Rattle.std.proofs.lemmas.List.{nil_from_length}
 use Rattle.kc_memory.specs.Stays.{stays_on}
 use Rattle.kc_entries.proofs.Gathering.{Whole, gathers_from, gathers_on, gathers_out, memory_tells}
@@ -30,26 +30,29 @@ pass_spot-requires-clause-spot g c = (sound_pop c.args.shape.now.chunk c.loop-i.
 pub pass_spot-requires-clause-pending : goal.pass_spot-requires-clause-pending
 pass_spot-requires-clause-pending g c = (sound_pop c.args.shape.now.chunk c.loop-i.pending.items c.pop.new.self.items c.in-Some.spot c.in-Some.ensures.items c.loop-i.invariant.4).0
 
-pub returns-in-Err-clause-test : goal.returns-in-Err-clause-test
-returns-in-Err-clause-test g c = memory_tells _ _ (g.S.Space.image c.args.space.now) c.in-Err.halt c.in-Err.ensures.memory
+pub returns-in_err-push_pointer-clause-test : goal.returns-in_err-push_pointer-clause-test
+returns-in_err-push_pointer-clause-test g c =
+    let ended : c.from_residual.result ≡ Err c.in_err-push_pointer.field-0.0 = search rules in
+    rw ended (memory_tells _ _ (g.S.Space.image c.args.space.now) c.in_err-push_pointer.field-0.0 c.in_err-push_pointer.ensures.memory)
 
-pub returns-in-Err-pass_spot-clause-test : goal.returns-in-Err-pass_spot-clause-test
-returns-in-Err-pass_spot-clause-test g c =
-    paces_stop _ _ (g.S.Space.image c.args.space.now) c.args.shape.now c.args.asked.now (Tested c.args.shape.now c.args.asked.now c.args.claims.now c.args.pending.now.items c.args.numbers.now) c.loop-i.claims c.pass_spot.new.claims c.loop-i.pending.items c.pop.new.self.items c.pass_spot.new.pending.items c.in-Some.spot c.args.numbers.now c.loop-i.i c.get-number.result.now c.in-Err-pass_spot.halt
-    c.get-number.ensures c.in-Some.ensures.items (search rules) (rw c.loop-i.invariant.1.same_image at c.in-Err-pass_spot.ensures.passes) c.loop-i.invariant.0
+pub returns-in_err-pass_spot-clause-test : goal.returns-in_err-pass_spot-clause-test
+returns-in_err-pass_spot-clause-test g c =
+    let ended : c.from_residual-in_err-pass_spot.result ≡ Err c.in_err-pass_spot.field-0.0 = search rules in
+    rw ended (paces_stop _ _ (g.S.Space.image c.args.space.now) c.args.shape.now c.args.asked.now (Tested c.args.shape.now c.args.asked.now c.args.claims.now c.args.pending.now.items c.args.numbers.now) c.loop-i.claims c.pass_spot.new.claims c.loop-i.pending.items c.pop.new.self.items c.pass_spot.new.pending.items c.in-Some.spot c.args.numbers.now c.loop-i.i c.get-number.result.now c.in_err-pass_spot.field-0.0
+    c.get-number.ensures c.in-Some.ensures.items (search rules) (rw c.loop-i.invariant.1.same_image at c.in_err-pass_spot.ensures.passes) c.loop-i.invariant.0)
 
 pub loop-i-preserved : goal.loop-i-preserved
 loop-i-preserved g c =
-    let steps = c.in-Ok-pass_spot.ensures.steps in
+    let steps = c.in_ok-pass_spot.ensures.steps in
     let before = c.loop-i.invariant.3 in (
-      paces_on (g.S.Space.image c.args.space.now) c.args.shape.now c.args.asked.now (Tested c.args.shape.now c.args.asked.now c.args.claims.now c.args.pending.now.items c.args.numbers.now) c.loop-i.claims c.pass_spot.new.claims c.loop-i.pending.items c.pop.new.self.items c.pass_spot.new.pending.items c.in-Some.spot c.args.numbers.now c.loop-i.i c.get-number.result.now c.in-Ok-pass_spot.field-0
-          c.get-number.ensures c.in-Some.ensures.items (search rules) (rw c.loop-i.invariant.1.same_image at c.in-Ok-pass_spot.ensures.passes) c.loop-i.invariant.0,
-      stays_on g.S.Space.image g.S.Space.files g.S.Space.through g.S.Space.most c.args.space.now c.loop-i.space c.pass_spot.new.space c.loop-i.invariant.1 c.in-Ok-pass_spot.ensures.stays,
-      c.in-Ok-pass_spot.ensures.cause ∙ c.loop-i.invariant.2,
+      paces_on (g.S.Space.image c.args.space.now) c.args.shape.now c.args.asked.now (Tested c.args.shape.now c.args.asked.now c.args.claims.now c.args.pending.now.items c.args.numbers.now) c.loop-i.claims c.pass_spot.new.claims c.loop-i.pending.items c.pop.new.self.items c.pass_spot.new.pending.items c.in-Some.spot c.args.numbers.now c.loop-i.i c.get-number.result.now c.in_ok-pass_spot.field-0
+          c.get-number.ensures c.in-Some.ensures.items (search rules) (rw c.loop-i.invariant.1.same_image at c.in_ok-pass_spot.ensures.passes) c.loop-i.invariant.0,
+      stays_on g.S.Space.image g.S.Space.files g.S.Space.through g.S.Space.most c.args.space.now c.loop-i.space c.pass_spot.new.space c.loop-i.invariant.1 c.in_ok-pass_spot.ensures.stays,
+      c.in_ok-pass_spot.ensures.cause ∙ c.loop-i.invariant.2,
       omega (arith, steps, before),
-      c.in-Ok-pass_spot.ensures.sound,
+      c.in_ok-pass_spot.ensures.sound,
       gathers_on (g.S.Space.image c.args.space.now) c.args.shape.now c.args.asked.now (Whole c.args.shape.now c.args.asked.now c.args.pending.now.items c.args.numbers.now) c.loop-i.pending.items c.pop.new.self.items c.pass_spot.new.pending.items c.in-Some.spot c.args.numbers.now c.loop-i.i c.get-number.result.now c.loop-i.items c.push_pointer.new.items
-          c.get-number.ensures c.in-Some.ensures.items c.in-Ok.ensures.added (rw c.loop-i.invariant.1.same_image at c.in-Ok-pass_spot.ensures.next) c.loop-i.invariant.5,
+          c.get-number.ensures c.in-Some.ensures.items c.in_ok-push_pointer.ensures.added (rw c.loop-i.invariant.1.same_image at c.in_ok-pass_spot.ensures.next) c.loop-i.invariant.5,
     )
 
 pub returns-then-len-eq0-clause-test : goal.returns-then-len-eq0-clause-test

@@ -1,4 +1,4 @@
-use Rattle.std.proofs.Common.{arith, subst, ◌∙◌, length, refl, sym, ap, List, ℕ, slice_get, ◌+◌}
+use Rattle.std.proofs.Common.{arith, subst, ◌∙◌, length, refl, sym, ap, List, ℕ, slice_get, ◌+◌, rules, ◌≡◌, Err}
 use Rattle.std.proofs.lemmas.List.{length-map}
 use Rattle.std.proofs.lemmas.Option.{get_or_from_slice_get}
 use Rattle.kc_plan.specs.Inside.{IsInside}
@@ -60,56 +60,60 @@ enter-look-requires g t c κs within = (
   ),
 )
 
-pub look-returns-in-Err-test_step-clause-judged : goal.look-returns-in-Err-test_step-clause-judged
-look-returns-in-Err-test_step-clause-judged g t c =
-    step_halts _ _ (g.S.Space.image c.args.space.now) (plan_seen c.args.known.now.plan.now) (audit_seen c.args.audit.now) c.args.asked.now.audit c.args.asked.now.start c.args.known.now.cert.now c.args.cursor.now c.get-step.result.now c.in-Err-test_step.halt
-    c.get-step.ensures c.in-Err-test_step.ensures.test
+pub look-returns-in_err-test_step-clause-judged : goal.look-returns-in_err-test_step-clause-judged
+look-returns-in_err-test_step-clause-judged g t c =
+    let ended : c.from_residual.result ≡ Err c.in_err-test_step.field-0.0 = search rules in
+    rw ended (step_halts _ _ (g.S.Space.image c.args.space.now) (plan_seen c.args.known.now.plan.now) (audit_seen c.args.audit.now) c.args.asked.now.audit c.args.asked.now.start c.args.known.now.cert.now c.args.cursor.now c.get-step.result.now c.in_err-test_step.field-0.0
+    c.get-step.ensures c.in_err-test_step.ensures.test)
 
-pub look-returns-in-Err-test_step-clause-steps : goal.look-returns-in-Err-test_step-clause-steps
-look-returns-in-Err-test_step-clause-steps g t c =
-    halt_pays c.args.steps.now c.test_step.new.steps _ _ _ _ c.in-Err-test_step.ensures.steps (size_at c.args.known.now.cert.now c.args.cursor.now.at c.get-step.result.now c.get-step.ensures)
-    (few_nodes c.know_walked.ensures.long c.args.audit.now.kind c.get-step.result.now.lists c.in-Ok.nodes c.in-Ok.ensures)
+pub look-returns-in_err-test_step-clause-steps : goal.look-returns-in_err-test_step-clause-steps
+look-returns-in_err-test_step-clause-steps g t c =
+    let ended : c.from_residual.result ≡ Err c.in_err-test_step.field-0.0 = search rules in
+    rw ended (halt_pays c.args.steps.now c.test_step.new.steps _ _ _ _ c.in_err-test_step.ensures.steps (size_at c.args.known.now.cert.now c.args.cursor.now.at c.get-step.result.now c.get-step.ensures)
+    (few_nodes c.know_walked.ensures.long c.args.audit.now.kind c.get-step.result.now.lists c.in-Ok.nodes c.in-Ok.ensures))
 
 pub look-loop-i-init : goal.look-loop-i-init
 look-loop-i-init g t c = (
   step_goes (g.S.Space.image c.args.space.now) (plan_seen c.args.known.now.plan.now) (audit_seen c.args.audit.now) c.args.asked.now.audit c.args.asked.now.start c.args.known.now.cert.now c.args.cursor.now (record { at = c.args.cursor.now.at + 1; counts = c.count_walk.new.counts }) c.get-step.result.now c.nodes.inside.items.items c.len-2.result tt
-      c.get-step.ensures (c.nodes.view_is ∙ c.in-Ok.ensures) (c.len-2.ensures ∙ ap (λ (xs : List ℕ). length xs) (sym c.nodes.view_is)) refl c.count_walk.ensures.added c.in-Ok-test_step.ensures.test,
-  c.in-Ok-test_step.ensures.stays,
-  c.in-Ok-test_step.ensures.cause,
+      c.get-step.ensures (c.nodes.view_is ∙ c.in-Ok.ensures) (c.len-2.ensures ∙ ap (λ (xs : List ℕ). length xs) (sym c.nodes.view_is)) refl c.count_walk.ensures.added c.in_ok-test_step.ensures.test,
+  c.in_ok-test_step.ensures.stays,
+  c.in_ok-test_step.ensures.cause,
   c.count_walk.ensures.size,
-  step_pays c.args.steps.now c.test_step.new.steps _ _ _ _ _ (ap (λ (xs : List ℕ). length xs) c.nodes.view_is) c.in-Ok-test_step.ensures.steps (size_at c.args.known.now.cert.now c.args.cursor.now.at c.get-step.result.now c.get-step.ensures)
+  step_pays c.args.steps.now c.test_step.new.steps _ _ _ _ _ (ap (λ (xs : List ℕ). length xs) c.nodes.view_is) c.in_ok-test_step.ensures.steps (size_at c.args.known.now.cert.now c.args.cursor.now.at c.get-step.result.now c.get-step.ensures)
       (few_nodes c.know_walked.ensures.long c.args.audit.now.kind c.get-step.result.now.lists c.in-Ok.nodes c.in-Ok.ensures),
 )
 
-pub look-returns-in-Err-look_below-clause-judged : goal.look-returns-in-Err-look_below-clause-judged
-look-returns-in-Err-look_below-clause-judged g t c =
-    turn_halts _ _ (g.S.Space.image c.args.space.now) (progress c.args.known.now.cert.now c.args.cursor.now) (progress c.args.known.now.cert.now c.loop-i.cursor) (progress c.args.known.now.cert.now c.look_below.new.cursor) (looked (plan_seen c.args.known.now.plan.now) (audit_seen c.args.audit.now) c.args.asked.now.audit c.args.asked.now.start) (node_judged (plan_seen c.args.known.now.plan.now) (audit_seen c.args.audit.now)) c.nodes.inside.items.items c.loop-i.i c.get.result.now c.in-Err-look_below.halt
-    (ap (λ (xs : List ℕ). slice_get xs c.loop-i.i) c.nodes.view_is ∙ c.get.ensures) c.loop-i.invariant.0 (rw (c.loop-i.invariant.1.same_image, c.container_of-element.ensures) at c.in-Err-look_below.ensures.judged)
+pub look-returns-in_err-look_below-clause-judged : goal.look-returns-in_err-look_below-clause-judged
+look-returns-in_err-look_below-clause-judged g t c =
+    let ended : c.from_residual-in_err-look_below.result ≡ Err c.in_err-look_below.field-0.0 = search rules in
+    rw ended (turn_halts _ _ (g.S.Space.image c.args.space.now) (progress c.args.known.now.cert.now c.args.cursor.now) (progress c.args.known.now.cert.now c.loop-i.cursor) (progress c.args.known.now.cert.now c.look_below.new.cursor) (looked (plan_seen c.args.known.now.plan.now) (audit_seen c.args.audit.now) c.args.asked.now.audit c.args.asked.now.start) (node_judged (plan_seen c.args.known.now.plan.now) (audit_seen c.args.audit.now)) c.nodes.inside.items.items c.loop-i.i c.get.result.now c.in_err-look_below.field-0.0
+    (ap (λ (xs : List ℕ). slice_get xs c.loop-i.i) c.nodes.view_is ∙ c.get.ensures) c.loop-i.invariant.0 (rw (c.loop-i.invariant.1.same_image, c.container_of-element.ensures) at c.in_err-look_below.ensures.judged))
 
 pub look-loop-i-preserved : goal.look-loop-i-preserved
 look-loop-i-preserved g t c = (
-  turn_goes (g.S.Space.image c.args.space.now) (progress c.args.known.now.cert.now c.args.cursor.now) (progress c.args.known.now.cert.now c.loop-i.cursor) (progress c.args.known.now.cert.now c.look_below.new.cursor) (looked (plan_seen c.args.known.now.plan.now) (audit_seen c.args.audit.now) c.args.asked.now.audit c.args.asked.now.start) (node_judged (plan_seen c.args.known.now.plan.now) (audit_seen c.args.audit.now)) c.nodes.inside.items.items c.loop-i.i c.get.result.now c.in-Ok-look_below.field-0
-      (ap (λ (xs : List ℕ). slice_get xs c.loop-i.i) c.nodes.view_is ∙ c.get.ensures) c.loop-i.invariant.0 (rw (c.loop-i.invariant.1.same_image, c.container_of-element.ensures) at c.in-Ok-look_below.ensures.judged),
-  stays_on _ _ _ _ c.args.space.now c.loop-i.space c.look_below.new.space c.loop-i.invariant.1 c.in-Ok-look_below.ensures.stays,
-  c.in-Ok-look_below.ensures.cause ∙ c.loop-i.invariant.2,
-  c.in-Ok-look_below.ensures.counted ∙ c.loop-i.invariant.3,
-  below_pays c.args.steps.now c.loop-i.steps c.look_below.new.steps _ _ _ _ c.loop-i.i (omega (arith, c.loop-i-test.true, c.len-i-end.ensures, ap (λ (xs : List ℕ). length xs) c.nodes.view_is)) c.loop-i.invariant.4 c.in-Ok-look_below.ensures.steps,
+  turn_goes (g.S.Space.image c.args.space.now) (progress c.args.known.now.cert.now c.args.cursor.now) (progress c.args.known.now.cert.now c.loop-i.cursor) (progress c.args.known.now.cert.now c.look_below.new.cursor) (looked (plan_seen c.args.known.now.plan.now) (audit_seen c.args.audit.now) c.args.asked.now.audit c.args.asked.now.start) (node_judged (plan_seen c.args.known.now.plan.now) (audit_seen c.args.audit.now)) c.nodes.inside.items.items c.loop-i.i c.get.result.now c.in_ok-look_below.field-0
+      (ap (λ (xs : List ℕ). slice_get xs c.loop-i.i) c.nodes.view_is ∙ c.get.ensures) c.loop-i.invariant.0 (rw (c.loop-i.invariant.1.same_image, c.container_of-element.ensures) at c.in_ok-look_below.ensures.judged),
+  stays_on _ _ _ _ c.args.space.now c.loop-i.space c.look_below.new.space c.loop-i.invariant.1 c.in_ok-look_below.ensures.stays,
+  c.in_ok-look_below.ensures.cause ∙ c.loop-i.invariant.2,
+  c.in_ok-look_below.ensures.counted ∙ c.loop-i.invariant.3,
+  below_pays c.args.steps.now c.loop-i.steps c.look_below.new.steps _ _ _ _ c.loop-i.i (omega (arith, c.loop-i-test.true, c.len-i-end.ensures, ap (λ (xs : List ℕ). length xs) c.nodes.view_is)) c.loop-i.invariant.4 c.in_ok-look_below.ensures.steps,
 )
 
-pub look_below-returns-in-Err-clause-judged : goal.look_below-returns-in-Err-clause-judged
-look_below-returns-in-Err-clause-judged g t c =
-    turn_halts _ _ (g.S.Space.image c.args.space.now) (progress c.args.known.now.cert.now c.args.cursor.now) (progress c.args.known.now.cert.now c.loop-i.cursor) (progress c.args.known.now.cert.now c.enter.new.cursor) (elements_judged (plan_seen c.args.known.now.plan.now) (audit_seen c.args.audit.now) c.args.element) (λ m n. under m (plan_seen c.args.known.now.plan.now) n c.args.element) c.args.audit.now.each c.loop-i.i c.get.result.now c.in-Err.halt
-    c.get.ensures c.loop-i.invariant.0 (rw c.loop-i.invariant.1.same_image at c.in-Err.ensures.judged)
+pub look_below-returns-in_err-enter-clause-judged : goal.look_below-returns-in_err-enter-clause-judged
+look_below-returns-in_err-enter-clause-judged g t c =
+    let ended : c.from_residual.result ≡ Err c.in_err-enter.field-0.0 = search rules in
+    rw ended (turn_halts _ _ (g.S.Space.image c.args.space.now) (progress c.args.known.now.cert.now c.args.cursor.now) (progress c.args.known.now.cert.now c.loop-i.cursor) (progress c.args.known.now.cert.now c.enter.new.cursor) (elements_judged (plan_seen c.args.known.now.plan.now) (audit_seen c.args.audit.now) c.args.element) (λ m n. under m (plan_seen c.args.known.now.plan.now) n c.args.element) c.args.audit.now.each c.loop-i.i c.get.result.now c.in_err-enter.field-0.0
+    c.get.ensures c.loop-i.invariant.0 (rw c.loop-i.invariant.1.same_image at c.in_err-enter.ensures.judged))
 
 pub look_below-loop-i-preserved : goal.look_below-loop-i-preserved
 look_below-loop-i-preserved g t c = (
-  turn_goes (g.S.Space.image c.args.space.now) (progress c.args.known.now.cert.now c.args.cursor.now) (progress c.args.known.now.cert.now c.loop-i.cursor) (progress c.args.known.now.cert.now c.enter.new.cursor) (elements_judged (plan_seen c.args.known.now.plan.now) (audit_seen c.args.audit.now) c.args.element) (λ m n. under m (plan_seen c.args.known.now.plan.now) n c.args.element) c.args.audit.now.each c.loop-i.i c.get.result.now c.in-Ok.field-0
-      c.get.ensures c.loop-i.invariant.0 (rw c.loop-i.invariant.1.same_image at c.in-Ok.ensures.judged),
-  stays_on _ _ _ _ c.args.space.now c.loop-i.space c.enter.new.space c.loop-i.invariant.1 c.in-Ok.ensures.stays,
-  c.in-Ok.ensures.cause ∙ c.loop-i.invariant.2,
-  c.in-Ok.ensures.counted ∙ c.loop-i.invariant.3,
+  turn_goes (g.S.Space.image c.args.space.now) (progress c.args.known.now.cert.now c.args.cursor.now) (progress c.args.known.now.cert.now c.loop-i.cursor) (progress c.args.known.now.cert.now c.enter.new.cursor) (elements_judged (plan_seen c.args.known.now.plan.now) (audit_seen c.args.audit.now) c.args.element) (λ m n. under m (plan_seen c.args.known.now.plan.now) n c.args.element) c.args.audit.now.each c.loop-i.i c.get.result.now c.in_ok-enter.field-0
+      c.get.ensures c.loop-i.invariant.0 (rw c.loop-i.invariant.1.same_image at c.in_ok-enter.ensures.judged),
+  stays_on _ _ _ _ c.args.space.now c.loop-i.space c.enter.new.space c.loop-i.invariant.1 c.in_ok-enter.ensures.stays,
+  c.in_ok-enter.ensures.cause ∙ c.loop-i.invariant.2,
+  c.in_ok-enter.ensures.counted ∙ c.loop-i.invariant.3,
   between_goes c.args.asked.now.audit (length c.args.known.now.plan.now.audits) c.args.audit.now.each c.loop-i.i c.get.result.now c.get.ensures c.loop-i.invariant.4,
-  omega (arith, c.in-Ok.ensures.steps, c.loop-i.invariant.5),
+  omega (arith, c.in_ok-enter.ensures.steps, c.loop-i.invariant.5),
 )
 
 pub look_below-enter-requires : goal.look_below-enter-requires

@@ -17,9 +17,9 @@ loop-number-init g c = (
 pub loop-number-preserved : goal.loop-number-preserved
 loop-number-preserved g c = (
   roots_add (g.S.Space.image c.args.space.now) (length c.args.plan.now.audits) (plan_seen c.args.plan.now) (audit_seen c.audit.result.now) c.loop-number.number (roots 0 (plan_seen c.args.plan.now)) c.loop-number.verdicts c.add_root.new.verdicts
-      c.audit.ensures.seen (rw c.loop-number.invariant.1.same_image at c.in-Ok.ensures.added) c.loop-number.invariant.0,
-  stays_on _ _ _ _ c.args.space.now c.loop-number.space c.add_root.new.space c.loop-number.invariant.1 c.in-Ok.ensures.stays,
-  c.in-Ok.ensures.cause ∙ c.loop-number.invariant.2,
+      c.audit.ensures.seen (rw c.loop-number.invariant.1.same_image at c.in_ok-add_root.ensures.added) c.loop-number.invariant.0,
+  stays_on _ _ _ _ c.args.space.now c.loop-number.space c.add_root.new.space c.loop-number.invariant.1 c.in_ok-add_root.ensures.stays,
+  c.in_ok-add_root.ensures.cause ∙ c.loop-number.invariant.2,
 )
 
 pub returns-clause-exact : goal.returns-clause-exact

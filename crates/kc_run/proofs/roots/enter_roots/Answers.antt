@@ -1,4 +1,4 @@
-use Rattle.std.proofs.Common.{◌∙◌}
+use Rattle.std.proofs.Common.{◌∙◌, rules, ◌≡◌, Err}
 use Rattle.kc_memory.specs.Stays.{stays_on}
 use Rattle.kc_plan.specs.Seen.{world, all_seen}
 use Rattle.kc_plan.specs.Planned.{audit_seen}
@@ -6,16 +6,17 @@ use Rattle.kc_plan.specs.Views.{plan_seen}
 use Rattle.kc_run.proofs.Going.{roots_go, roots_stop}
 use Rattle.kc_run.proofs.roots.enter_roots.Goals as goal
 
-pub returns-in-Err-clause-tally : goal.returns-in-Err-clause-tally
-returns-in-Err-clause-tally g c =
-    roots_stop _ _ (g.S.Space.image c.args.space.now) c.args.counts.now c.loop-number.counts c.enter_root.new.counts c.enter_root.new.counts (λ i. all_seen (world i) (plan_seen c.args.known.now.plan.now)) (plan_seen c.args.known.now.plan.now) (audit_seen c.audit.result.now) c.loop-number.number c.in-Err.stop
-    c.audit.ensures.seen c.loop-number.invariant.0 (rw c.loop-number.invariant.1.same_image at c.in-Err.ensures.tally)
+pub returns-in_err-enter_root-clause-tally : goal.returns-in_err-enter_root-clause-tally
+returns-in_err-enter_root-clause-tally g c =
+    let ended : c.from_residual.result ≡ Err c.in_err-enter_root.field-0.0 = search rules in
+    rw ended (roots_stop _ _ (g.S.Space.image c.args.space.now) c.args.counts.now c.loop-number.counts c.enter_root.new.counts c.enter_root.new.counts (λ i. all_seen (world i) (plan_seen c.args.known.now.plan.now)) (plan_seen c.args.known.now.plan.now) (audit_seen c.audit.result.now) c.loop-number.number c.in_err-enter_root.field-0.0
+    c.audit.ensures.seen c.loop-number.invariant.0 (rw c.loop-number.invariant.1.same_image at c.in_err-enter_root.ensures.tally))
 
 pub loop-number-preserved : goal.loop-number-preserved
 loop-number-preserved g c = (
-  roots_go (g.S.Space.image c.args.space.now) c.args.counts.now c.loop-number.counts c.enter_root.new.counts (λ i. all_seen (world i) (plan_seen c.args.known.now.plan.now)) (plan_seen c.args.known.now.plan.now) (audit_seen c.audit.result.now) c.loop-number.number c.in-Ok.field-0
-      c.audit.ensures.seen c.loop-number.invariant.0 (rw c.loop-number.invariant.1.same_image at c.in-Ok.ensures.tally),
-  stays_on _ _ _ _ c.args.space.now c.loop-number.space c.enter_root.new.space c.loop-number.invariant.1 c.in-Ok.ensures.stays,
-  c.in-Ok.ensures.cause ∙ c.loop-number.invariant.2,
-  c.in-Ok.ensures.size ∙ c.loop-number.invariant.3,
+  roots_go (g.S.Space.image c.args.space.now) c.args.counts.now c.loop-number.counts c.enter_root.new.counts (λ i. all_seen (world i) (plan_seen c.args.known.now.plan.now)) (plan_seen c.args.known.now.plan.now) (audit_seen c.audit.result.now) c.loop-number.number c.in_ok-enter_root.field-0
+      c.audit.ensures.seen c.loop-number.invariant.0 (rw c.loop-number.invariant.1.same_image at c.in_ok-enter_root.ensures.tally),
+  stays_on _ _ _ _ c.args.space.now c.loop-number.space c.enter_root.new.space c.loop-number.invariant.1 c.in_ok-enter_root.ensures.stays,
+  c.in_ok-enter_root.ensures.cause ∙ c.loop-number.invariant.2,
+  c.in_ok-enter_root.ensures.size ∙ c.loop-number.invariant.3,
 )

@@ -1,4 +1,4 @@
-use Rattle.std.proofs.Common.{rules, arith, refl, sym, ap, ◌∙◌, length}
+use Rattle.std.proofs.Common.{rules, arith, refl, sym, ap, ◌∙◌, length, ◌≡◌, Err}
 use Rattle.std.proofs.lemmas.List.{nil_from_length}
 use Rattle.kc_memory.specs.Stays.{stays_on}
 use Rattle.kc_shape.proofs.Collecting.{begins, collected, left_halts, longer, nodes_on, nulls_on, right_halts, too_many}
@@ -24,21 +24,23 @@ loop-i-preserved-then-node-eq0 g c = (
   longer c.loop-i.numbers c.push-in-loop-i.new.self c.in-Some.node c.loop-i.i c.in-Ok-push.ensures.added c.loop-i.invariant.3,
 )
 
-pub returns-in-Err-pointer_at-clause-numbers : goal.returns-in-Err-pointer_at-clause-numbers
-returns-in-Err-pointer_at-clause-numbers g c =
-    right_halts (g.S.Space.image c.args.space.now) c.args.shape.now c.args.root c.args.limit c.in-Some.node c.loop-i.numbers c.loop-i.pending.items c.pop.new.self.items c.in-Err-pointer_at.halt c.in-Some.ensures.items (search rules) (rw c.loop-i.invariant.1.same_image at c.in-Err-pointer_at.ensures.reads) c.loop-i.invariant.0
+pub returns-in_err-right-clause-numbers : goal.returns-in_err-right-clause-numbers
+returns-in_err-right-clause-numbers g c =
+    let ended : c.from_residual.result ≡ Err c.in_err-right.field-0.0 = search rules in
+    rw ended (right_halts (g.S.Space.image c.args.space.now) c.args.shape.now c.args.root c.args.limit c.in-Some.node c.loop-i.numbers c.loop-i.pending.items c.pop.new.self.items c.in_err-right.field-0.0 c.in-Some.ensures.items (search rules) (rw c.loop-i.invariant.1.same_image at c.in_err-right.ensures.reads) c.loop-i.invariant.0)
 
-pub returns-in-Err-pointer_at-2-clause-numbers : goal.returns-in-Err-pointer_at-2-clause-numbers
-returns-in-Err-pointer_at-2-clause-numbers g c =
-    left_halts (g.S.Space.image c.args.space.now) c.args.shape.now c.args.root c.args.limit c.in-Some.node c.loop-i.numbers c.loop-i.pending.items c.pop.new.self.items c.in-Err-pointer_at-2.halt c.in-Some.ensures.items (search rules)
-    (rw (c.in-Ok-pointer_at.ensures.stays.same_image, c.loop-i.invariant.1.same_image) at c.in-Err-pointer_at-2.ensures.reads) c.loop-i.invariant.0
+pub returns-in_err-left-clause-numbers : goal.returns-in_err-left-clause-numbers
+returns-in_err-left-clause-numbers g c =
+    let ended : c.from_residual-in_err-left.result ≡ Err c.in_err-left.field-0.0 = search rules in
+    rw ended (left_halts (g.S.Space.image c.args.space.now) c.args.shape.now c.args.root c.args.limit c.in-Some.node c.loop-i.numbers c.loop-i.pending.items c.pop.new.self.items c.in_err-left.field-0.0 c.in-Some.ensures.items (search rules)
+    (rw (c.in_ok-right.ensures.stays.same_image, c.loop-i.invariant.1.same_image) at c.in_err-left.ensures.reads) c.loop-i.invariant.0)
 
 pub loop-i-preserved : goal.loop-i-preserved
 loop-i-preserved g c = (
-  nodes_on (g.S.Space.image c.args.space.now) c.args.shape.now c.args.root c.in-Some.node c.in-Ok-pointer_at.right c.in-Ok-pointer_at-2.left c.loop-i.numbers c.push-in-loop-i.new.self c.loop-i.pending.items c.pop.new.self.items c.push-in-loop-i-3.new.self.items
-      c.in-Some.ensures.items (search rules) c.in-Ok-push.ensures.added (rw c.loop-i.invariant.1.same_image at c.in-Ok-pointer_at.ensures.reads) (rw (c.in-Ok-pointer_at.ensures.stays.same_image, c.loop-i.invariant.1.same_image) at c.in-Ok-pointer_at-2.ensures.reads) (search rules) c.loop-i.invariant.0,
-  stays_on _ _ _ _ c.args.space.now c.pointer_at.new.space c.pointer_at-in-loop-i.new.space (stays_on _ _ _ _ c.args.space.now c.loop-i.space c.pointer_at.new.space c.loop-i.invariant.1 c.in-Ok-pointer_at.ensures.stays) c.in-Ok-pointer_at-2.ensures.stays,
-  c.in-Ok-pointer_at-2.ensures.cause ∙ c.in-Ok-pointer_at.ensures.cause ∙ c.loop-i.invariant.2,
+  nodes_on (g.S.Space.image c.args.space.now) c.args.shape.now c.args.root c.in-Some.node c.in_ok-right.right c.in_ok-left.left c.loop-i.numbers c.push-in-loop-i.new.self c.loop-i.pending.items c.pop.new.self.items c.push-in-loop-i-3.new.self.items
+      c.in-Some.ensures.items (search rules) c.in-Ok-push.ensures.added (rw c.loop-i.invariant.1.same_image at c.in_ok-right.ensures.reads) (rw (c.in_ok-right.ensures.stays.same_image, c.loop-i.invariant.1.same_image) at c.in_ok-left.ensures.reads) (search rules) c.loop-i.invariant.0,
+  stays_on _ _ _ _ c.args.space.now c.pointer_at.new.space c.pointer_at-in-loop-i.new.space (stays_on _ _ _ _ c.args.space.now c.loop-i.space c.pointer_at.new.space c.loop-i.invariant.1 c.in_ok-right.ensures.stays) c.in_ok-left.ensures.stays,
+  c.in_ok-left.ensures.cause ∙ c.in_ok-right.ensures.cause ∙ c.loop-i.invariant.2,
   longer c.loop-i.numbers c.push-in-loop-i.new.self c.in-Some.node c.loop-i.i c.in-Ok-push.ensures.added c.loop-i.invariant.3,
 )
 

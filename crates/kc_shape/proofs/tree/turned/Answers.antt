@@ -5,7 +5,7 @@ use Rattle.kc_shape.proofs.tree.turned.Goals as goal
 
 pub loop-i-preserved-then-number-ne0 : goal.loop-i-preserved-then-number-ne0
 loop-i-preserved-then-number-ne0 c =
-    turns_down c.args.numbers.now c.loop-i.nodes c.loop-i.above.items c.push.new.self.items c.loop-i.i c.get-number.result.now c.get-number.ensures (search rules) c.in-Ok.ensures.items c.loop-i.invariant
+    turns_down c.args.numbers.now c.loop-i.nodes c.loop-i.above.items c.push.new.self.items c.loop-i.i c.get-number.result.now c.get-number.ensures (search rules) c.in_ok-push.ensures.items c.loop-i.invariant
 
 pub returns-in-None : goal.returns-in-None
 returns-in-None c =
@@ -13,4 +13,4 @@ returns-in-None c =
 
 pub loop-i-preserved : goal.loop-i-preserved
 loop-i-preserved c =
-    turns_up c.args.numbers.now c.loop-i.nodes c.push-in-loop-i.new.self c.loop-i.above.items c.pop.new.self.items c.loop-i.i c.get-number.result.now c.in-Some.node c.get-number.ensures (search rules) c.in-Some.ensures.items c.in-Ok-push.ensures.added c.loop-i.invariant
+    turns_up c.args.numbers.now c.loop-i.nodes c.push-in-loop-i.new.self c.loop-i.above.items c.pop.new.self.items c.loop-i.i c.get-number.result.now c.in-Some.node c.get-number.ensures (search rules) c.in-Some.ensures.items c.in_ok-push-2.ensures.added c.loop-i.invariant
