@@ -3,11 +3,13 @@
 
 usage: gate.py COMMAND..      as gate.py rt ci --anew, at the top of a clean clone
 
-It runs the command, passes on what it prints, and looks every half second at the checks that run below it. Behind the
+It runs the command, passes on what it prints, and looks every half second at the checks that run below it. After the
 command's own output it prints a table: for each crate the seconds of processor time of its proof, of its tests' proof and
-of its wrong bodies, and the most memory that one of its checks took. A check's last half second isn't seen.
+of its wrong bodies, and the most memory that one of its checks took. A check's last half second isn't seen in the table;
+the last line has what the system counted for the command and all that it ran.
 """
 import os
+import resource
 import subprocess
 import sys
 import time
@@ -98,7 +100,9 @@ def main():
         together = row["proof"] + row["tests"] + row["edits"]
         whole += together
         print(f"| {crate} | {row['proof']:.0f} s | {row['tests']:.0f} s | {row['edits']:.0f} s | {together:.0f} s | {row['memory']} MiB |")
-    print(f"{elapsed / 60:.1f} minutes on {os.cpu_count()} processors, {whole / 60:.1f} minutes of one")
+    counted = resource.getrusage(resource.RUSAGE_CHILDREN)
+    print(f"checks: {whole / 60:.1f} minutes of one processor")
+    print(f"all: {(counted.ru_utime + counted.ru_stime) / 60:.1f} minutes of one, {elapsed / 60:.1f} on {os.cpu_count()}")
     sys.exit(gate.returncode)
 
 

@@ -23,6 +23,7 @@ import tempfile
 import time
 
 import child
+from areas import shown as visible
 import hostile
 import made
 from second import TOP, Broken, Core, Info, Kernel, Memory, Refused, Run, Types, address, place_line, plan_of, symbols, told, verdict
@@ -328,11 +329,11 @@ class Elements:
         members = list(self.types.members(bare))
         for name, inner, bit, width in members:
             if bit // 8 <= byte < bit // 8 + (1 if width else self.types.size(inner) or 0):
-                return name.decode(), inner, byte - bit // 8
+                return visible(name), inner, byte - bit // 8
         name, inner, bit, _ = members[-1] if members else (b"", 0, 0, 0)
         last = self.types.bare(inner)
         if last is not None and self.types.kind(last) == 3 and self.types.records[last][4][2] == 0 and bit // 8 <= byte:
-            return name.decode(), inner, byte - bit // 8
+            return visible(name), inner, byte - bit // 8
         return None
 
     def path(self, kind, byte):

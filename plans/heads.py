@@ -50,11 +50,11 @@ def word(kernel, va):
         sys.exit(f"no word can be read at {va:x}: {found.rule}")
 
 
-def address(kernel, symbol, kaslr=None):
-    """Where a symbol lies: at run time, or as the map has it."""
+def address(kernel, symbol):
+    """Where a symbol lies at run time: of a row below the image, as up to 6.14 those of each processor are, what the map has."""
     if symbol.startswith("0x"):
         return int(symbol, 16)
-    found = second.address(kernel.rows, symbol, kernel.info.kaslr if kaslr is None else kaslr)
+    found = second.address(kernel.rows, symbol, kernel.info.kaslr)
     if found is None:
         sys.exit(f"no row of the map has {symbol}")
     return found
@@ -86,7 +86,7 @@ def first_heads(kernel, where, cpus):
     stars = len(where) - len(where.lstrip("*"))
     where, *more = where[stars:].split("+")
     if where.startswith("percpu:"):
-        symbol, offsets = address(kernel, where[len("percpu:") :], 0), address(kernel, "__per_cpu_offset")
+        symbol, offsets = address(kernel, where[len("percpu:") :]), address(kernel, "__per_cpu_offset")
         begins = [symbol + word(kernel, offsets + 8 * cpu) for cpu in range(cpus)]
     else:
         begins = [address(kernel, where)]

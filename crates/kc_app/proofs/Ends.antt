@@ -1,7 +1,8 @@
 -- That the end of a check says what stands in the dump.
-use Rattle.std.proofs.Common.{◌≡◌, ℕ, nat_eq, Bool, true, false, if◌then◌else◌, List, Option, Some, None, option_map, IfSome, Ok, Err, refl, subst}
+use Rattle.std.proofs.Common.{◌≡◌, ℕ, nat_eq, Bool, true, false, if◌then◌else◌, List, Option, Some, None, option_map, IfSome, Ok, Err, refl, sym, subst}
 use Rattle.std.specs.Prelude.{◌↔◌}
 use Rattle.std.specs.Bool.{OnTrue}
+use Rattle.std.proofs.lemmas.List.{append-nil}
 use Rattle.kc_outside.specs.declared.store.Slot.TheVariants.{Dump, Btf, Map, Plan}
 use Rattle.kc_outside.specs.Files.{Files as Told}
 use Rattle.kc_outside.specs.Texts.{with_piece}
@@ -9,22 +10,26 @@ use Rattle.kc_found.specs.declared.verdict.Verdict.{Verdict}
 use Rattle.kc_found.specs.declared.verdict.Verdict.TheVariants as found
 use Rattle.kc_plan.specs.Roots.{root_verdicts}
 use Rattle.kc_plan.specs.Seen.{roots}
-use Rattle.kc_plan.specs.Verdicts.{IsClean, verdict}
+use Rattle.kc_plan.specs.Verdicts.{IsClean, verdict, verdict_places}
 use Rattle.kc_run.specs.Laws.{CleanRootsStand, CleanWhereStanding, FirstOfRoots}
 use Rattle.kc_cert_text.specs.declared.certificate.CertStep.{CertStep}
+use Rattle.kc_report.specs.declared.report.Report.{Report}
+use Rattle.kc_report.specs.Copies.{counted, report_each, report_of}
+use Rattle.kc_report.specs.IsReport.{report_text}
+use Rattle.kc_report.specs.ReportText.{clean_text}
 use Rattle.kc_input.specs.Made.{◌>>=◌, Made, gives}
 use Rattle.kc_ends.specs.declared.status.Status.{Status}
 use Rattle.kc_ends.specs.declared.status.Status.TheVariants.{Done, Broken}
 use Rattle.kc_ends.specs.Ends.{IsTold, IsWritten}
 use Rattle.kc_ends.specs.Output.{Output, Ends, word_files}
 use Rattle.kc_ends.specs.Status.{is_answer}
-use Rattle.kc_app.specs.Check.{Audited, ChecksStand, RootsTold, TellsRoots, TellsStanding, audited, audited_shown, names_of, roots_shown, verdict_said, verdict_shown}
+use Rattle.kc_app.specs.Check.{Audited, ChecksStand, ReportsShown, RootsTold, TellsRoots, TellsStanding, audited, audited_shown, names_of, roots_shown, verdict_said, verdict_shown}
 use Rattle.kc_app.specs.Headline.{CheckEnds, CheckPrints, ChecksEnd, EndsBy, PrintsBy, check_words}
 use Rattle.kc_app.specs.Output.{FitsFiles, FitsOutput, IsToldBy, ShownStand, StandsIn, TookTrue, out_of, output_written, written_of}
 use Rattle.kc_app.specs.Program.{program}
 use Rattle.kc_app.specs.Reply.{Reply, shows_made}
-use Rattle.kc_app.specs.Shown.{Shown, said_status, shown_status, shown_text}
-use Rattle.kc_app.proofs.Rooted.{roots_end, roots_told}
+use Rattle.kc_app.specs.Shown.{Shown, said_status, seen_text, shown_status, shown_text}
+use Rattle.kc_app.proofs.Rooted.{each_same, roots_end, roots_told}
 
 -- what is shown of one verdict on all audits, or of each root audit
 abbrev pub shown_by : Bool → Audited → Shown
@@ -59,6 +64,23 @@ versions_told law all false = tt
 
 pub roots_are_told : CleanRootsStand → RootsTold
 roots_are_told law all = versions_told law all (nat_eq all.version 2)
+
+-- the text is a report's
+verdict_same : (names : List (List ℕ)) (seen : Verdict) → seen_text (verdict_said names seen) (verdict_places seen) ≡ report_text (report_of names seen)
+verdict_same names (found.Clean counts) = append-nil (clean_text (counted names counts))
+verdict_same names (found.Broken v) = refl
+
+abbrev report_by : Bool → Audited → Report
+report_by each all =
+    if each then report_each (names_of all.audits) (root_verdicts all.image all.audits)
+    else report_of (names_of all.audits) (verdict all.image all.audits)
+
+versions_shown : (all : Audited) (each : Bool) → shown_text (shown_by each all) ≡ report_text (report_by each all)
+versions_shown all true = sym (each_same (names_of all.audits) (root_verdicts all.image all.audits))
+versions_shown all false = verdict_same (names_of all.audits) (verdict all.image all.audits)
+
+pub reports_are_shown : ReportsShown
+reports_are_shown all = versions_shown all (nat_eq all.version 2)
 
 -- what is made of what is audited ends by it
 pub made_ends : ChecksStand → (cert : List CertStep) (made : Made Audited)

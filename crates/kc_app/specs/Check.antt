@@ -17,8 +17,10 @@ use Rattle.kc_plan.specs.Stands.{PlanStands, RootStands}
 use Rattle.kc_plan.specs.Roots.{root_verdicts}
 use Rattle.kc_plan.specs.Seen.{roots}
 use Rattle.kc_plan.specs.Verdicts.{verdict, verdict_places}
-use Rattle.kc_report.specs.Copies.{counted, name_of, told_stop}
+use Rattle.kc_report.specs.declared.report.Report.{Report}
+use Rattle.kc_report.specs.Copies.{counted, name_of, report_each, report_of, told_stop}
 use Rattle.kc_report.specs.Copies.{names_of as reached_names}
+use Rattle.kc_report.specs.IsReport.{report_text}
 use Rattle.kc_input.specs.declared.halt.Halt.{Halt}
 use Rattle.kc_input.specs.declared.halt.Halt.TheVariants.{Refused, Store, Memory}
 use Rattle.kc_input.specs.declared.refusal.Refusal.TheVariants.{Notes}
@@ -31,7 +33,7 @@ use Rattle.kc_app.specs.Audits.{plan_over}
 use Rattle.kc_app.specs.declared.check.Asks.{Asks}
 use Rattle.kc_ends.specs.declared.status.Status.{Status}
 use Rattle.kc_ends.specs.declared.status.Status.TheVariants as status
-use Rattle.kc_app.specs.Shown.{Said, Sound, Unsound, RootSeen, Shown, Seen, Rooted, Listed, said_status, shown_status}
+use Rattle.kc_app.specs.Shown.{Said, Sound, Unsound, RootSeen, Shown, Seen, Rooted, Listed, said_status, shown_status, shown_text}
 use Rattle.kc_app.specs.Word.{bytes_of, image_of}
 
 -- what `check` asks: four files by their names
@@ -154,6 +156,16 @@ TellsRoots all (Listed strings t name lines) = ⊤
 
 abbrev pub RootsTold : Type 0
 RootsTold = (all : Audited) → TellsRoots all (audited_shown all)
+
+-- the report of the verdict on the memory, or of those on the root audits
+abbrev pub report_seen : Audited → Report
+report_seen all =
+    if nat_eq all.version 2 then report_each (names_of all.audits) (root_verdicts all.image all.audits)
+    else report_of (names_of all.audits) (verdict all.image all.audits)
+
+-- what is shown has the text of that report
+abbrev pub ReportsShown : Type 0
+ReportsShown = (all : Audited) → shown_text (audited_shown all) ≡ report_text (report_seen all)
 
 -- a refusal is about the map, and the plan's slot is then as before, or it is about the plan
 abbrev pub RefusesLate : {A : Type 0} → Result A Halt → (Slot → Option (List ℕ)) → (Slot → Option (List ℕ)) → Type 0

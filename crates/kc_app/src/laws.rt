@@ -1,7 +1,7 @@
 // What the definition of the output says.
 ghost use Rattle.kc_cert_text.specs.CertTexts.{TextsTold};
 ghost use Rattle.kc_recheck.specs.Laws.{AnswersAreRight};
-ghost use Rattle.kc_app.specs.Check.{ChecksStand, RootsTold};
+ghost use Rattle.kc_app.specs.Check.{ChecksStand, ReportsShown, RootsTold};
 ghost use Rattle.kc_app.specs.Headline.{ChecksEnd};
 ghost use Rattle.kc_app.specs.ModuleHeadline.{ModuleChecksEnd};
 ghost use Rattle.kc_app.specs.Output.{ShownStand};
@@ -30,3 +30,8 @@ pub fn know_shown()
     know_values();
     know_verdicts();
 }
+
+/// Does nothing. What `check` shows has the text of the report of the verdict.
+pub fn know_reports()
+    ensures { ReportsShown }
+{}

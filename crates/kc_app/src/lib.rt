@@ -20,7 +20,7 @@ mod top;
 mod word;
 
 pub use kc_ends::Status;
-pub use laws::know_shown;
+pub use laws::{know_reports, know_shown};
 pub use top::kaudit;
 
 #[cfg(test)]

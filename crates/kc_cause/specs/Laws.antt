@@ -9,7 +9,7 @@ use Rattle.kc_plan.specs.Roots.{broken_in, root_verdicts}
 use Rattle.kc_plan.specs.Verdicts.{verdict, verdict_places}
 use Rattle.kc_cause.specs.Explained.{Explained, is_broken}
 
--- each word that is shown of a root audit stands in the dump, at the place that is shown
+-- each word that shows a violation of a root audit stands in the dump, at the place that is shown
 abbrev pub WordsStand : Explained → Type 0
 WordsStand e = AllByRecursion (λ (r : RootVerdict). AllStandIn e.image (verdict_places r.verdict)) (root_verdicts e.image e.audits)
 

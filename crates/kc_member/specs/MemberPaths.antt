@@ -1,5 +1,5 @@
 -- The path of the innermost member in which a byte of a type lies.
-use Rattle.std.specs.Prelude.{◌<◌, ◌≤◌, ⊤, ℕ, zero, suc, ◌-◌, ◌*◌, ◌/◌, ◌%◌, Bool, true, false, ◌&&◌, ◌||◌, ◌==◌, not, nat_le, nat_lt, if◌then◌else◌, List, [], ◌∷◌, ◌++◌, codes, decimal, find, length, Option, Some, None, option_and_then, option_map, unwrap_or}
+use Rattle.std.specs.Prelude.{◌<◌, ◌≤◌, ⊤, ℕ, zero, suc, ◌-◌, ◌*◌, ◌/◌, ◌%◌, Bool, true, false, ◌&&◌, ◌||◌, ◌==◌, not, nat_le, nat_lt, if◌then◌else◌, List, [], ◌∷◌, ◌++◌, codes, decimal, find, length, map, Option, Some, None, option_and_then, option_map, unwrap_or}
 use Rattle.std.specs.Option.{option_map_or, option_or}
 use Rattle.kc_btf.specs.declared.types.ArrayOf.{ArrayOf}
 use Rattle.kc_btf.specs.declared.types.Member.{Member}
@@ -7,6 +7,7 @@ use Rattle.kc_btf.specs.Btf.{Types}
 use Rattle.kc_btf.specs.Readers.{name_at}
 use Rattle.kc_layout.specs.Bare.{array_under, compound_under, members_numbered}
 use Rattle.kc_layout.specs.Size.{size}
+use Rattle.kc_text.specs.Text.{visible}
 use Rattle.kc_member.specs.declared.step.Label.{Label}
 use Rattle.kc_member.specs.declared.step.Label.TheVariants.{Name, Index}
 use Rattle.kc_member.specs.declared.step.Step.{Step}
@@ -55,11 +56,11 @@ abbrev pub step_into : Types → ℕ → ℕ → Option Step
 step_into types ty byte =
     option_map_or (λ t. member_step types byte t.id) (compound_under types ty) (option_and_then (element_step types byte) (array_under types ty))
 
--- a name, after a dot where a path has begun
+-- a name as it is printed, after a dot where a path has begun
 abbrev pub name_text : Bool → List ℕ → List ℕ
 name_text begun [] = []
-name_text false (c ∷ cs) = c ∷ cs
-name_text true (c ∷ cs) = codes "." ++ c ∷ cs
+name_text false (c ∷ cs) = map visible (c ∷ cs)
+name_text true (c ∷ cs) = codes "." ++ map visible (c ∷ cs)
 
 abbrev pub label_text : Types → Bool → Label → List ℕ
 label_text types begun (Name name) = name_text begun (name_at types.strings name)

@@ -4,14 +4,14 @@ ghost use Rattle.kc_member.specs.MemberPaths.{LabelIsInside, begins, label_text,
 
 use crate::step::{Label, step_into};
 use kc_btf::Btf;
-use kc_text::{push, push_numbered};
+use kc_text::{push, push_name, push_numbered};
 use kc_word::NoMemory;
 
 /// How many members and elements lie in one another.
 const LEVELS: u8 = 32;
 
 // Adds a name, after a dot where a path has begun. An empty name is none.
-fn push_name(text: &mut Vec<u8>, name: &[u8], begun: bool) -> Result<(), NoMemory>
+fn push_part(text: &mut Vec<u8>, name: &[u8], begun: bool) -> Result<(), NoMemory>
     ensures { OnOk result (text.new.items ≡ text.old.items ++ name_text begun name.now) }
 {
     if name.is_empty() {
@@ -20,7 +20,7 @@ fn push_name(text: &mut Vec<u8>, name: &[u8], begun: bool) -> Result<(), NoMemor
     if begun {
         push(text, b".")?;
     }
-    push(text, name)
+    push_name(text, name)
 }
 
 // Adds what a step leads to.
@@ -29,7 +29,7 @@ fn push_label(text: &mut Vec<u8>, btf: &Btf, label: Label, begun: bool) -> Resul
     ensures { OnOk result (text.new.items ≡ text.old.items ++ label_text btf.now begun label) }
 {
     match label {
-        Label::Name(name) => push_name(text, btf.name(name), begun),
+        Label::Name(name) => push_part(text, btf.name(name), begun),
         Label::Index(index) => {
             push_numbered(text, b"[", index)?;
             push(text, b"]")
@@ -49,7 +49,8 @@ fn begins(btf: &Btf, label: Label, begun: bool) -> bool
 }
 
 /// Adds the path of the innermost member of a type in which a byte lies, counted from the first byte of the type: members by their
-/// names, the elements of arrays by their indexes, through members without a name. Of members that lie at the same bytes, as those
+/// names, with a question mark for each byte that is no visible ASCII character, the elements of arrays by their indexes, through
+/// members without a name. Of members that lie at the same bytes, as those
 /// of a union, the first is taken; a bit-field has the byte that it begins in; the last member has the bytes from its first on where it
 /// is an array with no end; pointers aren't followed. The path ends where no member has the byte, and is empty where the type itself has none, or is no struct, union or array. At most 32 members and
 /// elements are entered.

@@ -1,7 +1,7 @@
 // Members of the types of a small kernel.
 use crate::push_member;
 use kc_btf::Btf;
-use kc_fixture::btf_with_pids;
+use kc_fixture::{Types, btf_with_pids};
 use kc_layout::find_type;
 use std::test::Fail;
 
@@ -24,5 +24,17 @@ fn bytes_lie_in_members(rt: HostRuntime) -> Result<(), Fail> {
         push_member(&mut text, &btf, ty, byte)?;
         assert_eq!(rt; text.as_slice(), wanted.as_bytes(), "{name} {byte}");
     }
+    Ok(())
+}
+
+#[test]
+fn names_are_printed_as_visible_ascii(rt: HostRuntime) -> Result<(), Fail> {
+    let mut types = Types::new(rt.alloc())?;
+    types.add("1 odd = struct 1\n  a\tb = 2 0\n2 unsigned char = int 1 8")?;
+    let btf = Btf::read(rt.alloc(), types.file(rt.alloc())?)?;
+    let ty = find_type(&btf, b"odd").ok_or("no type")?;
+    let mut text = Vec::new(rt.alloc());
+    push_member(&mut text, &btf, ty, 0)?;
+    assert_eq!(rt; text.as_slice(), b"a?b".as_slice());
     Ok(())
 }

@@ -1,11 +1,17 @@
 -- What repairs say.
-use Rattle.std.specs.Prelude.{List}
+use Rattle.std.specs.Prelude.{List, [], ◌∷◌, Option, option_map, option_to_list}
+use Rattle.std.specs.List.{AllByRecursion}
 use Rattle.kc_memory.specs.Image.{Image}
 use Rattle.kc_found.specs.Violations.{Violation}
 use Rattle.kc_kinds.specs.declared.kind.Kind.{Kind}
 use Rattle.kc_plan.specs.Planned.{AuditAt}
 use Rattle.kc_plan.specs.Roots.{Root}
+use Rattle.kc_suspect.specs.declared.suspect.Suspect.{Suspect}
+use Rattle.kc_suspect.specs.Laws.{IsSuspect}
 use Rattle.kc_suspect.specs.Suspects.{suspects}
+use Rattle.kc_repair.specs.declared.outcome.Next.{Next}
+use Rattle.kc_repair.specs.declared.outcome.Repair.{Repair}
+use Rattle.kc_repair.specs.declared.outcome.Repair.TheVariants.{Stands, Nothing}
 use Rattle.kc_repair.specs.Repairs.{StandsAs, repair_of}
 
 -- With a suspect that repairs a violation the root audit's structures stand, and where none does, they stand with none that is tried.
@@ -13,3 +19,17 @@ abbrev pub RepairsStand : Type 0
 RepairsStand =
     (image : Image) (audits : List AuditAt) (root : Root) (kind : Kind) (v : Violation)
     → StandsAs image audits root (suspects image kind v) (repair_of image audits root kind v)
+
+-- the suspects that an answer tells
+abbrev pub next_suspects : Option Next → List Suspect
+next_suspects next = option_to_list (option_map (λ (n : Next). n.suspect) next)
+
+abbrev pub told_suspects : Repair → List Suspect
+told_suspects (Stands s) = s ∷ []
+told_suspects (Nothing tried more next) = next_suspects next
+
+-- Each is a word of the dump whose bytes stand in the file, and another number than it holds.
+abbrev pub RepairWordsStand : Type 0
+RepairWordsStand =
+    (image : Image) (audits : List AuditAt) (root : Root) (kind : Kind) (v : Violation)
+    → AllByRecursion (IsSuspect image) (told_suspects (repair_of image audits root kind v))

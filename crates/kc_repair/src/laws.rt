@@ -1,12 +1,15 @@
 // What the definitions say.
-ghost use Rattle.kc_repair.specs.Laws.{RepairsStand};
+ghost use Rattle.kc_repair.specs.Laws.{RepairWordsStand, RepairsStand};
 
 use kc_run::know_verdicts;
+use kc_suspect::know_suspects;
 
 /// Does nothing. With a suspect that repairs a violation the structures of the root audit stand, and where none does, they stand with
-/// none that is tried.
+/// none that is tried. Each suspect that is told is a word of the dump, at its place in the file, with another number than stands there.
 pub fn know_repairs()
-    ensures { RepairsStand }
+    ensures stand { RepairsStand }
+    ensures words { RepairWordsStand }
 {
+    know_suspects();
     know_verdicts();
 }

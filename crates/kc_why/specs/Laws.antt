@@ -27,7 +27,7 @@ abbrev pub IsWrittenIn : List ℕ → Sought → List Segment → FoundWord → 
 IsWrittenIn bytes sought [] f = ⊥
 IsWrittenIn bytes sought (s ∷ others) f = IsWritten bytes sought f s ⊎ IsWrittenIn bytes sought others f
 
--- each word that is shown stands in its memory, or in its dump, at the place that is shown
+-- each word that is shown of an address, as one that holds it, or of a violation, stands in its memory, or in its dump, at the place that is shown
 abbrev pub Stand : Shown → Type 0
 Stand (Sees l) = AllStandIn l.image (places (sight l.image l.rules l.address))
 Stand (Finds s) = AllByRecursion (IsWrittenIn s.bytes (sought_by s.value s.keys) s.segments) (in_segments (sought_by s.value s.keys) s.bytes s.segments)

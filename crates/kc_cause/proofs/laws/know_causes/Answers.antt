@@ -35,5 +35,6 @@ pub returns : goal.returns
 returns c = record {
   stand = λ e. roots_stand c.know_verdicts.ensures.root_places e.image e.audits (roots 0 e.audits);
   first = λ image audits. (c.know_verdicts.ensures.first image audits).0 ∙ first_found (root_verdicts image audits);
-  repairs = c.know_repairs.ensures;
+  repairs = c.know_repairs.ensures.stand;
+  repair_words = c.know_repairs.ensures.words;
 }
