@@ -81,13 +81,12 @@ ghosts-nodes g a = record { name = a.blank.name; parts = a.blank.parts }
 
 
 def copy_of(top, copy):
-    """The crates as git knows them, without the proofs of kc_list's own tests."""
+    """The crates as git knows them."""
     listed = ["git", "ls-files", "crates", "crates.txt", "HANDLES"]
     names = subprocess.run(listed, cwd=top, capture_output=True, check=True, text=True).stdout
     for name in names.split():
-        if not name.startswith("crates/kc_list/proofs/tests/"):
-            os.makedirs(os.path.dirname(os.path.join(copy, name)) or copy, exist_ok=True)
-            shutil.copy(os.path.join(top, name), os.path.join(copy, name))
+        os.makedirs(os.path.dirname(os.path.join(copy, name)) or copy, exist_ok=True)
+        shutil.copy(os.path.join(top, name), os.path.join(copy, name))
     subprocess.run(["git", "init", "-q"], cwd=copy, check=True)
     return os.path.join(copy, "crates", "kc_list")
 
@@ -100,6 +99,8 @@ def main():
         os.makedirs(proofs)
         with open(os.path.join(proofs, "Invariants.antt"), "w") as file:
             file.write(LEDGER)
+        with open(os.path.join(crate, "src", "lib.rt"), "a") as file:
+            file.write("\n#[cfg(test)]\nmod tests;\n")
         for nodes in (1000, 50000, 100000):
             with open(os.path.join(crate, "src", "tests.rt"), "w") as file:
                 file.write(TEST.format(nodes=nodes))

@@ -22,6 +22,3 @@ mod word;
 pub use kc_ends::Status;
 pub use laws::{know_reports, know_shown};
 pub use top::kaudit;
-
-#[cfg(test)]
-mod tests;

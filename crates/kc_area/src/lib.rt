@@ -12,6 +12,3 @@ pub use modules::InModule;
 pub use processors::InProcessor;
 pub use shape::{AreaShape, ModuleShape, PartShape, ProcessorShape, StackShape, area_shape};
 pub use stacks::InStack;
-
-#[cfg(test)]
-mod tests;

@@ -10,8 +10,6 @@ mod members;
 mod places;
 mod record;
 mod stop;
-#[cfg(test)]
-mod tests;
 mod types;
 
 pub use btf::Btf;

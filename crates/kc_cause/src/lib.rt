@@ -17,6 +17,3 @@ mod suspected;
 pub use files::{Asks, explain};
 pub use held::PlanFiles;
 pub use laws::know_causes;
-
-#[cfg(test)]
-mod tests;

@@ -7,6 +7,3 @@ mod number;
 
 pub use element::{Element, element_of};
 pub use number::{Part, part_of};
-
-#[cfg(test)]
-mod tests;

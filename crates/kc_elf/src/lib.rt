@@ -7,8 +7,6 @@ mod laws;
 mod parts;
 mod program_header;
 mod read;
-#[cfg(test)]
-mod tests;
 
 pub use fault::{CoreFault, CoreStop};
 pub use laws::know_core;

@@ -20,6 +20,3 @@ pub use expr::Expr;
 pub use laws::{know_checks, know_trees};
 pub use parsing::parse;
 pub use stop::ExprStop;
-
-#[cfg(test)]
-mod tests;

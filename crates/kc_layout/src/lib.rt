@@ -12,8 +12,6 @@ mod path;
 mod place;
 mod resolving;
 mod size;
-#[cfg(test)]
-mod tests;
 
 pub use bare::{array_under, compound_under, pointers_under};
 pub use fault::{PathFault, QRule};

@@ -13,6 +13,3 @@ mod top;
 
 pub use laws::know_matches;
 pub use top::kmatch;
-
-#[cfg(test)]
-mod tests;

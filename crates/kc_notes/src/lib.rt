@@ -5,8 +5,6 @@ mod fault;
 mod info;
 mod laws;
 mod note;
-#[cfg(test)]
-mod tests;
 
 pub use fault::{NoteFault, NoteKey};
 pub use info::{Info, kernel_info, value};

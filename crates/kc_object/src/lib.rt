@@ -27,6 +27,3 @@ pub use page::Page;
 pub use shape::ObjectShape;
 pub use slab::Slab;
 pub use spot::{ObjectSpot, Spot};
-
-#[cfg(test)]
-mod tests;

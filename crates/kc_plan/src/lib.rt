@@ -21,6 +21,3 @@ pub use laws::know_plans;
 pub use plan::Plan;
 pub use planned::{Audit, AuditList, Check, Checks, Fields, Numbers, Start};
 pub use read::read_plan;
-
-#[cfg(test)]
-mod tests;

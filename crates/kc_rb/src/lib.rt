@@ -15,6 +15,3 @@ pub use node::enter_node;
 pub use reading::enter_head;
 pub use spots::{left_of, right_of, root_of};
 pub use walk::rb_walk;
-
-#[cfg(test)]
-mod tests;

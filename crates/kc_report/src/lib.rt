@@ -20,6 +20,3 @@ pub use names::PlanNames;
 pub use report::{BrokenText, CleanLine, CleanLines, Report, RootResult, RootText, RootTexts};
 pub use stops::ReportStop;
 pub use write::text;
-
-#[cfg(test)]
-mod tests;

@@ -17,6 +17,3 @@ pub use counts::{count_walk, no_walks};
 pub use each::{root_at, run_each, run_root};
 pub use laws::know_verdicts;
 pub use roots::{RunStop, run};
-
-#[cfg(test)]
-mod tests;

@@ -17,6 +17,3 @@ pub use kept::Kept;
 pub use laws::{know_caches, know_free_lists};
 pub use slab::{grid_of, is_descriptor, page_of};
 pub use walk::{cache_walk, cache_walk_by};
-
-#[cfg(test)]
-mod tests;

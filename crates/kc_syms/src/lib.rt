@@ -6,8 +6,6 @@ mod index;
 mod part;
 mod row;
 mod symbols;
-#[cfg(test)]
-mod tests;
 
 pub use fault::{SymFault, SymStop};
 pub use symbols::Symbols;

@@ -10,6 +10,3 @@ mod walks;
 
 pub use laws::know_tasks;
 pub use walk::{tasks_walk, tasks_walk_by};
-
-#[cfg(test)]
-mod tests;

@@ -6,6 +6,3 @@ mod tlb;
 
 pub use entry::Entry;
 pub use tlb::Tlb;
-
-#[cfg(test)]
-mod tests;

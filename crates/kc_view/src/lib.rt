@@ -7,8 +7,6 @@ mod pids;
 mod pointers;
 mod slub;
 mod tasks;
-#[cfg(test)]
-mod tests;
 mod view;
 
 pub use fields::{FieldNumber, field_of, started_at};

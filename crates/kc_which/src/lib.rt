@@ -10,6 +10,3 @@ mod tasks;
 pub use caches::{CacheRing, SlabElement, find_cache_ring, partial_head, slab_in};
 pub use laws::know_rings;
 pub use tasks::{TaskElement, TaskRing, find_task_ring, ring_head, task_in};
-
-#[cfg(test)]
-mod tests;

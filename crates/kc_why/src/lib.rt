@@ -10,6 +10,3 @@ mod written;
 
 pub use laws::know_why;
 pub use top::kwhy;
-
-#[cfg(test)]
-mod tests;

@@ -15,6 +15,3 @@ pub use entries::{entry_of, head_fault, index_of, know_chunk, slot_fault};
 pub use laws::{know_nodes, know_xarrays};
 pub use nodes::open_node;
 pub use walk::{read_head, xa_walk};
-
-#[cfg(test)]
-mod tests;

@@ -1,4 +1,0 @@
-use Rattle.kc_xa.proofs.tests.xarrays.Given as goal
-
-abbrev pub ghosts-walk : goal.ghosts-walk
-ghosts-walk g a = record { name = a.blank.name; parts = a.blank.parts }
