@@ -8,6 +8,3 @@ pub use kc_cert_text::{CertRead, CertStep, Certificate, Lists, cert_text, know_t
 pub use kc_certify::{CertStop, certify};
 pub use kc_recheck::{CertAnswer, RecheckStop, know_answers, recheck};
 pub use laws::{know_complete, know_single};
-
-#[cfg(test)]
-mod tests;

@@ -12,6 +12,3 @@ pub use laws::know_entries;
 pub use listing::list_xarray;
 pub use numbers::{pointers_in, test_xarray, xarray_items};
 pub use spots::XaSpot;
-
-#[cfg(test)]
-mod tests;

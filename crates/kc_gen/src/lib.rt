@@ -14,6 +14,3 @@ mod types;
 
 pub use files::make;
 pub use laws::know_made;
-
-#[cfg(test)]
-mod tests;

@@ -13,6 +13,3 @@ pub use given::GivenLists;
 pub use laws::know_given_lists;
 pub use nodes::{cache_nodes, task_nodes};
 pub use whole::{all_taken, test_cache, test_tasks};
-
-#[cfg(test)]
-mod tests;

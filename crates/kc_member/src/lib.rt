@@ -5,6 +5,3 @@ mod path;
 mod step;
 
 pub use path::push_member;
-
-#[cfg(test)]
-mod tests;

@@ -22,6 +22,3 @@ pub use rule::Rule;
 pub use scalar::Scalar;
 pub use space::{Space, Stop};
 pub use words::{Origin, PWord, Place, VWord};
-
-#[cfg(test)]
-mod tests;

@@ -22,8 +22,6 @@ mod sure_files;
 mod sure_sink;
 mod sure_store;
 mod system;
-#[cfg(test)]
-mod tests;
 mod writer_sink;
 
 pub use file_store::FileStore;

@@ -101,25 +101,3 @@ impl Sink for MemSink {
         Ok(count)
     }
 }
-
-#[cfg(test)]
-mod tests {
-    use super::*;
-    use std::test::Fail;
-
-    #[test]
-    fn takes_up_to_the_limit(rt: HostRuntime) -> Result<(), Fail> {
-        for (limit, first, second, kept) in [
-            (0, Err(Failed), Err(Failed), ""),
-            (1, Ok(1), Err(Failed), "h"),
-            (10, Ok(5), Ok(5), "hellohello"),
-        ] {
-            let mut sink = MemSink::new(rt.alloc(), limit)?;
-            assert_eq!(rt; sink.put(b"hello"), first, "first of {limit}");
-            assert_eq!(rt; sink.put(b"hello"), second, "second of {limit}");
-            assert_eq!(rt; sink.put(b"hello"), Err(Failed), "third of {limit}");
-            assert_eq!(rt; sink.bytes(), kept.as_bytes(), "kept of {limit}");
-        }
-        Ok(())
-    }
-}

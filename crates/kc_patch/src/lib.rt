@@ -6,8 +6,6 @@ mod change;
 mod laws;
 mod lay;
 mod patched;
-#[cfg(test)]
-mod tests;
 
 pub use change::Change;
 pub use laws::know_changes;

@@ -9,6 +9,3 @@ mod test;
 pub use laws::know_pid_lists;
 pub use listing::list_pids;
 pub use test::{pid_nodes, test_pids};
-
-#[cfg(test)]
-mod tests;

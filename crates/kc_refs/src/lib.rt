@@ -6,8 +6,6 @@ mod place;
 mod search;
 mod sought;
 mod stop;
-#[cfg(test)]
-mod tests;
 
 pub use place::{FoundWord, WordPlace};
 pub use search::find_words;

@@ -5,8 +5,6 @@
 mod laws;
 mod outcome;
 mod seeking;
-#[cfg(test)]
-mod tests;
 mod trial;
 mod tries;
 

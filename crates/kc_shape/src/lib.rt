@@ -13,6 +13,3 @@ pub use halt::{Halt, halt_of};
 pub use laws::know_shapes;
 pub use tree::{test_tree, turned};
 pub use words::{Linking, know_most, test_chain, test_ring};
-
-#[cfg(test)]
-mod tests;

@@ -18,6 +18,3 @@ mod words;
 pub use laws::know_suspects;
 pub use suspect::{Suspect, SuspectStop, Suspects};
 pub use suspecting::suspects;
-
-#[cfg(test)]
-mod tests;

@@ -23,6 +23,3 @@ pub use span::{Span, is_fill, span_of};
 pub use stop::LookStop;
 pub use symbol::{ImageMap, Symbol, nearest};
 pub use words::{Seen, read_word, read_words};
-
-#[cfg(test)]
-mod tests;

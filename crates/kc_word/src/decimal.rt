@@ -63,30 +63,3 @@ fn value_of(c: u8) -> Option<u8>
         _ => None,
     }
 }
-
-#[cfg(test)]
-mod tests {
-    use super::*;
-
-    #[test]
-    fn reads_decimal(rt: HostRuntime) {
-        let rows: [(&[u8], Option<i64>); 13] = [
-            (b"0", Some(0)),
-            (b"-0", Some(0)),
-            (b"04096", Some(4096)),
-            (b"-12", Some(-12)),
-            (b"9223372036854775807", Some(i64::MAX)),
-            (b"9223372036854775808", None),
-            (b"-9223372036854775808", Some(i64::MIN)),
-            (b"-9223372036854775809", None),
-            (b"00000000000000000001", None),
-            (b"", None),
-            (b"-", None),
-            (b"+1", None),
-            (b"1 ", None),
-        ];
-        for (text, wanted) in rows {
-            assert_eq!(rt; read_dec(text), wanted);
-        }
-    }
-}

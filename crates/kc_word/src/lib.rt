@@ -19,6 +19,3 @@ pub use memory::NoMemory;
 pub use numbers::{get_u16, get_u32, get_u64};
 pub use plain::{Pa, PageCfg, Segment, Tail};
 pub use steps::Steps;
-
-#[cfg(test)]
-mod tests;

@@ -1,4 +1,0 @@
-use Rattle.kc_cert.proofs.tests.a_certificate_is_made_of_a_clean_dump.Given as goal
-
-abbrev pub ghosts-certified : goal.ghosts-certified
-ghosts-certified g a = record { name = a.blank.name; parts = a.blank.parts }

@@ -1,4 +1,0 @@
-use Rattle.kc_suspect.proofs.tests.of_rings.Given as goal
-
-abbrev pub ghosts-told : goal.ghosts-told
-ghosts-told g a = record { name = a.blank.name; parts = a.blank.parts }

@@ -1,0 +1,4 @@
+use Rattle.kc_tests.proofs.of_suspect.of_hash_chains.Given as goal
+
+abbrev pub ghosts-told : goal.ghosts-told
+ghosts-told g a = record { name = a.blank.name; parts = a.blank.parts }
