@@ -1,9 +1,10 @@
 #!/bin/sh
 # Makes a Debian package of the programs, in build/. Called by `make deb`.
-# usage: deb.sh VERSION [1]      1: of the unproved programs
+# usage: deb.sh VERSION [1]      1: of the unproved programs; MAINTAINER in the environment: who answers for the package
 set -eu
 cd "$(dirname "$0")/.."
 version=$1 unproved=${2:-}
+maintainer=${MAINTAINER:-$(git log -1 --format='%an <%ae>')}
 name=kaudit${unproved:+-unproved}
 root=build/deb/$name
 rm -rf "$root"
@@ -33,7 +34,7 @@ T
     echo
     echo "  * Packaged from its repository by make deb."
     echo
-    echo " -- The authors of kaudit <kaudit@localhost.localdomain>  $(date -R -d "@${SOURCE_DATE_EPOCH:-$(git log -1 --format=%ct 2>/dev/null || date +%s)}")"
+    echo " -- $maintainer  $(date -R -d "@${SOURCE_DATE_EPOCH:-$(git log -1 --format=%ct 2>/dev/null || date +%s)}")"
 } | gzip -9n > "$doc/changelog.gz"
 find "$root" -type d -exec chmod 755 {} +
 find "$doc" -type f -exec chmod 644 {} +
@@ -43,7 +44,7 @@ Version: $version
 Section: devel
 Priority: optional
 Architecture: amd64
-Maintainer: The authors of kaudit <kaudit@localhost.localdomain>
+Maintainer: $maintainer
 Installed-Size: $(du -k -s "$root" | cut -f1)
 Depends: libc6 (>= 2.34)
 Recommends: python3 (>= 3.9)
