@@ -3,6 +3,7 @@
 usage: planted cut CRATE FOLDER     writes each wrong body of the crate into FOLDER, as NAME.edit
        planted add CRATE FOLDER     puts each NAME.edit of FOLDER into planted/CRATE.edits
        planted count                prints how many each crate has in must-fail/ and in planted/, and the sums
+       planted check                prints those that can't be applied to the code as it stands
 
 planted/CRATE.edits has the crate's wrong bodies in the order of their names. Each begins with a line `edit: NAME`, after which come the lines of
 NAME.edit as must-fail/ would have them; an empty line stands between two. `add` refuses a name that is there, and an edit that can't be applied:
@@ -129,12 +130,28 @@ def counts():
             yield crate, len(gate), len(planted)
 
 
+def check_all():
+    """Whether an edit of planted/ can't be applied."""
+    wrong = 0
+    for crate, _, _ in counts():
+        for name, text in kept(crate).items():
+            try:
+                check(crate, name, text)
+            except BadEdit as bad:
+                print(f"{crate}/{bad}")
+                wrong += 1
+    print(f"{wrong} can't be applied")
+    return wrong != 0
+
+
 def main(words):
     try:
         if words == ["count"]:
             rows = list(counts())
             for crate, gate, planted in [*rows, ("all", sum(row[1] for row in rows), sum(row[2] for row in rows))]:
                 print(f"{crate:16} must-fail {gate:2} planted {planted:4}")
+        elif words == ["check"]:
+            return check_all()
         elif len(words) == 3 and words[0] in ("cut", "add"):
             print(f"{words[1]}: {(cut if words[0] == 'cut' else add)(*words[1:])} wrong bodies")
         else:
