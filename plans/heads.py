@@ -129,15 +129,15 @@ def member(kernel, at, text):
 
 
 def count_of(kernel, text):
-    """A number, or the one that stands at SYMBOL or in a member, or one more than that."""
+    """A number, or the one that stands at SYMBOL or in a member, or so many more than that."""
     if text[:1].isdigit():
         return int(text, 0)
-    where, _, last = text.rpartition("+")
-    more = int(last, 0) if where and last.isdigit() else 0
-    where, _, last = (where if where and last.isdigit() else text).rpartition("+")
-    if where and "." in last and not last.endswith(")"):
-        return member(kernel, first_heads(kernel, where, 1)[0], last) + more
-    at = first_heads(kernel, f"{where}+{last}" if where else last, 1)[0]
+    stars, base, parts = taken_apart(text)
+    more = int(parts.pop(), 0) if parts and parts[-1][:1].isdigit() else 0
+    where = "+".join(["*" * stars + base, *parts[:-1]])
+    at = first_heads(kernel, where, 1)[0]
+    if parts:
+        return member(kernel, at, parts[-1]) + more
     return (word(kernel, at & -8) >> 8 * (at & 7) & 0xFFFFFFFF) + more
 
 

@@ -450,12 +450,11 @@ class Joined(Types):
 
 
 def symbols(data):
+    """The addresses of each name of a map. A carriage return goes with the newline behind it."""
     rows = {}
-    lines = data.split(b"\n")
-    if lines[-1] == b"":
-        lines.pop()
+    *ended, last = data.split(b"\n")
+    lines = [line.removesuffix(b"\r") for line in ended] + ([last] if last else [])
     for number, line in enumerate(lines, 1):
-        line = line[:-1] if line.endswith(b"\r") else line
         if not re.fullmatch(rb"[0-9a-f]{16} [A-Za-z?] [\x21-\x7e]+", line):
             raise Refused(f"map S1 line {number}")
         rows.setdefault(line[19:], []).append(int(line[:16], 16))

@@ -358,8 +358,8 @@ def main(words):
     addresses, values = given or made(why, areas, 40), given or made_values(why, 8)
     for at in addresses:
         compare(command, [f"{at:x}"], folder, sights.text(at))
-    values += [] if given else made_objects(objects, 8)
-    found = why.encoded(values, objects.keys())
+    values += [] if given or objects is None else made_objects(objects, 8)
+    found = why.encoded(values, objects.keys() if objects else (0, []))
     for value in values:
         compare(command, ["refs", f"{value:x}"], folder, why.refs(value, found[value]))
     print(len(addresses), "addresses", measure(command + [f"{addresses[0]:x}"], folder))
