@@ -4,7 +4,7 @@ usage: gate COMMAND..      as gate rt ci --anew, at the top of a clean clone
 
 It runs the command, passes on what it prints, and looks every half second at the checks that run below it. After the
 command's own output it prints a table: for each crate the seconds of processor time of its proof, of its tests' proof and
-of its wrong bodies, and the most memory that one of its checks took. A check's last half second isn't seen in the table;
+of its wrong bodies, and the most memory that one of its checks took; and their sums. A check's last half second isn't seen in the table;
 the last line has what the system counted for the command and all that it ran.
 """
 import os
@@ -13,6 +13,7 @@ import subprocess
 import time
 
 TICKS = os.sysconf("SC_CLK_TCK")
+PHASES = ("proof", "tests", "edits")
 
 
 def read(path):
@@ -78,6 +79,16 @@ def look(top, seen):
                 seen[pid, check] = max(seen.get((pid, check), (0, 0)), (seconds_of(pid), mebibytes_of(pid)))
 
 
+def together(row):
+    return sum(row[phase] for phase in PHASES)
+
+
+def summed(rows):
+    """The row below a table: sums of seconds, and the most memory."""
+    rows = list(rows)
+    return {phase: sum(row[phase] for row in rows) for phase in PHASES} | {"memory": max((row["memory"] for row in rows), default=0)}
+
+
 def main(words):
     begin = time.time()
     seen = {}
@@ -93,12 +104,11 @@ def main(words):
         row["memory"] = max(row["memory"], memory)
     print("| Crate | Proof | Tests | Edits | Together | Most memory |")
     print("|---|---|---|---|---|---|")
-    whole = 0
-    for crate, row in sorted(rows.items(), key=lambda r: -sum(r[1][p] for p in ("proof", "tests", "edits"))):
-        together = row["proof"] + row["tests"] + row["edits"]
-        whole += together
-        print(f"| {crate} | {row['proof']:.0f} s | {row['tests']:.0f} s | {row['edits']:.0f} s | {together:.0f} s | {row['memory']} MiB |")
+    whole = summed(rows.values())
+    for crate, row in [*sorted(rows.items(), key=lambda it: -together(it[1])), ("all", whole)]:
+        seconds = [f"{row[phase]:.0f} s" for phase in PHASES]
+        print(f"| {crate} | {' | '.join(seconds)} | {together(row):.0f} s | {row['memory']} MiB |")
     counted = resource.getrusage(resource.RUSAGE_CHILDREN)
-    print(f"checks: {whole / 60:.1f} minutes of one processor")
+    print(f"checks: {together(whole) / 60:.1f} minutes of one processor")
     print(f"all: {(counted.ru_utime + counted.ru_stime) / 60:.1f} minutes of one, {elapsed / 60:.1f} on {os.cpu_count()}")
     return gate.returncode
