@@ -2,11 +2,11 @@
 
 usage: claims
 
-It follows the names of definitions from the contracts of the programs, item by item, and counts the lines of each without
-blank lines, comments and imports: all of kaudit's, those on which the clause stands that `check` is clean exactly where every
-structure stands, all of kmatch's and all of kwhy's. Behind the numbers of a file stands what its head says. Then it prints, and ends with 1 for
-it, where a blank for a counter of steps is made outside the crates that may make one: everywhere else the bound on steps would bind a counter that
-nobody looks at; and which crates import another's lemmas, where a public law should stand, and how many such imports there are.
+It follows the names of definitions from the contracts of the programs, item by item, and counts the lines of each without blank lines, comments and
+imports: all of kaudit's, those on which the clause stands that `check` is clean exactly where every structure stands, all of kmatch's and all of
+kwhy's. Behind the numbers of a file stands what its head says. Then it prints, and ends with 1 for it, where a blank for a counter of steps is made
+outside the crates that may make one: everywhere else the bound on steps would bind a counter that nobody looks at; and which crates import
+another's lemmas, where a public law should stand, and how many such imports there are.
 """
 import glob
 import os

@@ -2,11 +2,12 @@
 
 usage: commands PROGRAMS FOLDER [--slow] [DOCUMENT..]
 
-Without a DOCUMENT these are README.md, docs/guide.md, docs/reference.md and the man pages of docs/. FOLDER has vmcore, btf, System.map and ext4.btf, of the dump
-from which the examples come.
+Without a DOCUMENT these are README.md, docs/guide.md, docs/reference.md and the man pages of docs/. FOLDER has vmcore, btf, System.map and
+ext4.btf, of the dump from which the examples come.
 
-Each document has a folder of its own: the files of FOLDER by links; `plans`, a copy of plans/; `data`, a copy of the made dump; and `bad`, a copy of vmcore in
-which the word at byte 0xe782008 is ffff88800485a800. All its blocks run in one bash, in their order. The word behind a fence says what a block is:
+Each document has a folder of its own: the files of FOLDER by links; `plans`, a copy of plans/; `data`, a copy of the made dump; and `bad`, a copy
+of vmcore in which the word at byte 0xe782008 is ffff88800485a800. All its blocks run in one bash, in their order. The word behind a fence says what
+a block is:
 
     console     a session: after `$ ` a command, after `> ` its next lines, and then what it prints, exactly; a line `..` stands for any lines
     sh          a script, which has to end with status 0

@@ -2,11 +2,11 @@
 
 usage: named [FOLDER]
 
-FOLDER is the top of a repository, else of this one. Of README.md and docs/*.md: each relative link leads to a file and its heading; each `bench NAME` and each path of bench/,
-crates/, plans/ and planted/ is there. Of docs/PROVED.md: each `kc_x/y.rt` is a file of crates/kc_x/src, and the names after
-it are clauses, ghost members or functions there; each `kc_x/specs/Y.antt` is a file. Of the documents about the code (not guide.md
-and reference.md, which name what kernels have): each word between backquotes stands somewhere in the sources. Each crate of
-crates.txt is named in README.md, docs/ARCHITECTURE.md or docs/PROVED.md.
+FOLDER is the top of a repository, else of this one. Of README.md and docs/*.md: each relative link leads to a file and its heading; each `bench
+NAME` and each path of bench/, crates/, plans/ and planted/ is there. Of docs/PROVED.md: each `kc_x/y.rt` is a file of crates/kc_x/src, and the
+names after it are clauses, ghost members or functions there; each `kc_x/specs/Y.antt` is a file. Of the documents about the code (not guide.md and
+reference.md, which name what kernels have): each word between backquotes stands somewhere in the sources. Each crate of crates.txt is named in
+README.md, docs/ARCHITECTURE.md or docs/PROVED.md.
 """
 import glob
 import os

@@ -1,7 +1,7 @@
 """Runs commands, and measures each alone: the one timer of these scripts.
 
-The memory that the system counts for a child begins with that of the process that it was forked from, which is Python's
-some 14 MiB. So memory is measured by /usr/bin/time, a small process, in a run of its own; where that isn't there, it is 0.
+The memory that the system counts for a child begins with that of the process that it was forked from, which is Python's some 14 MiB. So memory is
+measured by /usr/bin/time, a small process, in a run of its own; where that isn't there, it is 0.
 """
 import os
 import resource

@@ -2,13 +2,13 @@
 
 usage: failing PROGRAMS NAME FOLDER WORDS..
 
-as `failing - kaudit crates/kaudit/data check z.core z.btf z.map z.toml`. With strace every call on a file of FOLDER, every write and
-every call after it fails, one at a time, by EIO and by EINTR. A failed call on a file has to end with status 3, `store failed` and nothing
-on standard output; a failed write to standard output with status 4 and `sink failed`; calls whose failure changes nothing may end as
-ever. Then a library cuts each read and each write to 1, 7 and 100 bytes: nothing may change. Then the address space is narrowed
-step by step: status 5 and `memory refused`, or as ever, until the program itself can't be loaded. At last the Nth request for memory of the whole
-process is refused, for each N in turn until none is: status 5, standard output empty and `memory refused` on standard error (or nothing, where
-the words themselves found no memory), and the last ones as without a refusal. It wants strace and a C compiler.
+as `failing - kaudit crates/kaudit/data check z.core z.btf z.map z.toml`. With strace every call on a file of FOLDER, every write and every call
+after it fails, one at a time, by EIO and by EINTR. A failed call on a file has to end with status 3, `store failed` and nothing on standard output;
+a failed write to standard output with status 4 and `sink failed`; calls whose failure changes nothing may end as ever. Then a library cuts each
+read and each write to 1, 7 and 100 bytes: nothing may change. Then the address space is narrowed step by step: status 5 and `memory refused`, or as
+ever, until the program itself can't be loaded. At last the Nth request for memory of the whole process is refused, for each N in turn until none
+is: status 5, standard output empty and `memory refused` on standard error (or nothing, where the words themselves found no memory), and the last
+ones as without a refusal. It wants strace and a C compiler.
 """
 import collections
 import os

@@ -2,10 +2,10 @@
 
 usage: hostile PROGRAMS [--runs N] [--jobs N] [--seed N] [--why SHARE] [--seconds N] [--keep FOLDER]
 
-as `hostile - --runs 200000 --jobs 4 --keep found`. Each run is a small
-kernel made at random (`made.py`), of which words, bits, headers, page tables, types, rows or the plan are changed, or files of bytes that follow
-no grammar. kwhy has SHARE of the runs, else 0.3; with 0 it is left out. It is asked for an address, `refs`, or the report that kaudit prints of the same files, whole or
-damaged. A run is under a limit of 512 MiB and of ten seconds on the clock, or --seconds where the machine has other work, and has to end
+as `hostile - --runs 200000 --jobs 4 --keep found`. Each run is a small kernel made at random (`made.py`), of which words, bits, headers, page
+tables, types, rows or the plan are changed, or files of bytes that follow no grammar. kwhy has SHARE of the runs, else 0.3; with 0 it is left out.
+It is asked for an address, `refs`, or the report that kaudit prints of the same files, whole or damaged. A run is under a limit of 512 MiB and of
+ten seconds on the clock, or --seconds where the machine has other work, and has to end
 
 - with a status from 0 to 6, never by a signal, and never with 4 or 5, nor 3 but for a name that no file has;
 - with one line or usage on standard error and nothing on standard output, or the other way round;
@@ -18,8 +18,8 @@ NEW, which is another number, and with which the second reader finds the root au
 where it can read the files. A report that `check` refuses to print is refused by the same line, and one that it printed isn't, but where it was
 damaged since.
 
-A run that ends otherwise is printed, and its files are kept in FOLDER. It prints how many runs ended how, also where it is stopped by
-Ctrl-C or SIGTERM before all are done. With TMPDIR in memory (/dev/shm) it is three times as fast as on a disk.
+A run that ends otherwise is printed, and its files are kept in FOLDER. It prints how many runs ended how, also where it is stopped by Ctrl-C or
+SIGTERM before all are done. With TMPDIR in memory (/dev/shm) it is three times as fast as on a disk.
 """
 import argparse
 import collections

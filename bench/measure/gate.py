@@ -2,10 +2,10 @@
 
 usage: gate COMMAND..      as gate rt ci --anew, at the top of a clean clone
 
-It runs the command, passes on what it prints, and looks every half second at the checks that run below it. After the
-command's own output it prints a table: for each crate the seconds of processor time of its proof, of its tests' proof and
-of its wrong bodies, and the most memory that one of its checks took; and their sums. A check's last half second isn't seen in the table;
-the last line has what the system counted for the command and all that it ran.
+It runs the command, passes on what it prints, and looks every half second at the checks that run below it. After the command's own output it prints
+a table: for each crate the seconds of processor time of its proof, of its tests' proof and of its wrong bodies, and the most memory that one of its
+checks took; and their sums. A check's last half second isn't seen in the table; the last line has what the system counted for the command and all
+that it ran.
 """
 import os
 import resource

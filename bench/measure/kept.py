@@ -3,11 +3,10 @@
 usage: kept OLD NEW FOLDER PLAN..
        kept --word PROGRAMS DUMP ADDRESS
 
-OLD and NEW are folders of two builds of kaudit. For each plan it prints
-the reads and seeks of each program, as strace counts them, and the least time of seven runs by turns, in seconds. Then, with NEW
-alone, the same plans on a copy of the dump whose memory is cut into 1,000 segments, and `word` on made dumps of 65,000
-segments: rising, falling, each around the one before, each inside the one before. With `--word` it prints
-the system calls of `word` on the dump, and its instructions, so that two versions can be compared. It wants strace, and for instructions valgrind.
+OLD and NEW are folders of two builds of kaudit. For each plan it prints the reads and seeks of each program, as strace counts them, and the least
+time of seven runs by turns, in seconds. Then, with NEW alone, the same plans on a copy of the dump whose memory is cut into 1,000 segments, and
+`word` on made dumps of 65,000 segments: rising, falling, each around the one before, each inside the one before. With `--word` it prints the system
+calls of `word` on the dump, and its instructions, so that two versions can be compared. It wants strace, and for instructions valgrind.
 """
 import collections
 import os

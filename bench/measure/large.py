@@ -7,8 +7,8 @@ usage: large structures PROGRAMS [ELEMENTS..]
 `structures`: to the small made dump a segment with one structure is added, mapped by one page of 1 GiB: a ring, a red-black tree or an xarray of so
 many elements, its nodes in memory in the order in which they are walked, and then in random order. For each it prints the least time of three runs
 of `check`, that of an element without that of the start, and the most memory, with that of an element.
-`names`: `layout` on a file of types in which every record has one name of 20 MB, against the same with a short name. A name is compared no further than the
-one that is asked, so both take about as long.
+`names`: `layout` on a file of types in which every record has one name of 20 MB, against the same with a short name. A name is compared no further
+than the one that is asked, so both take about as long.
 `sparse`: `word` on a sparse dump of 1 TiB with 1,000 segments and on the small made dump, the time and the most memory of each. The last segment
 holds the words, so the search goes through all of them. It ends with 1 where that takes 50 ms or 16 MiB.
 """

@@ -5,12 +5,12 @@ usage: library plans BTF MAP PLAN..
        library report
        library ring
 
-`plans`: the reading of plans over a real kernel's types and symbols: for each plan, and for three of 256 audits that it makes, what the plan is, the
-time and the most memory.
+`plans`: the reading of plans over a real kernel's types and symbols: for each plan, and for three of 256 audits that it makes, what the plan is,
+the time and the most memory.
 `symbols`: how long a System.map takes to be read, against `syms.c`, once the checks and once with a hash table too, and a map that has each row
 fifteen times, under names that differ by an ending: the processor's time of a row, the least of seven runs by turns, and the ratios.
-`report`: how long reports of many places take to be read and written again, the least of three runs. The time grows with the places: it is that
-of the reading, the writing and the comparing of some 78 bytes each.
+`report`: how long reports of many places take to be read and written again, the least of three runs. The time grows with the places: it is that of
+the reading, the writing and the comparing of some 78 bytes each.
 `ring`: the walk of long rings in a made memory, whose words are computed from their addresses: the time and the most memory. The words that a walk
 takes stand in an ordered set, so the time of a node grows with the logarithm of the nodes; the memory grows with the nodes.
 """

@@ -3,8 +3,8 @@
 usage: times plans PROGRAMS FOLDER PLAN..
        times show PROGRAMS FOLDER SYMBOL TYPE PATH [VMLINUX]
 
-`plans`: for each PLAN.toml, of which the dump has to be clean, the size of its certificate, and the least time of seven runs of `check`, `certify` and
-`recheck`, by turns, and the most memory of each.
+`plans`: for each PLAN.toml, of which the dump has to be clean, the size of its certificate, and the least time of seven runs of `check`, `certify`
+and `recheck`, by turns, and the most memory of each.
 `show`: each program runs five times, by turns. drgn reads the same number by VMLINUX, the kernel with its debugging symbols; where drgn or that
 file isn't there, it is left out.
 """

@@ -1,5 +1,5 @@
-"""Is a second reader of the areas in which an address of a dump lies, for `why`: the module whose memory has it, the processor whose area
-has it, and the task whose stack has it. It stands on `verdict.py`, and shares no code with the program.
+"""Is a second reader of the areas in which an address of a dump lies, for `why`: the module whose memory has it, the processor whose area has it, and
+the task whose stack has it. It stands on `verdict.py`, and shares no code with the program.
 """
 from plans.reader import TOP, Broken, Refused, address
 from second.verdict import tasks
@@ -13,7 +13,7 @@ def shown(name):
 
 
 class Areas:
-    """The areas of a dump, by a kernel of `second.py` and the rows of its map: run-time addresses and names, in the order of the file."""
+    """The areas of a dump, by a kernel of `verdict.py` and the rows of its map: run-time addresses and names, in the order of the file."""
 
     def __init__(self, kernel, rows):
         self.kernel, self.rows = kernel, rows

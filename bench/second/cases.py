@@ -6,8 +6,8 @@ usage: cases FILE ..                       compares, and prints how many agree, 
 
 Of an address and of `refs` the second reader is that of `why`, of a report that of `suspects`.
 
-A file is one of crates/try_programs/data, whose words the head of that program's main.rt tells. Cases that are to be refused, and those
-whose files are changed by words that stand for the readers of files alone, are left out. Of a report, `--write` writes the lines too.
+A file is one of crates/try_programs/data, whose words the head of that program's main.rt tells. Cases that are to be refused, and those whose files
+are changed by words that stand for the readers of files alone, are left out. Of a report, `--write` writes the lines too.
 """
 import collections
 import os

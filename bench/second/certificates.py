@@ -4,11 +4,11 @@ usage: certificates DUMP BTF MAP PLAN [MODULE]
 
 DUMP is a core file, BTF the bytes of its kernel's section .BTF, MAP its build's System.map, MODULE the bytes of a module's section .BTF.
 
-A certificate is what each walk of a plan found, in the order in which the verdict takes the walks. This one stands on `verdict.py` and shares
-no code with kaudit. The text is `certificate STEPS`, then for each walk
-`step AUDIT start ADDRESS lists COUNT` and for each list `list COUNT` and its numbers, one a line: the nodes of a ring or a hash chain; a tree
-in preorder, 0 for a null; an xarray's entries in preorder, a node's followed by those of its slots; of a slab cache for each node of memory
-the ring's nodes and then each slab's free objects; of tasks the ring's nodes, and for each leader its threads' and each thread's children's; of pids the xarray's entries and then each pid's tasks.
+A certificate is what each walk of a plan found, in the order in which the verdict takes the walks. This one stands on `verdict.py` and shares no
+code with kaudit. The text is `certificate STEPS`, then for each walk `step AUDIT start ADDRESS lists COUNT` and for each list `list COUNT` and its
+numbers, one a line: the nodes of a ring or a hash chain; a tree in preorder, 0 for a null; an xarray's entries in preorder, a node's followed by
+those of its slots; of a slab cache for each node of memory the ring's nodes and then each slab's free objects; of tasks the ring's nodes, and for
+each leader its threads' and each thread's children's; of pids the xarray's entries and then each pid's tasks.
 """
 import sys
 

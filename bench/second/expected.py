@@ -7,17 +7,17 @@ usage: expected words PROGRAMS FOLDER WORDS [TABLE]     `word` at the addresses 
 
 What is wanted comes from other readers of the same dump, never from the program. Each command runs five times; the time is the least of them.
 
-WORDS lists addresses in hex as `## ADDRESS`, each followed by the wanted answer: a line `status N`, or N alone, and the printed text. Where a
-line `-- from then on: status 0` stands in it, what comes after that counts. What stands before the first address, and lines that begin with
-one `#`, are passed over. Words that are found are compared with the raw bytes of the dump too, by `od`. TABLE is `-`, the table that the dump's
-note names, unless it is given.
+WORDS lists addresses in hex as `## ADDRESS`, each followed by the wanted answer: a line `status N`, or N alone, and the printed text. Where a line
+`-- from then on: status 0` stands in it, what comes after that counts. What stands before the first address, and lines that begin with one `#`, are
+passed over. Words that are found are compared with the raw bytes of the dump too, by `od`. TABLE is `-`, the table that the dump's note names,
+unless it is given.
 
-ANSWERS lists the words of commands as `## WORDS`, as `## layout btf list_head`, each followed by the wanted text, of a refusal the line on
-standard error, and a line `status N`, which may be left out where N is 0.
+ANSWERS lists the words of commands as `## WORDS`, as `## layout btf list_head`, each followed by the wanted text, of a refusal the line on standard
+error, and a line `status N`, which may be left out where N is 0.
 
 damage.txt has some lines of its own, which begin with no `## `, and then entries with an empty line between two: a line `## NAME: WHAT`, a line
-`plan P.toml, file offset O, old W, new W, status N`, with numbers in hex and the value of a little-endian word of eight bytes at byte O of
-vmcore, before and after, and the wanted report:
+`plan P.toml, file offset O, old W, new W, status N`, with numbers in hex and the value of a little-endian word of eight bytes at byte O of vmcore,
+before and after, and the wanted report:
 
     ## super-prev: prev of the fifth super block names the second
     plan inodes.toml, file offset 000000000e782008, old ffff88800485c000, new ffff88800485a800, status 1

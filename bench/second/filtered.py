@@ -2,12 +2,11 @@
 
 usage: filtered PROGRAMS FOLDER PLAN..
 
-A filtered dump leaves pages out: a segment's memory goes on
-after its bytes in the file (`p_memsz` above `p_filesz`). Where makedumpfile is installed it writes the copies, by
-`-E -d 1` (pages of zeros) and `-E -d 31`; a third copy, which needs no program, leaves out the pages of zeros as the first one does, at
-file offsets that are no multiple of 8. For each copy and plan the report with `tail = "absent"` and the one with
-`tail = "zero"` are compared with that of the whole dump. What differs is printed; a structure with a page of zeros stands on the
-whole dump and, with the tail absent, not on a copy without that page, so the zero tail's report must be the whole dump's.
+A filtered dump leaves pages out: a segment's memory goes on after its bytes in the file (`p_memsz` above `p_filesz`). Where makedumpfile is
+installed it writes the copies, by `-E -d 1` (pages of zeros) and `-E -d 31`; a third copy, which needs no program, leaves out the pages of zeros as
+the first one does, at file offsets that are no multiple of 8. For each copy and plan the report with `tail = "absent"` and the one with `tail =
+"zero"` are compared with that of the whole dump. What differs is printed; a structure with a page of zeros stands on the whole dump and, with the
+tail absent, not on a copy without that page, so the zero tail's report must be the whole dump's.
 """
 import os
 import shutil

@@ -2,12 +2,13 @@
 
 usage: forgers PROGRAMS FOLDER RUNS PLAN..
 
-The dump has to be clean of each PLAN.toml. The certificate of each plan is written by the second reader
-(`certificates.py`), compared with what `certify` prints, and rechecked. Then it is forged RUNS times in ways that are drawn at random: a
-number left out, doubled, changed by a bit, exchanged with another, put in place of another, nulled, or at 2^64 - 1; a list's tail dropped, a list
-emptied, one more, one less, or that of another step; a step left out, doubled, or exchanged with the next; another audit or another start. A
-structure has one shape, so the first step that was changed is the one that doesn't fit. Texts are also cut, and changed at a byte; what
-they are refused with is said by a reader of its own. The random numbers are the same in each run. Where FOLDER has `damage.txt`, the certificate of the whole dump is rechecked against each changed one of these plans, and has to be `no step`.
+The dump has to be clean of each PLAN.toml. The certificate of each plan is written by the second reader (`certificates.py`), compared with what
+`certify` prints, and rechecked. Then it is forged RUNS times in ways that are drawn at random: a number left out, doubled, changed by a bit,
+exchanged with another, put in place of another, nulled, or at 2^64 - 1; a list's tail dropped, a list emptied, one more, one less, or that of
+another step; a step left out, doubled, or exchanged with the next; another audit or another start. A structure has one shape, so the first step
+that was changed is the one that doesn't fit. Texts are also cut, and changed at a byte; what they are refused with is said by a reader of its own.
+The random numbers are the same in each run. Where FOLDER has `damage.txt`, the certificate of the whole dump is rechecked against each changed one
+of these plans, and has to be `no step`.
 """
 import os
 import random

@@ -2,10 +2,9 @@
 
 usage: match PROGRAMS FOLDER
 
-With its own files nothing may differ, and 60 lines or more have to be the
-same; a second reader, below, counts the symbols and the sizes that have to be among them. Then the row of one symbol is
-changed, and then the size of one struct: each time that line alone has to differ. It runs five times; the time is the
-least in seconds, and the memory the greatest, in MiB.
+With its own files nothing may differ, and 60 lines or more have to be the same; a second reader, below, counts the symbols and the sizes that have
+to be among them. Then the row of one symbol is changed, and then the size of one struct: each time that line alone has to differ. It runs five
+times; the time is the least in seconds, and the memory the greatest, in MiB.
 """
 import re
 import struct

@@ -2,9 +2,9 @@
 
 usage: objects PROGRAMS FOLDER [ADDRESS ..]
 
-Without addresses it takes some of the direct map and of partial slabs at random; and of each
-changed word that damage.txt lists, and of a free list, a compound page and the ring of caches that it changes itself, in a copy of the
-dump with that word, its own address and some beside it. The second reader stands on `verdict.py`, and shares no code with the program.
+Without addresses it takes some of the direct map and of partial slabs at random; and of each changed word that damage.txt lists, and of a free
+list, a compound page and the ring of caches that it changes itself, in a copy of the dump with that word, its own address and some beside it. The
+second reader stands on `verdict.py`, and shares no code with the program.
 """
 import random
 import re

@@ -2,10 +2,10 @@
 
 usage: order FOLDER word|check|kmatch WORDS..
 
-as `order crates/kaudit/data check z.core z.btf z.map z.toml`, with a module's types or without. A file is opened, its size asked, and its bytes are read: of the dump the
-file header, the table of program headers and each note's bytes, of the others all at once. Then, word by word in the order of the walks, the
-blocks of 4096 bytes of the dump that have the words, each once while it is kept in one of 64 places; the last ends with the segments. The
-page tables are read once for each page.
+as `order crates/kaudit/data check z.core z.btf z.map z.toml`, with a module's types or without. A file is opened, its size asked, and its bytes are
+read: of the dump the file header, the table of program headers and each note's bytes, of the others all at once. Then, word by word in the order of
+the walks, the blocks of 4096 bytes of the dump that have the words, each once while it is kept in one of 64 places; the last ends with the
+segments. The page tables are read once for each page.
 """
 import os
 

@@ -2,9 +2,9 @@
 
 usage: repairs PROGRAMS FOLDER [NAME ..]
 
-FOLDER has damage.txt with the plans that it names. Each word is changed in a copy of the dump. A repair is the true one where it puts the old value back;
-each that is printed is made in the copy, and `check` must find the root audit clean then. Prints of each the line of the repair, the
-seconds, and the memory in MiB; ends with 1 where a repair doesn't hold, or a run takes more than a second or 60 MiB.
+FOLDER has damage.txt with the plans that it names. Each word is changed in a copy of the dump. A repair is the true one where it puts the old value
+back; each that is printed is made in the copy, and `check` must find the root audit clean then. Prints of each the line of the repair, the seconds,
+and the memory in MiB; ends with 1 where a repair doesn't hold, or a run takes more than a second or 60 MiB.
 """
 import os
 import re

@@ -1,16 +1,15 @@
 """Is a second reader of what explains a report, and compares kwhy with it.
 
-It finds the words that a violation makes suspect, in their order, and the first of them with which the root audit that found it stands. It is written from the guide and from the definitions of kc_suspect, kc_repair, kc_element and kc_cause, over
-`verdict.py`, and shares no code with kwhy.
+It finds the words that a violation makes suspect, in their order, and the first of them with which the root audit that found it stands. It is
+written from the guide and from the definitions of kc_suspect, kc_repair, kc_element and kc_cause, over `verdict.py`, and shares no code with kwhy.
 
 usage: suspects PROGRAMS FOLDER [NAME ..]
        suspects PROGRAMS --made COUNT [SEED]
 
-Of each changed word that FOLDER's damage.txt lists, kwhy has to print the second
-reader's text; prints whether the repair is the old value, the second reader's seconds, and its text. With `--made` the dumps are COUNT small
-kernels (`made.py`) with some words changed at random; prints how many runs came to each rule and how. With `none` for PROGRAMS
-nothing is run. Each trial walks the whole root audit again, in Python, so a plan of many elements takes a while. `cases` compares such texts with
-those of cases.
+Of each changed word that FOLDER's damage.txt lists, kwhy has to print the second reader's text; prints whether the repair is the old value, the
+second reader's seconds, and its text. With `--made` the dumps are COUNT small kernels (`made.py`) with some words changed at random; prints how
+many runs came to each rule and how. With `none` for PROGRAMS nothing is run. Each trial walks the whole root audit again, in Python, so a plan of
+many elements takes a while. `cases` compares such texts with those of cases.
 """
 import collections
 import itertools

@@ -1,8 +1,9 @@
 """Is a second reader of plans, which shares no code with kaudit: the verdict of a plan, over plans/reader.py. It is written from the guide's rules,
 plainly and slowly, so that answers can be compared.
 
-`verdict(core, btf, map, plan)` takes four byte strings (the core may be mapped) and gives what `check` answers: its status, its standard
-output and its standard error; of a refused plan only that it is refused. A fifth byte string is a module's section `.BTF`. `word(core, table, va)` gives what `word` answers.
+`verdict(core, btf, map, plan)` takes four byte strings (the core may be mapped) and gives what `check` answers: its status, its standard output and
+its standard error; of a refused plan only that it is refused. A fifth byte string is a module's section `.BTF`. `word(core, table, va)` gives what
+`word` answers.
 """
 import re
 import tomllib

@@ -2,9 +2,9 @@
 
 usage: why PROGRAMS FOLDER [ADDRESS ..]
 
-FOLDER has vmcore, btf and System.map, or z.core, z.btf and z.map, as crates/kaudit/data. The addresses are in hex, and else are made from the map and
-the page tables at random, and of words of the dump. The second reader is the core and page tables of plans/reader.py and a search of the file for
-eight bytes, and shares no code with the program.
+FOLDER has vmcore, btf and System.map, or z.core, z.btf and z.map, as crates/kaudit/data. The addresses are in hex, and else are made from the map
+and the page tables at random, and of words of the dump. The second reader is the core and page tables of plans/reader.py and a search of the file
+for eight bytes, and shares no code with the program.
 """
 import array
 import os
