@@ -6,8 +6,8 @@ usage: planted cut CRATE FOLDER     writes each wrong body of the crate into FOL
        planted check                prints those that can't be applied to the code as it stands
 
 planted/CRATE.edits has the crate's wrong bodies in the order of their names. Each begins with a line `edit: NAME`, after which come the lines of
-NAME.edit as must-fail/ would have them; an empty line stands between two. `add` refuses a name that is there, and an edit that can't be applied:
-its `file:` has to be there, and each `old:` once in it, after the pairs before it.
+NAME.edit as must-fail/ would have them; an empty line stands between two. `add` puts all in or, where one is refused, none. It refuses a name that
+is there, and an edit that can't be applied: its `file:` has to be there, and each `old:` once in it, after the pairs before it.
 """
 import os
 import sys
@@ -91,22 +91,31 @@ def check(crate, name, text):
         raise BadEdit(f"{name}: no lines `file:`, `old:` and `new:`")
 
 
+def given(crate, folder, name, edits):
+    """The text of an edit of a folder, if it can be put to those that are there."""
+    lines = [line.rstrip("\r") for line in read(os.path.join(folder, name + ".edit")).split("\n")]
+    text = "".join(line + "\n" for line in lines if line)
+    if name in edits or os.path.exists(os.path.join(TOP, "crates", crate, "must-fail", name + ".edit")):
+        raise BadEdit(f"{name}: {crate} has one of this name")
+    if any(line.startswith(MARK) for line in lines):
+        raise BadEdit(f"{name}: a line begins with {MARK!r}")
+    check(crate, name, text)
+    return text
+
+
 def add(crate, folder):
-    """How many edits of a folder were put in."""
-    edits = kept(crate)
-    given = sorted(name.removesuffix(".edit") for name in os.listdir(folder) if name.endswith(".edit"))
-    for name in given:
-        lines = [line.rstrip("\r") for line in read(os.path.join(folder, name + ".edit")).split("\n")]
-        text = "".join(line + "\n" for line in lines if line)
-        if name in edits or os.path.exists(os.path.join(TOP, "crates", crate, "must-fail", name + ".edit")):
-            raise BadEdit(f"{name}: {crate} has one of this name")
-        if any(line.startswith(MARK) for line in lines):
-            raise BadEdit(f"{name}: a line begins with {MARK!r}")
-        check(crate, name, text)
-        edits[name] = text
-    if given:
-        write(place(crate), together(edits))
-    return len(given)
+    """How many edits of a folder were put in: all, or none where one of them is refused."""
+    edits, more, faults = kept(crate), {}, []
+    for name in sorted(name.removesuffix(".edit") for name in os.listdir(folder) if name.endswith(".edit")):
+        try:
+            more[name] = given(crate, folder, name, edits)
+        except BadEdit as bad:
+            faults.append(str(bad))
+    if faults:
+        raise BadEdit("nothing is put in\n" + "\n".join(faults))
+    if more:
+        write(place(crate), together(edits | more))
+    return len(more)
 
 
 def cut(crate, folder):
