@@ -117,6 +117,31 @@ class Heads(unittest.TestCase):
                 self.assertEqual(plan.read(), "version = 2\n\n" + audit)
 
 
+class Files(unittest.TestCase):
+    """What lies beside a dump."""
+
+    def test_a_carriage_return_goes_with_its_newline(self):
+        row = b"ffffffff8000b000 D init_task\r"
+        self.assertEqual(reader.symbols(row + b"\n"), {b"init_task": [0xFFFFFFFF8000B000]})
+        with self.assertRaises(reader.Refused):
+            reader.symbols(row)
+
+    def test_changed_words_are_read(self):
+        with tempfile.TemporaryDirectory() as folder:
+            self.assertEqual(list(files.damages(folder)), [])
+            with open(os.path.join(folder, "damage.txt"), "w") as file:
+                file.write("Some words.\n\n## a-b: what\nplan p.toml, file offset 10, old 1, new ff, status 1\nbroken\nrule A\n\n## c: d\n")
+                file.write("plan q.toml, file offset 8, old 2, new 3, status 0\nclean\n")
+            first, second = files.damages(folder)
+            self.assertEqual(first, ("a-b", "a-b: what", "p.toml", 16, 1, 255, 1, "broken\nrule A\n"))
+            self.assertEqual(second.report, "clean\n")
+            with open(os.path.join(folder, "vmcore"), "wb") as file:
+                file.write(bytes(16) + b"\x01" + bytes(7))
+            with files.changed(os.path.join(folder, "vmcore"), first):
+                self.assertEqual(files.read(folder, "vmcore")[16:18], b"\xff\0")
+            self.assertEqual(files.read(folder, "vmcore")[16:18], b"\x01\0")
+
+
 class Commands(unittest.TestCase):
     """Commands read out of documents."""
 
