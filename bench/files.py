@@ -45,7 +45,7 @@ def plan_path(folder, plan):
 def damages(folder):
     """The changed words of the folder's damage.txt, none where it isn't there."""
     path = os.path.join(folder, "damage.txt")
-    text = open(path, encoding="ascii").read() if os.path.exists(path) else ""
+    text = read(path).decode("ascii") if os.path.exists(path) else ""
     for part in text.split("\n## ")[1:]:
         title, _, rest = part.partition("\n")
         head = CHANGE.match(rest)
