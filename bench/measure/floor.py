@@ -117,7 +117,7 @@ def compiled(work, name, source):
 
 def reads_alone(kaudit, folder, plan, work, loop):
     """The whole time, its memory, and that of the reads alone."""
-    command, listed = [kaudit, "check", "vmcore", "btf", "System.map", plan + ".toml"], os.path.join(work, "places")
+    command, listed = [kaudit, "check", *files.NAMES, files.plan_path(folder, plan + ".toml")], os.path.join(work, "places")
     reads = list(places(command, folder, os.path.join(work, "log")))
     with open(listed, "wb") as file:
         for place in reads:
@@ -129,14 +129,15 @@ def reads_alone(kaudit, folder, plan, work, loop):
 
 def walk_alone(kaudit, folder, plan, work, walker):
     """The walk beside the same one in C."""
-    text = open(os.path.join(folder, plan + ".toml")).read()
+    path = files.plan_path(folder, plan + ".toml")
+    text = files.read(path).decode()
     start = os.path.join(work, "start.toml")
     open(start, "w").write(text[: text.index("each =")])
-    begin = [kaudit, "check", "vmcore", "btf", "System.map"]
+    begin = [kaudit, "check", *files.NAMES]
     where_to = where(folder) + [plan]
     offsets = [str(offset(kaudit, folder, *row.split())) for row in OFFSETS.splitlines()]
     walks = [[walker, "vmcore", *where_to, way, *offsets] for way in ("plain", "taken")]
-    whole, before, *floors = timer.measured([[*begin, plan + ".toml"], [*begin, start], *walks], folder, RUNS)
+    whole, before, *floors = timer.measured([[*begin, path], [*begin, start], *walks], folder, RUNS)
     elements = [row.split()[-1] for row in whole[0][1].decode().splitlines()[1:]]
     counted = floors[0][0][1].decode().split()[:3]
     assert elements == counted, (elements, counted)

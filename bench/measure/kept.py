@@ -1,7 +1,7 @@
 """Measures what kept blocks and kept translations save: two programs on a real dump and on made ones, in one run.
 
 usage: kept OLD NEW FOLDER PLAN..
-       kept --word PROGRAMS DUMP ADDRESS
+       kept --word PROGRAMS FOLDER ADDRESS
 
 OLD and NEW are folders of two builds of kaudit. For each plan it prints the reads and seeks of each program, as strace counts them, and the least
 time of seven runs by turns, in seconds. Then, with NEW alone, the same plans on a copy of the dump whose memory is cut into 1,000 segments, and
@@ -82,9 +82,10 @@ def many(order, count, offset, beyond):
             yield offset, beyond + 8 * i, 16 * (count - i)
 
 
-def of_word(programs, dump, address):
+def of_word(programs, folder, address):
     """The calls on the dump and the instructions of `word`."""
-    command, dump = [files.program(programs, "kaudit"), "word", dump, "-", address], dump
+    dump = os.path.join(os.path.abspath(folder), "vmcore")
+    command = [files.program(programs, "kaudit"), "word", dump, "-", address]
     with tempfile.TemporaryDirectory() as work:
         log = os.path.join(work, "log")
         names = "openat,lseek,read,pread64,fstat,newfstatat,statx"
@@ -108,7 +109,7 @@ def main(words):
     old, new = (files.program(programs, "kaudit") for programs in (old, new))
 
     def check(program, dump, plan):
-        return [program, "check", dump, "btf", "System.map", plan + ".toml"]
+        return [program, "check", dump, *files.NAMES[1:], files.plan_path(folder, plan + ".toml")]
 
     with tempfile.TemporaryDirectory(dir=folder) as work:
         log, copy = os.path.join(work, "log"), os.path.join(work, "copy")

@@ -84,7 +84,7 @@ def without_zeros(path, out):
 
 def report(kaudit, folder, dump, plan, tail):
     """What `check` answers, with this tail in the plan."""
-    text = open(os.path.join(folder, plan + ".toml"), encoding="utf-8").read()
+    text = files.read(files.plan_path(folder, plan + ".toml")).decode()
     with tempfile.NamedTemporaryFile("w", suffix=".toml", encoding="utf-8") as file:
         file.write(f'tail = "{tail}"\n{text}')
         file.flush()

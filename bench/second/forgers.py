@@ -189,7 +189,7 @@ def recheck_changed(kaudit, folder, plan, cert, place):
     shutil.copy(os.path.join(folder, "vmcore"), copy)
     for damage in here:
         with files.changed(copy, damage):
-            status, text, _ = run([kaudit, "recheck", copy, *(os.path.join(folder, it) for it in ("btf", "System.map", f"{plan}.toml")), cert])
+            status, text, _ = run([kaudit, "recheck", copy, *(os.path.join(folder, it) for it in files.NAMES[1:]), files.plan_path(folder, f"{plan}.toml"), cert])
         print(f"  {damage.title}: {text.decode().strip()}")
         wrong += status != 1 or not text.startswith(b"no step ")
     return wrong, len(here)
@@ -202,7 +202,7 @@ def main(words):
     with tempfile.TemporaryDirectory() as place:
         name = os.path.join(place, "cert")
         for plan in plans:
-            given = [os.path.join(folder, it) for it in (*files.NAMES, f"{plan}.toml")]
+            given = [*(os.path.join(folder, name) for name in files.NAMES), files.plan_path(folder, f"{plan}.toml")]
             begun = time.monotonic()
             status, text, _ = run([kaudit, "certify", *given])
             made = time.monotonic() - begun
