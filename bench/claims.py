@@ -1,20 +1,21 @@
-#!/usr/bin/env python3
-"""Compares the tables of definitions in docs/DEFINITIONS.md with the files.
+"""Prints the definitions that one has to believe: the files that the programs' contracts cite, with their lines.
 
-usage: claims.py [--write]    at the top of the repository; --write puts the right numbers into the tables
+usage: claims
 
-It follows the names of definitions from the contracts of the programs, item by item, and counts the lines of each without
-blank lines, comments and imports: all of them, and those on which the clause stands that `check` is clean exactly where every
-structure stands. It prints what the tables lack, what they have too much, and wrong numbers. It also prints where a blank for
-a counter of steps is made outside the crates that may make one: everywhere else the bound on steps would bind a counter that
-nobody looks at. And it prints which crates import another's lemmas, where a public law should stand, and how many such imports there are.
+It follows the names of definitions from the contracts of the programs, item by item, and counts the lines of each without blank lines, comments and
+imports: all of kaudit's, those on which the clause stands that `check` is clean exactly where every structure stands, all of kmatch's and all of
+kwhy's. Behind the numbers of a file stands what its head says. Then it prints, and ends with 1 for it, where a blank for a counter of steps is made
+outside the crates that may make one: everywhere else the bound on steps would bind a counter that nobody looks at; and which crates import
+another's lemmas, where a public law should stand, and how many such imports there are.
 """
 import glob
 import os
 import re
-import sys
 
-TABLES = "docs/DEFINITIONS.md"
+import files
+
+WORDLESS = True
+COLUMNS = ("kaudit", "clean", "kmatch", "kwhy")
 
 # The contracts of each program: a file, and a function of it.
 PROGRAMS = {
@@ -42,9 +43,6 @@ BORROWED = re.compile(r"\b(kc_\w+)(?:\.|::)proofs(?:\.|::)")
 
 USE = re.compile(r"^\s*(?:ghost |pub |unfoldable )*use Rattle\.(kc_\w+)\.specs\.([\w.]+?)(?:\.\{([^}]*)\}| as (\w+))?;?\s*$", re.M)
 BEGINS = re.compile(r"^(?:(?:pub|abbrev|unfoldable|opaque|data|record) )+([^\s(:{]+)")
-ROW = re.compile(r"\| (kc_\w+/specs/\S+) (?:\| \d+ )+\|")
-SUM = re.compile(r"\| (?:\| \*\*\d+\*\* )+\| ")
-TOTAL = re.compile(r"\| all (?:\| \*\*\d+\*\* )+\|$")
 WORD = re.compile(r"[^\s(){},;\[\]]+")
 
 
@@ -61,7 +59,7 @@ def given_on():
             yield (crate, name), low
 
 
-GIVEN = dict(given_on())
+GIVEN = {}
 
 
 def home(crate, path):
@@ -174,23 +172,37 @@ def counts(items):
     return by_file
 
 
-def numbered(text, wanted):
-    """The text with the right numbers in its tables: those of a file, below each table its sums, and the sums of all."""
-    width = len(next(iter(wanted.values())))
-    told, sums, totals = [], [0] * width, [0] * width
-    for row in text.split("\n"):
-        file, below = ROW.match(row), SUM.match(row)
-        if file:
-            numbers = wanted.get(file[1], [0] * width)
-            sums = [a + b for a, b in zip(sums, numbers)]
-            row = f"| {file[1]} {''.join(f'| {it} ' for it in numbers)}|{row[file.end():]}"
-        elif below:
-            row = f"| | {' | '.join(f'**{it}**' for it in sums)} | | |"
-            totals, sums = [a + b for a, b in zip(totals, sums)], [0] * width
-        elif TOTAL.match(row):
-            row = f"| all | {' | '.join(f'**{it}**' for it in totals)} |"
-        told.append(row)
-    return "\n".join(told)
+def head_of(name):
+    """What the file's first lines of comment say, in one."""
+    lines = []
+    for row in read(f"crates/{name}").split("\n"):
+        if not row.startswith("--"):
+            break
+        lines.append(row.removeprefix("--").strip())
+    return " ".join(lines)
+
+
+def layers():
+    """The layers of crates.txt, each with its crates in their order."""
+    for part in read("crates.txt").split("\n\n"):
+        rows = part.strip().split("\n")
+        title = rows[0].removeprefix("#").strip()
+        yield "the words" if ":" in title else title, [row.split(":")[0].split(" ")[0] for row in rows if not row.startswith("#")]
+
+
+def table(wanted):
+    """The rows of each file, by layer, and the sums."""
+    listed = set()
+    for layer, crates in layers():
+        some = sorted((file for file in wanted if file.split("/")[0] in crates), key=lambda it: (crates.index(it.split("/")[0]), it))
+        listed |= set(some)
+        if some:
+            yield f"\n# {layer}\n"
+        for file in some:
+            yield f"{file:44} " + " ".join(f"{count:6}" for count in wanted[file]) + f"  {head_of(file)}"
+    assert listed == set(wanted), set(wanted) - listed
+    sums = [sum(column) for column in zip(*wanted.values())]
+    yield f"\n{len(wanted)} files: " + " ".join(f"{name} {count}" for name, count in zip(COLUMNS, sums))
 
 
 def blanks():
@@ -214,24 +226,16 @@ def borrowed():
         yield f"{crate} imports lemmas of {other}: {count}"
 
 
-def main():
-    roots = {program: set().union(*(contract(*it) for it in where)) for program, where in PROGRAMS.items() if os.path.exists(where[0][0])}
+def main(words):
+    os.chdir(files.TOP)
+    GIVEN.update(given_on())
+    roots = {program: set().union(*(contract(*it) for it in where)) for program, where in PROGRAMS.items()}
     columns = [counts(reached(roots["kaudit"], set())), counts(reached(roots["kaudit"], NOT_CLEAN))]
-    columns += [counts(reached(it, set())) for program, it in roots.items() if program != "kaudit"]
-    wanted = {file: [it.get(file, 0) for it in columns] for file in set().union(*columns)}
-    text = read(TABLES)
-    right = numbered(text, wanted)
-    if "--write" in sys.argv:
-        with open(TABLES, "w", encoding="utf-8") as file:
-            file.write(right)
-        text = right
-    listed = {it[1] for it in map(ROW.match, text.split("\n")) if it}
-    wrong = [f"{file} isn't listed: {wanted[file]}" for file in sorted(wanted.keys() - listed)]
-    wrong += [f"{file} isn't cited" for file in sorted(listed - wanted.keys())]
-    wrong += [f"{old}   has to be\n{new}" for old, new in zip(text.split("\n"), right.split("\n")) if old != new]
-    wrong += [*blanks(), *borrowed()]
-    print("\n".join(wrong) or f"{len(wanted)} files as the tables say")
-    sys.exit(bool(wrong))
-
-
-main()
+    columns += [counts(reached(roots[program], set())) for program in ("kmatch", "kwhy")]
+    wrong = [*blanks(), *borrowed()]
+    for row in wrong:
+        print(row)
+    print(f"{'file':44} " + " ".join(f"{name:>6}" for name in COLUMNS))
+    for row in table({file: [it.get(file, 0) for it in columns] for file in set().union(*columns)}):
+        print(row)
+    return bool(wrong)

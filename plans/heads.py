@@ -6,12 +6,14 @@ usage: heads.py DUMP BTF MAP OUT WHERE STEP COUNT KIND ELEMENT LINK [CHECK..]
 WHERE is the first head: an address in hex as 0x.., or a SYMBOL at which the table lies; with +BYTES, once or several times, where the head isn't
 the first. Each * before it follows a pointer: the first * the one that lies there, the next * the one that lies the first BYTES behind where that
 leads, and so on. So *SYMBOL+16 is the head 16 bytes behind where the pointer at SYMBOL leads, and **SYMBOL+8+16 follows one more, 8 bytes behind.
-percpu:SYMBOL, also percpu:0x.., is the copy that each processor has of it.
+A pointer inside a struct is followed by brackets: *(SYMBOL+BYTES) is where the pointer leads that lies BYTES behind SYMBOL, as
+*(init_net+net.dev_name_head). percpu:SYMBOL, also percpu:0x.., is the copy that each processor has of it.
 The heads are STEP bytes apart and COUNT in number. Of a table of tables both are lists with commas, the outer table's first: 1536,88,16 and
 3,11,5 are heads 16 bytes apart, 5 in number, in each of 11 tables that are 88 bytes apart, and these in each of 3. Of percpu: the outermost are the
 processors, whatever their STEP is.
-BYTES and STEP may be TYPE.PATH, the byte at which that begins in its type, or TYPE, its size; a COUNT may be a SYMBOL that is a 32-bit number, or
-SYMBOL+1 where that is a mask. With a COUNT that is too large, memory behind the table is taken for heads, and told as damage.
+BYTES and STEP may be TYPE.PATH, the byte at which that begins in its type, or TYPE, its size; a PATH of BYTES may follow pointers by ->. A COUNT may
+be a SYMBOL that is a 32-bit number, or the number of a member, as WHERE names it: SYMBOL+TYPE.PATH, as udp_table+udp_table.mask. Either has +1 behind it
+where that is a mask. With a COUNT that is too large, memory behind the table is taken for heads, and told as damage.
 KIND is ring, hlist, rbtree, cached (a tree with a struct rb_root_cached) or xarray; rbtree:KEY and cached:KEY have the KEY that the tree is sorted
 by, and rbtree:KEY! a unique one. Of an xarray LINK is -. In a CHECK {0} stands for the number, from 0, that the head has in the outermost table,
 {1} for that in the next.
@@ -22,80 +24,121 @@ numbers. Then:
     cat System.map OUT.map > OUT.full
     kaudit check DUMP BTF OUT.full OUT-1.toml
 
-It reads the dump by bench/second.py, the second reader, and only to find the heads and to leave out empty ones.
+It reads the dump by reader.py, which lies beside it, and only to find the heads and to leave out empty ones.
 """
 import itertools
-import mmap
 import pathlib
 import sys
 
-sys.path.insert(0, str(pathlib.Path(__file__).resolve().parent.parent / "bench"))
-import second
+import reader
 
 MOST = 256
 
 
-def open_kernel(dump, btf, rows):
-    with open(dump, "rb") as file:
-        core = second.Core(mmap.mmap(file.fileno(), 0, access=mmap.ACCESS_READ))
-    info = second.Info(core)
-    memory = second.Memory(core, info.table, info.levels, info.mask)
-    return second.Kernel(memory, second.Types(pathlib.Path(btf).read_bytes()), second.symbols(pathlib.Path(rows).read_bytes()), info)
-
-
 def word(kernel, va):
     try:
-        return kernel.memory.place(va)[3]
-    except second.Broken as found:
-        sys.exit(f"no word can be read at {va:x}: {found.rule}")
+        return kernel.memory.place(va % reader.TOP)[3]
+    except reader.Broken as found:
+        sys.exit(f"no word can be read at {va % reader.TOP:x}: {found.rule}")
 
 
 def address(kernel, symbol):
     """Where a symbol lies at run time: of a row below the image, as up to 6.14 those of each processor are, what the map has."""
     if symbol.startswith("0x"):
         return int(symbol, 16)
-    found = second.address(kernel.rows, symbol, kernel.info.kaslr)
+    try:
+        found = reader.address(kernel.rows, symbol, kernel.info.kaslr)
+    except reader.Refused:
+        sys.exit(f"the map has {symbol} at several addresses")
     if found is None:
         sys.exit(f"no row of the map has {symbol}")
     return found
 
 
-def bytes_of(kernel, text):
-    """A number, the byte of TYPE.PATH, or the size of TYPE."""
+def located(kernel, text):
+    """A number of bytes, that of TYPE.PATH, or the size of TYPE: the bytes of the pointers that PATH follows, and those behind the last."""
     if text[:1].isdigit():
-        return int(text, 0)
+        return [], int(text, 0)
     name, _, path = text.partition(".")
     try:
         struct = kernel.struct(name)
-        return kernel.types.located(struct, path)[1] if path else kernel.types.size(struct)
-    except second.Refused:
+        return kernel.types.located(struct, path)[:2] if path else ([], kernel.types.size(struct))
+    except reader.Refused:
         sys.exit(f"the types have no {text}")
 
 
-def count_of(kernel, text):
-    """A number, or the one that stands at SYMBOL, or one more than that."""
-    if text[:1].isdigit():
-        return int(text, 0)
-    symbol, _, more = text.partition("+")
-    at = address(kernel, symbol)
-    return (word(kernel, at & -8) >> 8 * (at & 7) & 0xFFFFFFFF) + int(more or "0", 0)
+def step_of(kernel, text):
+    """A number of bytes that no pointer leads to."""
+    hops, step = located(kernel, text)
+    if hops:
+        sys.exit(f"a STEP follows no pointer: {text}")
+    return step
+
+
+def moved(kernel, begin, text):
+    """The address BYTES behind another."""
+    hops, step = located(kernel, text)
+    for hop in hops:
+        begin = word(kernel, begin + hop)
+    return begin + step
+
+
+def taken_apart(where):
+    """How many pointers are followed, what the first one lies at, and the BYTES behind it."""
+    rest = where.lstrip("*")
+    stars, end = len(where) - len(rest), 0
+    if rest.startswith("("):
+        depths = itertools.accumulate((c == "(") - (c == ")") for c in rest)
+        end = next((at + 1 for at, depth in enumerate(depths) if depth == 0), None)
+        if end is None or rest[end : end + 1] not in ("", "+"):
+            sys.exit(f"the brackets aren't right: {where}")
+    more = rest[end:].split("+")
+    return stars, rest[:end] or more[0], more[1:]
 
 
 def first_heads(kernel, where, cpus):
     """The first head: one, or one for each processor."""
-    stars = len(where) - len(where.lstrip("*"))
-    where, *more = where[stars:].split("+")
-    if where.startswith("percpu:"):
-        symbol, offsets = address(kernel, where[len("percpu:") :]), address(kernel, "__per_cpu_offset")
+    stars, base, more = taken_apart(where)
+    if base.startswith("("):
+        begins = first_heads(kernel, base[1:-1], cpus)
+    elif base.startswith("percpu:"):
+        symbol, offsets = address(kernel, base[len("percpu:") :]), address(kernel, "__per_cpu_offset")
         begins = [symbol + word(kernel, offsets + 8 * cpu) for cpu in range(cpus)]
     else:
-        begins = [address(kernel, where)]
+        begins = [address(kernel, base)]
     for place in range(max(stars, len(more))):
         if place < stars:
-            begins = [word(kernel, begin % second.TOP) for begin in begins]
+            begins = [word(kernel, begin) for begin in begins]
         if place < len(more):
-            begins = [begin + bytes_of(kernel, more[place]) for begin in begins]
+            begins = [moved(kernel, begin, more[place]) for begin in begins]
     return begins
+
+
+def member(kernel, at, text):
+    """The number of TYPE.PATH, of a struct that lies at an address."""
+    name, _, path = text.partition(".")
+    try:
+        hops, bit, width, signed = kernel.types.scalar(kernel.struct(name), path)
+        for hop in hops:
+            at = word(kernel, at + hop)
+        return kernel.memory.number(at, bit, width, signed)[0]
+    except reader.Refused:
+        sys.exit(f"the types have no number {text}")
+    except reader.Broken as found:
+        sys.exit(f"no word can be read at {found.at:x}: {found.rule}")
+
+
+def count_of(kernel, text):
+    """A number, or the one that stands at SYMBOL or in a member, or so many more than that."""
+    if text[:1].isdigit():
+        return int(text, 0)
+    stars, base, parts = taken_apart(text)
+    more = int(parts.pop(), 0) if parts and parts[-1][:1].isdigit() else 0
+    where = "+".join(["*" * stars + base, *parts[:-1]])
+    at = first_heads(kernel, where, 1)[0]
+    if parts:
+        return member(kernel, at, parts[-1]) + more
+    return (word(kernel, at & -8) >> 8 * (at & 7) & 0xFFFFFFFF) + more
 
 
 def heads(kernel, where, steps, counts):
@@ -105,7 +148,7 @@ def heads(kernel, where, steps, counts):
         begins = [begins[0] + steps[0] * number for number in range(counts[0])]
     for numbers in itertools.product(*map(range, counts)):
         inner = sum(step * number for step, number in zip(steps[1:], numbers[1:]))
-        yield numbers, (begins[numbers[0]] + inner) % second.TOP
+        yield numbers, (begins[numbers[0]] + inner) % reader.TOP
 
 
 def audit(name, kind, element, link, checks):
@@ -122,25 +165,30 @@ def audit(name, kind, element, link, checks):
     return "\n".join(lines) + "\n"
 
 
-def main():
-    if len(sys.argv) < 11:
-        sys.exit(__doc__)
-    dump, btf, rows, out, where, steps, counts, kind, element, link, *checks = sys.argv[1:]
-    kernel = open_kernel(dump, btf, rows)
-    steps = [bytes_of(kernel, text) for text in steps.split(",")]
-    counts = [count_of(kernel, text) for text in counts.split(",")]
-    if len(steps) != len(counts):
-        sys.exit("STEP and COUNT are lists of one length")
-    image, name = second.IMAGE, pathlib.Path(out).name
+def found_heads(kernel, name, where, steps, counts, kind, checks):
+    """How many heads there are, and of each that isn't empty its name, its address and its checks."""
     found, seen = [], 0
     first = kernel.offset("xarray", "xa_head") if kind == "xarray" else 0
     for numbers, head in heads(kernel, where, steps, counts):
         seen += 1
         if word(kernel, head + first) not in (0, head):
             found.append((name + "-".join(map(str, numbers)), head, [check.format(*numbers) for check in checks]))
+    return seen, found
+
+
+def main(words):
+    if len(words) < 10:
+        sys.exit(__doc__)
+    dump, btf, rows, out, where, steps, counts, kind, element, link, *checks = words
+    kernel = reader.open_kernel(dump, btf, rows)
+    steps = [step_of(kernel, text) for text in steps.split(",")]
+    counts = [count_of(kernel, text) for text in counts.split(",")]
+    if len(steps) != len(counts):
+        sys.exit("STEP and COUNT are lists of one length")
+    seen, found = found_heads(kernel, pathlib.Path(out).name, where, steps, counts, kind, checks)
     with open(f"{out}.map", "w") as file:
         for label, head, _ in found:
-            file.write(f"{(head - (kernel.info.kaslr if head >= image else 0)) % second.TOP:016x} D {label}\n")
+            file.write(f"{(head - (kernel.info.kaslr if head >= reader.IMAGE else 0)) % reader.TOP:016x} D {label}\n")
     for number in range(0, len(found), MOST):
         plan = "version = 2\n" + "".join(audit(label, kind, element, link, filled) for label, _, filled in found[number : number + MOST])
         pathlib.Path(f"{out}-{number // MOST + 1}.toml").write_text(plan)
@@ -148,4 +196,4 @@ def main():
 
 
 if __name__ == "__main__":
-    main()
+    main(sys.argv[1:])

@@ -1,0 +1,142 @@
+"""Is a second reader of the areas in which an address of a dump lies, for `why`: the module whose memory has it, the processor whose area has it, and
+the task whose stack has it. It stands on `verdict.py`, and shares no code with the program.
+"""
+from plans.reader import TOP, Broken, Refused, address
+from second.verdict import tasks
+
+PROCESSORS = 8192
+
+
+def shown(name):
+    """A name as it is printed."""
+    return "".join(chr(c) if 0x21 <= c <= 0x7E else "?" for c in name)
+
+
+class Areas:
+    """The areas of a dump, by a kernel of `verdict.py` and the rows of its map: run-time addresses and names, in the order of the file."""
+
+    def __init__(self, kernel, rows):
+        self.kernel, self.rows = kernel, rows
+        self.kept = {}
+
+    def symbol(self, name):
+        """The address of a symbol that has one alone."""
+        try:
+            found = address(self.kernel.rows, name, self.kernel.info.kaslr)
+        except Refused:
+            return None
+        return found
+
+    def text(self, at, most):
+        """The bytes at an address up to a NUL, or to what can't be read."""
+        found = []
+        while len(found) < most:
+            try:
+                byte = self.kernel.memory.number((at + len(found)) % TOP, 0, 8)[0]
+            except Broken:
+                break
+            if byte == 0:
+                break
+            found.append(byte)
+        return found
+
+    def length(self, struct, path):
+        """How many elements an array has."""
+        types = self.kernel.types
+        kind = types.located(self.kernel.struct(struct), path)[2]
+        return types.records[types.bare(kind)][4][2]
+
+    def parts(self):
+        """The paths of the parts of a module's memory."""
+        named = [path for path in ("core_layout", "init_layout") if self.has("module", f"{path}.base")]
+        return named if "core_layout" in named else [f"mem[{k}]" for k in range(self.length("module", "mem"))]
+
+    def has(self, struct, path):
+        """Whether a struct has a member."""
+        try:
+            self.kernel.byte(struct, path)
+        except Refused:
+            return False
+        return True
+
+    def module(self, at):
+        kernel, head = self.kernel, self.symbol("modules")
+        if head is None:
+            return None
+        paths, link, most = self.parts(), kernel.byte("module", "list"), self.length("module", "name")
+        for node in kernel.ring(head):
+            module = (node - link) % TOP
+            for path in paths:
+                base, size = (kernel.field(module, "module", f"{path}.{name}")[0] for name in ("base", "size"))
+                if base and base <= at < base + size:
+                    return f"{shown(self.text(module + kernel.byte('module', 'name'), most))}+{at - base}"
+        return None
+
+    def variable(self, first, at):
+        """The symbol nearest below an address, from the first one on, where it isn't the area's own."""
+        below = [row for row in self.rows if first <= row[0] <= at and row[1] != "__per_cpu_start"]
+        if not below:
+            return ""
+        most = max(row[0] for row in below)
+        return f" {next(row[1] for row in below if row[0] == most)}+{at - most}"
+
+    def processor(self, at):
+        memory = self.kernel.memory
+        count, offsets, first, end = (self.symbol(name) for name in ("nr_cpu_ids", "__per_cpu_offset", "__per_cpu_start", "__per_cpu_end"))
+        if None in (count, offsets, first, end):
+            return None
+        for number in range(min(memory.number(count, 0, 32)[0], PROCESSORS)):
+            listed = (at - memory.place((offsets + 8 * number) % TOP)[3]) % TOP
+            if first <= listed < end:
+                return f"{number}{self.variable(first, listed)}"
+        return None
+
+    def stacks(self):
+        """The stacks of all tasks, in their order, or what breaks the task list."""
+        if "stacks" not in self.kept:
+            kernel, first = self.kernel, self.symbol("init_task")
+            self.kept["stacks"] = [(kernel.field(task, "task_struct", "stack")[0], task) for task in tasks(kernel, first)]
+        return self.kept["stacks"]
+
+    def stack(self, at):
+        kernel = self.kernel
+        first, end = self.symbol("init_stack"), self.symbol("__end_init_task") or self.symbol("__end_init_stack")
+        if first is None or end is None or end < first:
+            return None
+        size, most = end - first, self.length("task_struct", "comm")
+        for stack, task in self.stacks():
+            if stack and stack <= at < stack + size:
+                pid = kernel.field(task, "task_struct", "pid")[0]
+                return f"{pid} {shown(self.text(task + kernel.byte('task_struct', 'comm'), most))}+{at - stack}"
+        return None
+
+    def told(self, name, act, at):
+        try:
+            found = act(at)
+        except Refused:
+            return []
+        except Broken as broken:
+            return [f"{name} unknown {broken.rule} {broken.at:016x}"]
+        return [] if found is None else [f"{name} {found}"]
+
+    def lines(self, at, slab):
+        """The lines of an address outside the image, which may lie in a slab."""
+        lines = self.told("module", self.module, at) + self.told("percpu", self.processor, at)
+        return lines if slab else lines + self.told("stack", self.stack, at)
+
+
+class Holders:
+    """The symbols of the image's data, by the words that they name."""
+
+    def __init__(self, memory, rows, start, end):
+        self.names = {}
+        for at, name in rows:
+            if start is None or end is None or at % 8 or not start <= at < end:
+                continue
+            try:
+                self.names.setdefault(memory.place(at)[3], []).append(name)
+            except Broken:
+                pass
+
+    def of(self, cache):
+        return self.names.get(cache, [])

@@ -1,0 +1,616 @@
+"""Is a second reader of what explains a report, and compares kwhy with it.
+
+It finds the words that a violation makes suspect, in their order, and the first of them with which the root audit that found it stands. It is
+written from the guide and from the definitions of kc_suspect, kc_repair, kc_element and kc_cause, over `verdict.py`, and shares no code with kwhy.
+
+usage: suspects PROGRAMS FOLDER [NAME ..]
+       suspects PROGRAMS --made COUNT [SEED]
+
+Of each changed word that FOLDER's damage.txt lists, kwhy has to print the second reader's text; prints whether the repair is the old value, the
+second reader's seconds, and its text. With `--made` the dumps are COUNT small kernels (`made.py`) with some words changed at random; prints how
+many runs came to each rule and how. With `none` for PROGRAMS nothing is run. Each trial walks the whole root audit again, in Python, so a plan of
+many elements takes a while. `cases` compares such texts with those of cases.
+"""
+import collections
+import itertools
+import mmap
+import os
+import random
+import re
+import shutil
+import tempfile
+import time
+
+import files
+import timer
+from hostile import damage as damages
+from plans.reader import TOP, Broken, Core, Info, Memory, Refused, Types, address, symbols
+from second import made
+from second.areas import shown as visible
+from second.verdict import Kernel, Run, place_line, plan_of, told, verdict
+from second.why import Sights
+
+MOST = 4096
+LINKS, TREE_LINKS, NEAR = 65536, 8192, 64
+
+# How each rule is suspected.
+WAYS = {
+    "led": "M1 M2 M3 M4 M5 M6 N K", "met": "A", "before": "L1", "pointed": "H1", "parent": "R1", "colour": "R2 R3", "balance": "R5", "word": "R6 X3 X4 T6",
+    "byte": "X1 X2 X5 X6", "entry": "X7 X8 X9", "member": "U1 U2 U7 T1 T3 T4 T5 G1 G2", "own": "T2", "free": "U5", "shown": "R4 U3 U4 U6 T7 C",
+}
+WAY_OF = {rule: way for way, rules in WAYS.items() for rule in rules.split()}
+
+# The field that a rule is about, by its struct and its path.
+FIELDS = {
+    "U1": ("slab", "slab_cache"), "U2": ("slab", "frozen"), "U6": ("slab", "inuse"), "U7": ("kmem_cache_node", "nr_partial"),
+    "T1": ("task_struct", "group_leader"), "T2": ("task_struct", "pid"), "T3": ("task_struct", "signal"), "T4": ("task_struct", "tgid"),
+    "T5": ("task_struct", "real_parent"), "G2": ("task_struct", "thread_pid"),
+}
+OF_KIND = {"slub": "U1 U2 U6 U7", "tasks": "T1 T2 T3 T4 T5", "pids": "G1 G2"}
+
+SENTENCES = {
+    "M1": "the address of a word isn't a multiple of 8", "M2": "the address of a word isn't canonical", "M3": "an entry of the page tables isn't in the dump",
+    "M4": "an entry of the page tables isn't present", "M5": "an entry of the page tables has a reserved bit set", "M6": "the word at the address isn't in the dump",
+    "N": "a pointer is null where one must lead on", "K": "a list's pointer is the value of a node that was taken out", "A": "a word is met twice in one walk",
+    "L1": "prev isn't the node before", "H1": "pprev isn't the address of the pointer that leads here", "R1": "the parent isn't the node above",
+    "R2": "the node at the top is red", "R3": "a red node is below a red one", "R4": "the key is out of order against a node above",
+    "R5": "a way down passes another number of black nodes than the first", "R6": "rb_leftmost isn't the first node", "X1": "shift isn't that of the node's level",
+    "X2": "offset isn't the number of the node's slot", "X3": "parent isn't the node above", "X4": "array isn't the xarray",
+    "X5": "count isn't the number of slots in use", "X6": "nr_values isn't the number of slots with values", "X7": "an entry can't stand in its slot",
+    "X8": "a sibling entry names no entry that has siblings", "X9": "a node hangs below the lowest level", "U1": "the slab names another cache",
+    "U2": "the slab belongs to a processor", "U3": "a size or a number of objects can't be", "U4": "the slab isn't a page's descriptor",
+    "U5": "a free pointer leads to no object of the slab", "U6": "the free list isn't as long as objects less inuse",
+    "U7": "the list of partial slabs isn't as long as nr_partial", "T1": "group_leader isn't the leader of the thread", "T2": "the leader's pid isn't its tgid",
+    "T3": "signal isn't the leader's", "T4": "tgid isn't the leader's", "T5": "real_parent isn't the task that lists the child",
+    "T6": "the magic number at the end of the stack is gone", "T7": "the leader isn't among its threads",
+    "G1": "the number of the process id isn't its index in the table", "G2": "thread_pid isn't the process id whose chain the task is on", "C": "a check of the plan isn't met",
+}
+
+
+# A change is an address and what may have stood there, by the word that stands there.
+
+
+def to(at, number):
+    return at % TOP, lambda word: [number]
+
+
+def each(at):
+    return at % TOP, lambda word: [word ^ 1 << bit for bit in range(64)]
+
+
+def recoloured(at):
+    return at % TOP, lambda word: [word ^ 1]
+
+
+def shown(broken):
+    return [each(place[0]) for place in broken.places if place[0] != "-"]
+
+
+class Suspects:
+    """What is suspected of a violation that an audit found."""
+
+    def __init__(self, kernel, audit, broken):
+        found = Elements(kernel, audit, broken).in_list()
+        self.kernel, self.audit, self.broken, self.kind = kernel, audit, broken, audit.kind if found is None else "ring"
+        self.at, self.start, self.expected = broken.at, broken.start if found is None else found[1] % TOP, broken.expected
+
+    def read(self, at):
+        """The place of a word, if it can be read."""
+        try:
+            return self.kernel.memory.place(at)
+        except Broken:
+            return None
+
+    def offset(self, name):
+        """The offset of a pointer of a ring or of a hash chain."""
+        struct = "list_head" if self.kind == "ring" else "hlist_head" if name == "first" else "hlist_node"
+        return self.kernel.offset(struct, name)
+
+    def all(self):
+        """The suspects in their order: each a place in the file, and the number that its word may have held."""
+        for at, how in getattr(self, "by_" + WAY_OF[self.broken.rule])():
+            place = self.read(at)
+            if place and place[2] != "tail":
+                yield from ((place, number) for number in how(place[3]) if number != place[3])
+
+    # The ways.
+
+    def by_led(self):
+        return self.led(next((place[0] for place in self.broken.places if place[0] != "-"), None))
+
+    def by_met(self):
+        return self.led(self.second_link())
+
+    def by_word(self):
+        return [] if self.expected is None else [to(self.at, self.expected)]
+
+    def by_byte(self):
+        return self.filled(self.at, 0, 8, self.expected)
+
+    def by_member(self):
+        if self.broken.rule == "G1" and self.kind == "pids":
+            bit, width, _ = self.audit.shape["nr"]
+        elif self.broken.rule in OF_KIND.get(self.kind, "").split():
+            bit, width, _ = self.field(*FIELDS[self.broken.rule])
+        else:
+            return []
+        return self.filled(self.at, bit % 8, width, self.expected)
+
+    def by_own(self):
+        """First `tgid` becomes the `pid` that stands there, and then `pid` what is expected of it."""
+        if self.kind != "tasks":
+            return []
+        pid, tgid = (self.field("task_struct", name) for name in ("pid", "tgid"))
+        task = (self.at - pid[0] // 8) % TOP
+        found = self.filled(task + tgid[0] // 8, tgid[0] % 8, tgid[1], self.number("task_struct", "pid", task))
+        return found + self.filled(self.at, pid[0] % 8, pid[1], self.expected)
+
+    def by_before(self):
+        behind = self.node_behind(self.expected) if self.kind == "ring" and self.expected is not None else None
+        return ([] if behind is None else [to(self.expected + self.offset("next"), behind)]) + self.by_word()
+
+    def by_pointed(self):
+        return self.by_word() + ([] if self.expected is None else [each(self.expected)])
+
+    def by_parent(self):
+        if self.kind != "rbtree" or self.expected is None:
+            return []
+        shape, parent = self.audit.shape, self.expected
+        found = self.filled(self.at, 2, 62, parent // 4)
+        node = (self.at - shape["parent"]) % TOP
+        links = [parent + shape[side] for side in ("left", "right")] if parent else [self.start + shape["root"]]
+        for link in links:
+            place = self.read(link % TOP)
+            found += [each(link)] if place and place[3] == node else []
+        return found
+
+    def by_colour(self):
+        return itertools.chain(self.by_word(), self.by_balance())
+
+    def by_balance(self):
+        if self.kind == "rbtree":
+            for place in self.tree_links():
+                if place[3]:
+                    yield recoloured(place[3] + self.audit.shape["parent"])
+
+    def by_entry(self):
+        return [each(self.at), to(self.at, 0)]
+
+    def by_free(self):
+        return self.free() + shown(self.broken)
+
+    def by_shown(self):
+        return shown(self.broken)
+
+    # What they are made of.
+
+    def field(self, struct, path):
+        """The bit, the width and the sign of a field."""
+        return self.kernel.types.plain(self.kernel.struct(struct), path)
+
+    def number(self, struct, path, at):
+        """A field's number modulo 2^64, if it can be read."""
+        try:
+            return self.kernel.field(at, struct, path)[0]
+        except Broken:
+            return None
+
+    def filled(self, at, bit, width, number):
+        """The word that has some bits, with those of a number in their place, if one word has them all."""
+        low = at - at % 8
+        start = 8 * (at - low) + bit
+        place = self.read(low) if number is not None and start + width <= 64 else None
+        if not place:
+            return []
+        mask = (1 << width) - 1 << start
+        return [to(low, place[3] & ~mask | number << start & mask)]
+
+    def chain(self, at, offset):
+        """The links of a chain from an address on."""
+        for _ in range(LINKS):
+            place = self.read(at % TOP)
+            if not place:
+                return
+            yield place
+            at = place[3] + offset
+
+    def link_to(self, node, others, links):
+        """The address of a link that leads to a node, after so many others that do."""
+        return next(itertools.islice((place[0] for place in links if place[3] == node), others, None), None)
+
+    def node_behind(self, node):
+        """The node of a ring whose `prev` leads to a node, the first backwards from the head."""
+        prev = self.offset("prev")
+        at = self.link_to(node, 0, self.chain(self.start + prev, prev))
+        return None if at is None else (at - prev) % TOP
+
+    def tree_links(self):
+        """A tree's links in preorder."""
+        shape = self.audit.shape
+        ahead = [(self.start + shape["root"]) % TOP]
+        for _ in range(TREE_LINKS):
+            if not ahead:
+                return
+            place = self.read(ahead.pop())
+            if place:
+                yield place
+                ahead += [(place[3] + shape[side]) % TOP for side in ("right", "left")] if place[3] else []
+
+    def second_link(self):
+        """The second link that leads to the node with the word that is met twice."""
+        if self.kind in ("ring", "hlist"):
+            following = self.offset("next")
+            first = self.start + (following if self.kind == "ring" else self.offset("first"))
+            return self.link_to((self.at - following) % TOP, 1, self.chain(first, following))
+        if self.kind == "rbtree":
+            return self.link_to((self.at - self.audit.shape["parent"]) % TOP, 1, self.tree_links())
+        return None
+
+    def led(self, link):
+        """What a link that can't be right may have been."""
+        if link is None or self.kind not in ("ring", "hlist", "rbtree"):
+            return shown(self.broken)
+        if self.kind != "ring":
+            return [each(link), to(link, 0)][:: -1 if self.kind == "rbtree" else 1]
+        behind = self.node_behind((link - self.offset("next")) % TOP)
+        return ([] if behind is None else [to(link, behind)]) + [each(link)]
+
+    def free(self):
+        """What a free pointer may have been: the end of its list, or an object near."""
+        at = next((place[0] for place in self.broken.places if place[0] != "-"), None)
+        if self.kind != "slub" or at is None:
+            return []
+        size, offset = (self.number("kmem_cache", name, self.start) for name in ("size", "offset"))
+        if size is None or offset is None:
+            return []
+        try:
+            random = self.number("kmem_cache", "random", self.start)
+        except Refused:
+            random = None
+        coded = 0 if random is None else random ^ int.from_bytes(at.to_bytes(8, "little"), "big")
+        near = [(at - offset + k * size) % TOP for k in range(-NEAR, NEAR + 1)]
+        return [to(at, pointer ^ coded) for pointer in [0] + near]
+
+
+class Elements:
+    """The element that a violation is about, and the number that stands where its rule expects another."""
+
+    def __init__(self, kernel, audit, broken):
+        self.kernel, self.audit, self.broken, self.types = kernel, audit, broken, kernel.types
+
+    def before(self, offset):
+        return (self.broken.at - offset) % TOP
+
+    def found(self):
+        """The element's type and its address, if it is told."""
+        rule, kind = self.broken.rule, self.audit.kind
+        if rule == "C":
+            return self.audit.element, self.broken.at
+        if kind == "slub" and rule == "U4":
+            return self.kernel.struct("slab"), self.broken.at
+        if rule in FIELDS and rule in OF_KIND.get(kind, "").split():
+            struct, path = FIELDS[rule]
+            return self.kernel.struct(struct), self.before(self.types.plain(self.kernel.struct(struct), path)[0] // 8)
+        if kind == "pids" and rule == "G1":
+            return self.kernel.struct("pid"), self.before(self.audit.shape["nr"][0] // 8)
+        if kind == "pids" and rule == "H1":
+            return self.kernel.struct("task_struct"), self.before(self.audit.shape["chain"][2] + self.audit.shape["links"])
+        return self.in_array(rule) if kind in ("xarray", "pids") else self.of_node(rule, kind)
+
+    def in_array(self, rule):
+        names = {"X1": "shift", "X2": "offset", "X3": "parent", "X4": "array", "X5": "count", "X6": "nr_values"}
+        return (self.kernel.struct("xa_node"), self.before(self.audit.shape[names[rule]])) if rule in names else None
+
+    def of_node(self, rule, kind):
+        """Of a ring, a hash chain or a tree: the element whose node has the address."""
+        node = None
+        if kind == "ring" and rule in ("L1", "K"):
+            node = self.before(self.kernel.offset("list_head", "prev" if rule == "L1" else "next"))
+            node = None if node == self.broken.start else node
+        if kind == "hlist" and rule == "H1":
+            node = self.before(self.kernel.offset("hlist_node", "pprev"))
+        if kind == "hlist" and rule == "K" and self.broken.at != (self.broken.start + self.kernel.offset("hlist_head", "first")) % TOP:
+            node = self.before(self.kernel.offset("hlist_node", "next"))
+        if kind == "rbtree" and rule in ("R1", "R2", "R3"):
+            node = self.before(self.audit.shape["parent"])
+        if kind == "rbtree" and rule == "R4" and self.audit.shape["key"]:
+            return self.audit.element, self.before(self.audit.shape["key"][0] // 8)
+        return None if node is None or self.audit.element is None else (self.audit.element, (node - self.audit.link) % TOP)
+
+    def step(self, kind, byte):
+        """The step into a type to what has a byte: its label, its type and the byte there."""
+        bare = self.types.bare(kind)
+        if self.types.kind(bare) == 3:
+            element, _, count = self.types.records[bare][4]
+            size = self.types.size(element)
+            return (f"[{byte // size}]", element, byte % size) if size and (byte < count * size or count == 0) else None
+        if bare is None or self.types.kind(bare) not in (4, 5):
+            return None
+        members = list(self.types.members(bare))
+        for name, inner, bit, width in members:
+            if bit // 8 <= byte < bit // 8 + (1 if width else self.types.size(inner) or 0):
+                return visible(name), inner, byte - bit // 8
+        name, inner, bit, _ = members[-1] if members else (b"", 0, 0, 0)
+        last = self.types.bare(inner)
+        if last is not None and self.types.kind(last) == 3 and self.types.records[last][4][2] == 0 and bit // 8 <= byte:
+            return visible(name), inner, byte - bit // 8
+        return None
+
+    def path(self, kind, byte):
+        """The path of the innermost member that has a byte."""
+        text = ""
+        for _ in range(32):
+            step = self.step(kind, byte)
+            if step is None:
+                break
+            label, kind, byte = step
+            text += "." + label if text and label and label[0] != "[" else label
+        return text
+
+    def line(self):
+        return self.text(self.found())
+
+    def text(self, found):
+        if found is None:
+            return ""
+        kind, at = found
+        path = "" if self.broken.rule in ("C", "U4") else self.path(kind, self.before(at))
+        return f"element {self.types.name(self.types.records[kind][1]).decode()} {at:016x}{' ' * bool(path)}{path}\n"
+
+    def list_lines(self):
+        """The list of tasks or of a slab cache in which the violation lies: the first that is broken, where it is so by this violation."""
+        found = self.in_list()
+        if found is None:
+            return ""
+        label, head, owner, struct, link = found
+        return f"list {label}\n" + self.text(self.of_list(head % TOP, owner, struct, link))
+
+    def in_list(self):
+        """That list, or nothing."""
+        lists = {"tasks": self.task_lists, "slub": self.partial_lists}.get(self.audit.kind)
+        try:
+            for found in lists() if lists else ():
+                try:
+                    self.kernel.ring(found[1])
+                except Broken as broken:
+                    return found if (broken.rule, broken.at) == (self.broken.rule, self.broken.at) else None
+        except Broken:
+            pass
+        return None
+
+    def of_list(self, head, owner, struct, link):
+        """What has the pointer of a list: the owner of its head, or what has a node."""
+        members = {"L1": "prev", "K": "next", "N": "next"}
+        if self.broken.rule not in members:
+            return None
+        node = self.before(self.kernel.offset("list_head", members[self.broken.rule]))
+        if node != head:
+            return self.kernel.struct(struct), (node - link) % TOP
+        number = self.types.find(owner[0])
+        return None if number is None else (number, owner[1])
+
+    def task_lists(self):
+        """Each list of tasks, in the order of the walk: its label, its head, what has the head, and what has its nodes at which byte."""
+        kernel, byte = self.kernel, self.kernel.byte
+        tasks, thread_node = byte("task_struct", "tasks"), byte("task_struct", "thread_node")
+        first = self.broken.start
+        yield "tasks", first + tasks, ("task_struct", first), "task_struct", tasks
+        for leader in [first] + [(node - tasks) % TOP for node in kernel.ring(first + tasks)]:
+            signal = kernel.field(leader, "task_struct", "signal")[0]
+            head = signal + byte("signal_struct", "thread_head")
+            yield f"threads of {leader:016x}", head, ("signal_struct", signal), "task_struct", thread_node
+            for node in kernel.ring(head):
+                thread = (node - thread_node) % TOP
+                yield f"children of {thread:016x}", thread + byte("task_struct", "children"), ("task_struct", thread), "task_struct", byte("task_struct", "sibling")
+
+    def partial_lists(self):
+        """Each partial list of a cache."""
+        kernel, cache = self.kernel, self.broken.start
+        _, node_at, kind = self.types.located(kernel.struct("kmem_cache"), "node")
+        nodes, symbol = self.types.length(kind), address(kernel.rows, "nr_node_ids", kernel.info.kaslr)
+        if symbol is not None:
+            nodes = min(nodes, kernel.memory.number(symbol, 0, 32)[0])
+        for index in range(nodes):
+            node = kernel.memory.number((cache + node_at + 8 * index) % TOP, 0, 64)[0]
+            if node:
+                yield f"partial of node {index}", node + kernel.byte("kmem_cache_node", "partial"), ("kmem_cache_node", node), "slab", kernel.byte("slab", "slab_list")
+
+    def spot(self):
+        """Where the number stands: from which bit of its first byte on, its width, and its bits that aren't looked at."""
+        rule, kind = self.broken.rule, self.audit.kind
+        if rule in ("X1", "X2", "X5", "X6") and kind in ("xarray", "pids"):
+            return 0, 8, 0
+        if rule != "U6" and rule in FIELDS and rule in OF_KIND.get(kind, "").split():
+            bit, width, _ = self.types.plain(self.kernel.struct(FIELDS[rule][0]), FIELDS[rule][1])
+            return bit % 8, width, 0
+        if rule == "G1" and kind == "pids":
+            return self.audit.shape["nr"][0] % 8, self.audit.shape["nr"][1], 0
+        words = {"ring": "L1", "hlist": "H1", "rbtree": "R1 R2 R3 R6", "xarray": "X3 X4", "slub": "L1", "tasks": "L1 T6", "pids": "H1 X3 X4"}
+        return (0, 64, 3 if rule == "R1" else 0) if rule in words[kind].split() else None
+
+    def number_line(self):
+        """The number that stands there against the expected one, where the word at the address is all that is shown."""
+        at, places, spot = self.broken.at, self.broken.places, self.spot()
+        if spot is None or self.broken.expected is None or len(places) != 1 or places[0][0] != at - at % 8:
+            return ""
+        bit, width, low = spot
+        start = 8 * (at % 8) + bit
+        if start + width > 64:
+            return ""
+        mask = (1 << width) - 1
+        found, wanted = places[0][3] >> start & mask & ~low, self.broken.expected & mask
+        return f"expected {wanted:016x} found {found:016x} bits {(found ^ wanted).bit_count()}\n"
+
+
+class Causes:
+    """A dump whose words can be changed, with its types and symbols and a plan."""
+
+    def __init__(self, core, btf, map_, plan):
+        self.core = Core(core)
+        info = Info(self.core)
+        self.kernel = Kernel(Memory(self.core, info.table, info.levels, info.mask), Types(btf), symbols(map_), info)
+        self.audits, self.numbers, self.tables, self.version = plan_of(plan, self.kernel)
+        self.sights = Sights(core, btf, map_)
+
+    def judge(self, root):
+        """The violation that a root audit comes to, and the audit that finds it; or nothing."""
+        run = Run(self.kernel, self.audits, self.numbers)
+        try:
+            run.take(root, self.audits[root].symbol)
+        except Broken as broken:
+            return broken, self.audits[run.blamed]
+        return None
+
+    def judge_with(self, root, place, number):
+        """The same with another number in a word."""
+        _, _, offset, old = place
+        self.put(offset, number)
+        try:
+            return self.judge(root)
+        finally:
+            self.put(offset, old)
+
+    def put(self, offset, word):
+        self.core.data[offset : offset + 8] = word.to_bytes(8, "little")
+
+    def repair(self, root, broken, audit):
+        """The lines of the repair."""
+        tried, then, suspects = 0, "", Suspects(self.kernel, audit, broken).all()
+        for place, number in itertools.islice(suspects, MOST):
+            tried += 1
+            words = "%016x %016x %016x %016x" % place + f" {number:016x}"
+            found = self.judge_with(root, place, number)
+            if found is None:
+                return f"repair {words}\n"
+            if not then and (found[0].rule, found[0].at) != (broken.rule, broken.at):
+                then = f"then {words} {found[0].rule} {found[0].at:016x}\n"
+        more = next(suspects, None) is not None
+        return f"repair none of {'the first ' * more}{tried} tried\n{then}"
+
+    def lines(self, root):
+        """What explains the violation of a root audit, if it is broken."""
+        found = self.judge(root)
+        if found is None:
+            return ""
+        broken, audit = found
+        elements = Elements(self.kernel, audit, broken)
+        text = f"root {self.audits[root].name}\naudit {audit.name}\nrule {broken.rule} {SENTENCES[broken.rule]}\n{elements.line()}{elements.list_lines()}"
+        return text + "".join(map(self.place_lines, broken.places)) + elements.number_line() + self.repair(root, broken, audit)
+
+    def place_lines(self, place):
+        """A word of a violation, and what lies at its address."""
+        return place_line(place) + ("" if place[0] is None else self.sights.told(place[0]))
+
+    def text(self):
+        """Of version 1 the first root audit that is broken, and of version 2 each."""
+        some = filter(None, (self.lines(number) for number, table in enumerate(self.tables) if "root" in table))
+        return ("".join(some) if self.version == 2 else next(some, "")) or "clean\n"
+
+    def report(self):
+        """What `check` prints."""
+        roots = [number for number, table in enumerate(self.tables) if "root" in table]
+        return told(self.kernel, self.audits, self.numbers, roots, range(len(self.audits)))[1] if self.version == 1 else None
+
+
+def compare(kwhy, words, report, wanted, scratch):
+    """Whether kwhy explains a report as it is wanted."""
+    if kwhy is None:
+        return
+    with open(f"{scratch}/report", "w") as file:
+        file.write(report)
+    status, out, err, _ = timer.run([kwhy, *words, f"{scratch}/report"], scratch)
+    assert (status, err, out.decode()) == (0, b"", wanted), f"{words} {status} {err}\n{out.decode()}wanted\n{wanted}"
+
+
+def try_damages(kwhy, folder, names, scratch):
+    dump = f"{scratch}/vmcore"
+    shutil.copyfile(f"{folder}/vmcore", dump)
+    with open(dump, "r+b") as file:
+        core = mmap.mmap(file.fileno(), 0)
+    paths = [os.path.abspath(f"{folder}/{name}") for name in files.NAMES[1:]]
+    btf, map_ = map(files.read, paths)
+    for damage in files.damages(folder):
+        if names and damage.name not in names:
+            continue
+        began, path = time.monotonic(), files.plan_path(folder, damage.plan)
+        causes = Causes(core, btf, map_, files.read(path))
+        causes.put(damage.offset, damage.new)
+        assert causes.report() == damage.report, damage.name
+        text = causes.text()
+        seconds = time.monotonic() - began
+        compare(kwhy, [dump, *paths, path], damage.report, text, scratch)
+        causes.put(damage.offset, damage.old)
+        is_true = f"{damage.offset:016x} {damage.new:016x} {damage.old:016x}" in text
+        print(f"{damage.name} {'true' if is_true else 'other'} {seconds:.1f} s\n{text}", flush=True)
+
+
+def words_read(given):
+    """The file places of the words that a plan's audits read."""
+    causes, found = Causes(*given), {}
+    place = causes.kernel.memory.place
+
+    def noted(va):
+        seen = place(va)
+        found[seen[2]] = seen[3]
+        return seen
+
+    causes.kernel.memory.place = noted
+    for number, table in enumerate(causes.tables):
+        if "root" in table:
+            causes.judge(number)
+    return sorted(offset for offset in found if offset != "tail")
+
+
+def damaged(rng, core, offsets):
+    """One of these words is changed, or two: by a bit, by little, to what nothing may be, or to what another holds."""
+    for _ in range(rng.choice((1, 1, 2))):
+        at, other = rng.choice(offsets), rng.choice(offsets)
+        old, far = (int.from_bytes(core[k : k + 8], "little") for k in (at, other))
+        new = rng.choice((old ^ 1 << rng.randrange(64), old ^ 1 << rng.randrange(32), old + rng.choice((-64, -8, -1, 1, 8, 64)) * 256 ** rng.randrange(8),
+                          rng.choice(damages.SPECIAL), 0, far, damages.other_name(old)))
+        core[at : at + 8] = (new % TOP).to_bytes(8, "little")
+
+
+def made_files(rng):
+    """A kernel with a word or two changed, its types and its map, and a plan of all that it has."""
+    core = bytearray(made.Made(rng).core())
+    plan = damages.shuffled(rng, damages.WHOLE + damages.PIDS)
+    given = core, made.with_pids(damages.BTF), made.MAP, plan.replace(b"version = 1", b"version = 2") if rng.random() < 0.3 else plan
+    offsets = words_read(given)
+    if rng.random() < 0.9 and offsets:
+        damaged(rng, core, offsets)
+    else:
+        damages.damage_words(rng, core)
+    return given
+
+
+def try_made(kwhy, count, seed, scratch):
+    seen, names = collections.Counter(), ("z.core", "z.btf", "z.map", "z.plan")
+    for number in range(seed, seed + count):
+        given = made_files(random.Random(number))
+        status, report, _ = verdict(*map(bytes, given))
+        if status > 1:
+            continue
+        text = Causes(*given).text()
+        for name, data in zip(names, given):
+            with open(f"{scratch}/{name}", "wb") as file:
+                file.write(data)
+        try:
+            compare(kwhy, names, report, text, scratch)
+        except AssertionError as differs:
+            print(f"seed {number}\n{differs}", flush=True)
+            seen["differ"] += 1
+        for found in re.finditer(r"^rule (\S+)(?:.*\n)+?repair (none)?(?:.*\n(then)?)", text, re.M):
+            seen[" ".join(word for word in (found[1], found[2] or "repair", found[3]) if word)] += 1
+    for what, times in sorted(seen.items()):
+        print(f"{times:6} {what}")
+
+
+def main(words):
+    programs, folder, *rest = words
+    kwhy = None if programs == "none" else files.program(programs, "kwhy")
+    with tempfile.TemporaryDirectory() as scratch:
+        if folder == "--made":
+            try_made(kwhy, int(rest[0]), int(rest[1]) if rest[1:] else 1, scratch)
+        else:
+            try_damages(kwhy, folder, rest, scratch)

@@ -1,0 +1,167 @@
+"""Tests of the scripts that the repository leans on: planted/ taken apart, heads.py, and how commands are read out of documents."""
+import os
+import shutil
+import sys
+import tempfile
+import unittest
+
+TOP = os.path.join(os.path.dirname(os.path.abspath(__file__)), "..", "..")
+sys.dont_write_bytecode = True
+sys.path[:0] = [os.path.join(TOP, "bench"), os.path.join(TOP, "plans"), TOP]
+
+import commands
+import files
+import heads
+import planted
+import reader
+
+MADE = [os.path.join(files.DATA, name) for name in ("z.core", "z.btf", "z.map")]
+
+
+class Planted(unittest.TestCase):
+    """planted/ taken apart and put together."""
+
+    def test_each_file_is_its_edits(self):
+        for name in os.listdir(os.path.join(TOP, "planted")):
+            text = planted.read(os.path.join(TOP, "planted", name))
+            edits = planted.apart(text)
+            self.assertEqual(planted.together(edits), text, name)
+            for edit in edits:
+                self.assertTrue(list(planted.changes(edits[edit])), f"{name}: {edit}")
+
+    def test_cut_edits_are_as_they_were(self):
+        edits = {"a": "file: x\nold: one\nnew: two\n", "b": "Some words.\nfile: x\nold:  p: q\nnew: \nfile: y\nold: r\nnew: s\n"}
+        self.assertEqual(planted.apart(planted.together(edits)), edits)
+        self.assertEqual(list(planted.changes(edits["b"])), [("x", " p: q", ""), ("y", "r", "s")])
+
+    def test_a_name_twice_is_refused(self):
+        with self.assertRaises(planted.BadEdit):
+            planted.apart("edit: a\nfile: x\n\nedit: a\nfile: x\n")
+
+    def test_edits_of_a_folder_are_put_in_and_cut_apart_again(self):
+        top, planted.TOP = planted.TOP, tempfile.mkdtemp()
+        self.addCleanup(setattr, planted, "TOP", top)
+        self.addCleanup(shutil.rmtree, planted.TOP)
+        source, given, cut = (os.path.join(planted.TOP, name) for name in ("crates/x/src", "given", "cut"))
+        for folder in (source, given, os.path.join(planted.TOP, "planted")):
+            os.makedirs(folder)
+        planted.write(os.path.join(source, "a.rt"), "one\ntwo\ntwo\n")
+        planted.write(os.path.join(given, "b.edit"), "file: src/a.rt\nold: one\nnew: three\n")
+        self.assertEqual(planted.add("x", given), 1)
+        self.assertEqual(planted.cut("x", cut), 1)
+        self.assertEqual(planted.read(os.path.join(cut, "b.edit")), planted.read(os.path.join(given, "b.edit")))
+        self.assertEqual(list(planted.counts()), [("x", 0, 1)])
+        with self.assertRaises(planted.BadEdit):
+            planted.add("x", given)
+        for odd in ("file: src/a.rt\nold: two\nnew: x\n", "file: src/a.rt\nold: four\nnew: x\n", "file: src/b.rt\nold: one\nnew: x\n", "words\n"):
+            with self.assertRaises(planted.BadEdit, msg=odd):
+                planted.check("x", "odd", odd)
+
+
+class Heads(unittest.TestCase):
+    """WHERE, STEP and COUNT of heads.py on the made dump."""
+
+    @classmethod
+    def setUpClass(cls):
+        cls.kernel = reader.open_kernel(*MADE)
+
+    def first(self, where):
+        return heads.first_heads(self.kernel, where, 1)
+
+    def word(self, at):
+        return self.kernel.memory.place(at)[3]
+
+    def test_first_heads(self):
+        ring = heads.address(self.kernel, "my_ring")
+        after = self.word(ring)
+        self.assertEqual(self.first("my_ring"), [ring])
+        self.assertEqual(self.first(f"0x{ring:x}+8"), [ring + 8])
+        self.assertEqual(self.first("*my_ring+16"), [after + 16])
+        self.assertEqual(self.first("*my_ring+item.key"), [after + 32])
+        self.assertEqual(self.first("**my_ring+list_head.prev+16"), [self.word(after + 8) + 16])
+
+    def test_a_pointer_inside_a_struct_is_followed(self):
+        ring = heads.address(self.kernel, "my_ring")
+        last = self.word(ring + 8)
+        self.assertEqual(self.first("*(my_ring+list_head.prev)"), [last])
+        self.assertEqual(self.first("*(my_ring+list_head.prev)+item.rb"), [last + 40])
+        self.assertEqual(self.first("*(*(my_ring+8)+8)"), [self.word(last + 8)])
+        self.assertEqual(self.first("my_ring+list_head.prev->prev"), [last + 8])
+
+    def test_a_count_is_a_number_a_symbol_or_a_member(self):
+        item = heads.address(self.kernel, "an_item")
+        key = self.kernel.field(item, "item", "key")[0]
+        self.assertEqual(heads.count_of(self.kernel, "0x20"), 32)
+        self.assertEqual(heads.count_of(self.kernel, "my_ring"), self.word(heads.address(self.kernel, "my_ring")) & 0xFFFFFFFF)
+        self.assertEqual(heads.count_of(self.kernel, "an_item+item.key"), key)
+        self.assertEqual(heads.count_of(self.kernel, "an_item+item.key+1"), key + 1)
+        small = self.kernel.field(item, "item", "small")[0]
+        self.assertEqual(heads.count_of(self.kernel, "an_item+item.small") % reader.TOP, small)
+
+    def test_what_is_wrong_ends_it(self):
+        for where in ("nobody", "*(my_ring", "*(my_ring)x", "my_ring+nothing.here", "*0x1"):
+            with self.assertRaises(SystemExit, msg=where):
+                self.first(where)
+        with self.assertRaises(SystemExit):
+            heads.step_of(self.kernel, "list_head.next->prev")
+
+    def test_a_plan_is_written(self):
+        with tempfile.TemporaryDirectory() as folder:
+            out, plain = os.path.join(folder, "r"), sys.stdout
+            with open(os.devnull, "w") as sys.stdout:
+                heads.main([*MADE, out, "my_ring", "list_head", "1", "ring", "item", "link", "key >= {0}"])
+            sys.stdout = plain
+            with open(out + ".map") as rows, open(out + "-1.toml") as plan:
+                self.assertEqual(rows.read(), "ffffffff8000b120 D r0\n")
+                audit = '[[audit]]\nname = "r0"\nkind = "ring"\nroot = "r0"\nelement = "item"\nlink = "link"\ncheck = ["key >= 0"]\n'
+                self.assertEqual(plan.read(), "version = 2\n\n" + audit)
+
+
+class Files(unittest.TestCase):
+    """What lies beside a dump."""
+
+    def test_a_carriage_return_goes_with_its_newline(self):
+        row = b"ffffffff8000b000 D init_task\r"
+        self.assertEqual(reader.symbols(row + b"\n"), {b"init_task": [0xFFFFFFFF8000B000]})
+        with self.assertRaises(reader.Refused):
+            reader.symbols(row)
+
+    def test_changed_words_are_read(self):
+        with tempfile.TemporaryDirectory() as folder:
+            self.assertEqual(list(files.damages(folder)), [])
+            with open(os.path.join(folder, "damage.txt"), "w") as file:
+                file.write("Some words.\n\n## a-b: what\nplan p.toml, file offset 10, old 1, new ff, status 1\nbroken\nrule A\n\n## c: d\n")
+                file.write("plan q.toml, file offset 8, old 2, new 3, status 0\nclean\n")
+            first, second = files.damages(folder)
+            self.assertEqual(first, ("a-b", "a-b: what", "p.toml", 16, 1, 255, 1, "broken\nrule A\n"))
+            self.assertEqual(second.report, "clean\n")
+            with open(os.path.join(folder, "vmcore"), "wb") as file:
+                file.write(bytes(16) + b"\x01" + bytes(7))
+            with files.changed(os.path.join(folder, "vmcore"), first):
+                self.assertEqual(files.read(folder, "vmcore")[16:18], b"\xff\0")
+            self.assertEqual(files.read(folder, "vmcore")[16:18], b"\x01\0")
+
+
+class Commands(unittest.TestCase):
+    """Commands read out of documents."""
+
+    def test_blocks(self):
+        text = "words\n```console\n$ a\n> b\none\n$ c\n```\n- point\n  ```toml x.toml\n  k = 1\n  ```\n"
+        blocks = list(commands.fenced(text))
+        self.assertEqual([(b.line, b.word, b.lines) for b in blocks], [(2, "console", ["$ a", "> b", "one", "$ c"]), (9, "toml x.toml", ["k = 1"])])
+        self.assertEqual(list(blocks[0].steps()), [(3, "a\nb", ["one"]), (6, "c", [])])
+
+    def test_man_pages(self):
+        (block,) = commands.examples(".EX\n$ kaudit \\-x \\(aqy\\(aq\nout\n.EE\n")
+        self.assertEqual(list(block.steps()), [(2, "kaudit -x 'y'", ["out"])])
+
+    def test_lines_that_stand_for_any(self):
+        self.assertTrue(commands.matches(["..", "b", ".."], ["a", "b"]))
+        self.assertTrue(commands.matches(["a", "..", "c"], ["a", "c", "b", "c"]))
+        self.assertFalse(commands.matches(["..", "b"], ["b", "a"]))
+        self.assertFalse(commands.matches(["a"], ["a", "b"]))
+        self.assertFalse(commands.matches([], ["a"]))
+
+
+if __name__ == "__main__":
+    unittest.main()
