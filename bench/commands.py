@@ -119,7 +119,7 @@ def environment(programs, work):
     for name in ("kaudit", "kmatch", "kwhy"):
         os.symlink(files.program(programs, name), os.path.join(tools, name))
     kept = {name: value for name, value in os.environ.items() if not name.startswith("LC_")}
-    return kept | {"PATH": f"{tools}:{os.environ['PATH']}", "LC_ALL": "C", "COLUMNS": "80", "PYTHONDONTWRITEBYTECODE": "1"}
+    return kept | {"PATH": f"{tools}:{os.path.join(files.TOP, 'tools')}:{os.environ['PATH']}", "LC_ALL": "C", "COLUMNS": "80", "PYTHONDONTWRITEBYTECODE": "1"}
 
 
 def session(steps, folder, work, variables):

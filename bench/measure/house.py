@@ -1,7 +1,6 @@
-#!/usr/bin/env python3
 """Counts what the shape of the house is judged by, as a table.
 
-usage: house.py [REPOSITORY]      the folder with crates/ and crates.txt; without it this one
+house [REPOSITORY]      the folder with crates/ and crates.txt; without it this one
 
 Lines, functions and parameters are counted by their text and not by a parser: a count is right to a few in a hundred, and the
 same text gives the same count.
@@ -10,7 +9,6 @@ import collections
 import os
 import re
 import subprocess
-import sys
 import tempfile
 
 STAYS = "stays cause named later files quiet may opened others_opened others_sizes".split()
@@ -141,9 +139,11 @@ def pairs(house, folders):
         return found[1] if found else "0"
 
 
-def main():
-    house = House(sys.argv[1] if len(sys.argv) > 1 else subprocess.run(["git", "rev-parse", "--show-toplevel"], capture_output=True, text=True,
-                                                                      cwd=os.path.dirname(os.path.realpath(__file__))).stdout.strip())
+WORDLESS = True
+
+
+def main(words):
+    house = House(words[0] if words else os.path.dirname(os.path.dirname(os.path.dirname(os.path.realpath(__file__)))))
     taken = functions(house)
     heads, bodies = head_to_body(house)
     listing, number = rules(house)
@@ -168,7 +168,4 @@ def main():
     ]
     for name, value in table:
         print(f"{name}: {value}")
-
-
-if __name__ == "__main__":
-    main()
+    return 0
