@@ -175,10 +175,11 @@ class Pages(Folder):
 
     def test_compressed_goes_through_kplain(self):
         self.write("vmcore", b"KDUMP   " + bytes(5000))
-        self.script("kplain", f"[ \"$1\" = check ] || exit 6\ncat <<'T'\n{CLEAN}\nT\n")
-        self.script("kaudit", "exit 6\n")
+        self.write("core", core_with_note(b"OSRELEASE=6.1.0-test\n"))
+        self.script("kplain", f'[ "$1" = core ] && [ "$2" = {self.path("vmcore")} ] && exec cat {self.path("core")}\nexit 6\n')
         status, out, _ = self.triage()
         self.assertEqual((status, "(compressed kdump)" in out), (0, True))
+        self.assertIn(f"  kplain core {self.path('vmcore')} > ", out)
 
 
 class BadInput(Folder):
@@ -230,6 +231,11 @@ class BadInput(Folder):
     def test_a_failed_read(self):
         self.program("kaudit", "", 3, "store failed")
         self.is_refused(3, "store failed", "--types", self.path("btf"), "--map", self.path("System.map"), self.path("vmcore"))
+
+    def test_compressed_and_refused(self):
+        self.write("vmcore", b"KDUMP   " + bytes(5000))
+        self.program("kplain", "", 2, "refused dump K6")
+        self.is_refused(2, "refused dump K6", self.path("vmcore"))
 
     def test_compressed_without_kplain(self):
         self.write("vmcore", b"KDUMP   " + bytes(5000))
