@@ -1,7 +1,7 @@
 -- A record of the log.
 -- Source: struct prb_desc, struct printk_info, DESC_INDEX, DESC_STATE, DESC_ID and enum desc_state in kernel/printk/printk_ringbuffer.h,
 -- `desc_read` and `get_data` in kernel/printk/printk_ringbuffer.c.
-use Rattle.std.specs.Prelude.{ℕ, ◌+◌, ◌-◌, ◌*◌, ◌/◌, ◌%◌, ◌^◌, Bool, ◌&&◌, ◌||◌, not, nat_eq, nat_lt, List, codes, Result, Ok, Err, if◌then◌else◌}
+use Rattle.std.specs.Prelude.{ℕ, ◌-◌, ◌*◌, ◌/◌, ◌%◌, ◌^◌, Bool, ◌&&◌, ◌||◌, not, nat_eq, nat_lt, List, codes, Result, Ok, Err, if◌then◌else◌}
 use Rattle.kc_bytes.specs.Bytes.{eight_at, onward, two_at}
 use Rattle.kc_memory.specs.declared.rule.Rule.{Rule}
 use Rattle.kc_memory.specs.declared.rule.Rule.TheVariants.{M1, M2, M3, M4, M5}

@@ -1,5 +1,5 @@
 // What VMCOREINFO says of the ring of records (Documentation/admin-guide/kdump/vmcoreinfo.rst).
-ghost use Rattle.std.specs.Prelude.{◌≡◌, IfOk, option_and_then};
+ghost use Rattle.std.specs.Prelude.{◌≡◌, option_and_then};
 ghost use Rattle.kc_word.specs.Hex.{hex_number};
 ghost use Rattle.kc_notes.specs.Info.{bits_of};
 ghost use Rattle.kc_notes.specs.Values.{value_of};

@@ -3,7 +3,7 @@ ghost use Rattle.std.specs.Prelude.{◌≡◌, ◌<◌, IfErr};
 ghost use Rattle.kc_memory.specs.Space.{AnswersAs};
 ghost use Rattle.kc_memory.specs.Stays.{CountsFaults, SpaceStays};
 ghost use Rattle.kc_printk.specs.Answers.{CountsLogFaults, IsEntry, IsWanting, LooksAs};
-ghost use Rattle.kc_printk.specs.Records.{begin_at, bounds_at, code_of, desc_at, element, entry_at, filled_at, index_of, info_at, is_kept, length_at, next_at, record_at, room_after, rule_code, state_at, text_at, time_at};
+ghost use Rattle.kc_printk.specs.Records.{begin_at, bounds_at, code_of, desc_at, element, entry_at, filled_at, index_of, info_at, is_kept, length_at, next_at, record_at, room_after, rule_code, state_at, time_at};
 
 use crate::block::{Block, Span, block_in};
 use crate::layout::{DescLayout, InfoLayout};

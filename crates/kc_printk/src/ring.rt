@@ -1,5 +1,5 @@
 // The ring of records (struct printk_ringbuffer in kernel/printk/printk_ringbuffer.h).
-ghost use Rattle.std.specs.Prelude.{◌≡◌, ◌≤◌, ◌<◌, ◌^◌, IfOk};
+ghost use Rattle.std.specs.Prelude.{◌≡◌, ◌<◌, ◌^◌, IfOk};
 ghost use Rattle.kc_memory.specs.Space.{AnswersAs};
 ghost use Rattle.kc_memory.specs.Stays.{CountsFaults, SpaceStays};
 ghost use Rattle.kc_printk.specs.Rings.{field, fits, ids_of, is_id, ring_of, ring_words};
