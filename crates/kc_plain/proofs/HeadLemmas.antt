@@ -117,5 +117,13 @@ length-headers runs notes =
     let two = spelled (note_fields (notes_at count) (length notes)) in
     let three = load_headers (start runs notes) runs in
     let section : length (section_header count) ≡ cond (is_extended count) 64 0 = length-either (is_extended count) (spelled (section_fields count)) 64 (sections count) in
-    omega (arith, length-append (one ++ two ++ three) (section_header count), length-append (one ++ two) three, length-append one two,
-    file_header count, note_header (notes_at count) (length notes), length-load_headers (start runs notes) runs, section)
+    omega (
+      arith,
+      length-append (one ++ two ++ three) (section_header count),
+      length-append (one ++ two) three,
+      length-append one two,
+      file_header count,
+      note_header (notes_at count) (length notes),
+      length-load_headers (start runs notes) runs,
+      section,
+    )

@@ -19,11 +19,12 @@ pages_at page (suc n) whole i here =
     below_more (BeginsWith page (suc n)) n
     (λ k lt.
     let before = pages_at page n whole k lt in
-    let inside : 4096 * k ≤ length (pages page n) = omega (arith, length-pages page n whole) in
-    (before.0 ++ page n,
-    drop-append-le (4096 * k) (pages page n) (page n) inside
-    ∙ ap (λ (bs : List ℕ). bs ++ page n) before.1
-    ∙ append_assoc (page k) before.0 (page n)))
+    let inside : 4096 * k ≤ length (pages page n) = omega (arith, length-pages page n whole) in (
+      before.0 ++ page n,
+      drop-append-le (4096 * k) (pages page n) (page n) inside
+          ∙ ap (λ (bs : List ℕ). bs ++ page n) before.1
+          ∙ append_assoc (page k) before.0 (page n),
+    ))
     ([], drop_at (pages page n) (page n) (4096 * n) (length-pages page n whole) ∙ sym (append-nil (page n)))
     i (omega arith)
 

@@ -179,12 +179,7 @@ fn push_section_header(bytes: &mut Vec<u8>, count: u64) -> Result<(), NoMemory>
 
 // The headers.
 #[tactic(auto, unfolding(crate::specs::Head::headers_of))]
-fn headers_of(
-    alloc: Global,
-    runs: &[Run],
-    notes: &[u8],
-    first: u64,
-) -> Result<Vec<u8>, NoMemory>
+fn headers_of(alloc: Global, runs: &[Run], notes: &[u8], first: u64) -> Result<Vec<u8>, NoMemory>
     requires few { length runs.now ≤ 4194304 }
     requires reach { reach runs.now ≤ 2 ^ 47 }
     requires fits { first + 4096 * page_count runs.now < 2 ^ 64 }
