@@ -149,6 +149,7 @@ pub fn read_kdump<S: Store>(alloc: Global, store: &mut S, size: u64) -> Result<K
     ensures inside { IfOk result (λ dump. table_in dump.layout + 24 * dump.pages ≤ size) }
     ensures notes { IfOk result (λ dump. vec_len dump.notes ≤ 16777216) }
     ensures frames { IfOk result (λ dump. dump.layout.frames ≤ 2 ^ 47) }
+    ensures pages { IfOk result (λ dump. dump.pages ≤ 2 ^ 47) }
 
     ensures stays { StoreStays S.opened S.sizes S.files S.may S.asked store.old store.new }
     ensures counts { CountsFaults result (S.faults store.old) (S.faults store.new) }
