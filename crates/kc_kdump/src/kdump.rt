@@ -1,0 +1,22 @@
+// What is read of a compressed dump.
+ghost use Rattle.std.specs.Prelude.{◌≡◌, ◌≤◌, ◌^◌, vec_len};
+ghost use Rattle.kc_kdump.specs.Runs.{page_count, reach};
+
+use crate::layout::Layout;
+use crate::run::Run;
+
+/// What the container of a compressed dump holds.
+#[derive(Drop)]
+pub struct Kdump {
+    /// Where its parts are.
+    pub layout: Layout,
+    /// The runs of page frames, the lowest first.
+    pub runs: Vec<Run>,
+    /// How many pages are in the dump.
+    pub pages: u64,
+    /// The bytes of the PT_NOTE segment of the machine's memory image.
+    pub notes: Vec<u8>,
+    pub ghost counted: { pages ≡ page_count runs.items },
+    pub ghost reached: { reach runs.items ≤ 2 ^ 47 },
+    pub ghost few: { vec_len runs ≤ 4194304 },
+}

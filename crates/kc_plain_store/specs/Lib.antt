@@ -1,0 +1,4 @@
+pub mod Kept
+pub mod Seen
+pub mod Shapes
+pub mod ViewLaws

@@ -1,0 +1,32 @@
+// Places for pages.
+ghost use Rattle.std.specs.Prelude.{◌≡◌, vec_len};
+
+use kc_inflate::Tables;
+
+/// A place for a page of the dump.
+#[derive(Drop)]
+pub struct PagePlace {
+    // The number of the page that is kept here, among those in the dump.
+    pub(crate) number: Option<u64>,
+    // Its bytes.
+    pub(crate) bytes: Vec<u8>,
+    pub(crate) ghost room: { vec_len bytes ≡ 4096 },
+}
+
+/// Room to unpack a page in.
+#[derive(Drop)]
+pub struct Room {
+    // The tables that zlib streams are unpacked by.
+    pub(crate) tables: Tables,
+    // The bytes that a page is packed in.
+    pub(crate) packed: [u8; 4096],
+}
+
+/// Pages that were unpacked, and room to unpack others.
+#[derive(Drop)]
+pub struct Kept {
+    // The place of a page is its number modulo how many there are.
+    pub(crate) places: Vec<PagePlace>,
+    pub(crate) room: Room,
+    pub(crate) ghost many: { vec_len places ≡ 256 },
+}
