@@ -1,0 +1,6 @@
+pub mod Finding
+pub mod Going
+pub mod Loops
+pub mod Making
+pub mod Marking
+pub mod Steps

@@ -1,0 +1,15 @@
+pub mod Addresses
+pub mod Bytes
+pub mod Found
+pub mod Going
+pub mod Judged
+pub mod Lined
+pub mod Map
+pub mod Marked
+pub mod Places
+pub mod Reading
+pub mod Symbols
+pub mod Tables
+pub mod Types
+pub mod Views
+pub mod Walked

@@ -1,0 +1,23 @@
+-- The first symbols of some names.
+use Rattle.std.specs.Prelude.{◌≡◌, ℕ, List, [], codes, Option, Some, None, refl}
+use Rattle.std.specs.Option.{option_or}
+use Rattle.kc_kallsyms.specs.declared.marks.Marks.{Marks}
+use Rattle.kc_kallsyms.specs.Addresses.{offset_of}
+use Rattle.kc_kallsyms.specs.Symbols.{Symbol}
+
+-- what is known of a name, and then what symbols tell
+abbrev pub known_from : Option ℕ → List ℕ → List Symbol → Option ℕ
+known_from known name symbols = option_or known (offset_of name symbols)
+
+pub record MarksFrom (first now : Marks) (symbols : List Symbol) : Type 0 where
+  pub text : now.text ≡ known_from first.text (codes "_stext") symbols
+  pub processors : now.processors ≡ known_from first.processors (codes "__per_cpu_end") symbols
+  pub start : now.start ≡ known_from first.start (codes "__start_BTF") symbols
+  pub end : now.end ≡ known_from first.end (codes "__stop_BTF") symbols
+
+as_known : (known : Option ℕ) → known ≡ option_or known None
+as_known None = refl
+as_known (Some n) = refl
+
+pub marks_none : (rows : Marks) → MarksFrom rows rows []
+marks_none rows = record { text = as_known rows.text; processors = as_known rows.processors; start = as_known rows.start; end = as_known rows.end }

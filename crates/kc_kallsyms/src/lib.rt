@@ -1,0 +1,31 @@
+//! The kernel's own symbol table in the memory of a dump (scripts/kallsyms.c, kernel/kallsyms.c), and what it leads to: the map of the
+//! kernel as its build writes it, and its types.
+#![tactic(auto)]
+
+mod bytes;
+mod cursor;
+mod fault;
+mod frame;
+mod kernel;
+mod map;
+mod marks;
+mod places;
+mod reading;
+mod stop;
+mod symbol;
+mod tabled;
+mod tables;
+mod walk;
+
+pub use bytes::read_bytes;
+pub use cursor::Cursor;
+pub use fault::{TableFault, TableLine};
+pub use frame::Frame;
+pub use kernel::{read_map, read_types};
+pub use places::{Places, line_key, places_in};
+pub use reading::Reading;
+pub use stop::ReadStop;
+pub use symbol::Symbol;
+pub use tabled::read_tables;
+pub use tables::Tables;
+pub use walk::{Rows, walk_symbols};

@@ -1,0 +1,3 @@
+mod FileLaws
+mod LineLaws
+mod MapLaws
