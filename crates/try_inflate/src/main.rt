@@ -6,16 +6,10 @@
 use anyhow::{Context, Result};
 use kc_inflate::{Tables, unzip};
 use std::alloc::Global;
-use std::env;
-use std::fs;
+use std::{env, fs};
 
 // What comes of a stream, as a text.
-fn answer_text(
-    alloc: Global,
-    tables: &mut Tables,
-    size: usize,
-    stream: &[u8],
-) -> Result<String> {
+fn answer_text(alloc: Global, tables: &mut Tables, size: usize, stream: &[u8]) -> Result<String> {
     let mut out = vec![in alloc; 0u8; size]?;
     match unzip(tables, stream, &mut out) {
         Ok(()) => Ok(hex::encode(alloc, out.as_slice())?),
@@ -27,7 +21,10 @@ fn answer_text(
 fn difference(alloc: Global, tables: &mut Tables, line: &str) -> Result<Option<String>> {
     let (given, wanted) = line.split_once(" : ").context("a line without an answer")?;
     let (size, stream) = given.split_once(' ').context("a line without a stream")?;
-    let size = size.parse::<usize>().ok().context("a size that is no number")?;
+    let size = size
+        .parse::<usize>()
+        .ok()
+        .context("a size that is no number")?;
     let stream = hex::decode(alloc, stream)?;
     let answer = answer_text(alloc, tables, size, &stream)?;
     if answer.as_str() == wanted {
