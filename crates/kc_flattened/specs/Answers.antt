@@ -15,3 +15,10 @@ told NoMemory = None
 abbrev pub Answers : {X Y : Type 0} → (X → Y) → Option (List ℕ) → Result X FlatStop → (List ℕ → Result Y FlatFault) → Type 0
 Answers view None result meant = ⊤
 Answers view (Some bytes) result meant = GivesTold told view result (meant bytes)
+
+-- The answer names no fault of the file.
+abbrev pub IsFaultless : {X : Type 0} → Result X FlatStop → Type 0
+IsFaultless (Err ReadFault) = ⊤
+IsFaultless (Err (Fault fault)) = ⊥
+IsFaultless (Err NoMemory) = ⊤
+IsFaultless (Ok x) = ⊤

@@ -11,7 +11,11 @@ abbrev pub signature : List ℕ
 signature = 109 ∷ 97 ∷ 107 ∷ 101 ∷ 100 ∷ 117 ∷ 109 ∷ 112 ∷ 102 ∷ 105 ∷ 108 ∷ 101 ∷ 0 ∷ 0 ∷ 0 ∷ 0 ∷ []
 
 abbrev pub is_flat : List ℕ → Bool
-is_flat bytes = starts_with nat_eq bytes signature
+is_flat head = starts_with nat_eq head signature
+
+-- a file of this size is flattened
+abbrev pub is_flat_by : ℕ → List ℕ → Bool
+is_flat_by size bytes = if nat_lt size 16 then false else is_flat (take 16 bytes)
 
 -- the number of 8 bytes at a place, the highest byte first
 abbrev pub number : List ℕ → ℕ → ℕ
@@ -92,13 +96,23 @@ values f at (suc n) = f at ∷ values f (at + 1) n
 abbrev pub pasted : List ℕ → List Record → List ℕ
 pasted bytes records = values (λ i. written bytes records i 0) 0 (size_of records)
 
-abbrev pub pasted_of : List ℕ → Result (List Record) FlatFault → Result (List ℕ) FlatFault
-pasted_of bytes (Ok records) = Ok (pasted bytes records)
-pasted_of bytes (Err fault) = Err fault
+-- the records of a file of this size, or None where it isn't flattened
+abbrev pub found_of : Result (List Record) FlatFault → Result (Option (List Record)) FlatFault
+found_of (Ok records) = Ok (Some records)
+found_of (Err fault) = Err fault
 
--- the file that a flattened file stands for; any other file stands for itself
+abbrev pub flat_of : ℕ → List ℕ → Result (Option (List Record)) FlatFault
+flat_of size bytes = if is_flat_by size bytes then found_of (records_of size bytes) else Ok None
+
+-- the file that is meant, by its records; a file that isn't flattened means itself
+abbrev pub meant_by : List ℕ → Result (Option (List Record)) FlatFault → Result (List ℕ) FlatFault
+meant_by bytes (Ok (Some records)) = Ok (pasted bytes records)
+meant_by bytes (Ok None) = Ok bytes
+meant_by bytes (Err fault) = Err fault
+
+-- the file that a file means
 unfoldable pub unflat : List ℕ → Result (List ℕ) FlatFault
-unflat bytes = if is_flat (take 16 bytes) then pasted_of bytes (records_of (length bytes) bytes) else Ok bytes
+unflat bytes = meant_by bytes (flat_of (length bytes) bytes)
 
 -- a record's bytes are inside a file of this size, and go to an offset of 63 bits
 abbrev pub IsInside : ℕ → Record → Type 0

@@ -7,6 +7,6 @@ mod read;
 mod record;
 
 pub use fault::{FlatFault, FlatStop};
-pub use part::read_part;
-pub use read::read_records;
+pub use part::{read_part, size_of};
+pub use read::read_flat;
 pub use record::Record;

@@ -2,7 +2,7 @@
 ghost use Rattle.std.specs.Prelude.{◌≡◌, ℕ, ◌+◌, ◌-◌, ◌<◌, ◌≤◌, ◌^◌, false, length, take, drop, slice_index, All, Some, IfNone, IfSome, OnOk, OnErr};
 ghost use Rattle.kc_outside.specs.Counts.{Rose};
 ghost use Rattle.kc_outside.specs.Files.{content};
-ghost use Rattle.kc_flattened.specs.Flat.{is_over, written, values, byte_of, IsInside, IsOver, IsPut};
+ghost use Rattle.kc_flattened.specs.Flat.{is_over, written, values, byte_of, pasted, size_of, reach, IsInside, IsOver, IsPut};
 ghost use Rattle.kc_flattened.specs.Stays.{StoreStays};
 
 use crate::record::Record;
@@ -90,6 +90,15 @@ fn read_over<S: Store>(
     }
 }
 
+// Writes zeros.
+fn clear(buf: &mut [u8])
+    ensures { (k : ℕ) → k < length buf.old → slice_index buf.new k ≡ 0 }
+{
+    for byte in buf.iter_mut() {
+        *byte = 0;
+    }
+}
+
 /// Fills the buffer with what the records write from a place on, and with zeros where none does.
 ///
 /// # Errors
@@ -109,15 +118,42 @@ pub fn read_part<S: Store>(
 
     ensures told { OnOk result (IfSome (content (S.files store.old) slot (S.opened store.old slot)) (λ bytes.
         buf.new ≡ values (λ i. written bytes records.now i 0) off (length buf.old))) }
+    // Up to the end of the file that is meant, they are a part of it.
+    ensures part { OnOk result (IfSome (content (S.files store.old) slot (S.opened store.old slot)) (λ bytes.
+        off + length buf.old ≤ size_of records.now → buf.new ≡ take (length buf.old) (drop off (pasted bytes records.now)))) }
 
     ensures stays { StoreStays S.opened S.sizes S.files S.may S.asked store.old store.new }
     ensures quiet { OnOk result (S.faults store.new ≡ S.faults store.old) }
     ensures later { S.faults store.old ≤ S.faults store.new }
     ensures cause { OnErr result (Rose (S.faults store.old) (S.faults store.new)) }
 {
-    buf.fill(0);
+    clear(buf);
     for record in records {
         read_over(store, slot, size, record, off, buf)?;
     }
     Ok(())
+}
+
+// How far a record reaches.
+fn reach(record: &Record) -> u64
+    requires { record.now.to + record.now.count < 2 ^ 64 }
+    ensures { result ≡ reach record.now }
+{
+    if record.count == 0 {
+        0
+    } else {
+        record.to + record.count
+    }
+}
+
+/// How many bytes the file has that the records mean.
+pub fn size_of(size: u64, records: &[Record]) -> u64
+    requires { All (IsInside size) records.now }
+    ensures { result ≡ size_of records.now }
+{
+    let mut end = 0;
+    for record in records {
+        end = reach(record).max(end);
+    }
+    end
 }

@@ -1,9 +1,9 @@
 // Reading the records of a flattened file.
-ghost use Rattle.std.specs.Prelude.{◌≡◌, ◌+◌, ◌<◌, ◌≤◌, ◌^◌, length, All, Some, IfOk, IfSome};
+ghost use Rattle.std.specs.Prelude.{◌≡◌, ◌+◌, ◌<◌, ◌≤◌, ◌^◌, length, All, Some, IfOk, IfSome, option_map};
 ghost use Rattle.kc_word.specs.Answers.{Gives};
 ghost use Rattle.kc_outside.specs.Files.{content};
-ghost use Rattle.kc_flattened.specs.Answers.{Answers};
-ghost use Rattle.kc_flattened.specs.Flat.{is_last, record_by, record_of, record_at, records_from, records_of, is_head, IsInside};
+ghost use Rattle.kc_flattened.specs.Answers.{Answers, IsFaultless};
+ghost use Rattle.kc_flattened.specs.Flat.{is_last, record_by, record_of, record_at, records_from, records_of, is_head, is_flat_by, flat_of, IsInside};
 ghost use Rattle.kc_flattened.specs.Stays.{CountsFaults, StoreStays};
 
 use crate::fault::{FlatFault, FlatStop};
@@ -14,6 +14,9 @@ use std::alloc::Global;
 
 // Fewer records than this are read.
 const MOST_RECORDS: u32 = 4_194_304;
+
+// `makedumpfile`, and zeros up to 16 bytes.
+const SIGNATURE: [u8; 16] = *b"makedumpfile\0\0\0\0";
 
 // Records begin at this file offset.
 const HEADER_BYTES: u64 = 4096;
@@ -83,7 +86,11 @@ fn read_all<S: Store>(
     let mut records = Vec::new(alloc);
     let mut at = HEADER_BYTES;
     for _i in 0..MOST_RECORDS {
-        let record = match read_record(store, slot, size, at)? {
+        let next = match read_record(store, slot, size, at) {
+            Ok(next) => next,
+            Err(stop) => return Err(stop),
+        };
+        let record = match next {
             Some(record) => record,
             None => return Ok(records),
         };
@@ -101,14 +108,9 @@ fn is_head(head: &[u8]) -> bool
     BigEndian::read_u64(&head[16..]) == 1 && BigEndian::read_u64(&head[24..]) == 1
 }
 
-/// Reads the records of a flattened file of this size, in bytes, in the order in which they stand.
-///
-/// # Errors
-///
-/// The file's first fault; `ReadFault` where a call of the store failed, which ends the reading; or want
-/// of memory.
+// The records of a flattened file.
 #[tactic(auto, unfolding(crate::specs::Flat::records_of))]
-pub fn read_records<S: Store>(
+fn read_records<S: Store>(
     alloc: Global,
     store: &mut S,
     slot: Slot,
@@ -131,4 +133,49 @@ pub fn read_records<S: Store>(
         return Err(FlatStop::Fault(FlatFault::Header));
     }
     read_all(alloc, store, slot, size)
+}
+
+// Whether the file begins as flattened files do.
+fn read_is_flat<S: Store>(store: &mut S, slot: Slot, size: u64) -> Result<bool, FlatStop>
+    requires { S.sizes store.old slot ≡ Some size }
+
+    ensures told { IfOk result (λ flat. IfSome (content (S.files store.old) slot (S.opened store.old slot)) (λ bytes. flat ≡ is_flat_by size bytes)) }
+    ensures faultless { IsFaultless result }
+
+    ensures stays { StoreStays S.opened S.sizes S.files S.may S.asked store.old store.new }
+    ensures counts { CountsFaults result (S.faults store.old) (S.faults store.new) }
+{
+    if size < 16 {
+        return Ok(false);
+    }
+    let mut head = [0; 16];
+    store.read_at(slot, 0, &mut head)?;
+    Ok(head.starts_with(&SIGNATURE))
+}
+
+/// Reads the records of a file of this size, in bytes, in the order in which they stand, or `None` where it isn't
+/// flattened.
+///
+/// # Errors
+///
+/// The file's first fault; `ReadFault` where a call of the store failed, which ends the reading; or want
+/// of memory.
+pub fn read_flat<S: Store>(
+    alloc: Global,
+    store: &mut S,
+    slot: Slot,
+    size: u64,
+) -> Result<Option<Vec<Record>>, FlatStop>
+    requires { S.sizes store.old slot ≡ Some size }
+
+    ensures told { Answers (λ found. option_map (λ rs. rs.items) found) (content (S.files store.old) slot (S.opened store.old slot)) result (flat_of size) }
+    ensures inside { IfOk result (λ found. IfSome found (λ rs. All (IsInside size) rs.items)) }
+
+    ensures stays { StoreStays S.opened S.sizes S.files S.may S.asked store.old store.new }
+    ensures counts { CountsFaults result (S.faults store.old) (S.faults store.new) }
+{
+    if !read_is_flat(store, slot, size)? {
+        return Ok(None);
+    }
+    Ok(Some(read_records(alloc, store, slot, size)?))
 }

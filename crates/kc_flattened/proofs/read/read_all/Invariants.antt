@@ -5,8 +5,8 @@ use Rattle.kc_flattened.specs.Flat.{IsInside, before, records_from}
 use Rattle.kc_flattened.proofs.read.read_all.Given as goal
 
 -- the store as it was, but for its counts; and what is read, before what is left to read
-abbrev pub invariant-loop-_i : goal.invariant-loop-_i
-invariant-loop-_i g l = record {
+abbrev pub invariant-loop-i : goal.invariant-loop-i
+invariant-loop-i g l = record {
   opened : g.S.Store.opened l.store ≡ g.S.Store.opened l.initial.store;
   sizes : g.S.Store.sizes l.store ≡ g.S.Store.sizes l.initial.store;
   files : g.S.Store.files l.store ≡ g.S.Store.files l.initial.store;
