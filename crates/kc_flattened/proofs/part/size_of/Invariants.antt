@@ -1,4 +1,4 @@
-use Rattle.std.proofs.Common.{◌≡◌, ◌<◌, ◌^◌, max, drop}
+use Rattle.std.proofs.Common.{◌≡◌, max, drop}
 use Rattle.kc_flattened.specs.Flat.{size_of}
 use Rattle.kc_flattened.proofs.part.size_of.Given as goal
 

@@ -1,14 +1,12 @@
-use Rattle.std.proofs.Common.{Vec, Global, ◌≡◌, ℕ, ◌+◌, ◌-◌, ◌<◌, ◌≤◌, List, [], ◌∷◌, ◌++◌, length, Option, Some, None, Result, Ok, Err, IfSome, All, refl, sym, ap, ◌∙◌, subst, arith, rules}
-use Rattle.kc_word.specs.Answers.{GivesTold, Tells}
+use Rattle.std.proofs.Common.{Vec, Global, ◌≡◌, ℕ, ◌+◌, ◌-◌, List, [], ◌∷◌, ◌++◌, Option, Ok, Err, IfSome, All, sym, ap, ◌∙◌, subst, arith}
+use Rattle.kc_word.specs.Answers.{Tells}
 use Rattle.kc_outside.specs.Files.{content}
-use Rattle.kc_flattened.specs.declared.fault.FlatFault.{FlatFault}
 use Rattle.kc_flattened.specs.declared.fault.FlatFault.TheVariants.{TooMany}
-use Rattle.kc_flattened.specs.declared.fault.FlatStop.{FlatStop}
 use Rattle.kc_flattened.specs.declared.fault.FlatStop.TheVariants.{Fault}
 use Rattle.kc_flattened.specs.declared.record.Record.{Record}
-use Rattle.kc_flattened.specs.Answers.{Answers, told}
+use Rattle.kc_flattened.specs.Answers.{told}
 use Rattle.kc_flattened.specs.Flat.{IsInside, before, record_at, records_from}
-use Rattle.kc_flattened.proofs.FlatLemmas.{each, both, along, before_none, all_more, all_end, all_fault, all_many, tells_along, answers, answered, all_one}
+use Rattle.kc_flattened.proofs.FlatLemmas.{both, along, all_more, all_end, all_fault, all_many, tells_along, answers, answered, all_one}
 use Rattle.kc_flattened.proofs.read.read_all.Goals as goal
 
 pub returns-in-Err-clause-told : goal.returns-in-Err-clause-told

@@ -1,4 +1,4 @@
-use Rattle.std.proofs.Common.{vec_len, ◌≡◌, ℕ, ◌-◌, ◌≤◌, List, IfSome, All}
+use Rattle.std.proofs.Common.{◌≡◌, ℕ, ◌-◌, ◌≤◌, List, IfSome, All}
 use Rattle.kc_outside.specs.declared.store.Slot.{Slot}
 use Rattle.kc_outside.specs.Files.{content}
 use Rattle.kc_flattened.specs.Flat.{IsInside, before, records_from}
