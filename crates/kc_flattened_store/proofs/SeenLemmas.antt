@@ -1,12 +1,17 @@
 -- What a read of slot Dump gives.
-use Rattle.std.proofs.Common.{◌≡◌, ℕ, Bool, true, false, List, take, drop, Option, Some, None, IfSome, option_map, refl, sym, subst}
+use Rattle.std.specs.Prelude.{option_map}
+use Rattle.std.specs.Result.{result_ok}
+use Rattle.std.proofs.Common.{◌≡◌, ℕ, Bool, true, false, List, take, drop, Option, Some, None, Result, Ok, Err, IfSome, refl, sym, ap, ◌∙◌, subst}
 use Rattle.kc_outside.specs.declared.store.Slot.{Slot}
 use Rattle.kc_outside.specs.declared.store.Slot.TheVariants.{Dump, Btf, Map, Plan, Report, Module}
 use Rattle.kc_outside.specs.Files.{Files, HasLength, HasPart, content}
+use Rattle.kc_flattened.specs.declared.fault.FlatFault.{FlatFault}
+use Rattle.kc_flattened.specs.declared.record.Record.{Record}
+use Rattle.kc_flattened.specs.Flat.{flat_of, meant_by, pasted, unflat}
 use Rattle.kc_flattened_store.specs.declared.shape.Shape.{Shape}
 use Rattle.kc_flattened_store.specs.Seen.{is_dump, opened_by, seen_by, seen_bytes, seen_files, seen_opened}
 use Rattle.kc_flattened_store.specs.Shapes.{file_size, shape_bytes, shape_size}
-use Rattle.kc_flattened_store.specs.StoreLaws.{content_seen, sizes_length}
+use Rattle.kc_flattened_store.specs.StoreLaws.{content_seen, dump_length}
 
 told_part : (told : Option (List ℕ)) (s : Shape) (off count : ℕ) (buf : List ℕ) → ((bytes : List ℕ) → told ≡ Some bytes → seen_bytes bytes ≡ Some (shape_bytes s bytes))
     → IfSome told (λ bytes. buf ≡ take count (drop off (shape_bytes s bytes))) → HasPart (seen_by true told) off count buf
@@ -32,19 +37,6 @@ read_seen Map shape files opened off count buf is told part = absurd (let none :
 read_seen Plan shape files opened off count buf is told part = absurd (let none : ⊥ = cc in none)
 read_seen Report shape files opened off count buf is told part = absurd (let none : ⊥ = cc in none)
 read_seen Module shape files opened off count buf is told part = absurd (let none : ⊥ = cc in none)
-
--- the size that slot Dump tells
-pub size_long : (slot : Slot) (shape : Option Shape) (files : Option Files) (opened : Slot → Option (List ℕ)) (sizes : Slot → Option ℕ) (n : ℕ) → is_dump slot ≡ true
-    → ((s : Shape) → shape ≡ Some s → sizes Dump ≡ Some (file_size s))
-    → ((s : Shape) (bytes : List ℕ) → shape ≡ Some s → content files Dump (opened Dump) ≡ Some bytes → seen_bytes bytes ≡ Some (shape_bytes s bytes))
-    → ((m : ℕ) → sizes Dump ≡ Some m → HasLength (content files Dump (opened Dump)) m)
-    → option_map shape_size shape ≡ Some n → HasLength (content (seen_files files) slot (seen_opened shape opened slot)) n
-size_long Dump shape files opened sizes n is known told law long = sizes_length true shape files opened sizes Dump n known told law (λ here. law n here) long
-size_long Btf shape files opened sizes n is known told law long = absurd (let none : ⊥ = cc in none)
-size_long Map shape files opened sizes n is known told law long = absurd (let none : ⊥ = cc in none)
-size_long Plan shape files opened sizes n is known told law long = absurd (let none : ⊥ = cc in none)
-size_long Report shape files opened sizes n is known told law long = absurd (let none : ⊥ = cc in none)
-size_long Module shape files opened sizes n is known told law long = absurd (let none : ⊥ = cc in none)
 
 pub seen_length : (slot : Slot) (shape : Option Shape) (files : Option Files) (opened : Slot → Option (List ℕ)) (n : ℕ) → is_dump slot ≡ true
     → ((s : Shape) → shape ≡ Some s → HasLength (content files Dump (opened Dump)) (file_size s))

@@ -124,7 +124,7 @@ impl<S: Store + Drop> Store for Flattened<S> {
         self.calls.ask();
         if is_dump(slot) {
             self.is_learnt = true;
-            Ok(seen_size(&self.shape))
+            Ok(seen_size(&self.store, &self.shape))
         } else {
             match self.store.size(slot) {
                 Ok(size) => Ok(size),

@@ -11,15 +11,15 @@ use Rattle.kc_flattened_store.proofs.opening.shape_of.Goals as goal
 pub returns-in-Some-clause-told : goal.returns-in-Some-clause-told
 returns-in-Some-clause-told g c =
     told_flat (content (g.S.Store.files c.args.store.now) Dump (g.S.Store.opened c.args.store.now Dump)) c.args.size
-      (option_map (λ (rs : Vec Record Global). rs.items) c.in-Ok.found) c.in-Some.records.items c.know_size.ensures
-      (ap (λ (f : Option (Vec Record Global)). option_map (λ (rs : Vec Record Global). rs.items) f) c.in-Some.is)
-      (answered {X = Option (Vec Record Global)} {Y = Option (List Record)} (content (g.S.Store.files c.args.store.now) Dump (g.S.Store.opened c.args.store.now Dump))
-        (λ found. option_map (λ (rs : Vec Record Global). rs.items) found) (Ok c.in-Ok.found) (flat_of c.args.size) c.in-Ok.ensures.told)
+    (option_map (λ (rs : Vec Record Global). rs.items) c.in-Ok.found) c.in-Some.records.items c.know_size.ensures
+    (ap (λ (f : Option (Vec Record Global)). option_map (λ (rs : Vec Record Global). rs.items) f) c.in-Some.is)
+    (answered {X = Option (Vec Record Global)} {Y = Option (List Record)} (content (g.S.Store.files c.args.store.now) Dump (g.S.Store.opened c.args.store.now Dump))
+    (λ found. option_map (λ (rs : Vec Record Global). rs.items) found) (Ok c.in-Ok.found) (flat_of c.args.size) c.in-Ok.ensures.told)
 
 pub returns-in-None-clause-told : goal.returns-in-None-clause-told
 returns-in-None-clause-told g c =
     told_whole (content (g.S.Store.files c.args.store.now) Dump (g.S.Store.opened c.args.store.now Dump)) c.args.size
-      (option_map (λ (rs : Vec Record Global). rs.items) c.in-Ok.found) c.know_size.ensures
-      (ap (λ (f : Option (Vec Record Global)). option_map (λ (rs : Vec Record Global). rs.items) f) c.in-None.is)
-      (answered {X = Option (Vec Record Global)} {Y = Option (List Record)} (content (g.S.Store.files c.args.store.now) Dump (g.S.Store.opened c.args.store.now Dump))
-        (λ found. option_map (λ (rs : Vec Record Global). rs.items) found) (Ok c.in-Ok.found) (flat_of c.args.size) c.in-Ok.ensures.told)
+    (option_map (λ (rs : Vec Record Global). rs.items) c.in-Ok.found) c.know_size.ensures
+    (ap (λ (f : Option (Vec Record Global)). option_map (λ (rs : Vec Record Global). rs.items) f) c.in-None.is)
+    (answered {X = Option (Vec Record Global)} {Y = Option (List Record)} (content (g.S.Store.files c.args.store.now) Dump (g.S.Store.opened c.args.store.now Dump))
+    (λ found. option_map (λ (rs : Vec Record Global). rs.items) found) (Ok c.in-Ok.found) (flat_of c.args.size) c.in-Ok.ensures.told)
