@@ -1,0 +1,3 @@
+pub mod Seen
+pub mod Shapes
+pub mod StoreLaws

@@ -1,0 +1,15 @@
+//! A store over a store, whose slot Dump has the file that a flattened file means.
+#![tactic(auto)]
+
+mod calls;
+mod flat_file;
+mod opening;
+mod reading;
+mod shape;
+mod stop;
+mod store;
+
+pub use flat_file::FlatFile;
+pub use shape::Shape;
+pub use stop::FlattenedFault;
+pub use store::Flattened;
