@@ -8,6 +8,9 @@ use Rattle.kc_notes.specs.declared.fault.NoteFault.{NoteFault}
 use Rattle.kc_notes.specs.declared.fault.NoteFault.TheVariants.{V1, V2, V3, V4, V5, V6, V7}
 use Rattle.kc_notes.specs.declared.fault.NoteKey.{NoteKey}
 use Rattle.kc_notes.specs.declared.fault.NoteKey.TheVariants.{L5, Offset, Sme}
+use Rattle.kc_kallsyms.specs.declared.fault.TableFault.{TableFault}
+use Rattle.kc_kallsyms.specs.declared.fault.TableFault.TheVariants.{S4, S5, S6, S7, S8, S9, S10, S11}
+use Rattle.kc_kallsyms.specs.Places.{line_key}
 use Rattle.kc_btf.specs.declared.stop.BtfFault.{BtfFault}
 use Rattle.kc_btf.specs.declared.stop.BRule.{BRule}
 use Rattle.kc_btf.specs.declared.stop.BRule.TheVariants.{B1, B2, B3, B4, B5, B6, B7, B8}
@@ -22,7 +25,7 @@ use Rattle.kc_keys.specs.declared.fault.PRule.TheVariants.{P1, P2, P3, P4, P5, P
 use Rattle.kc_keys.specs.Keys.{spelled}
 use Rattle.kc_text.specs.Text.{hex}
 use Rattle.kc_input.specs.declared.refusal.Refusal.{Refusal}
-use Rattle.kc_input.specs.declared.refusal.Refusal.TheVariants.{Core, Notes, TooLong, Types, Module as of_module, MapLine, Symbol, NoType, Path, Plan as of_plan, Certificate, Report as of_report}
+use Rattle.kc_input.specs.declared.refusal.Refusal.TheVariants.{Core, Notes, Tables, TooLong, Types, Module as of_module, MapLine, Symbol, NoType, Path, Plan as of_plan, Certificate, Report as of_report}
 use Rattle.kc_input.specs.declared.refusal.ReportFault.{ReportFault}
 use Rattle.kc_input.specs.declared.refusal.ReportFault.TheVariants.{F1, Y1, Y2}
 
@@ -54,6 +57,17 @@ note_code V4 = codes "V4"
 note_code V5 = codes "V5"
 note_code (V6 key) = codes "V6 key " ++ key_text key
 note_code V7 = codes "V7"
+
+-- the code of a fault of the dump's own symbol table, with the line that is missing, or the number of symbols, of the token or of the symbol
+abbrev pub table_code : TableFault → List ℕ
+table_code (S4 line) = codes "S4 key " ++ line_key line
+table_code (S5 count) = codes "S5 count " ++ decimal count
+table_code (S6 number) = codes "S6 token " ++ decimal number
+table_code (S7 number) = codes "S7 symbol " ++ decimal number
+table_code (S8 number) = codes "S8 symbol " ++ decimal number
+table_code S9 = codes "S9"
+table_code S10 = codes "S10"
+table_code S11 = codes "S11"
 
 -- the code of a rule of the file of types
 abbrev pub btf_code : BRule → List ℕ
@@ -131,6 +145,7 @@ report_code Y2 = codes "Y2"
 abbrev pub refusal_text : Refusal → List ℕ
 refusal_text (Core fault) = codes "dump " ++ core_code fault
 refusal_text (Notes fault) = codes "dump " ++ note_code fault
+refusal_text (Tables fault) = codes "dump " ++ table_code fault
 refusal_text (TooLong slot) = slot_name slot ++ codes " F1"
 refusal_text (Types fault) = codes "btf " ++ btf_text fault
 refusal_text (of_module fault) = codes "module " ++ btf_text fault

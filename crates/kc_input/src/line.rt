@@ -1,11 +1,13 @@
 // The line of a refusal.
 ghost use Rattle.std.specs.Prelude.{◌≡◌, ◌++◌, Some, codes, decimal, IfOk, OnOk};
 ghost use Rattle.kc_text.specs.Text.{hex};
-ghost use Rattle.kc_input.specs.Lines.{audit_part, btf_code, btf_text, core_code, key_part, key_text, note_code, path_code, plan_code, plan_rule, refusal_line, refusal_text, report_code, slot_name, symbol_code};
+ghost use Rattle.kc_kallsyms.specs.Places.{line_key};
+ghost use Rattle.kc_input.specs.Lines.{audit_part, btf_code, btf_text, core_code, key_part, key_text, note_code, path_code, plan_code, plan_rule, refusal_line, refusal_text, report_code, slot_name, symbol_code, table_code};
 
 use crate::refusal::{Refusal, ReportFault};
 use kc_btf::{BRule, BtfFault};
 use kc_elf::CoreFault;
+use kc_kallsyms::{TableFault, TableLine, line_key};
 use kc_keys::{PRule, PlanFault, PlanKey, spelling};
 use kc_layout::{PathFault, QRule};
 use kc_notes::{NoteFault, NoteKey};
@@ -144,6 +146,35 @@ fn push_notes(text: &mut Vec<u8>, fault: NoteFault) -> Result<(), NoMemory>
     push_note_code(text, fault)
 }
 
+fn push_table_line(text: &mut Vec<u8>, line: TableLine) -> Result<(), NoMemory>
+    ensures { OnOk result (text.new.items ≡ text.old.items ++ (codes "S4 key " ++ line_key line)) }
+{
+    push(text, b"S4 key ")?;
+    push(text, line_key(line))
+}
+
+fn push_table_code(text: &mut Vec<u8>, fault: TableFault) -> Result<(), NoMemory>
+    ensures { OnOk result (text.new.items ≡ text.old.items ++ table_code fault) }
+{
+    match fault {
+        TableFault::S4(line) => push_table_line(text, line),
+        TableFault::S5(count) => push_numbered(text, b"S5 count ", u64::from(count)),
+        TableFault::S6(number) => push_numbered(text, b"S6 token ", u64::from(number)),
+        TableFault::S7(number) => push_numbered(text, b"S7 symbol ", u64::from(number)),
+        TableFault::S8(number) => push_numbered(text, b"S8 symbol ", u64::from(number)),
+        TableFault::S9 => push(text, b"S9"),
+        TableFault::S10 => push(text, b"S10"),
+        TableFault::S11 => push(text, b"S11"),
+    }
+}
+
+fn push_table(text: &mut Vec<u8>, fault: TableFault) -> Result<(), NoMemory>
+    ensures { OnOk result (text.new.items ≡ text.old.items ++ (codes "dump " ++ table_code fault)) }
+{
+    push(text, b"dump ")?;
+    push_table_code(text, fault)
+}
+
 fn push_too_long(text: &mut Vec<u8>, slot: Slot) -> Result<(), NoMemory>
     ensures { OnOk result (text.new.items ≡ text.old.items ++ (slot_name slot ++ codes " F1")) }
 {
@@ -244,6 +275,7 @@ fn push_refusal(text: &mut Vec<u8>, refusal: Refusal) -> Result<(), NoMemory>
     match refusal {
         Refusal::Core(fault) => push_core(text, fault),
         Refusal::Notes(fault) => push_notes(text, fault),
+        Refusal::Tables(fault) => push_table(text, fault),
         Refusal::TooLong(slot) => push_too_long(text, slot),
         Refusal::Types(fault) => push_btf(text, b"btf ", fault),
         Refusal::Module(fault) => push_btf(text, b"module ", fault),

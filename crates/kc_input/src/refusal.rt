@@ -1,9 +1,10 @@
 // Why a file, or what is looked up in it, is refused.
 ghost use Rattle.std.specs.Prelude.{◌≡◌};
-ghost use Rattle.kc_input.specs.declared.refusal.Refusal.TheVariants.{Core, Notes, Types, Symbol, Path, Plan};
+ghost use Rattle.kc_input.specs.declared.refusal.Refusal.TheVariants.{Core, Notes, Tables, Types, Symbol, Path, Plan};
 
 use kc_btf::BtfFault;
 use kc_elf::CoreFault;
+use kc_kallsyms::TableFault;
 use kc_keys::PlanFault;
 use kc_layout::PathFault;
 use kc_notes::NoteFault;
@@ -28,6 +29,8 @@ pub enum Refusal {
     Core(CoreFault),
     /// The dump's notes don't tell what is needed.
     Notes(NoteFault),
+    /// The dump's own symbol table is none, or doesn't have what is needed.
+    Tables(TableFault),
     /// The file in this slot is above its limit of bytes.
     TooLong(Slot),
     /// The file of types breaks a rule.
@@ -64,6 +67,14 @@ impl From<NoteFault> for Refusal {
 
     fn from(fault: NoteFault) -> Self {
         Refusal::Notes(fault)
+    }
+}
+
+impl From<TableFault> for Refusal {
+    ghost from_gives = { λ fault refusal. refusal ≡ Tables fault };
+
+    fn from(fault: TableFault) -> Self {
+        Refusal::Tables(fault)
     }
 }
 
