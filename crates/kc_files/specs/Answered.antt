@@ -1,0 +1,32 @@
+-- What the code answers on what reading memory gave.
+use Rattle.std.specs.Prelude.{◌≡◌, ⊤, Result, Ok, Err}
+use Rattle.std.specs.Global.{Vec}
+use Rattle.std.specs.Prelude.{ℕ}
+use Rattle.kc_memory.specs.Stopped.{Stopped}
+use Rattle.kc_kallsyms.specs.declared.stop.ReadStop.{ReadStop}
+use Rattle.kc_kallsyms.specs.declared.stop.ReadStop.TheVariants.{Miss, Fault, Table, NoMemory}
+use Rattle.kc_input.specs.declared.halt.Halt.{Halt}
+use Rattle.kc_input.specs.declared.halt.Halt.TheVariants.{Refused, Store, Memory}
+use Rattle.kc_input.specs.declared.refusal.Refusal.TheVariants.{Tables}
+use Rattle.kc_ends.specs.declared.answer.Answer.{Answer}
+use Rattle.kc_ends.specs.declared.answer.Answer.TheVariants.{Done}
+use Rattle.kc_ends.specs.Answers.{written_by}
+use Rattle.kc_files.specs.Made.{Broken, files_written}
+
+-- a miss is shown, unless no memory was left
+abbrev pub ShowsMiss : Stopped → Result Answer Halt → Type 0
+ShowsMiss s (Ok answer) = written_by answer ≡ files_written (Broken s)
+ShowsMiss s (Err (Refused refusal)) = ⊥
+ShowsMiss s (Err Store) = ⊥
+ShowsMiss s (Err Memory) = ⊤
+
+abbrev pub IsStopped : ReadStop → Result Answer Halt → Type 0
+IsStopped (Miss s) r = ShowsMiss s r
+IsStopped Fault r = r ≡ Err Store
+IsStopped (Table fault) r = r ≡ Err (Refused (Tables fault))
+IsStopped NoMemory r = r ≡ Err Memory
+
+-- the bytes are the text of an answer
+abbrev pub IsAnswer : Result (Vec ℕ) ReadStop → Result Answer Halt → Type 0
+IsAnswer (Ok bytes) r = r ≡ Ok (Done bytes)
+IsAnswer (Err stop) r = IsStopped stop r

@@ -1,0 +1,143 @@
+// The files of kfiles, and what is made of them.
+ghost use Rattle.std.specs.Prelude.{◌≡◌, ◌≤◌, Some, map, option_map};
+ghost use Rattle.std.specs.Option.{ForSome};
+ghost use Rattle.std.specs.String.{string_bytes};
+ghost use Rattle.kc_outside.specs.declared.store.Slot.{Slot};
+ghost use Rattle.kc_outside.specs.declared.store.Slot.TheVariants.{Dump};
+ghost use Rattle.kc_outside.specs.Counts.{Rose};
+ghost use Rattle.kc_outside.specs.Files.{content};
+ghost use Rattle.kc_phys.specs.Stored.{AreInside};
+ghost use Rattle.kc_input.specs.Halts.{OnStore, UnlessStore};
+ghost use Rattle.kc_input.specs.Made.{Tells};
+ghost use Rattle.kc_input.specs.Paging.{IsTable, by_info};
+ghost use Rattle.kc_input.specs.Slots.{IsAbout, RefusesIn};
+ghost use Rattle.kc_ends.specs.Answers.{OnNone, OnStoreIn, PrintsOf, PrintsOfBytes, Runs, StayBehind, UnlessStoreIn};
+ghost use Rattle.kc_ends.specs.Asked.{word_in};
+ghost use Rattle.kc_files.specs.Answered.{IsAnswer, IsStopped};
+ghost use Rattle.kc_files.specs.Made.{files_asks, files_made, files_view, files_written, places_made, shown_by};
+ghost use Rattle.kc_files.specs.Wished.{image_of, wished};
+
+use crate::memory::read_file;
+use crate::wish::{Wish, wish_of};
+use kc_elf::Core;
+use kc_ends::Answer;
+use kc_input::{Halt, Refusal, read_dump, read_info};
+use kc_kallsyms::{Places, ReadStop, places_in};
+use kc_notes::{Info, vmcoreinfo};
+use kc_outside::Store;
+use kc_report::broken_text;
+use std::alloc::Global;
+
+/// What is asked: a file of a dump's kernel.
+#[derive(Clone, Copy)]
+pub struct Asks<'w> {
+    /// The name of the dump.
+    pub dump: &'w str,
+    /// What is wished of it.
+    pub wish: Wish,
+}
+
+// What the words ask.
+fn read(words: &[String]) -> Option<Asks<'_>>
+    ensures asked { option_map files_view result ≡ files_asks (map string_bytes words.now) }
+{
+    let [dump, word] = words else {
+        return None;
+    };
+    Some(Asks {
+        dump: dump.as_str(),
+        wish: wish_of(word.as_str())?,
+    })
+}
+
+/// Runs kfiles on the words behind its name: the first fault of the dump or of its symbol table, the first word that can't be read, or the
+/// bytes of the file that is wished. `None` where these aren't its words; the store isn't asked then.
+pub fn run<S: Store>(alloc: Global, store: &mut S, words: &[String]) -> Option<Result<Answer, Halt>>
+    requires { (slot : Slot) → ForSome (word_in (files_asks (map string_bytes words.now)) slot) (S.may store.old slot) }
+
+    ensures output { Runs files_written (files_asks (map string_bytes words.now)) (S.files store.old) result
+        (S.opened store.old) (S.opened store.new) }
+    ensures unasked { OnNone result (S.asked store.new ≡ S.asked store.old) }
+    ensures files { S.files store.new ≡ S.files store.old }
+    ensures later { S.faults store.old ≤ S.faults store.new }
+    ensures quiet { UnlessStoreIn result (S.faults store.new ≡ S.faults store.old) }
+    ensures cause { OnStoreIn result (Rose (S.faults store.old) (S.faults store.new)) }
+{
+    let asks = read(words)?;
+    Some(file(alloc, store, asks))
+}
+
+// Where the tables lie, by a dump's notes.
+#[tactic(auto, unfolding(crate::specs::Made::places_made))]
+fn read_places(core: &Core) -> Result<Places, Refusal>
+    ensures made { Tells (λ places. places) (places_made core.now.notes) result }
+    ensures refused { IsAbout (Some Dump) result }
+{
+    let note = vmcoreinfo(core)?;
+    Ok(places_in(note)?)
+}
+
+// The answer to what is asked.
+fn file<S: Store>(alloc: Global, store: &mut S, asks: Asks<'_>) -> Result<Answer, Halt>
+    requires may { S.may store.old Dump asks.dump.now }
+
+    ensures output { PrintsOf files_written
+        (λ files. files_made asks.entry.wish (files Dump asks.entry.dump.now)) (S.files store.old) result }
+    ensures unopened { StayBehind (files_view asks.entry).named result (S.opened store.old) (S.opened store.new) }
+    ensures files { S.files store.new ≡ S.files store.old }
+    ensures later { S.faults store.old ≤ S.faults store.new }
+    ensures quiet { UnlessStore result (S.faults store.new ≡ S.faults store.old) }
+    ensures cause { OnStore result (Rose (S.faults store.old) (S.faults store.new)) }
+{
+    let core = read_dump(alloc, store, asks.dump)?;
+    let info = read_info(&core)?;
+    let places = read_places(&core)?;
+    make(alloc, store, &core, info, &places, asks.wish)
+}
+
+// The answer on a dump that was read.
+fn make<S: Store>(
+    alloc: Global,
+    store: &mut S,
+    core: &Core,
+    info: Info,
+    places: &Places,
+    wish: Wish,
+) -> Result<Answer, Halt>
+    requires table { IsTable info.table }
+    requires inside { AreInside (S.sizes store.old Dump) core.now.segments }
+
+    ensures output { PrintsOfBytes files_written
+        (λ bytes. shown_by (wished wish (image_of bytes core.now.segments (by_info info)) info.kaslr places.now))
+        (content (S.files store.old) Dump (S.opened store.old Dump)) result }
+    ensures refused { RefusesIn Dump result }
+    ensures files { S.files store.new ≡ S.files store.old }
+    ensures later { S.faults store.old ≤ S.faults store.new }
+    ensures quiet { UnlessStore result (S.faults store.new ≡ S.faults store.old) }
+    ensures cause { OnStore result (Rose (S.faults store.old) (S.faults store.new)) }
+{
+    let bytes = read_file(alloc, store, core, info, places, wish);
+    answer(alloc, bytes)
+}
+
+// The answer by what reading memory gave.
+fn answer(alloc: Global, bytes: Result<Vec<u8>, ReadStop>) -> Result<Answer, Halt>
+    ensures { IsAnswer bytes result }
+{
+    match bytes {
+        Ok(bytes) => Ok(Answer::Done(bytes)),
+        Err(stop) => stopped(alloc, stop),
+    }
+}
+
+// The answer where it stopped.
+fn stopped(alloc: Global, stop: ReadStop) -> Result<Answer, Halt>
+    ensures { IsStopped stop result }
+{
+    match stop {
+        ReadStop::Miss(miss) => Ok(Answer::Broken(broken_text(alloc, miss)?)),
+        ReadStop::Fault => Err(Halt::Store),
+        ReadStop::Table(fault) => Err(Halt::Refused(Refusal::Tables(fault))),
+        ReadStop::NoMemory => Err(Halt::Memory),
+    }
+}
