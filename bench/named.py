@@ -27,7 +27,7 @@ WORD = re.compile(r"`([A-Za-z_]\w*(?:::\w+)*)(?:\(\))?`")
 
 
 def read(path):
-    with open(path, encoding="utf-8") as file:
+    with open(path, encoding="utf-8", errors="replace") as file:
         return file.read()
 
 
