@@ -1,8 +1,7 @@
-#!/usr/bin/env python3
 """The definition of flattened files (crates/kc_flattened/specs) in executable form.
 
-    flat.py FILE > OUT          writes the file that a flattened file means
-    flat.py --count FILE        prints its records, its size and how many records are over another
+    flat FILE > OUT          writes the file that a flattened file means
+    flat --count FILE        prints its records, its size and how many records are over another
 """
 import sys
 
@@ -64,7 +63,3 @@ def main(words):
         print(e.args[0], file=sys.stderr)
         return 1
     return 0
-
-
-if __name__ == '__main__':
-    sys.exit(main(sys.argv[1:]))
