@@ -5,8 +5,8 @@ _kaudit()
     local commands=
     case ${program%-unproved} in
         kaudit) commands="word layout show check selftest certify recheck" ;;
-        kplain) commands="core word layout show check certify recheck" ;;
-        kfiles) [ "$COMP_CWORD" -eq 2 ] && commands="map types modules module note log" ;;
+        kplain) commands="core" ;;
+        kfiles) [ "$COMP_CWORD" -eq 2 ] && commands="map types" ;;
         kwhy) [ "$COMP_CWORD" -eq 4 ] && commands="refs" ;;
         ktriage) commands="--types --map --json --html --keep --programs --plans --help" ;;
     esac
