@@ -30,7 +30,8 @@ install:
 	install -d $(DESTDIR)$(PREFIX)/bin $(SHARE)/kaudit/plans $(SHARE)/man/man1 $(SHARE)/doc/kaudit $(SHARE)/bash-completion/completions
 	install -m 755 $(BUILT) tools/ktriage $(DESTDIR)$(PREFIX)/bin
 	install -m 644 $(wildcard plans/*.toml) plans/kernels.txt $(SHARE)/kaudit/plans
-	install -m 755 $(wildcard plans/*.py) $(SHARE)/kaudit/plans
+	install -m 644 plans/reader.py $(SHARE)/kaudit/plans
+	install -m 755 plans/heads.py $(SHARE)/kaudit/plans
 	for m in $(MANUAL); do gzip -9nc $$m > $(SHARE)/man/man1/$$(basename $$m).gz || exit 1; done
 	install -m 644 $(TEXTS) $(SHARE)/doc/kaudit
 	for p in $(PROGRAMS) ktriage; do install -m 644 tools/completion.bash $(SHARE)/bash-completion/completions/$$p || exit 1; done
