@@ -1,0 +1,64 @@
+-- The slab caches of a kernel. Source: the kernel's mm/slab_common.c, the ring `slab_caches`; include/linux/slub_def.h, `struct kmem_cache`
+-- (from 6.8 on in mm/slab.h).
+use Rattle.std.specs.Prelude.{ℕ, Bool, true, if◌then◌else◌, List, [], ◌∷◌, Option, Some, None, Result, Ok, Err}
+use Rattle.std.specs.BTreeMap.{insert_entry}
+use Rattle.std.specs.Ordering.{nat_cmp}
+use Rattle.std.specs.Str.{bytes_eq}
+use Rattle.kc_memory.specs.Image.{Image}
+use Rattle.kc_view.specs.declared.slub.SlubBases.{SlubBases}
+use Rattle.kc_view.specs.Caches.{objects_of}
+use Rattle.kc_found.specs.Rings.{ring_walk}
+use Rattle.kc_found.specs.Trials.{and_then}
+use Rattle.kc_found.specs.Violations.{Violation}
+use Rattle.kc_lookup.specs.Known.{known}
+use Rattle.kc_lookup.specs.Looked.{looked_at}
+use Rattle.kc_object.specs.declared.shape.ObjectShape.{ObjectShape}
+use Rattle.kc_object.specs.Caches.{text_by}
+use Rattle.kc_object.specs.Keys.{cache_by}
+use Rattle.kc_object.specs.Pages.{bases_at}
+use Rattle.kc_slab_page.specs.declared.caches.CacheSeen.{CacheSeen}
+use Rattle.kc_slab_page.specs.declared.caches.SlabCaches.{SlabCaches}
+
+-- what a cache says of itself
+abbrev pub cache_seen : Image → ObjectShape → ℕ → CacheSeen
+cache_seen image shape at = record {
+  name = text_by image (known image at shape.name);
+  objects = objects_of image (looked_at at) shape.slub;
+}
+
+-- all caches are wanted, or those with a name
+abbrev pub is_wanted : Option (List ℕ) → List ℕ → Bool
+is_wanted None name = true
+is_wanted (Some wanted) name = bytes_eq name wanted
+
+-- caches by their addresses, ascending
+abbrev pub Entries : Type 0
+Entries = List (ℕ × CacheSeen)
+
+-- with one more, where it is wanted
+abbrev pub with_seen : Option (List ℕ) → Entries → ℕ → CacheSeen → Entries
+with_seen wanted caches at cache = if is_wanted wanted cache.name then insert_entry nat_cmp caches at cache else caches
+
+-- with that of a node of the ring of all caches
+abbrev pub with_cache : Image → ObjectShape → Option (List ℕ) → Entries → ℕ → Entries
+with_cache image shape wanted caches node = with_seen wanted caches (cache_by shape node) (cache_seen image shape (cache_by shape node))
+
+-- with those of some nodes
+unfoldable pub caches_from : Image → ObjectShape → Option (List ℕ) → Entries → List ℕ → Entries
+caches_from image shape wanted caches [] = caches
+caches_from image shape wanted caches (n ∷ ns) = caches_from image shape wanted (with_cache image shape wanted caches n) ns
+
+-- where page descriptors and physical memory begin, and the caches
+pub record Caches : Type 0 where
+  pub bases : SlubBases
+  pub entries : Entries
+
+abbrev pub caches_view : SlabCaches → Caches
+caches_view c = record { bases = c.bases; entries = c.caches.entries }
+
+-- those of the ring of all caches that are wanted
+abbrev pub caches_in : Image → ObjectShape → Option (List ℕ) → Result Caches Violation
+caches_in image shape wanted =
+    and_then (bases_at image (looked_at shape.caches) shape.slub) (λ b.
+    and_then (ring_walk image shape.slub.list 0 shape.caches) (λ nodes.
+    Ok (record { bases = b; entries = caches_from image shape wanted [] nodes })))

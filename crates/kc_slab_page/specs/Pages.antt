@@ -1,0 +1,77 @@
+-- What a page of a dump is, by its descriptor. Source: the kernel's mm/slab.h, `struct slab` (`slab_folio`, `folio_slab`), whose `slab_cache` names
+-- its cache.
+use Rattle.std.specs.Prelude.{◌≡◌, ℕ, Bool, true, false, if◌then◌else◌, Option, Some, None, Result, Ok, Err}
+use Rattle.std.specs.BTreeMap.{is_at}
+use Rattle.std.specs.Ordering.{nat_cmp}
+use Rattle.std.specs.Map.{lookup}
+use Rattle.kc_memory.specs.declared.space.Stop.{Stop}
+use Rattle.kc_memory.specs.declared.space.Stop.TheVariants as stops
+use Rattle.kc_memory.specs.Image.{Image}
+use Rattle.kc_view.specs.declared.fields.FieldNumber.{FieldNumber}
+use Rattle.kc_view.specs.declared.slub.SlabObjects.{SlabObjects}
+use Rattle.kc_view.specs.declared.slub.SlubBases.{SlubBases}
+use Rattle.kc_view.specs.declared.slub.SlubShape.{SlubShape}
+use Rattle.kc_view.specs.Fields.{field_of, value_of}
+use Rattle.kc_found.specs.declared.found.WalkStop.{WalkStop}
+use Rattle.kc_found.specs.declared.found.WalkStop.TheVariants as ends
+use Rattle.kc_found.specs.Nodes.{readable}
+use Rattle.kc_found.specs.Violations.{Violation}
+use Rattle.kc_object.specs.Pages.{descriptor_of}
+use Rattle.kc_slab_page.specs.declared.caches.CacheSeen.{CacheSeen}
+use Rattle.kc_slab_page.specs.declared.page.PageSeen.{PageSeen}
+use Rattle.kc_slab_page.specs.declared.page.PageSeen.TheVariants.{Absent, Other, Unmarked, Slab}
+use Rattle.kc_slab_page.specs.declared.page.SlabState.{SlabState}
+use Rattle.kc_slab_page.specs.declared.page.SlabState.TheVariants.{Whole, Broken, Untold}
+use Rattle.kc_slab_page.specs.declared.shape.PageShape.{PageShape}
+use Rattle.kc_slab_page.specs.declared.slab.SlabFree.{SlabFree}
+use Rattle.kc_slab_page.specs.Caches.{Caches}
+use Rattle.kc_slab_page.specs.Marks.{marked}
+use Rattle.kc_slab_page.specs.Slabs.{is_laid, slab_free}
+
+-- what a slab is, by its first violation
+abbrev pub state_of : Result SlabFree Violation → SlabState
+state_of (Ok free) = Whole free
+state_of (Err v) = Broken v
+
+-- where its cache's objects lie so, and where that can't be told
+abbrev pub state_with : Image → SlubShape → SlubBases → ℕ → FieldNumber → SlabObjects → SlabState
+state_with image shape b slab cache o = if is_laid o then state_of (slab_free image shape b o slab cache) else Untold
+
+abbrev pub state_by : Image → SlubShape → SlubBases → ℕ → FieldNumber → Result SlabObjects Violation → SlabState
+state_by image shape b slab cache (Ok o) = state_with image shape b slab cache o
+state_by image shape b slab cache (Err v) = Untold
+
+-- a page whose descriptor names a cache, by its mark: a slab's first page has it
+abbrev pub with_mark : SlabState → ℕ → ℕ → Option Bool → PageSeen
+with_mark state page cache None = Absent
+with_mark state page cache (Some false) = Unmarked
+with_mark state page cache (Some true) = Slab (record { slab = page; cache = cache; state = state })
+
+abbrev pub by_mark : Image → PageShape → SlubBases → ℕ → FieldNumber → CacheSeen → PageSeen
+by_mark image shape b page cache seen =
+    with_mark (state_by image shape.objects.slub b page cache seen.objects) page (value_of cache) (marked image shape.mark page)
+
+-- a page, by what its descriptor has as its cache
+abbrev pub by_seen : Image → PageShape → SlubBases → ℕ → FieldNumber → Option CacheSeen → PageSeen
+by_seen image shape b page cache None = Other
+by_seen image shape b page cache (Some seen) = by_mark image shape b page cache seen
+
+abbrev pub by_cache : Image → PageShape → Caches → ℕ → FieldNumber → PageSeen
+by_cache image shape caches page cache =
+    by_seen image shape caches.bases page cache (lookup (is_at (nat_cmp (value_of cache))) caches.entries)
+
+-- and where that can't be read
+abbrev pub by_read : Image → PageShape → Caches → ℕ → Option FieldNumber → PageSeen
+by_read image shape caches page None = Absent
+by_read image shape caches page (Some cache) = by_cache image shape caches page cache
+
+-- what the page with a number is
+unfoldable pub page_seen : Image → PageShape → Caches → ℕ → PageSeen
+page_seen image shape caches number =
+    let page = descriptor_of shape.objects.slub caches.bases number in
+    by_read image shape caches page (readable (field_of image page shape.objects.slub.slab_cache))
+
+-- the answer at a stop
+abbrev pub IsAbsent : Stop → Result PageSeen WalkStop → Type 0
+IsAbsent (stops.Miss s) r = r ≡ Ok Absent
+IsAbsent stops.Fault r = r ≡ Err ends.Fault

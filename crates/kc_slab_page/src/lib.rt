@@ -1,0 +1,19 @@
+//! A slab of a dump, found by its page's descriptor and not by a list: what is a slab's first page, how many objects the slab has, and
+//! whether its own free list is whole.
+#![tactic(auto)]
+
+mod caches;
+mod kernel;
+mod laws;
+mod mark;
+mod page;
+mod shape;
+mod slab;
+
+pub use caches::{CacheSeen, SlabCaches, read_caches};
+pub use kernel::page_shape;
+pub use laws::know_slab_pages;
+pub use mark::Mark;
+pub use page::{PageSeen, SlabSeen, SlabState, look_at_page};
+pub use shape::PageShape;
+pub use slab::{Counted, SlabFree};

@@ -1,0 +1,203 @@
+// A page, by its descriptor.
+ghost use Rattle.std.specs.Prelude.{◌≡◌, Ok};
+ghost use Rattle.kc_memory.specs.Stays.{SpaceStays};
+ghost use Rattle.kc_found.specs.Walks.{CountsWalkFaults, OnBroken, WalksAs};
+ghost use Rattle.kc_object.specs.Pages.{descriptor_of};
+ghost use Rattle.kc_slab_page.specs.Caches.{caches_view};
+ghost use Rattle.kc_slab_page.specs.Pages.{IsAbsent, by_cache, by_mark, page_seen, state_by, state_with};
+
+use crate::caches::{CacheSeen, SlabCaches};
+use crate::mark::read_mark;
+use crate::shape::PageShape;
+use crate::slab::{SlabFree, is_laid, read_slab};
+use kc_btf::Btf;
+use kc_found::{Found, Space, Stop, WalkStop};
+use kc_lookup::view_at;
+use kc_view::{FieldNumber, SlabObjects, SlubBases, View, field_of};
+use kc_word::Steps;
+use std::alloc::Global;
+use std::sync::ledger::Ledger;
+
+/// What a slab is.
+#[derive(Drop)]
+pub enum SlabState {
+    /// Its counts are whole, and so is its own free list, which has as many objects as aren't in use.
+    Whole(SlabFree),
+    /// It breaks a rule, which is the first one.
+    Broken(Found),
+    /// It can't be told how the objects of its cache lie.
+    Untold,
+}
+
+/// A slab.
+#[derive(Drop)]
+pub struct SlabSeen {
+    /// The virtual address of its descriptor.
+    pub slab: u64,
+    /// The virtual address of its cache.
+    pub cache: u64,
+    /// What it is.
+    pub state: SlabState,
+}
+
+/// What a page is.
+#[derive(Drop)]
+pub enum PageSeen {
+    /// Its descriptor can't be read.
+    Absent,
+    /// Its descriptor names none of the caches.
+    Other,
+    /// Its descriptor names one of the caches, and hasn't the mark of a slab's first page.
+    Unmarked,
+    /// It is a slab's first page.
+    Slab(SlabSeen),
+}
+
+// The descriptor of a page.
+fn descriptor_of(shape: &PageShape, bases: &SlubBases, number: u64) -> u64
+    ensures { result ≡ descriptor_of shape.now.objects.slub bases.now number }
+{
+    let offset = shape.objects.slub.page_size.wrapping_mul(number);
+    bases.vmemmap.wrapping_add(offset)
+}
+
+// What a slab is whose cache's objects lie so.
+fn state_with<S: Space, L: Ledger>(
+    alloc: Global,
+    space: &mut S,
+    shape: &PageShape,
+    bases: &SlubBases,
+    objects: &SlabObjects,
+    slab: &View<'_>,
+    cache: &FieldNumber,
+    steps: &mut Steps<L>,
+) -> Result<SlabState, WalkStop>
+    ensures exact { WalksAs (λ s. s)
+        (λ i. Ok (state_with i shape.now.objects.slub bases.now slab.now.at cache.now objects.now)) (S.image space.old) result }
+    ensures broken { OnBroken result ⊥ }
+    ensures stays { SpaceStays S.image S.files S.through S.most space.old space.new }
+    ensures cause { CountsWalkFaults result (S.faults space.old) (S.faults space.new) }
+{
+    if !is_laid(*objects) {
+        return Ok(SlabState::Untold);
+    }
+    let slub = &shape.objects.slub;
+    match read_slab(alloc, space, slub, bases, objects, slab, cache, steps) {
+        Ok(free) => Ok(SlabState::Whole(free)),
+        Err(WalkStop::Broken(found)) => Ok(SlabState::Broken(found)),
+        Err(WalkStop::Fault) => Err(WalkStop::Fault),
+        Err(WalkStop::NoMemory) => Err(WalkStop::NoMemory),
+    }
+}
+
+// What a slab of a cache is.
+fn state_by<S: Space, L: Ledger>(
+    alloc: Global,
+    space: &mut S,
+    shape: &PageShape,
+    bases: &SlubBases,
+    seen: &CacheSeen,
+    slab: &View<'_>,
+    cache: &FieldNumber,
+    steps: &mut Steps<L>,
+) -> Result<SlabState, WalkStop>
+    ensures exact { WalksAs (λ s. s)
+        (λ i. Ok (state_by i shape.now.objects.slub bases.now slab.now.at cache.now seen.now.objects)) (S.image space.old) result }
+    ensures broken { OnBroken result ⊥ }
+    ensures stays { SpaceStays S.image S.files S.through S.most space.old space.new }
+    ensures cause { CountsWalkFaults result (S.faults space.old) (S.faults space.new) }
+{
+    match &seen.objects {
+        Ok(objects) => state_with(alloc, space, shape, bases, objects, slab, cache, steps),
+        Err(_) => Ok(SlabState::Untold),
+    }
+}
+
+// A page whose descriptor names a cache, by its mark.
+fn by_mark<S: Space, L: Ledger>(
+    alloc: Global,
+    space: &mut S,
+    shape: &PageShape,
+    bases: &SlubBases,
+    seen: &CacheSeen,
+    page: &View<'_>,
+    cache: &FieldNumber,
+    steps: &mut Steps<L>,
+) -> Result<PageSeen, WalkStop>
+    ensures exact { WalksAs (λ p. p)
+        (λ i. Ok (by_mark i shape.now bases.now page.now.at cache.now seen.now)) (S.image space.old) result }
+    ensures broken { OnBroken result ⊥ }
+    ensures stays { SpaceStays S.image S.files S.through S.most space.old space.new }
+    ensures cause { CountsWalkFaults result (S.faults space.old) (S.faults space.new) }
+{
+    match read_mark(alloc, space, page, &shape.mark, steps)? {
+        None => Ok(PageSeen::Absent),
+        Some(false) => Ok(PageSeen::Unmarked),
+        Some(true) => {
+            let state = state_by(alloc, space, shape, bases, seen, page, cache, steps)?;
+            Ok(PageSeen::Slab(SlabSeen {
+                slab: page.at(),
+                cache: cache.value(),
+                state,
+            }))
+        }
+    }
+}
+
+// A page, by what its descriptor has as its cache.
+fn by_cache<S: Space, L: Ledger>(
+    alloc: Global,
+    space: &mut S,
+    shape: &PageShape,
+    caches: &SlabCaches,
+    page: &View<'_>,
+    cache: &FieldNumber,
+    steps: &mut Steps<L>,
+) -> Result<PageSeen, WalkStop>
+    ensures exact { WalksAs (λ p. p)
+        (λ i. Ok (by_cache i shape.now (caches_view caches.now) page.now.at cache.now)) (S.image space.old) result }
+    ensures broken { OnBroken result ⊥ }
+    ensures stays { SpaceStays S.image S.files S.through S.most space.old space.new }
+    ensures cause { CountsWalkFaults result (S.faults space.old) (S.faults space.new) }
+{
+    match caches.caches.get(&cache.value()) {
+        Some(seen) => by_mark(alloc, space, shape, &caches.bases, seen, page, cache, steps),
+        None => Ok(PageSeen::Other),
+    }
+}
+
+// A page whose descriptor can't be read.
+fn unread(stop: Stop) -> Result<PageSeen, WalkStop>
+    ensures { IsAbsent stop result }
+{
+    match stop {
+        Stop::Miss(_) => Ok(PageSeen::Absent),
+        Stop::Fault => Err(WalkStop::Fault),
+    }
+}
+
+/// What the page with a number is, which is its physical address, in pages of 4096 bytes: by its descriptor, among these caches.
+///
+/// # Errors
+///
+/// A failure of the space, whose count of faults then rose; or out of memory.
+pub fn look_at_page<S: Space, L: Ledger>(
+    alloc: Global,
+    space: &mut S,
+    btf: &Btf,
+    shape: &PageShape,
+    caches: &SlabCaches,
+    number: u64,
+    steps: &mut Steps<L>,
+) -> Result<PageSeen, WalkStop>
+    ensures exact { WalksAs (λ p. p) (λ i. Ok (page_seen i shape.now (caches_view caches.now) number)) (S.image space.old) result }
+    ensures broken { OnBroken result ⊥ }
+    ensures stays { SpaceStays S.image S.files S.through S.most space.old space.new }
+    ensures cause { CountsWalkFaults result (S.faults space.old) (S.faults space.new) }
+{
+    let page = view_at(btf, descriptor_of(shape, &caches.bases, number));
+    match field_of(space, &page, &shape.objects.slub.slab_cache, steps) {
+        Ok(cache) => by_cache(alloc, space, shape, caches, &page, &cache, steps),
+        Err(stop) => unread(stop),
+    }
+}

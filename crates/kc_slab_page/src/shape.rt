@@ -1,0 +1,12 @@
+// Where the words stand that tell what a page is.
+use crate::mark::Mark;
+use kc_object::ObjectShape;
+
+/// Where the words stand that tell which pages are slabs.
+#[derive(Clone, Copy, Debug, PartialEq, Eq)]
+pub struct PageShape {
+    /// Page descriptors, slabs and slab caches.
+    pub objects: ObjectShape,
+    /// The mark of a slab's first page.
+    pub mark: Mark,
+}
