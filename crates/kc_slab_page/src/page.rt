@@ -181,6 +181,7 @@ fn unread(stop: Stop) -> Result<PageSeen, WalkStop>
 /// # Errors
 ///
 /// A failure of the space, whose count of faults then rose; or out of memory.
+#[tactic(auto, unfolding(crate::specs::Pages::page_seen))]
 pub fn look_at_page<S: Space, L: Ledger>(
     alloc: Global,
     space: &mut S,

@@ -37,15 +37,19 @@ pub struct Counted {
     pub frozen: bool,
 }
 
-// Objects have a size, in which their free pointer lies.
-pub(crate) fn is_laid(objects: SlabObjects) -> bool
+/// Whether objects have a size, in which the 8 bytes of their free pointer lie.
+pub fn is_laid(objects: SlabObjects) -> bool
     ensures { result ≡ is_laid objects }
 {
     objects.size != 0 && u128::from(objects.size) >= u128::from(objects.offset) + 8
 }
 
-// How many objects a slab has; rule U3 of their number.
-fn read_counts<S: Space, L: Ledger>(
+/// How many objects a slab has; rule U3 of their number.
+///
+/// # Errors
+///
+/// The first violation, a failure of the space, whose count of faults then rose, or out of memory.
+pub fn read_counts<S: Space, L: Ledger>(
     alloc: Global,
     space: &mut S,
     shape: &SlubShape,
@@ -70,8 +74,12 @@ fn read_counts<S: Space, L: Ledger>(
     })
 }
 
-// The objects of a slab's own free list.
-fn read_list<S: Space, L: Ledger>(
+/// The objects of a slab's own free list, in its order.
+///
+/// # Errors
+///
+/// The first violation, a failure of the space, whose count of faults then rose, or out of memory.
+pub fn read_list<S: Space, L: Ledger>(
     alloc: Global,
     space: &mut S,
     shape: &SlubShape,

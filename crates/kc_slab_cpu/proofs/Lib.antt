@@ -1,0 +1,2 @@
+pub mod CpuLaws
+pub mod CpuLemmas
