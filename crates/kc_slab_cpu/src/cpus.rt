@@ -30,7 +30,7 @@ pub type Cpus = Items<Cpu>;
 fn is_possible(word: u64, number: u64) -> bool
     ensures { result ≡ is_possible word number }
 {
-    word >> (number % 64) as u32 & 1 == 1
+    (word >> (number % 64)) % 2 == 1
 }
 
 // How many processors the kernel has, of so many at most.

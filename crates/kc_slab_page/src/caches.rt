@@ -200,8 +200,7 @@ fn read_nodes<S: Space, L: Ledger>(
 {
     let mut caches = BTreeMap::new(alloc);
     for i in 0..nodes.len() {
-        let node = *nodes.get(i);
-        add_cache(alloc, space, btf, shape, wanted, node, &mut caches, steps)?;
+        add_cache(alloc, space, btf, shape, wanted, *nodes.get(i), &mut caches, steps)?;
     }
     Ok(caches)
 }

@@ -48,7 +48,7 @@ fn mask_of(bit: i64) -> Option<u64>
     if bit < 0 || bit > 63 {
         return None;
     }
-    Some(1 << bit as u32)
+    Some(1 << (bit as u64))
 }
 
 // A number as one of 32 bits.
