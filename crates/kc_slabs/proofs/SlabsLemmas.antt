@@ -15,12 +15,12 @@ use Rattle.kc_ends.specs.declared.answer.Answer.{Answer}
 use Rattle.kc_ends.specs.Answers.{PrintsOfBytes, written_by}
 use Rattle.kc_ends.specs.Output.{ended}
 use Rattle.kc_ends.specs.Written.{Written}
-use Rattle.kc_slab_page.specs.declared.shape.PageShape.{PageShape}
+use Rattle.kc_slabs.specs.declared.looking.SlabShapes.{SlabShapes}
 use Rattle.kc_slabs.specs.Looking.{Seen}
 use Rattle.kc_slabs.specs.Slabs.{kernel_by, kernel_with, seen_by, seen_made, shape_made, slabs_written}
 
 -- the rows of a map that was read are those that its symbols list
-abbrev Rest : Option (List ℕ) → List ℕ → List Segment → Info → PageShape → Made (Result Seen Violation)
+abbrev Rest : Option (List ℕ) → List ℕ → List Segment → Info → SlabShapes → Made (Result Seen Violation)
 Rest cache bytes segments told shape = gives (seen_by cache bytes segments told shape)
 
 by_rows : (cache : Option (List ℕ)) (bytes : List ℕ) (segments : List Segment) (told : Info) (note : List ℕ) (types : Types) (map : List ℕ) (symbols : List ℕ → List ℕ) (rows : List RowText)
@@ -33,7 +33,7 @@ by_rows cache bytes segments told note types map symbols rows read same =
 
 -- what was seen is printed
 pub prints_seen : (content : Option (List ℕ)) (cache : Option (List ℕ)) (segments : List Segment) (told : Info) (note : List ℕ) (types : Types) (map : List ℕ) (symbols : List ℕ → List ℕ) (rows : List RowText)
-    (shape : PageShape) (seen : Result Seen Violation) (answer : Answer)
+    (shape : SlabShapes) (seen : Result Seen Violation) (answer : Answer)
     → rows_in map ≡ Some (Ok rows) → ((name : List ℕ) → symbols name ≡ addresses name rows) → shape_made (kernel_with types symbols told) note ≡ Some (Ok shape)
     → IfSome content (λ bytes. seen ≡ seen_by cache bytes segments told shape) → written_by answer ≡ slabs_written seen
     → PrintsOfBytes slabs_written (λ bytes. seen_made cache bytes segments told note types map) content (Ok answer)
@@ -41,12 +41,12 @@ prints_seen None cache segments told note types map symbols rows shape seen answ
 prints_seen (Some bytes) cache segments told note types map symbols rows shape seen answer read same made is written =
     ap (λ (m : Made (Result Seen Violation)). option_map (ended slabs_written) m)
         (by_rows cache bytes segments told note types map symbols rows read same
-        ∙ ap (λ (m : Made PageShape). m >>= (λ shape. gives (seen_by cache bytes segments told shape))) made)
+        ∙ ap (λ (m : Made SlabShapes). m >>= (λ shape. gives (seen_by cache bytes segments told shape))) made)
     ∙ ap (λ (s : Result Seen Violation). Some (slabs_written s)) (sym is) ∙ ap (λ (w : Written). Some w) (sym written)
 
 -- and a refusal of the types is told
-halts_by : (m : Made PageShape) (halt : Halt) (next : PageShape → Made (Result Seen Violation)) → Halts m halt → Halts (m >>= next) halt
-halts_by m (Refused refusal) next is = ap (λ (k : Made PageShape). k >>= next) is
+halts_by : (m : Made SlabShapes) (halt : Halt) (next : SlabShapes → Made (Result Seen Violation)) → Halts m halt → Halts (m >>= next) halt
+halts_by m (Refused refusal) next is = ap (λ (k : Made SlabShapes). k >>= next) is
 halts_by m Store next is = tt
 halts_by m Memory next is = tt
 

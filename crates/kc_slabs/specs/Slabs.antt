@@ -22,9 +22,10 @@ use Rattle.kc_ends.specs.declared.status.Status.TheVariants.{Done, Broken}
 use Rattle.kc_ends.specs.Asked.{Asked}
 use Rattle.kc_ends.specs.Output.{written_files}
 use Rattle.kc_ends.specs.Written.{Written}
-use Rattle.kc_slab_page.specs.declared.shape.PageShape.{PageShape}
+use Rattle.kc_slab_cpu.specs.Shapes.{cpu_shape}
 use Rattle.kc_slab_page.specs.Shapes.{page_shape}
 use Rattle.kc_slabs.specs.declared.files.Asks.{Asks}
+use Rattle.kc_slabs.specs.declared.looking.SlabShapes.{SlabShapes}
 use Rattle.kc_slabs.specs.Looking.{Seen, image_of, seen_in}
 use Rattle.kc_slabs.specs.Text.{are_sound, told_text}
 
@@ -48,11 +49,11 @@ abbrev pub kernel_by : Types → List RowText → Info → Kernel
 kernel_by types rows told = kernel_with types (λ name. addresses name rows) told
 
 -- where it has what tells of its slabs; types that lack it are refused
-abbrev pub shape_made : Kernel → List ℕ → Made PageShape
-shape_made kernel note = wanted NoType (page_shape kernel note)
+abbrev pub shape_made : Kernel → List ℕ → Made SlabShapes
+shape_made kernel note = wanted NoType (page_shape kernel note) >>= (λ pages. gives (record { pages = pages; cpus = cpu_shape kernel }))
 
 -- what is seen of the slabs of a cache, or of all, by a dump's bytes, segments and notes, and by the kernel's types and the bytes of a map
-abbrev pub seen_by : Option (List ℕ) → List ℕ → List Segment → Info → PageShape → Result Seen Violation
+abbrev pub seen_by : Option (List ℕ) → List ℕ → List Segment → Info → SlabShapes → Result Seen Violation
 seen_by cache bytes segments told shape = seen_in (image_of bytes segments Absent (by_info told)) shape cache (frames segments)
 
 abbrev pub seen_made : Option (List ℕ) → List ℕ → List Segment → Info → List ℕ → Types → List ℕ → Made (Result Seen Violation)

@@ -22,7 +22,7 @@ ghost use Rattle.kc_slab_page.specs.Shapes.{page_shape};
 ghost use Rattle.kc_slabs.specs.Looking.{told_view};
 ghost use Rattle.kc_slabs.specs.Slabs.{asking, kernel_with, seen_made, shape_made, slabs_asked, slabs_asks, slabs_made, slabs_view, slabs_written};
 
-use crate::looking::{SlabsSeen, look_at};
+use crate::looking::{SlabShapes, SlabsSeen, look_at};
 use crate::text::{are_sound, told_text};
 use kc_btf::Btf;
 use kc_elf::Core;
@@ -33,7 +33,8 @@ use kc_kinds::Known;
 use kc_layout::Names;
 use kc_notes::{Info, vmcoreinfo};
 use kc_outside::Store;
-use kc_slab_page::{PageShape, page_shape};
+use kc_slab_cpu::cpu_shape;
+use kc_slab_page::page_shape;
 use kc_syms::Symbols;
 use kc_word::NoMemory;
 use std::alloc::Global;
@@ -145,7 +146,7 @@ fn shape_of(
     symbols: &Symbols<'_>,
     info: Info,
     note: &[u8],
-) -> Result<PageShape, Halt>
+) -> Result<SlabShapes, Halt>
     ensures made { Is (λ s. s) (shape_made (kernel_with types.now (symbol symbols.now) info) note.now) result }
 {
     let names = Names::new(alloc, types)?;
@@ -157,7 +158,10 @@ fn shape_of(
         five: info.five,
     };
     match page_shape(&known, note) {
-        Some(shape) => Ok(shape),
+        Some(pages) => Ok(SlabShapes {
+            pages,
+            cpus: cpu_shape(&known),
+        }),
         None => Err(Halt::Refused(Refusal::NoType)),
     }
 }

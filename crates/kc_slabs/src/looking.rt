@@ -13,7 +13,8 @@ ghost use Rattle.kc_found.specs.Walks.{CountsWalkFaults, IsWalk, WalksAs};
 ghost use Rattle.kc_frames.specs.Frames.{frames, frames_of, in_memory};
 ghost use Rattle.kc_input.specs.Halts.{NotRefused, OnStore, UnlessStore};
 ghost use Rattle.kc_input.specs.Paging.{IsTable, by_info};
-ghost use Rattle.kc_slabs.specs.Looking.{image_of, seen_in, seen_view, told_view};
+ghost use Rattle.kc_slab_page.specs.Caches.{caches_view};
+ghost use Rattle.kc_slabs.specs.Looking.{image_of, owned_by, owned_in, seen_in, seen_view, told_view};
 
 use kc_btf::Btf;
 use kc_elf::Core;
@@ -24,6 +25,7 @@ use kc_mem::Memory;
 use kc_notes::Info;
 use kc_outside::Store;
 use kc_phys::{Phys, Room};
+use kc_slab_cpu::{CpuScan, CpuShape, read_cpus, scan_cpus};
 use kc_slab_page::{PageShape, SlabCaches, read_caches};
 use kc_slab_scan::{Scan, scan_frames};
 use kc_tlb::Tlb;
@@ -35,6 +37,24 @@ use std::sync::ledger::{Blank, Ledger};
 /// How many translations of pages are kept.
 const KEPT: usize = 4096;
 
+/// Where a kernel has the words that tell of its slabs.
+#[derive(Clone, Copy, Debug, PartialEq, Eq)]
+pub struct SlabShapes {
+    /// Those that tell what a page is.
+    pub pages: PageShape,
+    /// Those that tell which slabs processors own, where the kernel has them.
+    pub cpus: Option<CpuShape>,
+}
+
+/// What was seen of processors' slabs.
+#[derive(Drop)]
+pub struct CpusSeen {
+    /// How many processors there may be.
+    pub count: u64,
+    /// What they have of the caches.
+    pub scan: CpuScan,
+}
+
 /// What was seen of a dump's slabs.
 #[derive(Drop)]
 pub struct SlabsSeen {
@@ -42,6 +62,54 @@ pub struct SlabsSeen {
     pub caches: SlabCaches,
     /// What the page frames are.
     pub scan: Scan,
+    /// What processors have, or why that can't be told; `None` where the kernel lacks the words that tell it.
+    pub cpus: Option<Result<CpusSeen, Found>>,
+}
+
+// What processors have of these caches.
+fn read_owned<S: Space, L: Ledger>(
+    alloc: Global,
+    space: &mut S,
+    btf: &Btf,
+    shape: &PageShape,
+    cpus: &CpuShape,
+    caches: &SlabCaches,
+    steps: &mut Steps<L>,
+) -> Result<CpusSeen, WalkStop>
+    ensures exact { WalksAs (λ s. s) (λ i. owned_in i shape.now cpus.now (caches_view caches.now)) (S.image space.old) result }
+    ensures stays { SpaceStays S.image S.files S.through S.most space.old space.new }
+    ensures cause { CountsWalkFaults result (S.faults space.old) (S.faults space.new) }
+{
+    let all = read_cpus(alloc, space, cpus, steps)?;
+    let scan = scan_cpus(alloc, space, btf, cpus, &shape.objects, caches, &all, steps)?;
+    Ok(CpusSeen {
+        count: all.len() as u64,
+        scan,
+    })
+}
+
+// The same, or why it can't be told.
+fn tell_owned<S: Space, L: Ledger>(
+    alloc: Global,
+    space: &mut S,
+    btf: &Btf,
+    shapes: &SlabShapes,
+    caches: &SlabCaches,
+    steps: &mut Steps<L>,
+) -> Result<Option<Result<CpusSeen, Found>>, WalkStop>
+    ensures exact { WalksAs (λ s. s) (λ i. Ok (owned_by i shapes.now.pages (caches_view caches.now) shapes.now.cpus)) (S.image space.old) result }
+    ensures stays { SpaceStays S.image S.files S.through S.most space.old space.new }
+    ensures cause { CountsWalkFaults result (S.faults space.old) (S.faults space.new) }
+{
+    let Some(cpus) = &shapes.cpus else {
+        return Ok(None);
+    };
+    match read_owned(alloc, space, btf, &shapes.pages, cpus, caches, steps) {
+        Ok(seen) => Ok(Some(Ok(seen))),
+        Err(WalkStop::Broken(found)) => Ok(Some(Err(found))),
+        Err(WalkStop::Fault) => Err(WalkStop::Fault),
+        Err(WalkStop::NoMemory) => Err(WalkStop::NoMemory),
+    }
 }
 
 // What the slabs of these page frames are.
@@ -49,18 +117,19 @@ fn read_seen<S: Space, L: Ledger>(
     alloc: Global,
     space: &mut S,
     btf: &Btf,
-    shape: &PageShape,
+    shapes: &SlabShapes,
     wanted: Option<&[u8]>,
     runs: &[FrameRun],
     steps: &mut Steps<L>,
 ) -> Result<SlabsSeen, WalkStop>
-    ensures exact { WalksAs seen_view (λ i. seen_in i shape.now (option_copied wanted) (frames_of runs.now)) (S.image space.old) result }
+    ensures exact { WalksAs seen_view (λ i. seen_in i shapes.now (option_copied wanted) (frames_of runs.now)) (S.image space.old) result }
     ensures stays { SpaceStays S.image S.files S.through S.most space.old space.new }
     ensures cause { CountsWalkFaults result (S.faults space.old) (S.faults space.new) }
 {
-    let caches = read_caches(alloc, space, btf, shape, wanted, steps)?;
-    let scan = scan_frames(alloc, space, btf, shape, &caches, runs, steps)?;
-    Ok(SlabsSeen { caches, scan })
+    let caches = read_caches(alloc, space, btf, &shapes.pages, wanted, steps)?;
+    let scan = scan_frames(alloc, space, btf, &shapes.pages, &caches, runs, steps)?;
+    let cpus = tell_owned(alloc, space, btf, shapes, &caches, steps)?;
+    Ok(SlabsSeen { caches, scan, cpus })
 }
 
 // The same over room for blocks and places for translations, with steps on a blank of the caller's.
@@ -70,7 +139,7 @@ fn look<S: Store, L: Ledger>(
     room: Room,
     tlb: Tlb,
     btf: &Btf,
-    shape: &PageShape,
+    shapes: &SlabShapes,
     wanted: Option<&[u8]>,
     runs: &[FrameRun],
     blank: Blank,
@@ -82,13 +151,13 @@ fn look<S: Store, L: Ledger>(
     requires inside { AreInside (S.sizes store.old Dump) room.segments.items }
 
     ensures told { IfSome (content (S.files store.old) Dump (S.opened store.old Dump)) (λ bytes.
-        IsWalk seen_view (seen_in (image_of bytes room.segments.items room.tail tlb.paging) shape.now (option_copied wanted) (frames_of runs.now)) result) }
+        IsWalk seen_view (seen_in (image_of bytes room.segments.items room.tail tlb.paging) shapes.now (option_copied wanted) (frames_of runs.now)) result) }
     ensures files { S.files store.new ≡ S.files store.old }
     ensures cause { CountsWalkFaults result (S.faults store.old) (S.faults store.new) }
 {
     let mut steps = Steps::<L>::new(blank);
     let mut memory = Memory::over(Phys::over(store, room), tlb);
-    let seen = read_seen(alloc, &mut memory, btf, shape, wanted, runs, &mut steps);
+    let seen = read_seen(alloc, &mut memory, btf, shapes, wanted, runs, &mut steps);
     let frames = memory.into_frames();
     let _store = frames.into_store();
     seen
@@ -105,7 +174,7 @@ pub(crate) fn look_at<S: Store>(
     core: &Core,
     info: Info,
     btf: &Btf,
-    shape: &PageShape,
+    shapes: &SlabShapes,
     wanted: Option<&[u8]>,
 ) -> Result<Result<SlabsSeen, Found>, Halt>
     requires table { IsTable info.table }
@@ -113,7 +182,7 @@ pub(crate) fn look_at<S: Store>(
     requires memory { All in_memory core.now.segments }
 
     ensures told { IfOk result (λ seen. IfSome (content (S.files store.old) Dump (S.opened store.old Dump)) (λ bytes.
-        told_view seen ≡ seen_in (image_of bytes core.now.segments Tail.Absent (by_info info)) shape.now (option_copied wanted) (frames core.now.segments))) }
+        told_view seen ≡ seen_in (image_of bytes core.now.segments Tail.Absent (by_info info)) shapes.now (option_copied wanted) (frames core.now.segments))) }
     ensures not_refused { NotRefused result }
     ensures files { S.files store.new ≡ S.files store.old }
     ensures later { S.faults store.old ≤ S.faults store.new }
@@ -123,7 +192,7 @@ pub(crate) fn look_at<S: Store>(
     let runs = frame_runs(alloc, core.segments())?;
     let room = Room::new(alloc, core.segments(), Tail::Absent)?;
     let tlb = Tlb::new(alloc, paging_by(info), KEPT)?;
-    match look::<S, Brand>(alloc, store, room, tlb, btf, shape, wanted, &runs, Blank::new(1)) {
+    match look::<S, Brand>(alloc, store, room, tlb, btf, shapes, wanted, &runs, Blank::new(1)) {
         Ok(seen) => Ok(Ok(seen)),
         Err(WalkStop::Broken(found)) => Ok(Err(found)),
         Err(WalkStop::Fault) => Err(Halt::Store),
