@@ -19,7 +19,7 @@ abbrev pub number_of : List ℕ → List ℕ → Option ℤ
 number_of note key = option_and_then decimal_number (value_of key note)
 
 -- a number that has one bit
-abbrev pub mask_of : ℤ → Option ℕ
+unfoldable pub mask_of : ℤ → Option ℕ
 mask_of (pos bit) = if nat_lt bit 64 then Some (2 ^ bit) else None
 mask_of (negsuc below) = None
 

@@ -1,5 +1,5 @@
 // The kernel's own mark of a slab's first page.
-ghost use Rattle.std.specs.Prelude.{◌≡◌, ◌≤◌, ◌+◌, codes, length, option_map, Ok, IfSome};
+ghost use Rattle.std.specs.Prelude.{◌≡◌, ◌≤◌, ◌+◌, codes, length, option_and_then, option_map, Ok, IfSome};
 ghost use Rattle.kc_btf.specs.Btf.{Types};
 ghost use Rattle.kc_memory.specs.Stays.{SpaceStays};
 ghost use Rattle.kc_found.specs.Walks.{CountsWalkFaults, OnBroken, WalksAs};
@@ -41,10 +41,12 @@ fn number_of(note: &[u8], key: &[u8]) -> Option<i64>
     read_dec(value(note, key)?)
 }
 
-// A number that has one bit.
-fn mask_of(bit: i64) -> Option<u64>
-    ensures { result ≡ mask_of bit }
+// A number that has one bit, where there is such a bit.
+#[tactic(auto, unfolding(crate::specs::Marks::mask_of))]
+fn mask_of(bit: Option<i64>) -> Option<u64>
+    ensures { result ≡ option_and_then mask_of bit }
 {
+    let bit = bit?;
     if bit < 0 || bit > 63 {
         return None;
     }
@@ -62,7 +64,7 @@ fn word_of(number: i64) -> u64
 fn bit_of(note: &[u8]) -> Option<u64>
     ensures { result ≡ bit_of note.now }
 {
-    mask_of(number_of(note, b"NUMBER(PG_slab)")?)
+    mask_of(number_of(note, b"NUMBER(PG_slab)"))
 }
 
 // The mark by a bit of `flags`.
