@@ -26,7 +26,8 @@ drop_next (y ∷ ys) zero x is = let same : y ≡ x = cc in ap (λ z. z ∷ ys) 
 drop_next (y ∷ ys) (suc n) x is = drop_next ys n x is
 
 dropped : {X : Type 0} (xs : List X) (n : ℕ) → length xs ≤ n → drop n xs ≡ []
-dropped [] n all = refl
+dropped [] zero all = refl
+dropped [] (suc n) all = refl
 dropped (x ∷ xs) zero all = absurd (omega (arith, all))
 dropped (x ∷ xs) (suc n) all = dropped xs n (omega (arith, all))
 

@@ -37,12 +37,13 @@ nodes_next (Some i) shape wanted nodes n node old new at added far =
     ∙ ap (caches_from i shape wanted old) (sym (drop_next nodes n node at)) ∙ far
 
 dropped : {X : Type 0} (xs : List X) (n : ℕ) → length xs ≤ n → drop n xs ≡ []
-dropped [] n all = refl
+dropped [] zero all = refl
+dropped [] (suc n) all = refl
 dropped (x ∷ xs) zero all = absurd (omega (arith, all))
 dropped (x ∷ xs) (suc n) all = dropped xs n (omega (arith, all))
 
-pub nodes_done : (image : Option Image) (shape : ObjectShape) (wanted : Option (List ℕ)) (nodes : List ℕ) (n : ℕ) (caches : Entries) → length nodes ≤ n
-    → Far image shape wanted nodes n caches → WalksAs {A = Entries} {B = Entries} (λ c. c) (λ i. Ok (caches_from i shape wanted [] nodes)) image (Ok caches)
-nodes_done None shape wanted nodes n caches all far = tt
-nodes_done (Some i) shape wanted nodes n caches all far =
-    ap (λ (es : Entries). Ok es) (sym far ∙ ap (caches_from i shape wanted caches) (dropped nodes n all) ∙ from_none i shape wanted caches)
+pub nodes_done : {A : Type 0} (view : A → Entries) (image : Option Image) (shape : ObjectShape) (wanted : Option (List ℕ)) (nodes : List ℕ) (n : ℕ) (caches : A) → length nodes ≤ n
+    → Far image shape wanted nodes n (view caches) → WalksAs {A = A} {B = Entries} view (λ i. Ok (caches_from i shape wanted [] nodes)) image (Ok caches)
+nodes_done view None shape wanted nodes n caches all far = tt
+nodes_done view (Some i) shape wanted nodes n caches all far =
+    ap (λ (es : Entries). Ok es) (sym far ∙ ap (caches_from i shape wanted (view caches)) (dropped nodes n all) ∙ from_none i shape wanted (view caches))

@@ -12,14 +12,14 @@ use Rattle.kc_notes.specs.Values.{value_of}
 use Rattle.kc_kinds.specs.Members.{scalar_in}
 use Rattle.kc_lookup.specs.Known.{known}
 use Rattle.kc_slab_page.specs.declared.mark.Mark.{Mark}
-use Rattle.kc_slab_page.specs.declared.mark.Mark.TheVariants.{Flag, Type as page_type}
+use Rattle.kc_slab_page.specs.declared.mark.Mark.TheVariants.{Flag, PageType}
 
 -- the number of a key of the notes
 abbrev pub number_of : List ℕ → List ℕ → Option ℤ
 number_of note key = option_and_then decimal_number (value_of key note)
 
 -- a number that has one bit
-abbrev pub mask_of : ℤ → Option ℕ
+unfoldable pub mask_of : ℤ → Option ℕ
 mask_of (pos bit) = if nat_lt bit 64 then Some (2 ^ bit) else None
 mask_of (negsuc below) = None
 
@@ -28,14 +28,17 @@ abbrev pub word_of : ℤ → ℕ
 word_of n = unsigned_abs (int_rem_euclid n (pos (2 ^ 32)))
 
 -- a bit of `flags`
+abbrev pub bit_of : List ℕ → Option ℕ
+bit_of note = option_and_then mask_of (number_of note (codes "NUMBER(PG_slab)"))
+
 abbrev pub flag_mark : Types → Option ℕ → List ℕ → Option Mark
 flag_mark types page note =
-    option_map (λ bit. Flag (scalar_in types page (codes "flags")) bit) (option_and_then mask_of (number_of note (codes "NUMBER(PG_slab)")))
+    option_map (λ bit. Flag (scalar_in types page (codes "flags")) bit) (bit_of note)
 
 -- a number that `page_type` is
 abbrev pub type_mark : Types → Option ℕ → List ℕ → Option Mark
 type_mark types page note =
-    option_map (λ n. page_type (scalar_in types page (codes "page_type")) (word_of n)) (number_of note (codes "NUMBER(PAGE_SLAB_MAPCOUNT_VALUE)"))
+    option_map (λ n. PageType (scalar_in types page (codes "page_type")) (word_of n)) (number_of note (codes "NUMBER(PAGE_SLAB_MAPCOUNT_VALUE)"))
 
 -- how a kernel with this type of page descriptors marks a slab's first page
 abbrev pub mark_of : Types → Option ℕ → List ℕ → Option Mark
@@ -44,11 +47,11 @@ mark_of types page note = option_or (flag_mark types page note) (type_mark types
 -- a number has the mark
 abbrev pub has_mark : Mark → ℕ → Bool
 has_mark (Flag flags bit) n = not (nat_eq (bit_and n bit) 0)
-has_mark (page_type field number) n = nat_eq n number
+has_mark (PageType field number) n = nat_eq n number
 
 abbrev pub field_in : Mark → Option Field
 field_in (Flag flags bit) = flags
-field_in (page_type field number) = field
+field_in (PageType field number) = field
 
 -- a page's descriptor has the mark, where that can be read
 abbrev pub marked : Image → Mark → ℕ → Option Bool

@@ -134,7 +134,7 @@ fn read_cache<S: Space, L: Ledger>(
 
 // A cache is wanted: all are, or those with a name.
 fn is_wanted(wanted: Option<&[u8]>, name: &Name) -> bool
-    ensures { result ≡ is_wanted (option_copied wanted) name.now }
+    ensures { result ≡ is_wanted (option_copied wanted.entry) name.now }
 {
     match wanted {
         Some(wanted) => name.as_slice() == wanted,
@@ -170,7 +170,7 @@ fn add_cache<S: Space, L: Ledger>(
     steps: &mut Steps<L>,
 ) -> Result<(), WalkStop>
     ensures added { WalksAs (λ _. caches.new.entries)
-        (λ i. Ok (with_cache i shape.now.objects (option_copied wanted) caches.old.entries node)) (S.image space.old) result }
+        (λ i. Ok (with_cache i shape.now.objects (option_copied wanted.entry) caches.old.entries node)) (S.image space.old) result }
     ensures broken { OnBroken result ⊥ }
     ensures stays { SpaceStays S.image S.files S.through S.most space.old space.new }
     ensures cause { CountsWalkFaults result (S.faults space.old) (S.faults space.new) }
@@ -194,13 +194,22 @@ fn read_nodes<S: Space, L: Ledger>(
     steps: &mut Steps<L>,
 ) -> Result<BTreeMap<u64, CacheSeen>, WalkStop>
     ensures exact { WalksAs (λ c. c.entries)
-        (λ i. Ok (caches_from i shape.now.objects (option_copied wanted) [] nodes.now)) (S.image space.old) result }
+        (λ i. Ok (caches_from i shape.now.objects (option_copied wanted.entry) [] nodes.now)) (S.image space.old) result }
     ensures stays { SpaceStays S.image S.files S.through S.most space.old space.new }
     ensures cause { CountsWalkFaults result (S.faults space.old) (S.faults space.new) }
 {
     let mut caches = BTreeMap::new(alloc);
     for i in 0..nodes.len() {
-        add_cache(alloc, space, btf, shape, wanted, *nodes.get(i), &mut caches, steps)?;
+        add_cache(
+            alloc,
+            space,
+            btf,
+            shape,
+            wanted,
+            *nodes.get(i),
+            &mut caches,
+            steps,
+        )?;
     }
     Ok(caches)
 }
@@ -218,12 +227,19 @@ pub fn read_caches<S: Space, L: Ledger>(
     wanted: Option<&[u8]>,
     steps: &mut Steps<L>,
 ) -> Result<SlabCaches, WalkStop>
-    ensures exact { WalksAs caches_view (λ i. caches_in i shape.now.objects (option_copied wanted)) (S.image space.old) result }
+    ensures exact { WalksAs caches_view (λ i. caches_in i shape.now.objects (option_copied wanted.entry)) (S.image space.old) result }
     ensures stays { SpaceStays S.image S.files S.through S.most space.old space.new }
     ensures cause { CountsWalkFaults result (S.faults space.old) (S.faults space.new) }
 {
     let bases = read_bases(alloc, space, shape, steps)?;
-    let nodes = ring(alloc, space, &shape.objects.slub.list, shape.objects.caches, 0, steps)?;
+    let nodes = ring(
+        alloc,
+        space,
+        &shape.objects.slub.list,
+        shape.objects.caches,
+        0,
+        steps,
+    )?;
     let caches = read_nodes(alloc, space, btf, shape, wanted, &nodes, steps)?;
     Ok(SlabCaches { bases, caches })
 }

@@ -1,9 +1,9 @@
 // The kernel's own mark of a slab's first page.
-ghost use Rattle.std.specs.Prelude.{◌≡◌, ◌≤◌, ◌+◌, codes, length, option_map, Ok, IfSome};
+ghost use Rattle.std.specs.Prelude.{◌≡◌, ◌≤◌, ◌+◌, codes, length, option_and_then, option_map, Ok, IfSome};
 ghost use Rattle.kc_btf.specs.Btf.{Types};
 ghost use Rattle.kc_memory.specs.Stays.{SpaceStays};
 ghost use Rattle.kc_found.specs.Walks.{CountsWalkFaults, OnBroken, WalksAs};
-ghost use Rattle.kc_slab_page.specs.Marks.{field_in, flag_mark, has_mark, mask_of, mark_of, marked, number_of, type_mark, word_of};
+ghost use Rattle.kc_slab_page.specs.Marks.{bit_of, field_in, flag_mark, has_mark, mask_of, mark_of, marked, number_of, type_mark, word_of};
 
 use kc_btf::Btf;
 use kc_found::{Space, WalkStop};
@@ -26,7 +26,7 @@ pub enum Mark {
         bit: u64,
     },
     /// The field `page_type` is a number.
-    Type {
+    PageType {
         /// The field.
         page_type: Option<Field>,
         /// The number, of 32 bits.
@@ -41,14 +41,16 @@ fn number_of(note: &[u8], key: &[u8]) -> Option<i64>
     read_dec(value(note, key)?)
 }
 
-// A number that has one bit.
-fn mask_of(bit: i64) -> Option<u64>
-    ensures { result ≡ mask_of bit }
+// A number that has one bit, where there is such a bit.
+#[tactic(auto, unfolding(crate::specs::Marks::mask_of))]
+fn mask_of(bit: Option<i64>) -> Option<u64>
+    ensures { result ≡ option_and_then mask_of bit }
 {
+    let bit = bit?;
     if bit < 0 || bit > 63 {
         return None;
     }
-    Some(1 << (bit as u64))
+    Some(1 << bit as u32)
 }
 
 // A number as one of 32 bits.
@@ -58,12 +60,19 @@ fn word_of(number: i64) -> u64
     number.rem_euclid(1 << 32) as u64
 }
 
+// The bit of `flags` that marks a slab's first page.
+fn bit_of(note: &[u8]) -> Option<u64>
+    ensures { result ≡ bit_of note.now }
+{
+    mask_of(number_of(note, b"NUMBER(PG_slab)"))
+}
+
 // The mark by a bit of `flags`.
 fn flag_mark(types: &Btf, page: Option<u32>, note: &[u8]) -> Option<Mark>
     requires { IfSome page (λ id. id ≤ length types.now.records) }
     ensures { result ≡ flag_mark types.now page note.now }
 {
-    let bit = mask_of(number_of(note, b"NUMBER(PG_slab)")?)?;
+    let bit = bit_of(note)?;
     Some(Mark::Flag {
         flags: scalar_in(types, page, b"flags"),
         bit,
@@ -76,7 +85,7 @@ fn type_mark(types: &Btf, page: Option<u32>, note: &[u8]) -> Option<Mark>
     ensures { result ≡ type_mark types.now page note.now }
 {
     let number = word_of(number_of(note, b"NUMBER(PAGE_SLAB_MAPCOUNT_VALUE)")?);
-    Some(Mark::Type {
+    Some(Mark::PageType {
         page_type: scalar_in(types, page, b"page_type"),
         number,
     })
@@ -99,7 +108,7 @@ fn has_mark(mark: &Mark, number: u64) -> bool
 {
     match *mark {
         Mark::Flag { flags: _, bit } => number & bit != 0,
-        Mark::Type {
+        Mark::PageType {
             page_type: _,
             number: wanted,
         } => number == wanted,
@@ -112,7 +121,7 @@ fn field_in(mark: &Mark) -> &Option<Field>
 {
     match mark {
         Mark::Flag { flags, bit: _ } => flags,
-        Mark::Type {
+        Mark::PageType {
             page_type,
             number: _,
         } => page_type,
@@ -128,6 +137,7 @@ pub(crate) fn read_mark<S: Space, L: Ledger>(
     steps: &mut Steps<L>,
 ) -> Result<Option<bool>, WalkStop>
     ensures exact { WalksAs (λ m. m) (λ i. Ok (marked i mark.now view.now.at)) (S.image space.old) result }
+    ensures broken { OnBroken result ⊥ }
     ensures stays { SpaceStays S.image S.files S.through S.most space.old space.new }
     ensures cause { CountsWalkFaults result (S.faults space.old) (S.faults space.new) }
 {

@@ -117,7 +117,14 @@ fn read_free<S: Space, L: Ledger>(
     if free != wanted {
         let inuse = &counts.inuse;
         let asked = looked_at(slab.at());
-        return Err(broken_field(alloc, &asked, Rule::U6, inuse.at, &inuse.number, Some(wanted)));
+        return Err(broken_field(
+            alloc,
+            &asked,
+            Rule::U6,
+            inuse.at,
+            &inuse.number,
+            Some(wanted),
+        ));
     }
     Ok(SlabFree {
         objects: counts.objects,

@@ -178,7 +178,7 @@ fn look_with<S: Store>(
     requires below { All (λ s. s.paddr + max s.filesz s.memsz ≤ 2 ^ 64) files.now.core.now.segments }
 
     ensures output { PrintsOfBytes slabs_written
-        (λ bytes. seen_made (option_copied cache) bytes files.now.core.now.segments files.now.info files.now.note.now files.now.types.now files.now.map.now)
+        (λ bytes. seen_made (option_copied cache.entry) bytes files.now.core.now.segments files.now.info files.now.note.now files.now.types.now files.now.map.now)
         (content (S.files store.old) Dump (S.opened store.old Dump)) result }
     ensures last { RefusesLast (slabs_asked (record { dump = []; btf = []; map = []; cache = None })).named result }
     ensures files { S.files store.new ≡ S.files store.old }

@@ -122,7 +122,7 @@ fn read_seen<S: Space, L: Ledger>(
     runs: &[FrameRun],
     steps: &mut Steps<L>,
 ) -> Result<SlabsSeen, WalkStop>
-    ensures exact { WalksAs seen_view (λ i. seen_in i shapes.now (option_copied wanted) (frames_of runs.now)) (S.image space.old) result }
+    ensures exact { WalksAs seen_view (λ i. seen_in i shapes.now (option_copied wanted.entry) (frames_of runs.now)) (S.image space.old) result }
     ensures stays { SpaceStays S.image S.files S.through S.most space.old space.new }
     ensures cause { CountsWalkFaults result (S.faults space.old) (S.faults space.new) }
 {
@@ -151,7 +151,7 @@ fn look<S: Store, L: Ledger>(
     requires inside { AreInside (S.sizes store.old Dump) room.segments.items }
 
     ensures told { IfSome (content (S.files store.old) Dump (S.opened store.old Dump)) (λ bytes.
-        IsWalk seen_view (seen_in (image_of bytes room.segments.items room.tail tlb.paging) shapes.now (option_copied wanted) (frames_of runs.now)) result) }
+        IsWalk seen_view (seen_in (image_of bytes room.segments.items room.tail tlb.paging) shapes.now (option_copied wanted.entry) (frames_of runs.now)) result) }
     ensures files { S.files store.new ≡ S.files store.old }
     ensures cause { CountsWalkFaults result (S.faults store.old) (S.faults store.new) }
 {
@@ -182,7 +182,7 @@ pub(crate) fn look_at<S: Store>(
     requires memory { All in_memory core.now.segments }
 
     ensures told { IfOk result (λ seen. IfSome (content (S.files store.old) Dump (S.opened store.old Dump)) (λ bytes.
-        told_view seen ≡ seen_in (image_of bytes core.now.segments Tail.Absent (by_info info)) shapes.now (option_copied wanted) (frames core.now.segments))) }
+        told_view seen ≡ seen_in (image_of bytes core.now.segments Tail.Absent (by_info info)) shapes.now (option_copied wanted.entry) (frames core.now.segments))) }
     ensures not_refused { NotRefused result }
     ensures files { S.files store.new ≡ S.files store.old }
     ensures later { S.faults store.old ≤ S.faults store.new }

@@ -1,7 +1,9 @@
-use Rattle.std.proofs.Common.{arith, rules}
+use Rattle.std.proofs.Common.{ℕ, Global, arith, rules}
+use Rattle.std.specs.declared.collections.BTreeMap.{BTreeMap}
 use Rattle.std.specs.Option.{option_copied}
 use Rattle.std.proofs.lemmas.Grind.{common_steps}
 use Rattle.kc_memory.specs.Stays.{stays_on}
+use Rattle.kc_slab_page.specs.declared.caches.CacheSeen.{CacheSeen}
 use Rattle.kc_slab_page.proofs.CacheLemmas.{nodes_done, nodes_next}
 use Rattle.kc_slab_page.proofs.caches.read_nodes.Goals as goal
 
@@ -12,3 +14,8 @@ loop-i-preserved g c = record {
   stays = stays_on g.S.Space.image g.S.Space.files g.S.Space.through g.S.Space.most _ _ _ c.loop-i.invariant.stays c.in_ok-add_cache.ensures.stays;
   quiet = grind (arith, common_steps);
 }
+
+pub returns-clause-exact : goal.returns-clause-exact
+returns-clause-exact g c =
+    nodes_done (λ (m : BTreeMap ℕ CacheSeen Global). m.entries) (g.S.Space.image c.args.space.now) c.args.shape.now.objects (option_copied c.args.wanted) c.args.nodes.now c.loop-i.i c.loop-i.caches
+    (search rules) c.loop-i.invariant.far
