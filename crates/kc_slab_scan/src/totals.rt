@@ -169,7 +169,8 @@ impl Scan {
         ensures no_fault { OnWalkFault result ⊥ }
     {
         self.totals = with_slab(self.totals);
-        match seen.state {
+        let SlabSeen { slab, cache, state } = seen;
+        match state {
             SlabState::Whole(free) => {
                 self.totals = with_whole(self.totals, free);
                 Ok(())
@@ -177,8 +178,8 @@ impl Scan {
             SlabState::Broken(found) => push_broken(
                 &mut self.broken,
                 BrokenSlab {
-                    slab: seen.slab,
-                    cache: seen.cache,
+                    slab,
+                    cache,
                     found,
                 },
             ),
