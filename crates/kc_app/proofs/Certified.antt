@@ -6,34 +6,35 @@ use Rattle.kc_outside.specs.Counts.{Rose}
 use Rattle.kc_outside.specs.Files.{Files as Told}
 use Rattle.kc_found.specs.declared.verdict.Verdict.TheVariants as verdicts
 use Rattle.kc_plan.specs.Verdicts.{verdict_places}
-use Rattle.kc_recheck.specs.declared.against.CertAnswer.{CertAnswer}
-use Rattle.kc_cert_text.specs.declared.certificate.CertStep.{CertStep}
-use Rattle.kc_certify.specs.declared.issue.CertStop.{CertStop}
-use Rattle.kc_certify.specs.declared.issue.CertStop.TheVariants.{Broken, Fault, NoMemory}
-use Rattle.kc_recheck.specs.declared.against.RecheckStop.{RecheckStop}
-use Rattle.kc_recheck.specs.declared.against.RecheckStop.TheVariants as stops
-use Rattle.kc_recheck.specs.Answers.{CountsRecheckFaults}
-use Rattle.kc_recheck.specs.Certificates.{answer}
-use Rattle.kc_certify.specs.Certified.{Certifies, CertifiesAs, CountsCertifyFaults}
-use Rattle.kc_input.specs.declared.halt.Halt.{Halt}
-use Rattle.kc_input.specs.declared.halt.Halt.TheVariants.{Refused, Store, Memory}
-use Rattle.kc_input.specs.Halts.{OnStore, UnlessStore}
-use Rattle.kc_input.specs.Made.{◌>>=◌, IsOf, Made, gives}
-use Rattle.kc_input.specs.Slots.{RefusesIn, refused_slot}
-use Rattle.kc_ends.specs.declared.answer.Answer.{Answer}
-use Rattle.kc_ends.specs.declared.status.Status.{Status}
-use Rattle.kc_ends.specs.Answers.{StayBehind}
-use Rattle.kc_ends.specs.Asked.{AllStay, behind}
+use Rattle.kc_cert.specs.declared.rechecking.against.CertAnswer.{CertAnswer}
+use Rattle.kc_cert.specs.declared.text.certificate.CertStep.{CertStep}
+use Rattle.kc_cert.specs.declared.certifying.issue.CertStop.{CertStop}
+use Rattle.kc_cert.specs.declared.certifying.issue.CertStop.TheVariants.{Broken, Fault, NoMemory}
+use Rattle.kc_found.specs.declared.failed.ReadFailed.{ReadFailed}
+use Rattle.kc_found.specs.declared.failed.ReadFailed.TheVariants as stops
+use Rattle.kc_cert.specs.Rechecking.Certificates.{answer}
+use Rattle.kc_cert.specs.Certifying.Certified.{Certifies, CertifiesAs, CountsCertifyFaults}
+use Rattle.kc_command.specs.declared.halt.Halt.{Halt}
+use Rattle.kc_command.specs.declared.halt.Halt.TheVariants.{Refused, Store, Memory}
+use Rattle.kc_command.specs.Halts.{OnStore, UnlessStore}
+use Rattle.kc_command.specs.Made.{◌>>=◌, IsOf, Made, gives}
+use Rattle.kc_command.specs.Slots.{RefusesIn, refused_slot}
+use Rattle.kc_command.specs.declared.ends.answer.Answer.{Answer}
+use Rattle.kc_command.specs.declared.ends.status.Status.{Status}
+use Rattle.kc_command.specs.Ends.Answers.{StayBehind}
+use Rattle.kc_command.specs.Ends.Asked.{AllStay, behind}
 use Rattle.kc_app.specs.declared.held.Held.{Held}
 use Rattle.kc_app.specs.Answer.{WritesText}
 use Rattle.kc_app.specs.Certified.{IsFound, IsMade, IsSpelled, IsUnclean}
 use Rattle.kc_app.specs.Certify.{certified}
-use Rattle.kc_app.specs.Check.{Audited, Files, check_asked, names_of, verdict_said, verdict_shown}
+use Rattle.kc_audit.specs.Audits.{names_of}
+use Rattle.kc_app.specs.Check.{Audited, Files, check_asked, verdict_said, verdict_shown}
 use Rattle.kc_app.specs.Fitted.{Replies, RepliesOf, RepliesOfBytes}
 use Rattle.kc_app.specs.Held.{Holds, audited_of}
 use Rattle.kc_app.specs.Recheck.{CertFiles, cert_file, recheck_asked}
 use Rattle.kc_app.specs.Reply.{CertificateOf, Rechecks, Shows, answer_line, answer_status}
 use Rattle.kc_app.specs.Shown.{said_status, seen_text}
+use Rattle.kc_found.specs.Failures.{CountsFailures}
 
 -- of a certificate
 spelled_one : (all : Audited) (cert : List CertStep) (r : Result Answer Halt) → Certifies all.image all.audits cert → IsSpelled cert r → Replies (gives (certified all)) r
@@ -84,12 +85,12 @@ told_one found (Err (Refused refusal)) text = absurd text
 told_one found (Err Store) text = absurd text
 told_one found (Err Memory) text = tt
 
-found_one : (comes : CertAnswer) (found : Result CertAnswer RecheckStop) (r : Result Answer Halt) → IfOk found (λ a. comes ≡ a) → IsFound found r → Replies (gives (Rechecks comes)) r
+found_one : (comes : CertAnswer) (found : Result CertAnswer ReadFailed) (r : Result Answer Halt) → IfOk found (λ a. comes ≡ a) → IsFound found r → Replies (gives (Rechecks comes)) r
 found_one comes (Ok found) r is text = rw is (told_one found r text)
 found_one comes (Err stops.Fault) r is text = rw text tt
 found_one comes (Err stops.NoMemory) r is text = rw text tt
 
-pub found_replies : (content : Option (List ℕ)) (comes : List ℕ → CertAnswer) (found : Result CertAnswer RecheckStop) (r : Result Answer Halt)
+pub found_replies : (content : Option (List ℕ)) (comes : List ℕ → CertAnswer) (found : Result CertAnswer ReadFailed) (r : Result Answer Halt)
     → IfSome content (λ bytes. IfOk found (λ a. comes bytes ≡ a)) → IsFound found r → RepliesOfBytes (λ bytes. Rechecks (comes bytes)) content r
 found_replies None comes found r is text = tt
 found_replies (Some bytes) comes found r is text = found_one (comes bytes) found r is text
@@ -131,7 +132,7 @@ made_counts names (Err (Broken v)) r before after text counts =
 made_counts names (Err Fault) r before after text counts = record { later = counts.0; quiet = rw text tt; cause = rw text counts.1 }
 made_counts names (Err NoMemory) r before after text counts = quiet_counts r before after counts (rw text tt)
 
-pub found_counts : (found : Result CertAnswer RecheckStop) (r : Result Answer Halt) (before after : ℕ) → IsFound found r → CountsRecheckFaults found before after → CountsAs r before after
+pub found_counts : (found : Result CertAnswer ReadFailed) (r : Result Answer Halt) (before after : ℕ) → IsFound found r → CountsFailures found before after → CountsAs r before after
 found_counts (Ok found) r before after text counts = quiet_counts r before after counts (written_sure (answer_line found) (answer_status found) r before after text)
 found_counts (Err stops.Fault) r before after text counts = record { later = counts.0; quiet = rw text tt; cause = rw text counts.1 }
 found_counts (Err stops.NoMemory) r before after text counts = quiet_counts r before after counts (rw text tt)

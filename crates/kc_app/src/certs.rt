@@ -4,17 +4,16 @@ ghost use Rattle.std.specs.Option.{ForSome};
 ghost use Rattle.std.specs.String.{string_bytes};
 ghost use Rattle.kc_outside.specs.declared.store.Slot.{Slot};
 ghost use Rattle.kc_outside.specs.Counts.{Rose};
-ghost use Rattle.kc_input.specs.Halts.{OnStore, UnlessStore};
-ghost use Rattle.kc_ends.specs.Asked.{word_in};
+ghost use Rattle.kc_command.specs.Halts.{OnStore, UnlessStore};
+ghost use Rattle.kc_command.specs.Ends.Asked.{word_in};
 ghost use Rattle.kc_app.specs.Fitted.{RepliesTo};
 ghost use Rattle.kc_app.specs.Certify.{certify_asks};
 ghost use Rattle.kc_app.specs.Program.{certs_asks, certs_view};
 ghost use Rattle.kc_app.specs.Recheck.{recheck_asks};
 
-use crate::check::Asks;
+use crate::plan_files::PlanFiles;
 use crate::recheck::Asks as CertFiles;
-use kc_ends::Answer;
-use kc_input::Halt;
+use kc_command::{Answer, Halt, KernelFiles};
 use kc_outside::Store;
 use std::alloc::Global;
 
@@ -22,7 +21,7 @@ use std::alloc::Global;
 #[derive(Clone, Copy)]
 pub enum CertAsks<'w> {
     /// A certificate of a dump.
-    Certify(Asks<'w>),
+    Certify(PlanFiles<'w>),
     /// Whether one fits a dump.
     Recheck(CertFiles<'w>),
 }
@@ -34,10 +33,13 @@ fn read_five(words: &[String]) -> Option<CertAsks<'_>>
     let [dump, btf, map, plan, cert] = words else {
         return None;
     };
-    let files = Asks {
+    let kernel = KernelFiles {
         dump: dump.as_str(),
         btf: btf.as_str(),
         map: map.as_str(),
+    };
+    let files = PlanFiles {
+        kernel,
         plan: plan.as_str(),
     };
     Some(CertAsks::Recheck(CertFiles {
@@ -53,10 +55,13 @@ fn read_four(words: &[String]) -> Option<CertAsks<'_>>
     let [dump, btf, map, plan] = words else {
         return None;
     };
-    Some(CertAsks::Certify(Asks {
+    let kernel = KernelFiles {
         dump: dump.as_str(),
         btf: btf.as_str(),
         map: map.as_str(),
+    };
+    Some(CertAsks::Certify(PlanFiles {
+        kernel,
         plan: plan.as_str(),
     }))
 }

@@ -2,8 +2,6 @@
 #![tactic(auto)]
 
 mod answer;
-mod asking;
-mod audits;
 mod certify;
 mod certs;
 mod check;
@@ -12,13 +10,15 @@ mod command;
 mod held;
 mod laws;
 mod layout;
+mod plan_files;
 mod program;
 mod recheck;
 mod selftest;
 mod show;
 mod top;
+mod verdict;
 mod word;
 
-pub use kc_ends::Status;
+pub use kc_command::Status;
 pub use laws::{know_reports, know_shown};
 pub use top::kaudit;

@@ -7,30 +7,30 @@ ghost use Rattle.kc_outside.specs.Files.{OthersStay, content};
 ghost use Rattle.kc_phys.specs.Stored.{AreInside};
 ghost use Rattle.kc_plan.specs.Inside.{AreInside as TypesAreInside};
 ghost use Rattle.kc_plan.specs.Views.{plan_seen};
-ghost use Rattle.kc_recheck.specs.Answers.{CountsRecheckFaults};
-ghost use Rattle.kc_recheck.specs.Certificates.{answer};
-ghost use Rattle.kc_cert_text.specs.CertTexts.{cert_in};
-ghost use Rattle.kc_input.specs.declared.refusal.Refusal.TheVariants.{Certificate as cert_refused};
-ghost use Rattle.kc_input.specs.Halts.{NotRefused, NotStore, OnStore, UnlessStore};
-ghost use Rattle.kc_input.specs.Made.{Is, IsOf, checked};
-ghost use Rattle.kc_input.specs.Paging.{IsTable};
-ghost use Rattle.kc_input.specs.Slots.{RefusesIn};
-ghost use Rattle.kc_ends.specs.Answers.{StayBehind};
+ghost use Rattle.kc_cert.specs.Rechecking.Certificates.{answer};
+ghost use Rattle.kc_cert.specs.Text.CertTexts.{cert_in};
+ghost use Rattle.kc_command.specs.declared.refusal.Refusal.TheVariants.{Certificate as cert_refused};
+ghost use Rattle.kc_command.specs.Halts.{NotRefused, NotStore, OnStore, UnlessStore};
+ghost use Rattle.kc_command.specs.Made.{Is, IsOf, checked};
+ghost use Rattle.kc_command.specs.Paging.{IsTable};
+ghost use Rattle.kc_command.specs.Slots.{RefusesIn};
+ghost use Rattle.kc_command.specs.Ends.Answers.{StayBehind};
 ghost use Rattle.kc_app.specs.Answer.{WritesText};
 ghost use Rattle.kc_app.specs.Certified.{IsFound};
 ghost use Rattle.kc_app.specs.Fitted.{RepliesOf, RepliesOfBytes};
 ghost use Rattle.kc_app.specs.Held.{audited_of};
 ghost use Rattle.kc_app.specs.Recheck.{cert_file, cert_files, recheck_asked, recheck_made};
 ghost use Rattle.kc_app.specs.Reply.{Rechecks, answer_line, answer_status};
+ghost use Rattle.kc_found.specs.Failures.{CountsFailures};
 
-use crate::asking::{Question, ask_core};
-use crate::check::{Asks as FourAsks, PlanOf};
-use crate::held::{Held, read_held};
-use kc_cert::{CertAnswer, CertRead, Certificate, RecheckStop, read_cert, recheck as recheck_plan};
-use kc_ends::Answer;
-use kc_found::Space;
-use kc_input::{Halt, Refusal, read_cert_file};
+use crate::held::{Held, ask_held, read_held};
+use crate::plan_files::PlanFiles;
+use kc_audit::PlanOf;
+use kc_cert::{CertAnswer, CertRead, Certificate, read_cert, recheck as recheck_plan};
+use kc_command::{Answer, Halt, Refusal, read_cert_file};
+use kc_found::{ReadFailed, Space};
 use kc_outside::Store;
+use kc_question::Question;
 use kc_text::{push, push_numbered};
 use kc_word::{NoMemory, Steps};
 use std::alloc::Global;
@@ -40,7 +40,7 @@ use std::sync::ledger::Ledger;
 #[derive(Clone, Copy)]
 pub struct Asks<'w> {
     /// The names of the dump, of the file of types, of the map and of the plan.
-    pub files: FourAsks<'w>,
+    pub files: PlanFiles<'w>,
     /// The name of the certificate.
     pub cert: &'w str,
 }
@@ -52,15 +52,15 @@ pub(crate) fn recheck<S: Store>(
     store: &mut S,
     asks: &Asks<'_>,
 ) -> Result<Answer, Halt>
-    requires dump { S.may store.old Dump asks.now.files.dump.now }
-    requires btf { S.may store.old Slot.Btf asks.now.files.btf.now }
-    requires map { S.may store.old Map asks.now.files.map.now }
+    requires dump { S.may store.old Dump asks.now.files.kernel.dump.now }
+    requires btf { S.may store.old Slot.Btf asks.now.files.kernel.btf.now }
+    requires map { S.may store.old Map asks.now.files.kernel.map.now }
     requires plan { S.may store.old Slot.Plan asks.now.files.plan.now }
     requires cert { S.may store.old Slot.Report asks.now.cert.now }
 
     ensures output { RepliesOf
-        (λ files. recheck_made (files Dump asks.now.files.dump.now) (files Slot.Btf asks.now.files.btf.now)
-        (files Map asks.now.files.map.now) (files Slot.Plan asks.now.files.plan.now)
+        (λ files. recheck_made (files Dump asks.now.files.kernel.dump.now) (files Slot.Btf asks.now.files.kernel.btf.now)
+        (files Map asks.now.files.kernel.map.now) (files Slot.Plan asks.now.files.plan.now)
         (files Slot.Report asks.now.cert.now)) (S.files store.old) result }
     ensures unopened { StayBehind (recheck_asked (cert_files asks.now)).named result (S.opened store.old)
         (S.opened store.new) }
@@ -125,26 +125,25 @@ fn rechecked<S: Store>(
     ensures quiet { UnlessStore result (S.faults store.new ≡ S.faults store.old) }
     ensures cause { OnStore result (Rose (S.faults store.old) (S.faults store.new)) }
 {
-    let plan = &held.plan;
     let over = PlanOf {
         alloc,
-        plan,
+        plan: &held.plan,
         types: &held.types,
     };
     let question = Rechecking { over, cert };
-    let found = ask_core(alloc, store, &held.core, held.info, plan.tail, &question)?;
+    let found = ask_held(alloc, store, held, &question)?;
     answer_of(alloc, found)
 }
 
 // The answer of what a certificate comes to, or where that isn't known.
-fn answer_of(alloc: Global, found: Result<CertAnswer, RecheckStop>) -> Result<Answer, Halt>
+fn answer_of(alloc: Global, found: Result<CertAnswer, ReadFailed>) -> Result<Answer, Halt>
     ensures output { IsFound found result }
     ensures not_refused { NotRefused result }
 {
     match found {
         Ok(answer) => told(alloc, &answer),
-        Err(RecheckStop::Fault) => Err(Halt::Store),
-        Err(RecheckStop::NoMemory) => Err(Halt::Memory),
+        Err(ReadFailed::Fault) => Err(Halt::Store),
+        Err(ReadFailed::NoMemory) => Err(Halt::Memory),
     }
 }
 
@@ -184,19 +183,19 @@ struct Rechecking<'p> {
 }
 
 impl<'p> Question for Rechecking<'p> {
-    type Answer = Result<CertAnswer, RecheckStop>;
+    type Answer = Result<CertAnswer, ReadFailed>;
 
     ghost may = { λ of. TypesAreInside (length of.over.types.now.records) of.over.plan.now.audits };
 
     ghost says = { λ of image found. IfOk found (λ a. answer image (plan_seen of.over.plan.now) of.cert.now ≡ a) };
 
-    ghost leaves = { λ of found before after. CountsRecheckFaults found before after };
+    ghost leaves = { λ of found before after. CountsFailures found before after };
 
     fn ask<M: Space, L: Ledger>(
         &self,
         memory: &mut M,
         steps: &mut Steps<L>,
-    ) -> Result<CertAnswer, RecheckStop> {
+    ) -> Result<CertAnswer, ReadFailed> {
         recheck_plan(
             self.over.alloc,
             self.over.plan,

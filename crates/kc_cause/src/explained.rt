@@ -5,17 +5,16 @@ ghost use Rattle.kc_mem.specs.Paged.{with_paging};
 ghost use Rattle.kc_text.specs.Compose.{texts};
 ghost use Rattle.kc_plan.specs.Roots.{FitEach, FitsRoot};
 ghost use Rattle.kc_plan.specs.Views.{plan_seen};
-ghost use Rattle.kc_run.specs.Answers.{CountsRunFaults};
 ghost use Rattle.kc_cause.specs.Explained.{broken_lines, cause_lines, causes_text, first_lines, found_named, found_number, is_broken, or_clean, root_line};
 ghost use Rattle.kc_cause.specs.Judged.{FitsTogether, over_plan};
+ghost use Rattle.kc_found.specs.Failures.{CountsFailures};
 
 use crate::judged::PlanOf;
 use crate::lines::{push_line, push_named, push_number};
 use crate::places::push_shown_over;
 use crate::repairs::{Repairable, push_repairs};
-use crate::returned::Returned;
-use kc_found::{Found, RootVerdict, Verdict, Verdicts};
-use kc_run::RunStop;
+use kc_found::{Found, ReadFailed, RootVerdict, Verdict, Verdicts};
+use kc_question::Returned;
 use kc_text::push;
 use kc_word::NoMemory;
 
@@ -64,7 +63,7 @@ fn push_broken<F: Repairable>(
     over: &PlanOf<'_>,
     root: u32,
     found: &Found,
-) -> Returned<F, Result<(), RunStop>>
+) -> Returned<F, Result<(), ReadFailed>>
     requires over { FitsTogether over.now }
     requires root { root < length over.now.plan.now.audits }
     requires found { found.now.audit < length over.now.plan.now.audits }
@@ -72,12 +71,12 @@ fn push_broken<F: Repairable>(
     ensures added { OnOk result.answer (IfSome (with_paging over.now.paging (F.image memory)) (λ image.
         text.new.items ≡ text.old.items ++ broken_lines (over_plan over.now image) root found.now)) }
     ensures stays { FramesStay F.image F.files F.through memory result.memory }
-    ensures cause { CountsRunFaults result.answer (F.faults memory) (F.faults result.memory) }
+    ensures cause { CountsFailures result.answer (F.faults memory) (F.faults result.memory) }
 {
     if let Err(NoMemory) = push_named_root(text, over, root, found) {
         return Returned {
             memory,
-            answer: Err(RunStop::NoMemory),
+            answer: Err(ReadFailed::NoMemory),
         };
     }
     let Returned { memory, answer } = push_shown_over(memory, text, over, found);
@@ -91,7 +90,7 @@ fn push_broken<F: Repairable>(
         Ok(()) => push_repairs(memory, text, over, root, found),
         Err(NoMemory) => Returned {
             memory,
-            answer: Err(RunStop::NoMemory),
+            answer: Err(ReadFailed::NoMemory),
         },
     }
 }
@@ -102,14 +101,14 @@ fn push_cause<F: Repairable>(
     text: &mut Vec<u8>,
     over: &PlanOf<'_>,
     root: &RootVerdict,
-) -> Returned<F, Result<(), RunStop>>
+) -> Returned<F, Result<(), ReadFailed>>
     requires over { FitsTogether over.now }
     requires fits { FitsRoot (length over.now.plan.now.audits) (plan_seen over.now.plan.now) root.now }
 
     ensures added { OnOk result.answer (IfSome (with_paging over.now.paging (F.image memory)) (λ image.
         text.new.items ≡ text.old.items ++ cause_lines (over_plan over.now image) root.now)) }
     ensures stays { FramesStay F.image F.files F.through memory result.memory }
-    ensures cause { CountsRunFaults result.answer (F.faults memory) (F.faults result.memory) }
+    ensures cause { CountsFailures result.answer (F.faults memory) (F.faults result.memory) }
 {
     match &root.verdict {
         Verdict::Broken(found) => push_broken(memory, text, over, root.root, found),
@@ -126,14 +125,14 @@ fn push_causes<F: Repairable>(
     text: &mut Vec<u8>,
     over: &PlanOf<'_>,
     verdicts: &Verdicts,
-) -> Returned<F, Result<(), RunStop>>
+) -> Returned<F, Result<(), ReadFailed>>
     requires over { FitsTogether over.now }
     requires fits { FitEach (length over.now.plan.now.audits) (plan_seen over.now.plan.now) verdicts.now }
 
     ensures added { OnOk result.answer (IfSome (with_paging over.now.paging (F.image memory)) (λ image.
         text.new.items ≡ text.old.items ++ texts (cause_lines (over_plan over.now image)) verdicts.now)) }
     ensures stays { FramesStay F.image F.files F.through memory result.memory }
-    ensures cause { CountsRunFaults result.answer (F.faults memory) (F.faults result.memory) }
+    ensures cause { CountsFailures result.answer (F.faults memory) (F.faults result.memory) }
 {
     let mut memory = memory;
     for i in 0..verdicts.len() {
@@ -161,14 +160,14 @@ fn push_first<F: Repairable>(
     text: &mut Vec<u8>,
     over: &PlanOf<'_>,
     verdicts: &Verdicts,
-) -> Returned<F, Result<(), RunStop>>
+) -> Returned<F, Result<(), ReadFailed>>
     requires over { FitsTogether over.now }
     requires fits { FitEach (length over.now.plan.now.audits) (plan_seen over.now.plan.now) verdicts.now }
 
     ensures added { OnOk result.answer (IfSome (with_paging over.now.paging (F.image memory)) (λ image.
         text.new.items ≡ text.old.items ++ first_lines (over_plan over.now image) (find is_broken verdicts.now))) }
     ensures stays { FramesStay F.image F.files F.through memory result.memory }
-    ensures cause { CountsRunFaults result.answer (F.faults memory) (F.faults result.memory) }
+    ensures cause { CountsFailures result.answer (F.faults memory) (F.faults result.memory) }
 {
     for i in 0..verdicts.len() {
         let root = verdicts.get(i);
@@ -188,14 +187,14 @@ fn push_some<F: Repairable>(
     text: &mut Vec<u8>,
     over: &PlanOf<'_>,
     verdicts: &Verdicts,
-) -> Returned<F, Result<(), RunStop>>
+) -> Returned<F, Result<(), ReadFailed>>
     requires over { FitsTogether over.now }
     requires fits { FitEach (length over.now.plan.now.audits) (plan_seen over.now.plan.now) verdicts.now }
 
     ensures added { OnOk result.answer (IfSome (with_paging over.now.paging (F.image memory)) (λ image.
         text.new.items ≡ text.old.items ++ causes_text (over_plan over.now image) verdicts.now)) }
     ensures stays { FramesStay F.image F.files F.through memory result.memory }
-    ensures cause { CountsRunFaults result.answer (F.faults memory) (F.faults result.memory) }
+    ensures cause { CountsFailures result.answer (F.faults memory) (F.faults result.memory) }
 {
     if over.plan.version == 2 {
         push_causes(memory, text, over, verdicts)
@@ -214,21 +213,21 @@ pub(crate) fn explained_text<F: Repairable>(
     memory: F,
     over: &PlanOf<'_>,
     verdicts: &Verdicts,
-) -> Returned<F, Result<Vec<u8>, RunStop>>
+) -> Returned<F, Result<Vec<u8>, ReadFailed>>
     requires over { FitsTogether over.now }
     requires fits { FitEach (length over.now.plan.now.audits) (plan_seen over.now.plan.now) verdicts.now }
 
     ensures says { IfOk result.answer (λ text. IfSome (with_paging over.now.paging (F.image memory)) (λ image.
         text.items ≡ or_clean (causes_text (over_plan over.now image) verdicts.now))) }
     ensures stays { FramesStay F.image F.files F.through memory result.memory }
-    ensures cause { CountsRunFaults result.answer (F.faults memory) (F.faults result.memory) }
+    ensures cause { CountsFailures result.answer (F.faults memory) (F.faults result.memory) }
 {
     let mut text = Vec::new(over.alloc);
     let Returned { memory, answer } = push_some(memory, &mut text, over, verdicts);
     let answer = match answer {
         Ok(()) => match or_clean(text) {
             Ok(text) => Ok(text),
-            Err(NoMemory) => Err(RunStop::NoMemory),
+            Err(NoMemory) => Err(ReadFailed::NoMemory),
         },
         Err(stop) => Err(stop),
     };

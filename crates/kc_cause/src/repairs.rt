@@ -4,25 +4,24 @@ ghost use Rattle.kc_memory.specs.Stays.{FramesStay};
 ghost use Rattle.kc_mem.specs.Paged.{with_paging};
 ghost use Rattle.kc_plan.specs.Inside.{AreInside as TypesAreInside};
 ghost use Rattle.kc_plan.specs.Views.{plan_seen};
-ghost use Rattle.kc_run.specs.Answers.{CountsRunFaults};
 ghost use Rattle.kc_repair.specs.Repairs.{repair_of};
-ghost use Rattle.kc_input.specs.Paging.{IsTable};
+ghost use Rattle.kc_command.specs.Paging.{IsTable};
 ghost use Rattle.kc_cause.specs.Explained.{repairs_as, repairs_found};
 ghost use Rattle.kc_cause.specs.Judged.{FitsTogether, over_plan};
 ghost use Rattle.kc_cause.specs.Lines.{next_line, next_lines, repair_lines, suspect_part, tried_part};
+ghost use Rattle.kc_found.specs.Failures.{CountsFailures};
 
 use crate::judged::PlanOf;
-use crate::returned::Returned;
 use crate::suspected::as_ring_over;
-use kc_found::Found;
+use kc_found::{Found, ReadFailed};
 use kc_kinds::Kind;
 use kc_memory::Frames;
 use kc_outside::Store;
 use kc_phys::Phys;
-use kc_repair::{Next, Repair, Repaired, RootAudit, repair_over};
+use kc_question::Returned;
+use kc_repair::{Next, Repair, Repaired, RootAudit, Suspect, repair_over};
 use kc_report::rule_code;
-use kc_run::{RunStop, root_at};
-use kc_suspect::Suspect;
+use kc_run::root_at;
 use kc_text::{push, push_decimal, push_hex};
 use kc_word::{NoMemory, PageCfg};
 use std::alloc::Global;
@@ -104,7 +103,7 @@ pub(crate) trait Repairable: Frames {
         audit: &RootAudit<'_>,
         kind: &Kind,
         found: &Found,
-    ) -> Returned<Self, Result<Repair, RunStop>>
+    ) -> Returned<Self, Result<Repair, ReadFailed>>
     where
         Self: Sized,
         requires table { IsTable paging.table }
@@ -114,7 +113,7 @@ pub(crate) trait Repairable: Frames {
         ensures exact { IfOk result.answer (λ repair. IfSome (with_paging paging (Self.image self))
             (λ image. repair ≡ repair_of image (plan_seen audit.now.plan.now) (audit.now.root.audit, audit.now.root.start) kind.now found.now)) }
         ensures stays { FramesStay Self.image Self.files Self.through self result.memory }
-        ensures cause { CountsRunFaults result.answer (Self.faults self) (Self.faults result.memory) };
+        ensures cause { CountsFailures result.answer (Self.faults self) (Self.faults result.memory) };
 }
 
 impl<'s, S: Store> Repairable for Phys<'s, S> {
@@ -125,7 +124,7 @@ impl<'s, S: Store> Repairable for Phys<'s, S> {
         audit: &RootAudit<'_>,
         kind: &Kind,
         found: &Found,
-    ) -> Returned<Self, Result<Repair, RunStop>> {
+    ) -> Returned<Self, Result<Repair, ReadFailed>> {
         let Repaired { memory, repair } = repair_over(alloc, self, paging, audit, kind, found);
         Returned {
             memory,
@@ -142,13 +141,13 @@ fn push_repairs_as<F: Repairable>(
     root: u32,
     kind: &Kind,
     found: &Found,
-) -> Returned<F, Result<(), RunStop>>
+) -> Returned<F, Result<(), ReadFailed>>
     requires over { FitsTogether over.now }
 
     ensures added { OnOk result.answer (IfSome (with_paging over.now.paging (F.image memory)) (λ image.
         text.new.items ≡ text.old.items ++ repairs_as (over_plan over.now image) root kind.now found.now)) }
     ensures stays { FramesStay F.image F.files F.through memory result.memory }
-    ensures cause { CountsRunFaults result.answer (F.faults memory) (F.faults result.memory) }
+    ensures cause { CountsFailures result.answer (F.faults memory) (F.faults result.memory) }
 {
     let PlanOf { plan, types, .. } = *over;
     let Some(root) = root_at(plan, root) else {
@@ -162,7 +161,7 @@ fn push_repairs_as<F: Repairable>(
     let answer = match answer {
         Ok(repair) => match push_repair(text, &repair) {
             Ok(()) => Ok(()),
-            Err(NoMemory) => Err(RunStop::NoMemory),
+            Err(NoMemory) => Err(ReadFailed::NoMemory),
         },
         Err(stop) => Err(stop),
     };
@@ -176,14 +175,14 @@ pub(crate) fn push_repairs<F: Repairable>(
     over: &PlanOf<'_>,
     root: u32,
     found: &Found,
-) -> Returned<F, Result<(), RunStop>>
+) -> Returned<F, Result<(), ReadFailed>>
     requires over { FitsTogether over.now }
     requires found { found.now.audit < length over.now.plan.now.audits }
 
     ensures added { OnOk result.answer (IfSome (with_paging over.now.paging (F.image memory)) (λ image.
         text.new.items ≡ text.old.items ++ repairs_found (over_plan over.now image) root found.now)) }
     ensures stays { FramesStay F.image F.files F.through memory result.memory }
-    ensures cause { CountsRunFaults result.answer (F.faults memory) (F.faults result.memory) }
+    ensures cause { CountsFailures result.answer (F.faults memory) (F.faults result.memory) }
 {
     let kind = &over.plan.audit(found.audit).kind;
     let Returned { memory, answer } = as_ring_over(memory, over, kind, found);

@@ -3,21 +3,20 @@ ghost use Rattle.std.specs.Prelude.{◌≡◌, ◌≤◌, ◌++◌, [], codes, l
 ghost use Rattle.std.specs.Option.{option_map_or};
 ghost use Rattle.kc_memory.specs.Stays.{SpaceStays};
 ghost use Rattle.kc_text.specs.Text.{hex};
-ghost use Rattle.kc_run.specs.Answers.{CountsRunFaults};
 ghost use Rattle.kc_kinds.specs.Inside.{KindInside};
 ghost use Rattle.kc_view.specs.TaskLists.{IsInside};
 ghost use Rattle.kc_which.specs.CacheRings.{cache_ring, slab_in};
 ghost use Rattle.kc_which.specs.TaskRings.{task_in, task_ring};
 ghost use Rattle.kc_cause.specs.Rings.{cache_lines, ring_lines, task_lines, task_list_line, typed_slab, typed_task};
+ghost use Rattle.kc_found.specs.Failures.{CountsFailures};
 
 use crate::judged::PlanOf;
 use crate::lines::push_element;
 use kc_btf::Btf;
 use kc_element::Element;
-use kc_found::{Found, Space, WalkStop};
+use kc_found::{Found, ReadFailed, Space, WalkStop};
 use kc_kinds::Kind;
 use kc_layout::find_type;
-use kc_run::RunStop;
 use kc_text::{push, push_hex, push_numbered};
 use kc_view::{SlubShape, TaskShape};
 use kc_which::{
@@ -34,16 +33,16 @@ pub(crate) fn task_ring<M: Space, L: Ledger>(
     shape: &TaskShape,
     found: &Found,
     steps: &mut Steps<L>,
-) -> Result<Option<TaskRing>, RunStop>
+) -> Result<Option<TaskRing>, ReadFailed>
     requires { IsInside shape.now over.now.types.now }
     ensures exact { IfSome (M.image memory.old) (λ image. IfOk result (λ r. r ≡ task_ring image shape.now found.now)) }
     ensures stays { SpaceStays M.image M.files M.through M.most memory.old memory.new }
-    ensures cause { CountsRunFaults result (M.faults memory.old) (M.faults memory.new) }
+    ensures cause { CountsFailures result (M.faults memory.old) (M.faults memory.new) }
 {
     match find_task_ring(over.alloc, memory, over.types, shape, found, steps) {
         Ok(ring) => Ok(ring),
-        Err(WalkStop::NoMemory) => Err(RunStop::NoMemory),
-        Err(WalkStop::Fault | WalkStop::Broken(_)) => Err(RunStop::Fault),
+        Err(WalkStop::NoMemory) => Err(ReadFailed::NoMemory),
+        Err(WalkStop::Fault | WalkStop::Broken(_)) => Err(ReadFailed::Fault),
     }
 }
 
@@ -54,15 +53,15 @@ pub(crate) fn cache_ring<M: Space, L: Ledger>(
     shape: &SlubShape,
     found: &Found,
     steps: &mut Steps<L>,
-) -> Result<Option<CacheRing>, RunStop>
+) -> Result<Option<CacheRing>, ReadFailed>
     ensures exact { IfSome (M.image memory.old) (λ image. IfOk result (λ r. r ≡ cache_ring image shape.now found.now)) }
     ensures stays { SpaceStays M.image M.files M.through M.most memory.old memory.new }
-    ensures cause { CountsRunFaults result (M.faults memory.old) (M.faults memory.new) }
+    ensures cause { CountsFailures result (M.faults memory.old) (M.faults memory.new) }
 {
     match find_cache_ring(over.alloc, memory, shape, found, steps) {
         Ok(list) => Ok(list),
-        Err(WalkStop::NoMemory) => Err(RunStop::NoMemory),
-        Err(WalkStop::Fault | WalkStop::Broken(_)) => Err(RunStop::Fault),
+        Err(WalkStop::NoMemory) => Err(ReadFailed::NoMemory),
+        Err(WalkStop::Fault | WalkStop::Broken(_)) => Err(ReadFailed::Fault),
     }
 }
 
@@ -132,19 +131,16 @@ fn push_task_ring<M: Space, L: Ledger>(
     shape: &TaskShape,
     found: &Found,
     steps: &mut Steps<L>,
-) -> Result<(), RunStop>
+) -> Result<(), ReadFailed>
     requires { shape.now.task ≤ length over.now.types.now.records }
     ensures added { OnOk result (IfSome (M.image memory.old) (λ image. text.new.items ≡ text.old.items ++ option_map_or (task_lines over.now.types.now shape.now found.now) (task_ring image shape.now found.now) [])) }
     ensures stays { SpaceStays M.image M.files M.through M.most memory.old memory.new }
-    ensures cause { CountsRunFaults result (M.faults memory.old) (M.faults memory.new) }
+    ensures cause { CountsFailures result (M.faults memory.old) (M.faults memory.new) }
 {
     let Some(ring) = task_ring(over, memory, shape, found, steps)? else {
         return Ok(());
     };
-    match push_tasks(text, over, shape, found, ring) {
-        Ok(()) => Ok(()),
-        Err(NoMemory) => Err(RunStop::NoMemory),
-    }
+    Ok(push_tasks(text, over, shape, found, ring)?)
 }
 
 // What has a pointer of a partial list, with its type.
@@ -193,20 +189,17 @@ fn push_cache_ring<M: Space, L: Ledger>(
     shape: &SlubShape,
     found: &Found,
     steps: &mut Steps<L>,
-) -> Result<(), RunStop>
+) -> Result<(), ReadFailed>
     requires slab { shape.now.slab ≤ length over.now.types.now.records }
     requires knode { shape.now.knode ≤ length over.now.types.now.records }
     ensures added { OnOk result (IfSome (M.image memory.old) (λ image. text.new.items ≡ text.old.items ++ option_map_or (cache_lines over.now.types.now shape.now found.now) (cache_ring image shape.now found.now) [])) }
     ensures stays { SpaceStays M.image M.files M.through M.most memory.old memory.new }
-    ensures cause { CountsRunFaults result (M.faults memory.old) (M.faults memory.new) }
+    ensures cause { CountsFailures result (M.faults memory.old) (M.faults memory.new) }
 {
     let Some(list) = cache_ring(over, memory, shape, found, steps)? else {
         return Ok(());
     };
-    match push_partial(text, over, shape, found, list) {
-        Ok(()) => Ok(()),
-        Err(NoMemory) => Err(RunStop::NoMemory),
-    }
+    Ok(push_partial(text, over, shape, found, list)?)
 }
 
 /// Adds the lines of the list of tasks or of a slab cache in which a violation lies, where it lies in one.
@@ -221,11 +214,11 @@ pub(crate) fn push_ring<M: Space, L: Ledger>(
     kind: &Kind,
     found: &Found,
     steps: &mut Steps<L>,
-) -> Result<(), RunStop>
+) -> Result<(), ReadFailed>
     requires { KindInside (length over.now.types.now.records) kind.now }
     ensures added { OnOk result (IfSome (M.image memory.old) (λ image. text.new.items ≡ text.old.items ++ ring_lines over.now.types.now image found.now kind.now)) }
     ensures stays { SpaceStays M.image M.files M.through M.most memory.old memory.new }
-    ensures cause { CountsRunFaults result (M.faults memory.old) (M.faults memory.new) }
+    ensures cause { CountsFailures result (M.faults memory.old) (M.faults memory.new) }
 {
     match kind {
         Kind::Tasks(shape) => push_task_ring(text, over, memory, shape, found, steps),

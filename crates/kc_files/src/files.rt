@@ -7,23 +7,22 @@ ghost use Rattle.kc_outside.specs.declared.store.Slot.TheVariants.{Dump};
 ghost use Rattle.kc_outside.specs.Counts.{Rose};
 ghost use Rattle.kc_outside.specs.Files.{content};
 ghost use Rattle.kc_phys.specs.Stored.{AreInside};
-ghost use Rattle.kc_input.specs.Halts.{OnStore, UnlessStore};
-ghost use Rattle.kc_input.specs.Made.{Tells};
-ghost use Rattle.kc_input.specs.Paging.{IsTable, by_info};
-ghost use Rattle.kc_input.specs.Slots.{IsAbout, RefusesIn};
-ghost use Rattle.kc_ends.specs.Answers.{OnNone, OnStoreIn, PrintsOf, PrintsOfBytes, Runs, StayBehind, UnlessStoreIn};
-ghost use Rattle.kc_ends.specs.Asked.{word_in};
+ghost use Rattle.kc_question.specs.Memory.{bare_image};
+ghost use Rattle.kc_command.specs.Halts.{OnStore, UnlessStore};
+ghost use Rattle.kc_command.specs.Paging.{IsTable, by_info};
+ghost use Rattle.kc_command.specs.Slots.{RefusesIn};
+ghost use Rattle.kc_command.specs.Ends.Answers.{OnNone, OnStoreIn, PrintsOf, PrintsOfBytes, Runs, StayBehind, UnlessStoreIn};
+ghost use Rattle.kc_command.specs.Ends.Asked.{word_in};
 ghost use Rattle.kc_files.specs.Answered.{IsAnswer, IsStopped};
-ghost use Rattle.kc_files.specs.Made.{files_asks, files_made, files_view, files_written, places_made, shown_by};
-ghost use Rattle.kc_files.specs.Wished.{image_of, wished};
+ghost use Rattle.kc_files.specs.Made.{files_asks, files_made, files_view, files_written, shown_by};
+ghost use Rattle.kc_files.specs.Sought.{sought_view};
+ghost use Rattle.kc_files.specs.Wished.{wished};
 
 use crate::memory::read_file;
+use crate::sought::{Sought, sought_by};
+use crate::unread::Unread;
 use crate::wish::{Wish, wish_of};
-use kc_elf::Core;
-use kc_ends::Answer;
-use kc_input::{Halt, Refusal, read_dump, read_info};
-use kc_kallsyms::{Places, ReadStop, places_in};
-use kc_notes::{Info, vmcoreinfo};
+use kc_command::{Answer, Halt, Noted, Refusal, read_noted};
 use kc_outside::Store;
 use kc_report::broken_text;
 use std::alloc::Global;
@@ -50,8 +49,8 @@ fn read(words: &[String]) -> Option<Asks<'_>>
     })
 }
 
-/// Runs kfiles on the words behind its name: the first fault of the dump or of its symbol table, the first word that can't be read, or the
-/// bytes of the file that is wished. `None` where these aren't its words; the store isn't asked then.
+/// Runs kfiles on the words after its name: the first fault of the dump, of its symbols' tables or of its log, the first word that can't be
+/// read, or the bytes of the file that is wished. `None` where these aren't its words; the store isn't asked then.
 pub fn run<S: Store>(alloc: Global, store: &mut S, words: &[String]) -> Option<Result<Answer, Halt>>
     requires { (slot : Slot) → ForSome (word_in (files_asks (map string_bytes words.now)) slot) (S.may store.old slot) }
 
@@ -67,16 +66,6 @@ pub fn run<S: Store>(alloc: Global, store: &mut S, words: &[String]) -> Option<R
     Some(file(alloc, store, asks))
 }
 
-// Where the tables lie, by a dump's notes.
-#[tactic(auto, unfolding(crate::specs::Made::places_made))]
-fn read_places(core: &Core) -> Result<Places, Refusal>
-    ensures made { Tells (λ places. places) (places_made core.now.notes) result }
-    ensures refused { IsAbout (Some Dump) result }
-{
-    let note = vmcoreinfo(core)?;
-    Ok(places_in(note)?)
-}
-
 // The answer to what is asked.
 fn file<S: Store>(alloc: Global, store: &mut S, asks: Asks<'_>) -> Result<Answer, Halt>
     requires may { S.may store.old Dump asks.dump.now }
@@ -89,26 +78,23 @@ fn file<S: Store>(alloc: Global, store: &mut S, asks: Asks<'_>) -> Result<Answer
     ensures quiet { UnlessStore result (S.faults store.new ≡ S.faults store.old) }
     ensures cause { OnStore result (Rose (S.faults store.old) (S.faults store.new)) }
 {
-    let core = read_dump(alloc, store, asks.dump)?;
-    let info = read_info(&core)?;
-    let places = read_places(&core)?;
-    make(alloc, store, &core, info, &places, asks.wish)
+    let noted = read_noted(alloc, store, asks.dump)?;
+    let sought = sought_by(&noted.core, asks.wish)?;
+    make(alloc, store, &noted, &sought)
 }
 
 // The answer on a dump that was read.
 fn make<S: Store>(
     alloc: Global,
     store: &mut S,
-    core: &Core,
-    info: Info,
-    places: &Places,
-    wish: Wish,
+    noted: &Noted,
+    sought: &Sought<'_>,
 ) -> Result<Answer, Halt>
-    requires table { IsTable info.table }
-    requires inside { AreInside (S.sizes store.old Dump) core.now.segments }
+    requires table { IsTable noted.now.info.table }
+    requires inside { AreInside (S.sizes store.old Dump) noted.now.core.segments }
 
     ensures output { PrintsOfBytes files_written
-        (λ bytes. shown_by (wished wish (image_of bytes core.now.segments (by_info info)) info.kaslr places.now))
+        (λ bytes. shown_by (wished (sought_view sought.now) (bare_image bytes noted.now.core.segments (by_info noted.now.info)) noted.now.info.kaslr))
         (content (S.files store.old) Dump (S.opened store.old Dump)) result }
     ensures refused { RefusesIn Dump result }
     ensures files { S.files store.new ≡ S.files store.old }
@@ -116,12 +102,12 @@ fn make<S: Store>(
     ensures quiet { UnlessStore result (S.faults store.new ≡ S.faults store.old) }
     ensures cause { OnStore result (Rose (S.faults store.old) (S.faults store.new)) }
 {
-    let bytes = read_file(alloc, store, core, info, places, wish);
+    let bytes = read_file(alloc, store, noted, sought);
     answer(alloc, bytes)
 }
 
 // The answer by what reading memory gave.
-fn answer(alloc: Global, bytes: Result<Vec<u8>, ReadStop>) -> Result<Answer, Halt>
+fn answer(alloc: Global, bytes: Result<Vec<u8>, Unread>) -> Result<Answer, Halt>
     ensures { IsAnswer bytes result }
 {
     match bytes {
@@ -131,13 +117,14 @@ fn answer(alloc: Global, bytes: Result<Vec<u8>, ReadStop>) -> Result<Answer, Hal
 }
 
 // The answer where it stopped.
-fn stopped(alloc: Global, stop: ReadStop) -> Result<Answer, Halt>
+fn stopped(alloc: Global, stop: Unread) -> Result<Answer, Halt>
     ensures { IsStopped stop result }
 {
     match stop {
-        ReadStop::Miss(miss) => Ok(Answer::Broken(broken_text(alloc, miss)?)),
-        ReadStop::Fault => Err(Halt::Store),
-        ReadStop::Table(fault) => Err(Halt::Refused(Refusal::Tables(fault))),
-        ReadStop::NoMemory => Err(Halt::Memory),
+        Unread::Miss(miss) => Ok(Answer::Broken(broken_text(alloc, miss)?)),
+        Unread::Fault => Err(Halt::Store),
+        Unread::Table(fault) => Err(Halt::Refused(Refusal::Tables(fault))),
+        Unread::Log(fault) => Err(Halt::Refused(Refusal::Log(fault))),
+        Unread::NoMemory => Err(Halt::Memory),
     }
 }

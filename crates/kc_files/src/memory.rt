@@ -1,114 +1,91 @@
-// The memory of a dump, from which a file is read.
-ghost use Rattle.std.specs.Prelude.{◌≡◌, ◌<◌, option_map};
-ghost use Rattle.kc_word.specs.declared.plain.Tail.TheVariants as Tail;
+// What is wished of a dump, asked of its memory.
+ghost use Rattle.std.specs.Prelude.{◌≡◌, ⊤, Some, option_map};
 ghost use Rattle.kc_outside.specs.declared.store.Slot.TheVariants.{Dump};
 ghost use Rattle.kc_outside.specs.Files.{content};
-ghost use Rattle.kc_memory.specs.Stays.{SpaceStays};
 ghost use Rattle.kc_phys.specs.Stored.{AreInside};
-ghost use Rattle.kc_tlb.specs.Entries.{AreEmpty};
-ghost use Rattle.kc_input.specs.Paging.{IsTable, by_info};
-ghost use Rattle.kc_kallsyms.specs.Reading.{CountsReadFaults, ReadsAs};
-ghost use Rattle.kc_files.specs.Wished.{image_of, wished};
+ghost use Rattle.kc_question.specs.Memory.{bare_image};
+ghost use Rattle.kc_command.specs.Paging.{IsTable, by_info};
+ghost use Rattle.kc_files.specs.Reading.{CountsUnread, ReadsAs};
+ghost use Rattle.kc_files.specs.Sought.{sought_view};
+ghost use Rattle.kc_files.specs.Wished.{wished};
 
-use crate::wish::Wish;
-use kc_elf::Core;
-use kc_input::paging_by;
-use kc_kallsyms::{Places, ReadStop, read_map, read_types};
-use kc_mem::Memory;
+use crate::sought::Sought;
+use crate::unread::{Unread, log_answer, tables_answer};
+use kc_command::{Noted, paging_by};
+use kc_kallsyms::{read_map, read_types};
 use kc_memory::Space;
-use kc_notes::Info;
 use kc_outside::Store;
-use kc_phys::{Phys, Room};
-use kc_tlb::Tlb;
+use kc_printk::read_log;
+use kc_question::{Question, ask_dump};
 use kc_word::{Steps, Tail};
 use std::alloc::Global;
-use std::marker::Brand;
-use std::sync::ledger::{Blank, Ledger};
+use std::sync::ledger::Ledger;
 
-/// How many translations of pages are kept.
-const KEPT: usize = 512;
-
-// What is wished of a memory.
-fn read_wish<M: Space, L: Ledger>(
+// A file that is sought in a kernel's memory.
+#[derive(Drop)]
+struct WishedFile<'p> {
     alloc: Global,
-    memory: &mut M,
-    places: &Places,
+    sought: &'p Sought<'p>,
+    // How far KASLR moved the kernel's image, in bytes.
     kaslr: u64,
-    wish: Wish,
-    steps: &mut Steps<L>,
-) -> Result<Vec<u8>, ReadStop>
-    ensures wish { ReadsAs (λ v. v.items) (λ image. wished wish image kaslr places.now) (M.image memory.old) result }
-    ensures stays { SpaceStays M.image M.files M.through M.most memory.old memory.new }
-    ensures cause { CountsReadFaults result (M.faults memory.old) (M.faults memory.new) }
-{
-    match wish {
-        Wish::Map => read_map(alloc, memory, places, kaslr, steps),
-        Wish::Types => read_types(alloc, memory, places, kaslr, steps),
+}
+
+impl<'p> Question for WishedFile<'p> {
+    type Answer = Result<Vec<u8>, Unread>;
+
+    ghost may = { λ _. ⊤ };
+
+    ghost says = { λ of image answer. ReadsAs (λ v. v.items) (λ i. wished (sought_view of.sought.now) i of.kaslr) (Some image) answer };
+
+    ghost leaves = { λ _ answer before after. CountsUnread answer before after };
+
+    fn ask<M: Space, L: Ledger>(
+        &self,
+        memory: &mut M,
+        steps: &mut Steps<L>,
+    ) -> Result<Vec<u8>, Unread> {
+        match self.sought {
+            Sought::Map(places) => {
+                tables_answer(read_map(self.alloc, memory, places, self.kaslr, steps))
+            }
+            Sought::Types(places) => {
+                tables_answer(read_types(self.alloc, memory, places, self.kaslr, steps))
+            }
+            Sought::Log(note) => log_answer(read_log(self.alloc, memory, note, steps)),
+        }
     }
 }
 
-// The same of the dump in slot Dump, over room for its blocks and places for translations, with steps on a blank of the caller's.
-fn read_over<S: Store, L: Ledger>(
-    alloc: Global,
-    store: &mut S,
-    room: Room,
-    tlb: Tlb,
-    places: &Places,
-    kaslr: u64,
-    wish: Wish,
-    blank: Blank,
-) -> Result<Vec<u8>, ReadStop>
-    requires name { blank.name ≡ L.name }
-    requires parts { blank.parts ≡ L.parts }
-    requires some { 0 < L.parts }
-    requires tail { room.tail ≡ Tail.Absent }
-    requires empty { AreEmpty tlb.places.items }
-    requires inside { AreInside (S.sizes store.old Dump) room.segments.items }
-
-    ensures wish { ReadsAs (λ v. v.items) (λ image. wished wish image kaslr places.now)
-        (option_map (λ bytes. image_of bytes room.segments.items tlb.paging) (content (S.files store.old) Dump (S.opened store.old Dump))) result }
-    ensures files { S.files store.new ≡ S.files store.old }
-    ensures cause { CountsReadFaults result (S.faults store.old) (S.faults store.new) }
-{
-    let mut steps = Steps::<L>::new(blank);
-    let mut memory = Memory::over(Phys::over(store, room), tlb);
-    let bytes = read_wish(alloc, &mut memory, places, kaslr, wish, &mut steps);
-    let frames = memory.into_frames();
-    let _store = frames.into_store();
-    bytes
-}
-
-/// What is wished of the memory of the dump in slot Dump, whose segments and notes were read.
+/// What is sought in the memory of the dump in slot Dump, whose segments and notes were read.
 ///
 /// # Errors
 ///
-/// A word that can't be read; a fault of the symbol table; a failed call of the store; no memory was left.
+/// A word that can't be read; a fault of the symbols' tables or of the log; a failed call of the store; no memory was left.
 pub fn read_file<S: Store>(
     alloc: Global,
     store: &mut S,
-    core: &Core,
-    info: Info,
-    places: &Places,
-    wish: Wish,
-) -> Result<Vec<u8>, ReadStop>
-    requires table { IsTable info.table }
-    requires inside { AreInside (S.sizes store.old Dump) core.now.segments }
+    noted: &Noted,
+    sought: &Sought<'_>,
+) -> Result<Vec<u8>, Unread>
+    requires table { IsTable noted.now.info.table }
+    requires inside { AreInside (S.sizes store.old Dump) noted.now.core.segments }
 
-    ensures wish { ReadsAs (λ v. v.items) (λ image. wished wish image info.kaslr places.now)
-        (option_map (λ bytes. image_of bytes core.now.segments (by_info info)) (content (S.files store.old) Dump (S.opened store.old Dump))) result }
+    ensures wish { ReadsAs (λ v. v.items) (λ image. wished (sought_view sought.now) image noted.now.info.kaslr)
+        (option_map (λ bytes. bare_image bytes noted.now.core.segments (by_info noted.now.info)) (content (S.files store.old) Dump (S.opened store.old Dump))) result }
     ensures files { S.files store.new ≡ S.files store.old }
-    ensures cause { CountsReadFaults result (S.faults store.old) (S.faults store.new) }
+    ensures cause { CountsUnread result (S.faults store.old) (S.faults store.new) }
 {
-    let room = Room::new(alloc, core.segments(), Tail::Absent)?;
-    let tlb = Tlb::new(alloc, paging_by(info), KEPT)?;
-    read_over::<S, Brand>(
+    let file = WishedFile {
+        alloc,
+        sought,
+        kaslr: noted.info.kaslr,
+    };
+    ask_dump(
         alloc,
         store,
-        room,
-        tlb,
-        places,
-        info.kaslr,
-        wish,
-        Blank::new(1),
-    )
+        noted.core.segments(),
+        Tail::Absent,
+        paging_by(noted.info),
+        &file,
+    )?
 }

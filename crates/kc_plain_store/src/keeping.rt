@@ -4,7 +4,7 @@ ghost use Rattle.kc_plain_store.specs.Kept.{IsEmpty};
 
 use crate::place::{Kept, PagePlace, Room};
 use kc_inflate::Tables;
-use kc_unpack::PAGE_BYTES;
+use kc_plain::PAGE_BYTES;
 use kc_word::NoMemory;
 use std::alloc::Global;
 

@@ -2,6 +2,7 @@ mod Descent
 mod Growth
 mod Judging
 mod Law
+mod ListedLemmas
 mod Nulls
 mod Opening
 mod Order

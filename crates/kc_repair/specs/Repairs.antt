@@ -2,9 +2,6 @@
 use denote.Enum.Bare.{sameb}
 use Rattle.std.specs.Prelude.{◌≡◌, ℕ, min, nat_eq, nat_lt, ◌⊎◌, Bool, ◌&&◌, if◌then◌else◌, is_none, List, [], ◌∷◌, length, take, find, Option, Some, None, Result, Ok, Err}
 use Rattle.std.specs.List.{All}
-use Rattle.kc_word.specs.declared.plain.PageCfg.{PageCfg}
-use Rattle.kc_word.specs.declared.plain.Segment.{Segment}
-use Rattle.kc_word.specs.declared.plain.Tail.{Tail}
 use Rattle.kc_memory.specs.Image.{Image}
 use Rattle.kc_memory.specs.contracts.rule.Rule.{the_type}
 use Rattle.kc_found.specs.declared.verdict.Verdict.{Verdict}
@@ -14,19 +11,15 @@ use Rattle.kc_kinds.specs.declared.kind.Kind.{Kind}
 use Rattle.kc_plan.specs.Planned.{AuditAt}
 use Rattle.kc_plan.specs.Roots.{Root, broken_in, root_verdict}
 use Rattle.kc_plan.specs.Stands.{RootStands}
-use Rattle.kc_run.specs.declared.roots.RunStop.{RunStop}
-use Rattle.kc_suspect.specs.declared.suspect.Suspect.{Suspect}
-use Rattle.kc_suspect.specs.Suspects.{suspects}
-use Rattle.kc_patch.specs.declared.change.Change.{Change}
-use Rattle.kc_patch.specs.Changed.{patched}
+use Rattle.kc_found.specs.declared.failed.ReadFailed.{ReadFailed}
+use Rattle.kc_repair.specs.declared.suspect.suspect.Suspect.{Suspect}
+use Rattle.kc_repair.specs.Suspect.Suspects.{suspects}
+use Rattle.kc_phys.specs.declared.patch.change.Change.{Change}
+use Rattle.kc_phys.specs.Patch.Changed.{patched}
 use Rattle.kc_repair.specs.declared.outcome.Breach.{Breach}
 use Rattle.kc_repair.specs.declared.outcome.Next.{Next}
 use Rattle.kc_repair.specs.declared.outcome.Repair.{Repair}
 use Rattle.kc_repair.specs.declared.outcome.Repair.TheVariants.{Stands, Nothing}
-
--- the memory of a dump with these bytes and segments, whose tails read so
-abbrev pub image_of : List ℕ → List Segment → Tail → PageCfg → Image
-image_of bytes segments tail paging = record { physical = record { bytes = bytes; segments = segments; tail = tail }; paging = paging }
 
 -- the change of the file that a suspect stands for
 abbrev pub change_of : Suspect → Change
@@ -72,7 +65,7 @@ GoesOn found None s v next =
     (IsElsewhere found (Broken v) × IsNext s (Broken v) next) ⊎ ((IsElsewhere found (Broken v) → ⊥) × (next ≡ None))
 
 -- After a trial that came to this: the answer where it ends here, or none, and what is told of the suspects so far.
-abbrev pub Judges : Breach → Suspect → Result Verdict RunStop → Option Next → Option Next → Option (Result Repair RunStop) → Type 0
+abbrev pub Judges : Breach → Suspect → Result Verdict ReadFailed → Option Next → Option Next → Option (Result Repair ReadFailed) → Type 0
 Judges found s (Ok (Clean counts)) before after answer = answer ≡ Some (Ok (Stands s))
 Judges found s (Ok (Broken v)) before after answer = (answer ≡ None) × GoesOn found before s v after
 Judges found s (Err stop) before after answer = answer ≡ Some (Err stop)

@@ -7,16 +7,17 @@ ghost use Rattle.kc_phys.specs.Stored.{AreInside, stored};
 ghost use Rattle.kc_mem.specs.Paged.{with_paging};
 ghost use Rattle.kc_plan.specs.Inside.{AreInside as TypesAreInside};
 ghost use Rattle.kc_plan.specs.Views.{plan_seen};
-ghost use Rattle.kc_run.specs.Answers.{CountsRunFaults};
-ghost use Rattle.kc_repair.specs.Repairs.{GoesOn, IsRepair, Judges, StandsAs, image_of, verdict_with};
+ghost use Rattle.kc_question.specs.Memory.{image_of};
+ghost use Rattle.kc_repair.specs.Repairs.{GoesOn, IsRepair, Judges, StandsAs, verdict_with};
+ghost use Rattle.kc_found.specs.Failures.{CountsFailures};
 
+use crate::Suspect;
 use crate::outcome::{Breach, Next, Repair};
 use crate::trial::{RootAudit, try_suspect};
-use kc_found::{Found, Verdict};
+use kc_found::{Found, ReadFailed, Verdict};
 use kc_outside::Store;
 use kc_phys::{Phys, Room};
-use kc_run::{RunStop, know_verdicts};
-use kc_suspect::Suspect;
+use kc_run::know_verdicts;
 use kc_word::{NoMemory, PageCfg, Segment};
 use std::alloc::Global;
 
@@ -38,7 +39,7 @@ pub fn repair<S: Store>(
     audit: &RootAudit<'_>,
     found: Breach,
     suspects: &[Suspect],
-) -> Result<Repair, RunStop>
+) -> Result<Repair, ReadFailed>
     requires inside { AreInside (S.sizes store.old Dump) segments.now }
     requires aligned { paging.table % 4096 ≡ 0 }
     requires small { paging.table < 2 ^ 52 }
@@ -52,12 +53,12 @@ pub fn repair<S: Store>(
         (λ bytes. StandsAs (image_of bytes segments.now audit.now.plan.now.tail paging) (plan_seen audit.now.plan.now) (audit.now.root.audit, audit.now.root.start) suspects.now repair)) }
 
     ensures files { S.files store.new ≡ S.files store.old }
-    ensures cause { CountsRunFaults result (S.faults store.old) (S.faults store.new) }
+    ensures cause { CountsFailures result (S.faults store.old) (S.faults store.new) }
 {
     know_verdicts();
     let room = match Room::new(alloc, segments, audit.plan.tail) {
         Ok(room) => room,
-        Err(NoMemory) => return Err(RunStop::NoMemory),
+        Err(NoMemory) => return Err(ReadFailed::NoMemory),
     };
     let memory = Phys::over(store, room);
     let Repaired { memory, repair } = try_all(alloc, memory, paging, audit, found, suspects);
@@ -71,7 +72,7 @@ pub struct Repaired<'s, S: Store> {
     /// The memory over which they were tried, handed back.
     pub memory: Phys<'s, S>,
     /// Which of them repairs, or that reading failed, or that no memory was left.
-    pub repair: Result<Repair, RunStop>,
+    pub repair: Result<Repair, ReadFailed>,
 }
 
 // Tries suspects over a memory.
@@ -91,7 +92,7 @@ pub(crate) fn try_all<'s, S: Store>(
     ensures exact { IfOk result.repair (λ repair. IfSome (with_paging paging (stored memory.entry.segments.items memory.entry.tail (content (S.files memory.entry.store.now) Dump (S.opened memory.entry.store.now Dump))))
         (λ image. IsRepair (verdict_with image (plan_seen audit.now.plan.now) (audit.now.root.audit, audit.now.root.start)) found suspects.now repair)) }
     ensures stays { FramesStay (λ p. stored p.segments.items p.tail (content (S.files p.store.now) Dump (S.opened p.store.now Dump))) (λ p. S.files p.store.now) (λ p. p.store.ghost_name ∷ []) memory.entry result.memory }
-    ensures cause { CountsRunFaults result.repair (S.faults memory.entry.store.now) (S.faults result.memory.store.now) }
+    ensures cause { CountsFailures result.repair (S.faults memory.entry.store.now) (S.faults result.memory.store.now) }
 {
     let mut memory = memory;
     let tried = suspects.len().min(MOST);
@@ -99,7 +100,7 @@ pub(crate) fn try_all<'s, S: Store>(
     for i in 0..tried {
         let trial = try_suspect(alloc, memory, paging, audit, suspects[i]);
         memory = trial.memory;
-        match judge(trial.found, suspects[i], found, &mut then) {
+        match judge(trial.answer, suspects[i], found, &mut then) {
             Some(repair) => return Repaired { memory, repair },
             None => {}
         }
@@ -114,11 +115,11 @@ pub(crate) fn try_all<'s, S: Store>(
 
 // The answer after a trial, where it ends here, and else what is told of the suspects so far.
 fn judge(
-    trial: Result<Verdict, RunStop>,
+    trial: Result<Verdict, ReadFailed>,
     suspect: Suspect,
     found: Breach,
     then: &mut Option<Next>,
-) -> Option<Result<Repair, RunStop>>
+) -> Option<Result<Repair, ReadFailed>>
     ensures { Judges found suspect trial then.old then.new result }
 {
     match trial {

@@ -10,16 +10,17 @@ ghost use Rattle.kc_plan.specs.Seen.{root_of, roots};
 ghost use Rattle.kc_plan.specs.Stands.{RootStands};
 ghost use Rattle.kc_plan.specs.Verdicts.{IsClean};
 ghost use Rattle.kc_plan.specs.Views.{plan_seen};
-ghost use Rattle.kc_run.specs.Answers.{CountsRunFaults};
 ghost use Rattle.kc_run.specs.Each.{AddsRoots, asked_root, root_at};
 ghost use Rattle.kc_run.specs.Tally.{counts_at};
+ghost use Rattle.kc_found.specs.Failures.{CountsFailures};
 
 use crate::counts::no_walks;
 use crate::laws::know_verdicts;
 use crate::nest::{Known, enter};
-use crate::roots::RunStop;
 use kc_btf::Btf;
-use kc_found::{Asked, Audits, Counts, RootVerdict, Space, Verdict, Verdicts, WalkStop};
+use kc_found::{
+    Asked, Audits, Counts, ReadFailed, RootVerdict, Space, Verdict, Verdicts, WalkStop,
+};
 use kc_plan::{Numbers, Plan, Start};
 use kc_word::{NoMemory, Steps};
 use std::alloc::Global;
@@ -78,7 +79,7 @@ fn judged<S: Space, L: Ledger>(
     root: &Asked,
     audits: &Audits,
     steps: &mut Steps<L>,
-) -> Result<Verdict, RunStop>
+) -> Result<Verdict, ReadFailed>
     requires inside { root.now.audit < length known.now.plan.now.audits }
     requires types { AreInside (length known.now.btf.now.records) known.now.plan.now.audits }
     requires reached { audits.now ≡ reached_from root.now.audit (plan_seen known.now.plan.now) }
@@ -89,20 +90,20 @@ fn judged<S: Space, L: Ledger>(
     ensures fits { IfOk result (FitsAmong (length known.now.plan.now.audits) audits.now) }
 
     ensures stays { SpaceStays S.image S.files S.through S.most space.old space.new }
-    ensures cause { CountsRunFaults result (S.faults space.old) (S.faults space.new) }
+    ensures cause { CountsFailures result (S.faults space.old) (S.faults space.new) }
 {
     let mut counts = match no_walks(alloc, known.plan) {
         Ok(counts) => counts,
-        Err(NoMemory) => return Err(RunStop::NoMemory),
+        Err(NoMemory) => return Err(ReadFailed::NoMemory),
     };
     match enter(alloc, known, space, &mut counts, root, steps) {
         Ok(()) => match counts_at(alloc, &counts, audits) {
             Ok(counts) => Ok(Verdict::Clean(counts)),
-            Err(NoMemory) => Err(RunStop::NoMemory),
+            Err(NoMemory) => Err(ReadFailed::NoMemory),
         },
         Err(WalkStop::Broken(found)) => Ok(Verdict::Broken(found)),
-        Err(WalkStop::Fault) => Err(RunStop::Fault),
-        Err(WalkStop::NoMemory) => Err(RunStop::NoMemory),
+        Err(WalkStop::Fault) => Err(ReadFailed::Fault),
+        Err(WalkStop::NoMemory) => Err(ReadFailed::NoMemory),
     }
 }
 
@@ -113,7 +114,7 @@ fn root_verdict<S: Space, L: Ledger>(
     space: &mut S,
     root: &Asked,
     steps: &mut Steps<L>,
-) -> Result<RootVerdict, RunStop>
+) -> Result<RootVerdict, ReadFailed>
     requires inside { root.now.audit < length known.now.plan.now.audits }
     requires types { AreInside (length known.now.btf.now.records) known.now.plan.now.audits }
 
@@ -123,11 +124,11 @@ fn root_verdict<S: Space, L: Ledger>(
     ensures fits { IfOk result (FitsRoot (length known.now.plan.now.audits) (plan_seen known.now.plan.now)) }
 
     ensures stays { SpaceStays S.image S.files S.through S.most space.old space.new }
-    ensures cause { CountsRunFaults result (S.faults space.old) (S.faults space.new) }
+    ensures cause { CountsFailures result (S.faults space.old) (S.faults space.new) }
 {
     let audits = match reached_from(alloc, known.plan, root.audit) {
         Ok(audits) => audits,
-        Err(NoMemory) => return Err(RunStop::NoMemory),
+        Err(NoMemory) => return Err(ReadFailed::NoMemory),
     };
     let verdict = judged(alloc, known, space, root, &audits, steps)?;
     Ok(RootVerdict {
@@ -169,7 +170,7 @@ pub fn run_root<S: Space, L: Ledger>(
     root: &Asked,
     space: &mut S,
     steps: &mut Steps<L>,
-) -> Result<RootVerdict, RunStop>
+) -> Result<RootVerdict, ReadFailed>
     requires inside { root.now.audit < length plan.now.audits }
     requires types { AreInside (length btf.now.records) plan.now.audits }
 
@@ -182,7 +183,7 @@ pub fn run_root<S: Space, L: Ledger>(
     ensures fits { IfOk result (FitsRoot (length plan.now.audits) (plan_seen plan.now)) }
 
     ensures stays { SpaceStays S.image S.files S.through S.most space.old space.new }
-    ensures cause { CountsRunFaults result (S.faults space.old) (S.faults space.new) }
+    ensures cause { CountsFailures result (S.faults space.old) (S.faults space.new) }
 {
     know_verdicts();
     root_verdict(alloc, &Known { plan, btf }, space, root, steps)
@@ -197,7 +198,7 @@ fn add_root<S: Space, L: Ledger>(
     number: u32,
     start: &Start,
     steps: &mut Steps<L>,
-) -> Result<(), RunStop>
+) -> Result<(), ReadFailed>
     requires inside { number < length known.now.plan.now.audits }
     requires types { AreInside (length known.now.btf.now.records) known.now.plan.now.audits }
 
@@ -206,7 +207,7 @@ fn add_root<S: Space, L: Ledger>(
         (root_of number (start_seen start.now)) verdicts.old verdicts.new) }
 
     ensures stays { SpaceStays S.image S.files S.through S.most space.old space.new }
-    ensures cause { CountsRunFaults result (S.faults space.old) (S.faults space.new) }
+    ensures cause { CountsFailures result (S.faults space.old) (S.faults space.new) }
 {
     let Start::Root { symbol, .. } = start else {
         return Ok(());
@@ -218,7 +219,7 @@ fn add_root<S: Space, L: Ledger>(
     let verdict = root_verdict(alloc, known, space, &root, steps)?;
     match verdicts.push(verdict) {
         Ok(()) => Ok(()),
-        Err(NoMemory) => Err(RunStop::NoMemory),
+        Err(NoMemory) => Err(ReadFailed::NoMemory),
     }
 }
 
@@ -237,7 +238,7 @@ pub fn run_each<S: Space, L: Ledger>(
     btf: &Btf,
     space: &mut S,
     steps: &mut Steps<L>,
-) -> Result<Verdicts, RunStop>
+) -> Result<Verdicts, ReadFailed>
     requires { AreInside (length btf.now.records) plan.now.audits }
 
     ensures exact { IfOk result (λ found. IfSome (S.image space.old)
@@ -250,7 +251,7 @@ pub fn run_each<S: Space, L: Ledger>(
     ensures fits { IfOk result (FitEach (length plan.now.audits) (plan_seen plan.now)) }
 
     ensures stays { SpaceStays S.image S.files S.through S.most space.old space.new }
-    ensures cause { CountsRunFaults result (S.faults space.old) (S.faults space.new) }
+    ensures cause { CountsFailures result (S.faults space.old) (S.faults space.new) }
 {
     know_verdicts();
     let known = Known { plan, btf };

@@ -8,27 +8,18 @@ ghost use Rattle.kc_plan.specs.Stands.{PlanStands};
 ghost use Rattle.kc_plan.specs.Verdicts.{FitsPlan, IsClean, verdict};
 ghost use Rattle.kc_plan.specs.Planned.{start_seen};
 ghost use Rattle.kc_plan.specs.Views.{plan_seen};
-ghost use Rattle.kc_run.specs.Answers.{CountsRunFaults};
 ghost use Rattle.kc_run.specs.Tally.{NamesBelow, TalliesAs};
+ghost use Rattle.kc_found.specs.Failures.{CountsFailures};
 
 use crate::counts::no_walks;
 use crate::laws::know_verdicts;
 use crate::nest::{Known, enter};
 use kc_btf::Btf;
-use kc_found::{Asked, Counts, Space, Verdict, WalkStop};
+use kc_found::{Asked, Counts, ReadFailed, Space, Verdict, WalkStop};
 use kc_plan::{Plan, Start};
 use kc_word::{NoMemory, Steps};
 use std::alloc::Global;
 use std::sync::ledger::Ledger;
-
-/// Why a plan has no verdict.
-#[derive(Clone, Copy, Debug, PartialEq, Eq)]
-pub enum RunStop {
-    /// Reading the dump failed. The count of faults rose.
-    Fault,
-    /// No memory was left.
-    NoMemory,
-}
 
 // Makes an audit, where it is a root audit.
 fn enter_root<S: Space, L: Ledger>(
@@ -109,7 +100,7 @@ pub fn run<S: Space, L: Ledger>(
     btf: &Btf,
     space: &mut S,
     steps: &mut Steps<L>,
-) -> Result<Verdict, RunStop>
+) -> Result<Verdict, ReadFailed>
     requires { AreInside (length btf.now.records) plan.now.audits }
 
     ensures exact { IfOk result (λ found. IfSome (S.image space.old) (λ image. verdict image (plan_seen plan.now) ≡ found)) }
@@ -120,18 +111,18 @@ pub fn run<S: Space, L: Ledger>(
     ensures fits { IfOk result (FitsPlan (length plan.now.audits)) }
 
     ensures stays { SpaceStays S.image S.files S.through S.most space.old space.new }
-    ensures cause { CountsRunFaults result (S.faults space.old) (S.faults space.new) }
+    ensures cause { CountsFailures result (S.faults space.old) (S.faults space.new) }
 {
     know_verdicts();
     let known = Known { plan, btf };
     let mut counts = match no_walks(alloc, plan) {
         Ok(counts) => counts,
-        Err(NoMemory) => return Err(RunStop::NoMemory),
+        Err(NoMemory) => return Err(ReadFailed::NoMemory),
     };
     match enter_roots(alloc, &known, space, &mut counts, steps) {
         Ok(()) => Ok(Verdict::Clean(counts)),
         Err(WalkStop::Broken(found)) => Ok(Verdict::Broken(found)),
-        Err(WalkStop::Fault) => Err(RunStop::Fault),
-        Err(WalkStop::NoMemory) => Err(RunStop::NoMemory),
+        Err(WalkStop::Fault) => Err(ReadFailed::Fault),
+        Err(WalkStop::NoMemory) => Err(ReadFailed::NoMemory),
     }
 }

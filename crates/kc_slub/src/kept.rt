@@ -1,14 +1,14 @@
 // Chains that are walked, and whose lists are kept.
 ghost use Rattle.std.specs.Prelude.{◌≡◌, ◌∷◌, ◌++◌, [], IfOk, OnOk};
 ghost use Rattle.kc_found.specs.Walks.{OnBroken, OnWalkFault};
-ghost use Rattle.kc_chains.specs.Chains.{free_kept, hash_kept, ring_kept};
+ghost use Rattle.kc_steps.specs.Chains.{free_kept, hash_kept, ring_kept};
 
 use crate::free::free_walk;
-use kc_chains::{Chains, HashChains, Rings};
 use kc_found::{Asked, Grid, HShape, Items, ListShape, Scalar, Space, WalkStop, Walked};
 use kc_list::{hchain, ring};
+use kc_steps::{Chains, HashChains, Rings};
 use kc_view::started_at;
-use kc_word::{NoMemory, Steps};
+use kc_word::Steps;
 use std::alloc::Global;
 use std::sync::ledger::Ledger;
 
@@ -19,31 +19,15 @@ pub struct Kept {
     pub lists: Items<Walked>,
 }
 
-// Another list of the same addresses.
-fn copy_of(alloc: Global, list: &Walked) -> Result<Walked, NoMemory>
-    ensures { IfOk result (λ copy. copy ≡ list.now) }
-{
-    let mut copy = Walked::new(alloc);
-    for at in list.as_slice() {
-        copy.push(*at)?;
-    }
-    Ok(copy)
-}
-
-// Keeps a list behind the others.
+// Keeps a list after the others.
 fn keep(alloc: Global, lists: &mut Items<Walked>, list: &Walked) -> Result<(), WalkStop>
     ensures added { OnOk result (lists.new ≡ lists.old ++ list.now ∷ []) }
     ensures broken { OnBroken result ⊥ }
     ensures no_fault { OnWalkFault result ⊥ }
 {
-    let copy = match copy_of(alloc, list) {
-        Ok(copy) => copy,
-        Err(NoMemory) => return Err(WalkStop::NoMemory),
-    };
-    match lists.push(copy) {
-        Ok(()) => Ok(()),
-        Err(NoMemory) => Err(WalkStop::NoMemory),
-    }
+    let copy = list.copied(alloc)?;
+    lists.push(copy)?;
+    Ok(())
 }
 
 impl Rings for Kept {

@@ -1,0 +1,5 @@
+pub mod Checks
+pub mod Copying
+pub mod Holding
+pub mod Numbers
+pub mod Walks

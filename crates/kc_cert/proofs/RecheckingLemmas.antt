@@ -1,0 +1,6 @@
+pub mod Few
+pub mod Fitting
+pub mod Judging
+pub mod Right
+pub mod Spending
+pub mod Unrolling

@@ -1,0 +1,2 @@
+pub mod CertLaws
+pub mod TimesLoops

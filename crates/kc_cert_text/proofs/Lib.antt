@@ -1,2 +1,0 @@
-mod CertLaws
-mod TimesLoops

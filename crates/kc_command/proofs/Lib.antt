@@ -1,0 +1,4 @@
+mod EndsLemmas
+mod Joining
+mod KernelLemmas
+mod Opening

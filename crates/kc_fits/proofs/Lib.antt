@@ -1,5 +1,0 @@
-pub mod Checks
-mod Copying
-mod Holding
-mod Numbers
-mod Walks

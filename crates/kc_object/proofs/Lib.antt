@@ -1,3 +1,0 @@
-pub mod SlabLemmas
-pub mod ObjectLaws
-mod KeyLemmas

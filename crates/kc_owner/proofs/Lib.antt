@@ -1,0 +1,4 @@
+pub mod KnownLemmas
+pub mod TextLemmas
+pub mod ObjectLemmas
+pub mod AreaLemmas

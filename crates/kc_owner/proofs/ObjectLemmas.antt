@@ -1,0 +1,3 @@
+pub mod SlabLemmas
+pub mod ObjectLaws
+pub mod KeyLemmas

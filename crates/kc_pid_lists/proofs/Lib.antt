@@ -1,3 +1,0 @@
-mod ListLaws
-mod Making
-mod Telling

@@ -1,0 +1,5 @@
+pub mod Collecting
+pub mod Growing
+pub mod Pacing
+pub mod Planting
+pub mod Single

@@ -1,0 +1,11 @@
+pub mod Gathering
+pub mod Growing
+pub mod Leading
+pub mod Lowering
+pub mod Meeting
+pub mod Planting
+pub mod Pointing
+pub mod Single
+pub mod Standing
+pub mod Tracing
+pub mod Whole
