@@ -10,8 +10,8 @@ use Rattle.kc_recheck.specs.declared.against.CertAnswer.{CertAnswer}
 use Rattle.kc_cert_text.specs.declared.certificate.CertStep.{CertStep}
 use Rattle.kc_certify.specs.declared.issue.CertStop.{CertStop}
 use Rattle.kc_certify.specs.declared.issue.CertStop.TheVariants.{Broken, Fault, NoMemory}
-use Rattle.kc_recheck.specs.declared.against.RecheckStop.{RecheckStop}
-use Rattle.kc_recheck.specs.declared.against.RecheckStop.TheVariants as stops
+use Rattle.kc_found.specs.declared.failed.ReadFailed.{ReadFailed}
+use Rattle.kc_found.specs.declared.failed.ReadFailed.TheVariants as stops
 use Rattle.kc_recheck.specs.Answers.{CountsRecheckFaults}
 use Rattle.kc_recheck.specs.Certificates.{answer}
 use Rattle.kc_certify.specs.Certified.{Certifies, CertifiesAs, CountsCertifyFaults}
@@ -84,12 +84,12 @@ told_one found (Err (Refused refusal)) text = absurd text
 told_one found (Err Store) text = absurd text
 told_one found (Err Memory) text = tt
 
-found_one : (comes : CertAnswer) (found : Result CertAnswer RecheckStop) (r : Result Answer Halt) → IfOk found (λ a. comes ≡ a) → IsFound found r → Replies (gives (Rechecks comes)) r
+found_one : (comes : CertAnswer) (found : Result CertAnswer ReadFailed) (r : Result Answer Halt) → IfOk found (λ a. comes ≡ a) → IsFound found r → Replies (gives (Rechecks comes)) r
 found_one comes (Ok found) r is text = rw is (told_one found r text)
 found_one comes (Err stops.Fault) r is text = rw text tt
 found_one comes (Err stops.NoMemory) r is text = rw text tt
 
-pub found_replies : (content : Option (List ℕ)) (comes : List ℕ → CertAnswer) (found : Result CertAnswer RecheckStop) (r : Result Answer Halt)
+pub found_replies : (content : Option (List ℕ)) (comes : List ℕ → CertAnswer) (found : Result CertAnswer ReadFailed) (r : Result Answer Halt)
     → IfSome content (λ bytes. IfOk found (λ a. comes bytes ≡ a)) → IsFound found r → RepliesOfBytes (λ bytes. Rechecks (comes bytes)) content r
 found_replies None comes found r is text = tt
 found_replies (Some bytes) comes found r is text = found_one (comes bytes) found r is text
@@ -131,7 +131,7 @@ made_counts names (Err (Broken v)) r before after text counts =
 made_counts names (Err Fault) r before after text counts = record { later = counts.0; quiet = rw text tt; cause = rw text counts.1 }
 made_counts names (Err NoMemory) r before after text counts = quiet_counts r before after counts (rw text tt)
 
-pub found_counts : (found : Result CertAnswer RecheckStop) (r : Result Answer Halt) (before after : ℕ) → IsFound found r → CountsRecheckFaults found before after → CountsAs r before after
+pub found_counts : (found : Result CertAnswer ReadFailed) (r : Result Answer Halt) (before after : ℕ) → IsFound found r → CountsRecheckFaults found before after → CountsAs r before after
 found_counts (Ok found) r before after text counts = quiet_counts r before after counts (written_sure (answer_line found) (answer_status found) r before after text)
 found_counts (Err stops.Fault) r before after text counts = record { later = counts.0; quiet = rw text tt; cause = rw text counts.1 }
 found_counts (Err stops.NoMemory) r before after text counts = quiet_counts r before after counts (rw text tt)

@@ -6,8 +6,8 @@ use Rattle.kc_recheck.specs.declared.against.CertAnswer.{CertAnswer}
 use Rattle.kc_cert_text.specs.declared.certificate.CertStep.{CertStep}
 use Rattle.kc_certify.specs.declared.issue.CertStop.{CertStop}
 use Rattle.kc_certify.specs.declared.issue.CertStop.TheVariants.{Broken, Fault, NoMemory}
-use Rattle.kc_recheck.specs.declared.against.RecheckStop.{RecheckStop}
-use Rattle.kc_recheck.specs.declared.against.RecheckStop.TheVariants as stops
+use Rattle.kc_found.specs.declared.failed.ReadFailed.{ReadFailed}
+use Rattle.kc_found.specs.declared.failed.ReadFailed.TheVariants as stops
 use Rattle.kc_certify.specs.Certified.{NamesAudit}
 use Rattle.kc_cert_text.specs.CertTexts.{IsCertificate, cert_text}
 use Rattle.kc_input.specs.declared.halt.Halt.{Halt}
@@ -41,7 +41,7 @@ IsMade names (Ok cert) r = IsSpelled cert r
 IsMade names (Err stop) r = IsUnclean names stop r
 
 -- what a certificate comes to is told, and a failure of the space is one of the store
-abbrev pub IsFound : Result CertAnswer RecheckStop → Result Answer Halt → Type 0
+abbrev pub IsFound : Result CertAnswer ReadFailed → Result Answer Halt → Type 0
 IsFound (Ok found) r = WritesText (answer_line found) (answer_status found) r
 IsFound (Err stops.Fault) r = r ≡ Err halts.Store
 IsFound (Err stops.NoMemory) r = r ≡ Err halts.Memory

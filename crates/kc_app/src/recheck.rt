@@ -26,9 +26,9 @@ ghost use Rattle.kc_app.specs.Reply.{Rechecks, answer_line, answer_status};
 use crate::asking::{Question, ask_core};
 use crate::check::{Asks as FourAsks, PlanOf};
 use crate::held::{Held, read_held};
-use kc_cert::{CertAnswer, CertRead, Certificate, RecheckStop, read_cert, recheck as recheck_plan};
+use kc_cert::{CertAnswer, CertRead, Certificate, read_cert, recheck as recheck_plan};
 use kc_ends::Answer;
-use kc_found::Space;
+use kc_found::{ReadFailed, Space};
 use kc_input::{Halt, Refusal, read_cert_file};
 use kc_outside::Store;
 use kc_text::{push, push_numbered};
@@ -137,14 +137,14 @@ fn rechecked<S: Store>(
 }
 
 // The answer of what a certificate comes to, or where that isn't known.
-fn answer_of(alloc: Global, found: Result<CertAnswer, RecheckStop>) -> Result<Answer, Halt>
+fn answer_of(alloc: Global, found: Result<CertAnswer, ReadFailed>) -> Result<Answer, Halt>
     ensures output { IsFound found result }
     ensures not_refused { NotRefused result }
 {
     match found {
         Ok(answer) => told(alloc, &answer),
-        Err(RecheckStop::Fault) => Err(Halt::Store),
-        Err(RecheckStop::NoMemory) => Err(Halt::Memory),
+        Err(ReadFailed::Fault) => Err(Halt::Store),
+        Err(ReadFailed::NoMemory) => Err(Halt::Memory),
     }
 }
 
@@ -184,7 +184,7 @@ struct Rechecking<'p> {
 }
 
 impl<'p> Question for Rechecking<'p> {
-    type Answer = Result<CertAnswer, RecheckStop>;
+    type Answer = Result<CertAnswer, ReadFailed>;
 
     ghost may = { λ of. TypesAreInside (length of.over.types.now.records) of.over.plan.now.audits };
 
@@ -196,7 +196,7 @@ impl<'p> Question for Rechecking<'p> {
         &self,
         memory: &mut M,
         steps: &mut Steps<L>,
-    ) -> Result<CertAnswer, RecheckStop> {
+    ) -> Result<CertAnswer, ReadFailed> {
         recheck_plan(
             self.over.alloc,
             self.over.plan,

@@ -14,8 +14,7 @@ use crate::lines::{push_line, push_named, push_number};
 use crate::places::push_shown_over;
 use crate::repairs::{Repairable, push_repairs};
 use crate::returned::Returned;
-use kc_found::{Found, RootVerdict, Verdict, Verdicts};
-use kc_run::RunStop;
+use kc_found::{Found, ReadFailed, RootVerdict, Verdict, Verdicts};
 use kc_text::push;
 use kc_word::NoMemory;
 
@@ -64,7 +63,7 @@ fn push_broken<F: Repairable>(
     over: &PlanOf<'_>,
     root: u32,
     found: &Found,
-) -> Returned<F, Result<(), RunStop>>
+) -> Returned<F, Result<(), ReadFailed>>
     requires over { FitsTogether over.now }
     requires root { root < length over.now.plan.now.audits }
     requires found { found.now.audit < length over.now.plan.now.audits }
@@ -77,7 +76,7 @@ fn push_broken<F: Repairable>(
     if let Err(NoMemory) = push_named_root(text, over, root, found) {
         return Returned {
             memory,
-            answer: Err(RunStop::NoMemory),
+            answer: Err(ReadFailed::NoMemory),
         };
     }
     let Returned { memory, answer } = push_shown_over(memory, text, over, found);
@@ -91,7 +90,7 @@ fn push_broken<F: Repairable>(
         Ok(()) => push_repairs(memory, text, over, root, found),
         Err(NoMemory) => Returned {
             memory,
-            answer: Err(RunStop::NoMemory),
+            answer: Err(ReadFailed::NoMemory),
         },
     }
 }
@@ -102,7 +101,7 @@ fn push_cause<F: Repairable>(
     text: &mut Vec<u8>,
     over: &PlanOf<'_>,
     root: &RootVerdict,
-) -> Returned<F, Result<(), RunStop>>
+) -> Returned<F, Result<(), ReadFailed>>
     requires over { FitsTogether over.now }
     requires fits { FitsRoot (length over.now.plan.now.audits) (plan_seen over.now.plan.now) root.now }
 
@@ -126,7 +125,7 @@ fn push_causes<F: Repairable>(
     text: &mut Vec<u8>,
     over: &PlanOf<'_>,
     verdicts: &Verdicts,
-) -> Returned<F, Result<(), RunStop>>
+) -> Returned<F, Result<(), ReadFailed>>
     requires over { FitsTogether over.now }
     requires fits { FitEach (length over.now.plan.now.audits) (plan_seen over.now.plan.now) verdicts.now }
 
@@ -161,7 +160,7 @@ fn push_first<F: Repairable>(
     text: &mut Vec<u8>,
     over: &PlanOf<'_>,
     verdicts: &Verdicts,
-) -> Returned<F, Result<(), RunStop>>
+) -> Returned<F, Result<(), ReadFailed>>
     requires over { FitsTogether over.now }
     requires fits { FitEach (length over.now.plan.now.audits) (plan_seen over.now.plan.now) verdicts.now }
 
@@ -188,7 +187,7 @@ fn push_some<F: Repairable>(
     text: &mut Vec<u8>,
     over: &PlanOf<'_>,
     verdicts: &Verdicts,
-) -> Returned<F, Result<(), RunStop>>
+) -> Returned<F, Result<(), ReadFailed>>
     requires over { FitsTogether over.now }
     requires fits { FitEach (length over.now.plan.now.audits) (plan_seen over.now.plan.now) verdicts.now }
 
@@ -214,7 +213,7 @@ pub(crate) fn explained_text<F: Repairable>(
     memory: F,
     over: &PlanOf<'_>,
     verdicts: &Verdicts,
-) -> Returned<F, Result<Vec<u8>, RunStop>>
+) -> Returned<F, Result<Vec<u8>, ReadFailed>>
     requires over { FitsTogether over.now }
     requires fits { FitEach (length over.now.plan.now.audits) (plan_seen over.now.plan.now) verdicts.now }
 
@@ -228,7 +227,7 @@ pub(crate) fn explained_text<F: Repairable>(
     let answer = match answer {
         Ok(()) => match or_clean(text) {
             Ok(text) => Ok(text),
-            Err(NoMemory) => Err(RunStop::NoMemory),
+            Err(NoMemory) => Err(ReadFailed::NoMemory),
         },
         Err(stop) => Err(stop),
     };

@@ -25,11 +25,11 @@ use crate::judged::{Judged, PlanOf, judge_over, report_text};
 use crate::repairs::Repairable;
 use crate::returned::Returned;
 use kc_ends::Answer;
+use kc_found::ReadFailed;
 use kc_input::{Halt, Refusal, ReportFault, paging_by, read_report_file};
 use kc_outside::Store;
 use kc_phys::{Phys, Room};
 use kc_report::{ReportStop, read_report};
-use kc_run::RunStop;
 use std::alloc::Global;
 
 /// A report, with the files of its audit.
@@ -155,11 +155,11 @@ fn explain_over<F: Repairable>(
     let Returned { memory, answer } = judge_over(memory, over);
     match answer {
         Ok(judged) => explain_judged(memory, over, &judged, report),
-        Err(RunStop::Fault) => Returned {
+        Err(ReadFailed::Fault) => Returned {
             memory,
             answer: Err(Halt::Store),
         },
-        Err(RunStop::NoMemory) => Returned {
+        Err(ReadFailed::NoMemory) => Returned {
             memory,
             answer: Err(Halt::Memory),
         },
@@ -228,8 +228,8 @@ fn tell<F: Repairable>(
     let Returned { memory, answer } = explained_text(memory, over, &judged.roots);
     let answer = match answer {
         Ok(text) => Ok(Answer::Done(text)),
-        Err(RunStop::Fault) => Err(Halt::Store),
-        Err(RunStop::NoMemory) => Err(Halt::Memory),
+        Err(ReadFailed::Fault) => Err(Halt::Store),
+        Err(ReadFailed::NoMemory) => Err(Halt::Memory),
     };
     Returned { memory, answer }
 }

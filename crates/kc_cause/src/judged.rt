@@ -12,12 +12,12 @@ ghost use Rattle.kc_cause.specs.Judged.{AreOfPlan, FitsJudged, FitsTogether, Jud
 
 use crate::returned::Returned;
 use kc_btf::Btf;
-use kc_found::{Space, Verdict, Verdicts};
+use kc_found::{ReadFailed, Space, Verdict, Verdicts};
 use kc_mem::Memory;
 use kc_memory::Frames;
 use kc_plan::Plan;
 use kc_report::{PlanNames, report_each, report_of, text};
-use kc_run::{RunStop, run, run_each};
+use kc_run::{run, run_each};
 use kc_tlb::Tlb;
 use kc_told::Shapes;
 use kc_word::{NoMemory, PageCfg, Steps};
@@ -57,7 +57,7 @@ fn judge_whole<M: Space, L: Ledger>(
     over: &PlanOf<'_>,
     memory: &mut M,
     steps: &mut Steps<L>,
-) -> Result<Option<Verdict>, RunStop>
+) -> Result<Option<Verdict>, ReadFailed>
     requires { TypesAreInside (length over.now.types.now.records) over.now.plan.now.audits }
     ensures says { IfSome (M.image memory.old) (λ image. IfOk result (λ found. whole_verdict image over.now.plan.now ≡ found)) }
     ensures fits { IfOk result (λ found. IfSome found (FitsPlan (length over.now.plan.now.audits))) }
@@ -78,7 +78,7 @@ fn judge<M: Space, L: Ledger>(
     over: &PlanOf<'_>,
     memory: &mut M,
     steps: &mut Steps<L>,
-) -> Result<Judged, RunStop>
+) -> Result<Judged, ReadFailed>
     requires { TypesAreInside (length over.now.types.now.records) over.now.plan.now.audits }
     ensures says { IfSome (M.image memory.old) (λ image. IfOk result (JudgesAs image over.now.plan.now)) }
     ensures fits { IfOk result (FitsJudged (length over.now.plan.now.audits) (plan_seen over.now.plan.now)) }
@@ -96,7 +96,7 @@ fn judge_counted<F: Frames, L: Ledger>(
     tlb: Tlb,
     over: &PlanOf<'_>,
     blank: Blank,
-) -> Returned<F, Result<Judged, RunStop>>
+) -> Returned<F, Result<Judged, ReadFailed>>
     requires name { blank.name ≡ L.name }
     requires parts { blank.parts ≡ L.parts }
     requires some { 0 < L.parts }
@@ -126,7 +126,7 @@ fn judge_counted<F: Frames, L: Ledger>(
 pub(crate) fn judge_over<F: Frames>(
     memory: F,
     over: &PlanOf<'_>,
-) -> Returned<F, Result<Judged, RunStop>>
+) -> Returned<F, Result<Judged, ReadFailed>>
     requires over { FitsTogether over.now }
 
     ensures says { IfSome (with_paging over.now.paging (F.image memory))
@@ -139,7 +139,7 @@ pub(crate) fn judge_over<F: Frames>(
         Ok(tlb) => judge_counted::<F, Brand>(memory, tlb, over, Blank::new(1)),
         Err(NoMemory) => Returned {
             memory,
-            answer: Err(RunStop::NoMemory),
+            answer: Err(ReadFailed::NoMemory),
         },
     }
 }

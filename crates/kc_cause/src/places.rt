@@ -14,14 +14,12 @@ ghost use Rattle.kc_told.specs.Views.{shapes_view, told_view};
 use crate::judged::PlanOf;
 use crate::returned::Returned;
 use crate::rings::push_ring;
-use kc_found::{Found, Places, Space};
+use kc_found::{Found, Places, ReadFailed, Space};
 use kc_mem::Memory;
 use kc_memory::{Frames, Place};
 use kc_report::push_place;
-use kc_run::RunStop;
 use kc_tlb::Tlb;
 use kc_told::{Told, push_told, read_told};
-use kc_where::LookStop;
 use kc_word::{NoMemory, Steps};
 use std::marker::Brand;
 use std::sync::ledger::{Blank, Ledger};
@@ -35,7 +33,7 @@ fn told_of<'p, M: Space, L: Ledger>(
     memory: &mut M,
     address: u64,
     steps: &mut Steps<L>,
-) -> Result<Told<'p>, RunStop>
+) -> Result<Told<'p>, ReadFailed>
     requires { TasksAreInside over.now }
     ensures told { IfSome (M.image memory.old) (λ image. IfOk result (λ told. told_view told ≡ told_of image (shapes_view over.now.shapes) address)) }
     ensures stays { SpaceStays M.image M.files M.through M.most memory.old memory.new }
@@ -43,8 +41,8 @@ fn told_of<'p, M: Space, L: Ledger>(
 {
     match read_told(over.alloc, memory, over.types, &over.shapes, address, steps) {
         Ok(told) => Ok(told),
-        Err(LookStop::Fault) => Err(RunStop::Fault),
-        Err(LookStop::NoMemory) => Err(RunStop::NoMemory),
+        Err(ReadFailed::Fault) => Err(ReadFailed::Fault),
+        Err(ReadFailed::NoMemory) => Err(ReadFailed::NoMemory),
     }
 }
 
@@ -55,14 +53,14 @@ fn push_place_told<M: Space, L: Ledger>(
     memory: &mut M,
     place: &Place,
     steps: &mut Steps<L>,
-) -> Result<(), RunStop>
+) -> Result<(), ReadFailed>
     requires { TasksAreInside over.now }
     ensures added { OnOk result (IfSome (M.image memory.old) (λ image. text.new.items ≡ text.old.items ++ place_told (over_plan over.now image) place.now)) }
     ensures stays { SpaceStays M.image M.files M.through M.most memory.old memory.new }
     ensures cause { CountsRunFaults result (M.faults memory.old) (M.faults memory.new) }
 {
     if let Err(NoMemory) = push_place(text, *place) {
-        return Err(RunStop::NoMemory);
+        return Err(ReadFailed::NoMemory);
     }
     let Some(address) = place.va else {
         return Ok(());
@@ -70,7 +68,7 @@ fn push_place_told<M: Space, L: Ledger>(
     let told = told_of(over, memory, address, steps)?;
     match push_told(text, &over.shapes.map, address, &told) {
         Ok(()) => Ok(()),
-        Err(NoMemory) => Err(RunStop::NoMemory),
+        Err(NoMemory) => Err(ReadFailed::NoMemory),
     }
 }
 
@@ -81,7 +79,7 @@ fn push_places_told<M: Space, L: Ledger>(
     memory: &mut M,
     places: &Places,
     steps: &mut Steps<L>,
-) -> Result<(), RunStop>
+) -> Result<(), ReadFailed>
     requires { TasksAreInside over.now }
     ensures added { OnOk result (IfSome (M.image memory.old) (λ image. text.new.items ≡ text.old.items ++ texts (place_told (over_plan over.now image)) places.now)) }
     ensures stays { SpaceStays M.image M.files M.through M.most memory.old memory.new }
@@ -100,7 +98,7 @@ fn push_shown<M: Space, L: Ledger>(
     memory: &mut M,
     found: &Found,
     steps: &mut Steps<L>,
-) -> Result<(), RunStop>
+) -> Result<(), ReadFailed>
     requires tasks { TasksAreInside over.now }
     requires types { AreInside (length over.now.types.now.records) over.now.plan.now.audits }
     requires found { found.now.audit < length over.now.plan.now.audits }
@@ -121,7 +119,7 @@ fn push_counted<F: Frames, L: Ledger>(
     over: &PlanOf<'_>,
     found: &Found,
     blank: Blank,
-) -> Returned<F, Result<(), RunStop>>
+) -> Returned<F, Result<(), ReadFailed>>
     requires name { blank.name ≡ L.name }
     requires parts { blank.parts ≡ L.parts }
     requires some { 0 < L.parts }
@@ -150,7 +148,7 @@ pub(crate) fn push_shown_over<F: Frames>(
     text: &mut Vec<u8>,
     over: &PlanOf<'_>,
     found: &Found,
-) -> Returned<F, Result<(), RunStop>>
+) -> Returned<F, Result<(), ReadFailed>>
     requires over { FitsTogether over.now }
     requires found { found.now.audit < length over.now.plan.now.audits }
 
@@ -163,7 +161,7 @@ pub(crate) fn push_shown_over<F: Frames>(
         Ok(tlb) => push_counted::<F, Brand>(memory, tlb, text, over, found, Blank::new(1)),
         Err(NoMemory) => Returned {
             memory,
-            answer: Err(RunStop::NoMemory),
+            answer: Err(ReadFailed::NoMemory),
         },
     }
 }

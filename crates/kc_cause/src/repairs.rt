@@ -14,14 +14,14 @@ ghost use Rattle.kc_cause.specs.Lines.{next_line, next_lines, repair_lines, susp
 use crate::judged::PlanOf;
 use crate::returned::Returned;
 use crate::suspected::as_ring_over;
-use kc_found::Found;
+use kc_found::{Found, ReadFailed};
 use kc_kinds::Kind;
 use kc_memory::Frames;
 use kc_outside::Store;
 use kc_phys::Phys;
 use kc_repair::{Next, Repair, Repaired, RootAudit, repair_over};
 use kc_report::rule_code;
-use kc_run::{RunStop, root_at};
+use kc_run::root_at;
 use kc_suspect::Suspect;
 use kc_text::{push, push_decimal, push_hex};
 use kc_word::{NoMemory, PageCfg};
@@ -104,7 +104,7 @@ pub(crate) trait Repairable: Frames {
         audit: &RootAudit<'_>,
         kind: &Kind,
         found: &Found,
-    ) -> Returned<Self, Result<Repair, RunStop>>
+    ) -> Returned<Self, Result<Repair, ReadFailed>>
     where
         Self: Sized,
         requires table { IsTable paging.table }
@@ -125,7 +125,7 @@ impl<'s, S: Store> Repairable for Phys<'s, S> {
         audit: &RootAudit<'_>,
         kind: &Kind,
         found: &Found,
-    ) -> Returned<Self, Result<Repair, RunStop>> {
+    ) -> Returned<Self, Result<Repair, ReadFailed>> {
         let Repaired { memory, repair } = repair_over(alloc, self, paging, audit, kind, found);
         Returned {
             memory,
@@ -142,7 +142,7 @@ fn push_repairs_as<F: Repairable>(
     root: u32,
     kind: &Kind,
     found: &Found,
-) -> Returned<F, Result<(), RunStop>>
+) -> Returned<F, Result<(), ReadFailed>>
     requires over { FitsTogether over.now }
 
     ensures added { OnOk result.answer (IfSome (with_paging over.now.paging (F.image memory)) (λ image.
@@ -162,7 +162,7 @@ fn push_repairs_as<F: Repairable>(
     let answer = match answer {
         Ok(repair) => match push_repair(text, &repair) {
             Ok(()) => Ok(()),
-            Err(NoMemory) => Err(RunStop::NoMemory),
+            Err(NoMemory) => Err(ReadFailed::NoMemory),
         },
         Err(stop) => Err(stop),
     };
@@ -176,7 +176,7 @@ pub(crate) fn push_repairs<F: Repairable>(
     over: &PlanOf<'_>,
     root: u32,
     found: &Found,
-) -> Returned<F, Result<(), RunStop>>
+) -> Returned<F, Result<(), ReadFailed>>
     requires over { FitsTogether over.now }
     requires found { found.now.audit < length over.now.plan.now.audits }
 

@@ -14,10 +14,9 @@ use crate::judged::PlanOf;
 use crate::lines::push_element;
 use kc_btf::Btf;
 use kc_element::Element;
-use kc_found::{Found, Space, WalkStop};
+use kc_found::{Found, ReadFailed, Space, WalkStop};
 use kc_kinds::Kind;
 use kc_layout::find_type;
-use kc_run::RunStop;
 use kc_text::{push, push_hex, push_numbered};
 use kc_view::{SlubShape, TaskShape};
 use kc_which::{
@@ -34,7 +33,7 @@ pub(crate) fn task_ring<M: Space, L: Ledger>(
     shape: &TaskShape,
     found: &Found,
     steps: &mut Steps<L>,
-) -> Result<Option<TaskRing>, RunStop>
+) -> Result<Option<TaskRing>, ReadFailed>
     requires { IsInside shape.now over.now.types.now }
     ensures exact { IfSome (M.image memory.old) (λ image. IfOk result (λ r. r ≡ task_ring image shape.now found.now)) }
     ensures stays { SpaceStays M.image M.files M.through M.most memory.old memory.new }
@@ -42,8 +41,8 @@ pub(crate) fn task_ring<M: Space, L: Ledger>(
 {
     match find_task_ring(over.alloc, memory, over.types, shape, found, steps) {
         Ok(ring) => Ok(ring),
-        Err(WalkStop::NoMemory) => Err(RunStop::NoMemory),
-        Err(WalkStop::Fault | WalkStop::Broken(_)) => Err(RunStop::Fault),
+        Err(WalkStop::NoMemory) => Err(ReadFailed::NoMemory),
+        Err(WalkStop::Fault | WalkStop::Broken(_)) => Err(ReadFailed::Fault),
     }
 }
 
@@ -54,15 +53,15 @@ pub(crate) fn cache_ring<M: Space, L: Ledger>(
     shape: &SlubShape,
     found: &Found,
     steps: &mut Steps<L>,
-) -> Result<Option<CacheRing>, RunStop>
+) -> Result<Option<CacheRing>, ReadFailed>
     ensures exact { IfSome (M.image memory.old) (λ image. IfOk result (λ r. r ≡ cache_ring image shape.now found.now)) }
     ensures stays { SpaceStays M.image M.files M.through M.most memory.old memory.new }
     ensures cause { CountsRunFaults result (M.faults memory.old) (M.faults memory.new) }
 {
     match find_cache_ring(over.alloc, memory, shape, found, steps) {
         Ok(list) => Ok(list),
-        Err(WalkStop::NoMemory) => Err(RunStop::NoMemory),
-        Err(WalkStop::Fault | WalkStop::Broken(_)) => Err(RunStop::Fault),
+        Err(WalkStop::NoMemory) => Err(ReadFailed::NoMemory),
+        Err(WalkStop::Fault | WalkStop::Broken(_)) => Err(ReadFailed::Fault),
     }
 }
 
@@ -132,7 +131,7 @@ fn push_task_ring<M: Space, L: Ledger>(
     shape: &TaskShape,
     found: &Found,
     steps: &mut Steps<L>,
-) -> Result<(), RunStop>
+) -> Result<(), ReadFailed>
     requires { shape.now.task ≤ length over.now.types.now.records }
     ensures added { OnOk result (IfSome (M.image memory.old) (λ image. text.new.items ≡ text.old.items ++ option_map_or (task_lines over.now.types.now shape.now found.now) (task_ring image shape.now found.now) [])) }
     ensures stays { SpaceStays M.image M.files M.through M.most memory.old memory.new }
@@ -143,7 +142,7 @@ fn push_task_ring<M: Space, L: Ledger>(
     };
     match push_tasks(text, over, shape, found, ring) {
         Ok(()) => Ok(()),
-        Err(NoMemory) => Err(RunStop::NoMemory),
+        Err(NoMemory) => Err(ReadFailed::NoMemory),
     }
 }
 
@@ -193,7 +192,7 @@ fn push_cache_ring<M: Space, L: Ledger>(
     shape: &SlubShape,
     found: &Found,
     steps: &mut Steps<L>,
-) -> Result<(), RunStop>
+) -> Result<(), ReadFailed>
     requires slab { shape.now.slab ≤ length over.now.types.now.records }
     requires knode { shape.now.knode ≤ length over.now.types.now.records }
     ensures added { OnOk result (IfSome (M.image memory.old) (λ image. text.new.items ≡ text.old.items ++ option_map_or (cache_lines over.now.types.now shape.now found.now) (cache_ring image shape.now found.now) [])) }
@@ -205,7 +204,7 @@ fn push_cache_ring<M: Space, L: Ledger>(
     };
     match push_partial(text, over, shape, found, list) {
         Ok(()) => Ok(()),
-        Err(NoMemory) => Err(RunStop::NoMemory),
+        Err(NoMemory) => Err(ReadFailed::NoMemory),
     }
 }
 
@@ -221,7 +220,7 @@ pub(crate) fn push_ring<M: Space, L: Ledger>(
     kind: &Kind,
     found: &Found,
     steps: &mut Steps<L>,
-) -> Result<(), RunStop>
+) -> Result<(), ReadFailed>
     requires { KindInside (length over.now.types.now.records) kind.now }
     ensures added { OnOk result (IfSome (M.image memory.old) (λ image. text.new.items ≡ text.old.items ++ ring_lines over.now.types.now image found.now kind.now)) }
     ensures stays { SpaceStays M.image M.files M.through M.most memory.old memory.new }

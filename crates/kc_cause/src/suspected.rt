@@ -13,12 +13,11 @@ ghost use Rattle.kc_cause.specs.Suspected.{in_ring, suspected, suspected_view};
 use crate::judged::PlanOf;
 use crate::returned::Returned;
 use crate::rings::{cache_ring, task_ring};
-use kc_found::{Found, ListShape, Space, WalkStop};
+use kc_found::{Found, ListShape, ReadFailed, Space, WalkStop};
 use kc_kinds::Kind;
 use kc_list::ring;
 use kc_mem::Memory;
 use kc_memory::Frames;
-use kc_run::RunStop;
 use kc_tlb::Tlb;
 use kc_view::{SlubShape, TaskShape};
 use kc_which::{partial_head, ring_head};
@@ -47,7 +46,7 @@ fn walk_ring<M: Space, L: Ledger>(
     list: ListShape,
     head: u64,
     steps: &mut Steps<L>,
-) -> Result<Option<AsRing>, RunStop>
+) -> Result<Option<AsRing>, ReadFailed>
     ensures exact { IfSome (M.image memory.old) (λ image. IfOk result (λ r. suspected_view kind.now found.now r ≡ in_ring image kind.now found.now list head)) }
     ensures stays { SpaceStays M.image M.files M.through M.most memory.old memory.new }
     ensures cause { CountsRunFaults result (M.faults memory.old) (M.faults memory.new) }
@@ -58,8 +57,8 @@ fn walk_ring<M: Space, L: Ledger>(
             kind: Kind::Ring(list),
             found,
         })),
-        Err(WalkStop::Fault) => Err(RunStop::Fault),
-        Err(WalkStop::NoMemory) => Err(RunStop::NoMemory),
+        Err(WalkStop::Fault) => Err(ReadFailed::Fault),
+        Err(WalkStop::NoMemory) => Err(ReadFailed::NoMemory),
     }
 }
 
@@ -71,7 +70,7 @@ fn in_tasks<M: Space, L: Ledger>(
     shape: &TaskShape,
     found: &Found,
     steps: &mut Steps<L>,
-) -> Result<Option<AsRing>, RunStop>
+) -> Result<Option<AsRing>, ReadFailed>
     requires kind { kind.now ≡ Tasks shape.now }
     requires inside { IsInside shape.now over.now.types.now }
     ensures exact { IfSome (M.image memory.old) (λ image. IfOk result (λ r. suspected_view kind.now found.now r ≡ suspected image found.now kind.now)) }
@@ -93,7 +92,7 @@ fn in_cache<M: Space, L: Ledger>(
     shape: &SlubShape,
     found: &Found,
     steps: &mut Steps<L>,
-) -> Result<Option<AsRing>, RunStop>
+) -> Result<Option<AsRing>, ReadFailed>
     requires kind { kind.now ≡ Slub shape.now }
     ensures exact { IfSome (M.image memory.old) (λ image. IfOk result (λ r. suspected_view kind.now found.now r ≡ suspected image found.now kind.now)) }
     ensures stays { SpaceStays M.image M.files M.through M.most memory.old memory.new }
@@ -113,7 +112,7 @@ fn as_ring<M: Space, L: Ledger>(
     kind: &Kind,
     found: &Found,
     steps: &mut Steps<L>,
-) -> Result<Option<AsRing>, RunStop>
+) -> Result<Option<AsRing>, ReadFailed>
     requires { KindInside (length over.now.types.now.records) kind.now }
     ensures exact { IfSome (M.image memory.old) (λ image. IfOk result (λ r. suspected_view kind.now found.now r ≡ suspected image found.now kind.now)) }
     ensures stays { SpaceStays M.image M.files M.through M.most memory.old memory.new }
@@ -136,7 +135,7 @@ fn as_ring_counted<F: Frames, L: Ledger>(
     kind: &Kind,
     found: &Found,
     blank: Blank,
-) -> Returned<F, Result<Option<AsRing>, RunStop>>
+) -> Returned<F, Result<Option<AsRing>, ReadFailed>>
     requires name { blank.name ≡ L.name }
     requires parts { blank.parts ≡ L.parts }
     requires some { 0 < L.parts }
@@ -167,7 +166,7 @@ pub(crate) fn as_ring_over<F: Frames>(
     over: &PlanOf<'_>,
     kind: &Kind,
     found: &Found,
-) -> Returned<F, Result<Option<AsRing>, RunStop>>
+) -> Returned<F, Result<Option<AsRing>, ReadFailed>>
     requires over { FitsTogether over.now }
     requires inside { KindInside (length over.now.types.now.records) kind.now }
 
@@ -180,7 +179,7 @@ pub(crate) fn as_ring_over<F: Frames>(
         Ok(tlb) => as_ring_counted::<F, Brand>(memory, tlb, over, kind, found, Blank::new(1)),
         Err(NoMemory) => Returned {
             memory,
-            answer: Err(RunStop::NoMemory),
+            answer: Err(ReadFailed::NoMemory),
         },
     }
 }

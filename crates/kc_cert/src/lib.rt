@@ -6,5 +6,5 @@ mod laws;
 
 pub use kc_cert_text::{CertRead, CertStep, Certificate, Lists, cert_text, know_texts, read_cert};
 pub use kc_certify::{CertStop, certify};
-pub use kc_recheck::{CertAnswer, RecheckStop, know_answers, recheck};
+pub use kc_recheck::{CertAnswer, know_answers, recheck};
 pub use laws::{know_complete, know_single};

@@ -14,7 +14,7 @@ use kc_btf::Btf;
 use kc_cert_text::Lists;
 use kc_chains::know_chains;
 use kc_entries::{know_entries, list_xarray};
-use kc_found::{Asked, Found, Places, RbShape, Rule, Space, WalkStop, Walked, XaShape};
+use kc_found::{Asked, Places, RbShape, Rule, Space, WalkStop, Walked, XaShape, broken_by};
 use kc_given::know_given_lists;
 use kc_list::{hchain, know_lists, ring};
 use kc_pid_lists::list_pids;
@@ -46,15 +46,7 @@ fn gone(alloc: Global, asked: &Asked, rule: Rule) -> WalkStop
     requires { IsTrue (not (is_of_reading rule)) }
     ensures { IsBroken result (misfit asked.now rule asked.now.start) }
 {
-    WalkStop::Broken(Found {
-        audit: asked.audit,
-        start: asked.start,
-        rule,
-        at: asked.start,
-        expected: None,
-        stop: None,
-        places: Places::new(alloc),
-    })
+    broken_by(asked, rule, asked.start, None, Places::new(alloc))
 }
 
 // The numbers of a red-black tree in preorder, after it was walked.

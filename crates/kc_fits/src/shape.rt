@@ -68,17 +68,6 @@ pub(crate) fn test_shape<S: Space, L: Ledger>(
     }
 }
 
-// Copies a list.
-fn copied(alloc: Global, list: &Walked) -> Result<Walked, NoMemory>
-    ensures { IfOk result (λ copy. copy ≡ list.now) }
-{
-    let mut copy = Walked::new(alloc);
-    for node in list.as_slice() {
-        copy.push(*node)?;
-    }
-    Ok(copy)
-}
-
 // The first list.
 fn first_list(alloc: Global, lists: &Lists) -> Result<Walked, NoMemory>
     ensures { IfOk result (λ nodes. nodes ≡ first_list lists.now) }
@@ -86,7 +75,7 @@ fn first_list(alloc: Global, lists: &Lists) -> Result<Walked, NoMemory>
     if lists.len() == 0 {
         return Ok(Walked::new(alloc));
     }
-    copied(alloc, lists.get(0))
+    lists.get(0).copied(alloc)
 }
 
 /// The nodes of a shape, in the order of its walk.

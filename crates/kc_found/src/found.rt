@@ -1,11 +1,12 @@
 // Violations, and why a walk ends early.
-ghost use Rattle.std.specs.Prelude.{◌≡◌, ◌++◌, ◌∷◌, false, map, option_to_list, IfOk, OnOk};
+ghost use Rattle.std.specs.Prelude.{◌≡◌, ◌<◌, ◌^◌, ◌++◌, ◌∷◌, [], None, false, length, map, option_to_list, ⊥, IfErr, IfOk, OnOk};
 ghost use Rattle.kc_memory.specs.Places.{place_of, entry_places};
 ghost use Rattle.kc_found.specs.Violations.{breaks, breaks_field, missed, missed_behind, places_by, is_of_reading};
-ghost use Rattle.kc_found.specs.Walks.{IsBroken, IsStopped, IsStoppedBehind};
+ghost use Rattle.kc_found.specs.Walks.{IsBroken, IsStopped, IsStoppedBehind, OnBroken, OnWalkFault};
+ghost use Rattle.kc_found.specs.declared.found.WalkStop.TheVariants as ends;
 
 use crate::asked::Asked;
-use crate::items::Places;
+use crate::items::{Places, Walked};
 use kc_memory::{Miss, Place, Rule, Scalar, Stop, VWord, entry_place, place_of};
 use kc_word::NoMemory;
 use std::alloc::Global;
@@ -53,6 +54,53 @@ pub enum WalkStop {
     NoMemory,
 }
 
+impl From<NoMemory> for WalkStop {
+    ghost from_gives = { λ _ stop. stop ≡ ends.NoMemory };
+
+    fn from(_: NoMemory) -> Self {
+        WalkStop::NoMemory
+    }
+}
+
+/// Adds the address of a node to the walked list.
+///
+/// # Errors
+///
+/// Out of memory.
+pub fn push_node(walked: &mut Walked, node: u64) -> Result<(), WalkStop>
+    ensures added { OnOk result (walked.new ≡ walked.old ++ node ∷ []) }
+    ensures fits { OnOk result (length walked.new < 2 ^ 64) }
+    ensures memory { IfErr result (λ stop. stop ≡ WalkStop.NoMemory) }
+    ensures broken { OnBroken result ⊥ }
+    ensures no_fault { OnWalkFault result ⊥ }
+{
+    walked.push(node)?;
+    Ok(())
+}
+
+/// The violation of a rule that these places show, at a virtual address.
+pub fn broken_by(
+    asked: &Asked,
+    rule: Rule,
+    at: u64,
+    expected: Option<u64>,
+    places: Places,
+) -> WalkStop
+    requires { is_of_reading rule ≡ false }
+    ensures { result ≡ WalkStop.Broken (record {
+        audit = asked.now.audit; start = asked.now.start; rule = rule; at = at; expected = expected; stop = None; places = places }) }
+{
+    WalkStop::Broken(Found {
+        audit: asked.audit,
+        start: asked.start,
+        rule,
+        at,
+        expected,
+        stop: None,
+        places,
+    })
+}
+
 /// The violation of a rule that one word shows, at the word's address. It is out of memory where none is left for the
 /// place.
 pub fn broken_at(
@@ -67,15 +115,7 @@ pub fn broken_at(
 {
     let mut places = Places::new(alloc);
     match places.push(place_of(word)) {
-        Ok(()) => WalkStop::Broken(Found {
-            audit: asked.audit,
-            start: asked.start,
-            rule,
-            at: word.va,
-            expected,
-            stop: None,
-            places,
-        }),
+        Ok(()) => broken_by(asked, rule, word.va, expected, places),
         Err(NoMemory) => WalkStop::NoMemory,
     }
 }
@@ -114,15 +154,7 @@ pub fn broken_field(
     ensures { IsBroken result (breaks_field asked.now rule at number.now expected) }
 {
     match field_places(alloc, number) {
-        Ok(places) => WalkStop::Broken(Found {
-            audit: asked.audit,
-            start: asked.start,
-            rule,
-            at,
-            expected,
-            stop: None,
-            places,
-        }),
+        Ok(places) => broken_by(asked, rule, at, expected, places),
         Err(NoMemory) => WalkStop::NoMemory,
     }
 }

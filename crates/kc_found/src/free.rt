@@ -1,6 +1,6 @@
 // The free objects of a slab (`struct slab`). All offsets are in bytes, and addresses wrap at 2^64.
 ghost use Rattle.std.specs.Prelude.{◌≡◌};
-ghost use Rattle.kc_found.specs.FreeLists.{low_word};
+ghost use Rattle.kc_found.specs.FreeLists.{decoded, low_word};
 
 use kc_memory::Scalar;
 
@@ -35,4 +35,12 @@ pub fn low_word(number: &Scalar) -> u64
     ensures { result ≡ low_word number.now.value }
 {
     number.value.rem_euclid(1 << 64) as u64
+}
+
+/// The pointer that a word at virtual address `at` stands for, in a cache whose `random` is this number: the kernel's
+/// CONFIG_SLAB_FREELIST_HARDENED encodes free pointers so.
+pub fn decode(word: u64, random: u64, at: u64) -> u64
+    ensures { result ≡ decoded word random at }
+{
+    word ^ random ^ at.swap_bytes()
 }

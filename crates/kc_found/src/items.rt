@@ -1,5 +1,5 @@
 // Lists that contracts see as lists.
-ghost use Rattle.std.specs.Prelude.{◌≡◌, ◌<◌, ◌^◌, [], ◌∷◌, ◌++◌, length, OnOk, OnErr, Some, slice_get, slice_set};
+ghost use Rattle.std.specs.Prelude.{◌≡◌, ◌<◌, ◌^◌, [], ◌∷◌, ◌++◌, length, IfOk, OnOk, OnErr, Some, slice_get, slice_set};
 
 use crate::verdict::{AuditCount, RootVerdict};
 use kc_memory::Place;
@@ -93,5 +93,33 @@ impl<T: Drop> Items<T> {
         ensures { self.new ≡ slice_set self.old i item }
     {
         self.items[i] = item;
+    }
+}
+
+impl<T: Copy + Drop> Items<T> {
+    /// The list of a slice's items.
+    ///
+    /// # Errors
+    ///
+    /// Out of memory.
+    pub fn of_slice(alloc: Global, slice: &[T]) -> Result<Self, NoMemory>
+        ensures { IfOk result (λ list. list ≡ slice.now) }
+    {
+        let mut list = Items::new(alloc);
+        for item in slice {
+            list.push(*item)?;
+        }
+        Ok(list)
+    }
+
+    /// Another list of the same items.
+    ///
+    /// # Errors
+    ///
+    /// Out of memory.
+    pub fn copied(&self, alloc: Global) -> Result<Self, NoMemory>
+        ensures { IfOk result (λ copy. copy ≡ self.now) }
+    {
+        Items::of_slice(alloc, self.as_slice())
     }
 }

@@ -4,6 +4,7 @@
 mod asked;
 mod claims;
 mod counted;
+mod failed;
 mod found;
 mod free;
 mod items;
@@ -18,8 +19,11 @@ mod xarrays;
 pub use asked::Asked;
 pub use claims::Claims;
 pub use counted::Counted;
-pub use found::{Found, WalkStop, broken_at, broken_field, stopped, stopped_behind};
-pub use free::{FreeLed, Grid, low_word};
+pub use failed::ReadFailed;
+pub use found::{
+    Found, WalkStop, broken_at, broken_by, broken_field, push_node, stopped, stopped_behind,
+};
+pub use free::{FreeLed, Grid, decode, low_word};
 pub use items::{Audits, Counts, Items, Name, Places, Verdicts, Walked};
 pub use kc_memory::{
     FrameStop, Frames, Miss, Origin, PWord, Place, Rule, Scalar, Space, Stop, VWord, entry_place,

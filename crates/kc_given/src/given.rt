@@ -1,5 +1,5 @@
 // Chains whose lists are given.
-ghost use Rattle.std.specs.Prelude.{◌≡◌, drop, false, ⊤, IfOk};
+ghost use Rattle.std.specs.Prelude.{◌≡◌, drop, false, ⊤, ⊥, IfOk};
 ghost use Rattle.kc_memory.specs.Translation.{vword};
 ghost use Rattle.kc_found.specs.Violations.{is_of_reading};
 ghost use Rattle.kc_found.specs.Walks.{OnBroken, OnWalkFault};
@@ -11,11 +11,11 @@ ghost use Rattle.kc_given.specs.Tests.{is_free_list};
 use crate::free::test_free_list;
 use kc_chains::{Chains, HashChains, Rings};
 use kc_found::{
-    Asked, Found, Grid, HShape, Items, ListShape, Places, Rule, Scalar, Space, WalkStop, Walked,
+    Asked, Grid, HShape, Items, ListShape, Places, Rule, Scalar, Space, WalkStop, Walked, broken_by,
     low_word,
 };
 use kc_shape::{Halt, test_chain, test_ring};
-use kc_word::{NoMemory, Steps};
+use kc_word::Steps;
 use std::alloc::Global;
 use std::sync::ledger::Ledger;
 
@@ -35,14 +35,7 @@ fn copy_of(alloc: Global, list: &Walked) -> Result<Walked, WalkStop>
     ensures broken { OnBroken result ⊥ }
     ensures no_fault { OnWalkFault result ⊥ }
 {
-    let mut copy = Walked::new(alloc);
-    for at in list.as_slice() {
-        match copy.push(*at) {
-            Ok(()) => {}
-            Err(NoMemory) => return Err(WalkStop::NoMemory),
-        }
-    }
-    Ok(copy)
+    Ok(list.copied(alloc)?)
 }
 
 // How a walk ends at a chain that isn't its list.
@@ -51,15 +44,7 @@ fn ended(alloc: Global, asked: &Asked, rule: Rule, at: u64, halt: Halt) -> WalkS
     ensures { result ≡ ended asked.now rule at halt }
 {
     match halt {
-        Halt::Unfit => WalkStop::Broken(Found {
-            audit: asked.audit,
-            start: asked.start,
-            rule,
-            at,
-            expected: None,
-            stop: None,
-            places: Places::new(alloc),
-        }),
+        Halt::Unfit => broken_by(asked, rule, at, None, Places::new(alloc)),
         Halt::Fault => WalkStop::Fault,
         Halt::NoMemory => WalkStop::NoMemory,
     }

@@ -9,8 +9,8 @@ ghost use Rattle.kc_found.specs.Rings.{links, ring_chain, ring_site, ring_walk};
 ghost use Rattle.kc_found.specs.Walks.{CountsWalkFaults, IsNamed, OnBroken, TakesAs, WalksAs, WithinSteps};
 ghost use Rattle.kc_list.specs.Near.{EndsSoon};
 
-use crate::words::{enter_both, is_poison, push_node};
-use kc_found::{Asked, Claims, ListShape, Rule, Space, VWord, WalkStop, Walked, broken_at};
+use crate::words::{enter_both, is_poison};
+use kc_found::{Asked, Claims, ListShape, Rule, Space, VWord, WalkStop, Walked, broken_at, push_node};
 use kc_word::Steps;
 use std::alloc::Global;
 use std::sync::ledger::Ledger;

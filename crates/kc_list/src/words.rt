@@ -1,13 +1,13 @@
 // Words that a walk reads and takes.
-ghost use Rattle.std.specs.Prelude.{◌≡◌, ℕ, ◌+◌, ◌*◌, ◌^◌, ◌<◌, ◌≤◌, ◌∷◌, ◌++◌, [], length, None, Ok, OnOk, IfOk, IfErr, IfSome};
+ghost use Rattle.std.specs.Prelude.{◌≡◌, ℕ, ◌+◌, ◌*◌, ◌^◌, ◌<◌, ◌≤◌, ◌∷◌, ◌++◌, [], length, None, Ok, IfOk, IfSome};
 ghost use Rattle.kc_memory.specs.Space.{AnswersAs};
 ghost use Rattle.kc_memory.specs.Stays.{CountsFaults, SpaceStays};
 ghost use Rattle.kc_memory.specs.Translation.{vword};
 ghost use Rattle.kc_found.specs.Nodes.{both, one_taken, two_taken};
 ghost use Rattle.kc_found.specs.Walks.{CountsWalkFaults, IsNamed, TakesAs};
 
-use kc_found::{Asked, Claims, Space, Stop, VWord, WalkStop, Walked, stopped, take_word};
-use kc_word::{NoMemory, Steps};
+use kc_found::{Asked, Claims, Space, Stop, VWord, WalkStop, stopped, take_word};
+use kc_word::Steps;
 use std::alloc::Global;
 use std::sync::ledger::Ledger;
 
@@ -88,16 +88,4 @@ pub(crate) fn is_poison(value: u64) -> bool
     ensures { result ≡ Rattle.kc_found.specs.Nodes.is_poison value }
 {
     value == 0xdead_0000_0000_0100 || value == 0xdead_0000_0000_0122
-}
-
-// Adds the address of a node to the walked list.
-pub(crate) fn push_node(walked: &mut Walked, node: u64) -> Result<(), WalkStop>
-    ensures added { OnOk result (walked.new ≡ walked.old ++ node ∷ []) }
-    ensures fits { OnOk result (length walked.new < 2 ^ 64) }
-    ensures memory { IfErr result (λ stop. stop ≡ WalkStop.NoMemory) }
-{
-    match walked.push(node) {
-        Ok(()) => Ok(()),
-        Err(NoMemory) => Err(WalkStop::NoMemory),
-    }
 }

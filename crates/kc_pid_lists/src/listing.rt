@@ -12,7 +12,7 @@ use crate::laws::know_pid_lists;
 use kc_btf::Btf;
 use kc_chains::know_hash_chains;
 use kc_entries::{know_entries, list_xarray};
-use kc_found::{Asked, Found, Items, Places, Rule, Space, WalkStop, Walked};
+use kc_found::{Asked, Items, Places, Rule, Space, WalkStop, Walked, broken_by};
 use kc_pid::{ids_in, pids_walk_by};
 use kc_shape::Halt;
 use kc_slub::Kept;
@@ -25,15 +25,7 @@ use std::sync::ledger::Ledger;
 fn gone(alloc: Global, asked: &Asked) -> WalkStop
     ensures { IsBroken result (misfit asked.now Rule.X1 asked.now.start) }
 {
-    WalkStop::Broken(Found {
-        audit: asked.audit,
-        start: asked.start,
-        rule: Rule::X1,
-        at: asked.start,
-        expected: None,
-        stop: None,
-        places: Places::new(alloc),
-    })
+    broken_by(asked, Rule::X1, asked.start, None, Places::new(alloc))
 }
 
 // The entries of the table's xarray, after it was walked.

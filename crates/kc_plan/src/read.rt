@@ -25,17 +25,6 @@ use kc_syms::Symbols;
 use kc_word::NoMemory;
 use std::alloc::Global;
 
-// The bytes of a name.
-fn name_of(alloc: Global, text: &str) -> Result<Name, NoMemory>
-    ensures { IfOk result (λ name. name ≡ text.now) }
-{
-    let mut name = Items::new(alloc);
-    for byte in text.as_bytes() {
-        name.push(*byte)?;
-    }
-    Ok(name)
-}
-
 // The audits that an audit names.
 fn children(alloc: Global, links: &[Link], number: u32) -> Result<Numbers, NoMemory>
     ensures { IfOk result (λ numbers. numbers ≡ children links.now number) }
@@ -105,7 +94,7 @@ fn planned(
         return Err(stop(PRule::P11, Some(number), PlanKey::Kind));
     };
     let checks = checks_of(alloc, known.btf, number, element, &audit.parts.checks)?;
-    let name = name_of(alloc, audit.name)?;
+    let name = Name::of_slice(alloc, audit.name.as_bytes())?;
     let each = children(alloc, links, number)?;
     Ok(Audit {
         name,

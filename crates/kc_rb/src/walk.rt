@@ -10,8 +10,8 @@ use crate::node::enter_node;
 use crate::reading::enter_head;
 use crate::rules::{judge_leftmost, judge_null};
 use crate::spots::{left_of, right_of, root_of};
-use kc_found::{Asked, Claims, RbKey, RbLinks, RbShape, RbSpot, Space, WalkStop, Walked};
-use kc_word::{NoMemory, Steps};
+use kc_found::{Asked, Claims, RbKey, RbLinks, RbShape, RbSpot, Space, WalkStop, Walked, push_node};
+use kc_word::Steps;
 use std::alloc::Global;
 use std::sync::ledger::Ledger;
 
@@ -32,17 +32,6 @@ fn push_task(pending: &mut Vec<Task>, task: Task) -> Result<(), WalkStop>
     match pending.push(task) {
         Ok(()) => Ok(()),
         Err(_) => Err(WalkStop::NoMemory),
-    }
-}
-
-// Adds the address of a node to the walked list.
-fn push_node(walked: &mut Walked, node: u64) -> Result<(), WalkStop>
-    ensures added { OnOk result (walked.new ≡ walked.old ++ node ∷ []) }
-    ensures memory { IfErr result (λ stop. stop ≡ WalkStop.NoMemory) }
-{
-    match walked.push(node) {
-        Ok(()) => Ok(()),
-        Err(NoMemory) => Err(WalkStop::NoMemory),
     }
 }
 

@@ -11,8 +11,8 @@ use Rattle.kc_plan.specs.Verdicts.{verdict}
 use Rattle.kc_recheck.specs.declared.against.CertAnswer.{CertAnswer}
 use Rattle.kc_recheck.specs.declared.against.CertAnswer.TheVariants.{Yes, No}
 use Rattle.kc_cert_text.specs.declared.certificate.CertStep.{CertStep}
-use Rattle.kc_recheck.specs.declared.against.RecheckStop.{RecheckStop}
-use Rattle.kc_recheck.specs.declared.against.RecheckStop.TheVariants as stops
+use Rattle.kc_found.specs.declared.failed.ReadFailed.{ReadFailed}
+use Rattle.kc_found.specs.declared.failed.ReadFailed.TheVariants as stops
 use Rattle.kc_recheck.specs.declared.nest.Cursor.{Cursor}
 use Rattle.kc_recheck.specs.Certificates.{Judge, Progress}
 
@@ -29,7 +29,7 @@ JudgesAs judge before after (Some i) (Err Fault) = ⊤
 JudgesAs judge before after (Some i) (Err NoMemory) = ⊤
 
 -- the count of failures rose where reading failed, and else it is as it was
-abbrev pub CountsRecheckFaults : {A : Type 0} → Result A RecheckStop → ℕ → ℕ → Type 0
+abbrev pub CountsRecheckFaults : {A : Type 0} → Result A ReadFailed → ℕ → ℕ → Type 0
 CountsRecheckFaults (Ok x) before after = after ≡ before
 CountsRecheckFaults (Err stops.Fault) before after = (before ≤ after) × Rose before after
 CountsRecheckFaults (Err stops.NoMemory) before after = after ≡ before

@@ -14,7 +14,7 @@ use crate::nest::{Cursor, Known, enter};
 use kc_btf::Btf;
 use kc_cert_text::Certificate;
 use kc_fits::know_walked;
-use kc_found::{Asked, Counts, Space};
+use kc_found::{Asked, Counts, ReadFailed, Space};
 use kc_plan::{Plan, Start};
 use kc_run::{know_verdicts, no_walks};
 use kc_shape::Halt;
@@ -29,15 +29,6 @@ pub enum CertAnswer {
     Yes(Counts),
     /// The number of the first step that doesn't fit, counted from 1.
     No(u64),
-}
-
-/// Why a certificate has no answer.
-#[derive(Clone, Copy, Debug, PartialEq, Eq)]
-pub enum RecheckStop {
-    /// Reading the dump failed. The count of faults rose.
-    Fault,
-    /// No memory was left.
-    NoMemory,
 }
 
 // Makes an audit, where it is a root audit.
@@ -143,7 +134,7 @@ pub fn recheck<S: Space, L: Ledger>(
     space: &mut S,
     cert: &Certificate,
     steps: &mut Steps<L>,
-) -> Result<CertAnswer, RecheckStop>
+) -> Result<CertAnswer, ReadFailed>
     requires { AreInside (length btf.now.records) plan.now.audits }
 
     ensures exact { IfOk result (λ found. IfSome (S.image space.old) (λ image. answer image (plan_seen plan.now) cert.now ≡ found)) }
@@ -158,13 +149,13 @@ pub fn recheck<S: Space, L: Ledger>(
     let known = Known { plan, btf, cert };
     let counts = match no_walks(alloc, plan) {
         Ok(counts) => counts,
-        Err(NoMemory) => return Err(RecheckStop::NoMemory),
+        Err(NoMemory) => return Err(ReadFailed::NoMemory),
     };
     let mut cursor = Cursor { at: 0, counts };
     match enter_roots(alloc, &known, space, &mut cursor, steps) {
         Ok(()) => Ok(answer_by(cert, cursor)),
         Err(Halt::Unfit) => Ok(CertAnswer::No(number_of(cert, cursor.at))),
-        Err(Halt::Fault) => Err(RecheckStop::Fault),
-        Err(Halt::NoMemory) => Err(RecheckStop::NoMemory),
+        Err(Halt::Fault) => Err(ReadFailed::Fault),
+        Err(Halt::NoMemory) => Err(ReadFailed::NoMemory),
     }
 }

@@ -6,5 +6,5 @@ mod against;
 mod laws;
 mod nest;
 
-pub use against::{CertAnswer, RecheckStop, recheck};
+pub use against::{CertAnswer, recheck};
 pub use laws::know_answers;

@@ -1,11 +1,11 @@
 -- What a search says where it comes to an end, and where it doesn't.
 use Rattle.std.specs.Prelude.{◌≡◌, ℕ, ◌≤◌, List, Option, Some, None, Result, Ok, Err, ⊤}
 use Rattle.kc_outside.specs.Counts.{Rose}
-use Rattle.kc_refs.specs.declared.stop.SearchStop.{SearchStop}
-use Rattle.kc_refs.specs.declared.stop.SearchStop.TheVariants.{Fault, NoMemory}
+use Rattle.kc_found.specs.declared.failed.ReadFailed.{ReadFailed}
+use Rattle.kc_found.specs.declared.failed.ReadFailed.TheVariants.{Fault, NoMemory}
 
 -- the count of failures rose where reading failed, and else it is as it was
-abbrev pub CountsFaults : {A : Type 0} → Result A SearchStop → ℕ → ℕ → Type 0
+abbrev pub CountsFaults : {A : Type 0} → Result A ReadFailed → ℕ → ℕ → Type 0
 CountsFaults (Ok a) before after = after ≡ before
 CountsFaults (Err NoMemory) before after = after ≡ before
 CountsFaults (Err Fault) before after = (before ≤ after) × Rose before after

@@ -5,9 +5,7 @@
 mod place;
 mod search;
 mod sought;
-mod stop;
 
 pub use place::{FoundWord, WordPlace};
 pub use search::find_words;
 pub use sought::{Sought, Writing};
-pub use stop::SearchStop;

@@ -11,8 +11,8 @@ ghost use Rattle.kc_refs.specs.Stops.{CountsFaults, Told};
 
 use crate::place::{FoundWord, WordPlace};
 use crate::sought::Sought;
-use crate::stop::SearchStop;
 use byteorder::{ByteOrder, LittleEndian};
+use kc_found::ReadFailed;
 use kc_outside::{Slot, Store};
 use kc_word::{NoMemory, Segment};
 use std::alloc::{AllocError, Global};
@@ -89,7 +89,7 @@ fn read_words<S: Store>(
     first: u64,
     count: u64,
     block: &mut [u8],
-) -> Result<(), SearchStop>
+) -> Result<(), ReadFailed>
     requires addressed { IsAddressed segment.now }
     requires below { first + count ≤ word_count segment.now }
     requires some { 1 ≤ count }
@@ -123,7 +123,7 @@ fn search_segment<S: Store>(
     sought: &Sought,
     block: &mut [u8],
     found: &mut Vec<FoundWord>,
-) -> Result<(), SearchStop>
+) -> Result<(), ReadFailed>
     requires addressed { IsAddressed segment.now }
     requires room { length block.old ≡ 65536 }
     requires learnt { IsSome (S.sizes store.old Dump) }
@@ -157,7 +157,7 @@ pub fn find_words<S: Store>(
     store: &mut S,
     segments: &[Segment],
     sought: &Sought,
-) -> Result<Vec<FoundWord>, SearchStop>
+) -> Result<Vec<FoundWord>, ReadFailed>
     requires addressed { All IsAddressed segments.now }
     requires learnt { IsSome (S.sizes store.old Dump) }
     requires within { ForSome (S.sizes store.old Dump) (λ size. All (IsInside size) segments.now) }

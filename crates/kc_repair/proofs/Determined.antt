@@ -11,7 +11,7 @@ use Rattle.kc_found.specs.Violations.{Violation}
 use Rattle.kc_kinds.specs.declared.kind.Kind.{Kind}
 use Rattle.kc_plan.specs.Planned.{AuditAt}
 use Rattle.kc_plan.specs.Roots.{Root}
-use Rattle.kc_run.specs.declared.roots.RunStop.{RunStop}
+use Rattle.kc_found.specs.declared.failed.ReadFailed.{ReadFailed}
 use Rattle.kc_suspect.specs.declared.suspect.Suspect.{Suspect}
 use Rattle.kc_suspect.specs.Suspects.{suspects}
 use Rattle.kc_repair.specs.declared.outcome.Breach.{Breach}
@@ -96,7 +96,7 @@ pub gives : (judge : Suspect → Verdict) (found : Breach) (suspected : List Sus
 gives judge found suspected = gives_by judge found suspected (find (repairs judge) (take most suspected)) refl
 
 -- that of what is suspected of a violation
-pub sought : (image image' : Option Image) (audits : List AuditAt) (root : Root) (kind : Kind) (v : Violation) (suspected : List Suspect) (r : Result Repair RunStop)
+pub sought : (image image' : Option Image) (audits : List AuditAt) (root : Root) (kind : Kind) (v : Violation) (suspected : List Suspect) (r : Result Repair ReadFailed)
     → image' ≡ image → IfSome image (λ i. suspected ≡ suspects i kind v) → IfOk r (λ x. IfSome image' (λ i. IsRepair (verdict_with i audits root) (breach_of v) suspected x))
     → IfOk r (λ x. IfSome image (λ i. x ≡ repair_of i audits root kind v))
 sought image image' audits root kind v suspected (Err stop) same are exact = tt

@@ -18,8 +18,8 @@ use Rattle.kc_plan.specs.Planned.{AuditAt}
 use Rattle.kc_plan.specs.Roots.{Root, broken_in}
 use Rattle.kc_plan.specs.Verdicts.{IsClean}
 use Rattle.kc_plan.specs.Stands.{RootStands}
-use Rattle.kc_run.specs.declared.roots.RunStop.{RunStop}
-use Rattle.kc_run.specs.declared.roots.RunStop.TheVariants.{Fault, NoMemory}
+use Rattle.kc_found.specs.declared.failed.ReadFailed.{ReadFailed}
+use Rattle.kc_found.specs.declared.failed.ReadFailed.TheVariants.{Fault, NoMemory}
 use Rattle.kc_run.specs.Answers.{CountsRunFaults}
 use Rattle.kc_run.specs.Laws.{CleanRootsStand}
 use Rattle.kc_suspect.specs.declared.suspect.Suspect.{Suspect}
@@ -62,7 +62,7 @@ so_far_more judge found suspects i s v before after lt here is so_far on =
     (record { none = none_more judge (take i suspects) s v is so_far.none; goes_on = first_more judge found (take i suspects) s v before after is so_far.goes_on on })
 
 -- after a trial that ends nothing
-pub goes_on : (image image' : Option Image) (judge : Image → Suspect → Verdict) (found : Breach) (suspects : List Suspect) (i : ℕ) (d : Suspect) (r : Result Verdict RunStop) (before after : Option Next) (answer : Option (Result Repair RunStop))
+pub goes_on : (image image' : Option Image) (judge : Image → Suspect → Verdict) (found : Breach) (suspects : List Suspect) (i : ℕ) (d : Suspect) (r : Result Verdict ReadFailed) (before after : Option Next) (answer : Option (Result Repair ReadFailed))
     → image' ≡ image → i < length suspects → IfOk r (λ verdict. IfSome image' (λ m. judge m (get_or suspects i d) ≡ verdict))
     → IfSome image (λ m. SoFar (judge m) found (take i suspects) before) → Judges found (get_or suspects i d) r before after answer → answer ≡ None
     → IfSome image (λ m. SoFar (judge m) found (take (i + 1) suspects) after)
@@ -89,21 +89,21 @@ take_front (suc i) (suc n) [] le = refl
 take_front (suc i) (suc n) (x ∷ xs) le = ap (λ (l : List Suspect). x ∷ l) (take_front i n xs (omega arith))
 
 -- and the count of failures then
-pub quiet : (found : Breach) (s : Suspect) (r : Result Verdict RunStop) (before after : Option Next) (answer : Option (Result Repair RunStop)) (old new : ℕ) → Judges found s r before after answer → answer ≡ None → CountsRunFaults r old new → new ≡ old
+pub quiet : (found : Breach) (s : Suspect) (r : Result Verdict ReadFailed) (before after : Option Next) (answer : Option (Result Repair ReadFailed)) (old new : ℕ) → Judges found s r before after answer → answer ≡ None → CountsRunFaults r old new → new ≡ old
 quiet found s (Ok verdict) before after answer old new on goes cause = cause
 quiet found s (Err stop) before after answer old new on goes cause = let none : ⊥ = cc in absurd none
 
-pub stopped : (found : Breach) (s : Suspect) (r : Result Verdict RunStop) (before after : Option Next) (answer : Result Repair RunStop) (old new : ℕ) → Judges found s r before after (Some answer) → CountsRunFaults r old new → CountsRunFaults answer old new
+pub stopped : (found : Breach) (s : Suspect) (r : Result Verdict ReadFailed) (before after : Option Next) (answer : Result Repair ReadFailed) (old new : ℕ) → Judges found s r before after (Some answer) → CountsRunFaults r old new → CountsRunFaults answer old new
 stopped found s (Ok (Clean counts)) before after answer old new on cause = let is : answer ≡ Ok (Stands s) = cc in rw is cause
 stopped found s (Ok (Broken v)) before after answer old new on cause = let none : ⊥ = let no = on.0 in cc in absurd none
 stopped found s (Err stop) before after answer old new on cause = let is : answer ≡ Err stop = cc in rw is (same_cause stop cause)
   where
-    same_cause : (stop : RunStop) → CountsRunFaults {A = Verdict} (Err stop) old new → CountsRunFaults {A = Repair} (Err stop) old new
+    same_cause : (stop : ReadFailed) → CountsRunFaults {A = Verdict} (Err stop) old new → CountsRunFaults {A = Repair} (Err stop) old new
     same_cause Fault cause = cause
     same_cause NoMemory cause = cause
 
 -- after one that does
-pub ends : (image image' : Option Image) (judge : Image → Suspect → Verdict) (found : Breach) (suspects : List Suspect) (i : ℕ) (d : Suspect) (r : Result Verdict RunStop) (before after : Option Next) (answer : Result Repair RunStop)
+pub ends : (image image' : Option Image) (judge : Image → Suspect → Verdict) (found : Breach) (suspects : List Suspect) (i : ℕ) (d : Suspect) (r : Result Verdict ReadFailed) (before after : Option Next) (answer : Result Repair ReadFailed)
     → image' ≡ image → i < min (length suspects) most → IfOk r (λ verdict. IfSome image' (λ m. judge m (get_or suspects i d) ≡ verdict))
     → IfSome image (λ m. SoFar (judge m) found (take i suspects) before) → Judges found (get_or suspects i d) r before after (Some answer)
     → IfOk answer (λ repair. IfSome image (λ m. IsRepair (judge m) found suspects repair))
@@ -172,7 +172,7 @@ pub same_stored : (segments segments' : List Segment) (tail tail' : Tail) (conte
 same_stored segments segments' tail tail' content content' e f h =
     ap (λ (l : List Segment). stored l tail content) e ∙ ap (λ (t : Tail). stored segments' t content) f ∙ ap (λ (b : Option (List ℕ)). stored segments' tail' b) h
 
-pub all_stand : CleanRootsStand → (content : Option (List ℕ)) (segments : List Segment) (tail : Tail) (paging : PageCfg) (physical : Option Physical) (audits : List AuditAt) (root : Root) (found : Breach) (suspects : List Suspect) (r : Result Repair RunStop)
+pub all_stand : CleanRootsStand → (content : Option (List ℕ)) (segments : List Segment) (tail : Tail) (paging : PageCfg) (physical : Option Physical) (audits : List AuditAt) (root : Root) (found : Breach) (suspects : List Suspect) (r : Result Repair ReadFailed)
     → physical ≡ stored segments tail content
     → IfOk r (λ repair. IfSome (with_paging paging physical) (λ image. IsRepair (verdict_with image audits root) found suspects repair))
     → IfOk r (λ repair. IfSome content (λ bytes. StandsAs (image_of bytes segments tail paging) audits root suspects repair))

@@ -14,7 +14,7 @@ use Rattle.kc_kinds.specs.declared.kind.Kind.{Kind}
 use Rattle.kc_plan.specs.Planned.{AuditAt}
 use Rattle.kc_plan.specs.Roots.{Root, broken_in, root_verdict}
 use Rattle.kc_plan.specs.Stands.{RootStands}
-use Rattle.kc_run.specs.declared.roots.RunStop.{RunStop}
+use Rattle.kc_found.specs.declared.failed.ReadFailed.{ReadFailed}
 use Rattle.kc_suspect.specs.declared.suspect.Suspect.{Suspect}
 use Rattle.kc_suspect.specs.Suspects.{suspects}
 use Rattle.kc_patch.specs.declared.change.Change.{Change}
@@ -72,7 +72,7 @@ GoesOn found None s v next =
     (IsElsewhere found (Broken v) × IsNext s (Broken v) next) ⊎ ((IsElsewhere found (Broken v) → ⊥) × (next ≡ None))
 
 -- After a trial that came to this: the answer where it ends here, or none, and what is told of the suspects so far.
-abbrev pub Judges : Breach → Suspect → Result Verdict RunStop → Option Next → Option Next → Option (Result Repair RunStop) → Type 0
+abbrev pub Judges : Breach → Suspect → Result Verdict ReadFailed → Option Next → Option Next → Option (Result Repair ReadFailed) → Type 0
 Judges found s (Ok (Clean counts)) before after answer = answer ≡ Some (Ok (Stands s))
 Judges found s (Ok (Broken v)) before after answer = (answer ≡ None) × GoesOn found before s v after
 Judges found s (Err stop) before after answer = answer ≡ Some (Err stop)

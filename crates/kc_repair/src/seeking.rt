@@ -16,13 +16,12 @@ ghost use Rattle.kc_repair.specs.Repairs.{IsRepair, breach_of, repair_of, verdic
 use crate::outcome::Breach;
 use crate::trial::{KEPT, RootAudit};
 use crate::tries::{Repaired, try_all};
-use kc_found::Found;
+use kc_found::{Found, ReadFailed};
 use kc_kinds::Kind;
 use kc_mem::Memory;
 use kc_outside::Store;
 use kc_phys::Phys;
-use kc_run::RunStop;
-use kc_suspect::{Suspect, SuspectStop, Suspects, suspects};
+use kc_suspect::{Suspect, Suspects, suspects};
 use kc_tlb::Tlb;
 use kc_word::{NoMemory, PageCfg, Steps};
 use std::alloc::Global;
@@ -33,7 +32,7 @@ use std::sync::ledger::{Blank, Ledger};
 #[derive(Drop)]
 struct Suspected<'s, S: Store> {
     memory: Phys<'s, S>,
-    suspects: Result<Suspects, SuspectStop>,
+    suspects: Result<Suspects, ReadFailed>,
 }
 
 // The suspects of a violation, with places for translations, and steps on a blank of the caller's.
@@ -84,7 +83,7 @@ fn suspects_over<'s, S: Store>(
         Ok(tlb) => suspects_in::<S, Brand>(alloc, memory, tlb, kind, found, Blank::new(1)),
         Err(NoMemory) => Suspected {
             memory,
-            suspects: Err(SuspectStop::NoMemory),
+            suspects: Err(ReadFailed::NoMemory),
         },
     }
 }
@@ -140,13 +139,13 @@ pub fn repair_over<'s, S: Store>(
     let Suspected { memory, suspects } = suspects_over(alloc, memory, paging, kind, found);
     match suspects {
         Ok(suspects) => try_found(alloc, memory, paging, audit, found, suspects.as_slice()),
-        Err(SuspectStop::Fault) => Repaired {
+        Err(ReadFailed::Fault) => Repaired {
             memory,
-            repair: Err(RunStop::Fault),
+            repair: Err(ReadFailed::Fault),
         },
-        Err(SuspectStop::NoMemory) => Repaired {
+        Err(ReadFailed::NoMemory) => Repaired {
             memory,
-            repair: Err(RunStop::NoMemory),
+            repair: Err(ReadFailed::NoMemory),
         },
     }
 }

@@ -14,13 +14,13 @@ ghost use Rattle.kc_run.specs.Answers.{CountsRunFaults};
 ghost use Rattle.kc_repair.specs.Repairs.{change_of, verdict_with};
 
 use kc_btf::Btf;
-use kc_found::{Asked, Verdict};
+use kc_found::{Asked, ReadFailed, Verdict};
 use kc_mem::Memory;
 use kc_outside::Store;
 use kc_patch::{Change, Lent, Patched};
 use kc_phys::Phys;
 use kc_plan::Plan;
-use kc_run::{RunStop, run_root};
+use kc_run::run_root;
 use kc_suspect::Suspect;
 use kc_tlb::Tlb;
 use kc_word::{NoMemory, PageCfg, Steps};
@@ -48,7 +48,7 @@ pub struct Tried<'s, S: Store> {
     /// The memory as it is, handed back.
     pub memory: Phys<'s, S>,
     /// What the root audit comes to, or that reading failed, or that no memory was left.
-    pub found: Result<Verdict, RunStop>,
+    pub found: Result<Verdict, ReadFailed>,
 }
 
 /// What a root audit comes to over the memory with a suspect's word changed, and the memory. A failure is one of the store,
@@ -80,7 +80,7 @@ pub fn try_suspect<'s, S: Store>(
         }
         Err(NoMemory) => Tried {
             memory,
-            found: Err(RunStop::NoMemory),
+            found: Err(ReadFailed::NoMemory),
         },
     }
 }

@@ -12,10 +12,10 @@ ghost use Rattle.kc_repair.specs.Repairs.{GoesOn, IsRepair, Judges, StandsAs, im
 
 use crate::outcome::{Breach, Next, Repair};
 use crate::trial::{RootAudit, try_suspect};
-use kc_found::{Found, Verdict};
+use kc_found::{Found, ReadFailed, Verdict};
 use kc_outside::Store;
 use kc_phys::{Phys, Room};
-use kc_run::{RunStop, know_verdicts};
+use kc_run::know_verdicts;
 use kc_suspect::Suspect;
 use kc_word::{NoMemory, PageCfg, Segment};
 use std::alloc::Global;
@@ -38,7 +38,7 @@ pub fn repair<S: Store>(
     audit: &RootAudit<'_>,
     found: Breach,
     suspects: &[Suspect],
-) -> Result<Repair, RunStop>
+) -> Result<Repair, ReadFailed>
     requires inside { AreInside (S.sizes store.old Dump) segments.now }
     requires aligned { paging.table % 4096 ≡ 0 }
     requires small { paging.table < 2 ^ 52 }
@@ -57,7 +57,7 @@ pub fn repair<S: Store>(
     know_verdicts();
     let room = match Room::new(alloc, segments, audit.plan.tail) {
         Ok(room) => room,
-        Err(NoMemory) => return Err(RunStop::NoMemory),
+        Err(NoMemory) => return Err(ReadFailed::NoMemory),
     };
     let memory = Phys::over(store, room);
     let Repaired { memory, repair } = try_all(alloc, memory, paging, audit, found, suspects);
@@ -71,7 +71,7 @@ pub struct Repaired<'s, S: Store> {
     /// The memory over which they were tried, handed back.
     pub memory: Phys<'s, S>,
     /// Which of them repairs, or that reading failed, or that no memory was left.
-    pub repair: Result<Repair, RunStop>,
+    pub repair: Result<Repair, ReadFailed>,
 }
 
 // Tries suspects over a memory.
@@ -114,11 +114,11 @@ pub(crate) fn try_all<'s, S: Store>(
 
 // The answer after a trial, where it ends here, and else what is told of the suspects so far.
 fn judge(
-    trial: Result<Verdict, RunStop>,
+    trial: Result<Verdict, ReadFailed>,
     suspect: Suspect,
     found: Breach,
     then: &mut Option<Next>,
-) -> Option<Result<Repair, RunStop>>
+) -> Option<Result<Repair, ReadFailed>>
     ensures { Judges found suspect trial then.old then.new result }
 {
     match trial {

@@ -39,17 +39,6 @@ pub fn read_report(alloc: Global, bytes: &[u8]) -> Result<Report, ReportStop>
     }
 }
 
-// Copies a name.
-pub fn copy_name(alloc: Global, name: &[u8]) -> Result<Name, NoMemory>
-    ensures { IfOk result (λ copy. copy ≡ name.now) }
-{
-    let mut copy = Name::new(alloc);
-    for c in name {
-        copy.push(*c)?;
-    }
-    Ok(copy)
-}
-
 // Adds an audit that found nothing.
 fn add_line(
     alloc: Global,
@@ -61,7 +50,7 @@ fn add_line(
     requires { IsTrue (is_name name.now) }
     ensures { OnOk result (lines.new ≡ lines.old ++ record { name = name.now; walks = walks; elements = elements } ∷ []) }
 {
-    let name = copy_name(alloc, name)?;
+    let name = Name::of_slice(alloc, name)?;
     lines.push(CleanLine {
         name,
         walks,
@@ -154,7 +143,7 @@ fn broken_of(alloc: Global, head: Head<'_>, places: Places) -> Result<BrokenText
     requires { IsHead head }
     ensures { IfOk result (λ b. b ≡ head_broken head.entry places) }
 {
-    let audit = copy_name(alloc, head.audit)?;
+    let audit = Name::of_slice(alloc, head.audit)?;
     Ok(BrokenText {
         audit,
         start: head.start,
@@ -220,7 +209,7 @@ fn add_root(
     requires name { IsTrue (is_name name.now) }
     ensures { OnOk result (roots.new ≡ roots.old ++ record { name = name.now; verdict = verdict } ∷ []) }
 {
-    let name = copy_name(alloc, name)?;
+    let name = Name::of_slice(alloc, name)?;
     roots.push(RootText { name, verdict })
 }
 

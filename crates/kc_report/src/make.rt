@@ -59,7 +59,7 @@ fn root_text(
     requires { IsOfRoot plan_names.now root.now }
     ensures { IfOk result (λ text. text ≡ root_lines plan_names.now root.now) }
 {
-    let name = copied(alloc, plan_names.get(root.root as usize))?;
+    let name = plan_names.get(root.root as usize).copied(alloc)?;
     let verdict = root_result(alloc, plan_names, &root.audits, &root.verdict)?;
     Ok(RootText { name, verdict })
 }
@@ -98,17 +98,6 @@ fn names_of(alloc: Global, plan_names: &PlanNames, audits: &Audits) -> Result<Pl
     Ok(names)
 }
 
-// Copies a list.
-pub(crate) fn copied<T: Copy + Drop>(alloc: Global, items: &Items<T>) -> Result<Items<T>, NoMemory>
-    ensures { IfOk result (λ copy. copy ≡ items.now) }
-{
-    let mut copy = Items::new(alloc);
-    for i in 0..items.len() {
-        copy.push(*items.get(i))?;
-    }
-    Ok(copy)
-}
-
 // An audit with its counts.
 fn counted_line(
     alloc: Global,
@@ -120,7 +109,7 @@ fn counted_line(
     requires count { i < length counts.now }
     ensures { IfOk result (λ line. IsCounted plan_names.now counts.now i line) }
 {
-    let name = copied(alloc, plan_names.get(i))?;
+    let name = plan_names.get(i).copied(alloc)?;
     let count = counts.get(i);
     Ok(CleanLine {
         name,
@@ -164,8 +153,8 @@ fn broken_report(
     requires { found.now.audit < length plan_names.now }
     ensures { IfOk result (λ broken. broken ≡ broken_report plan_names.now found.now) }
 {
-    let audit = copied(alloc, plan_names.get(found.audit as usize))?;
-    let places = copied(alloc, &found.places)?;
+    let audit = plan_names.get(found.audit as usize).copied(alloc)?;
+    let places = found.places.copied(alloc)?;
     Ok(BrokenText {
         audit,
         start: found.start,

@@ -2,7 +2,6 @@
 ghost use Rattle.std.specs.Prelude.{◌≡◌, ◌<◌, [], ◌∷◌, ◌++◌, length, IsTrue, OnOk, OnErr, Some, slice_get};
 ghost use Rattle.kc_text.specs.Readers.{is_name};
 
-use crate::make::copied;
 use kc_found::{Items, Name};
 use kc_word::NoMemory;
 use std::alloc::Global;
@@ -58,7 +57,7 @@ impl PlanNames {
         ensures added { OnOk result (self.new ≡ self.old ++ name.now ∷ []) }
         ensures kept { OnErr result (self.new ≡ self.old) }
     {
-        let copy = copied(alloc, name)?;
+        let copy = name.copied(alloc)?;
         self.push(copy)
     }
 

@@ -1,11 +1,11 @@
 -- What the answer of a run says.
 use Rattle.std.specs.Prelude.{◌≡◌, ℕ, ◌≤◌, Result, Ok, Err}
 use Rattle.kc_outside.specs.Counts.{Rose}
-use Rattle.kc_run.specs.declared.roots.RunStop.{RunStop}
-use Rattle.kc_run.specs.declared.roots.RunStop.TheVariants.{Fault, NoMemory}
+use Rattle.kc_found.specs.declared.failed.ReadFailed.{ReadFailed}
+use Rattle.kc_found.specs.declared.failed.ReadFailed.TheVariants.{Fault, NoMemory}
 
 -- the count of failures rose where reading failed, and else it is as it was
-abbrev pub CountsRunFaults : {A : Type 0} → Result A RunStop → ℕ → ℕ → Type 0
+abbrev pub CountsRunFaults : {A : Type 0} → Result A ReadFailed → ℕ → ℕ → Type 0
 CountsRunFaults (Ok x) before after = after ≡ before
 CountsRunFaults (Err Fault) before after = (before ≤ after) × Rose before after
 CountsRunFaults (Err NoMemory) before after = after ≡ before

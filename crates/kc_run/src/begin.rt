@@ -6,7 +6,7 @@ ghost use Rattle.kc_plan.specs.Inside.{StartsInside};
 ghost use Rattle.kc_plan.specs.Seen.{container_of, is_optional, null_pointer, path_of};
 ghost use Rattle.kc_plan.specs.Planned.{start_seen};
 
-use kc_found::{Asked, Found, Place, Places, Rule, WalkStop};
+use kc_found::{Asked, Place, Places, Rule, WalkStop, broken_by};
 use kc_layout::Located;
 use kc_plan::Start;
 use kc_word::NoMemory;
@@ -47,15 +47,7 @@ pub fn null_pointer(alloc: Global, asked: &Asked, place: Place, at: u64) -> Walk
 {
     let mut places = Places::new(alloc);
     match places.push(place) {
-        Ok(()) => WalkStop::Broken(Found {
-            audit: asked.audit,
-            start: asked.start,
-            rule: Rule::N,
-            at,
-            expected: None,
-            stop: None,
-            places,
-        }),
+        Ok(()) => broken_by(asked, Rule::N, at, None, places),
         Err(NoMemory) => WalkStop::NoMemory,
     }
 }

@@ -14,7 +14,7 @@ ghost use Rattle.kc_run.specs.Tally.{TalliesAs};
 
 use kc_btf::Btf;
 use kc_expr::eval;
-use kc_found::{Asked, Found, Items, Places, Rule, Scalar, Space, Stop, WalkStop, stopped};
+use kc_found::{Asked, Items, Places, Rule, Scalar, Space, Stop, WalkStop, broken_by, stopped};
 use kc_layout::Field;
 use kc_plan::{Check, Checks, Fields};
 use kc_view::View;
@@ -55,15 +55,7 @@ fn fails(alloc: Global, asked: &Asked, element: u64, numbers: &Numbers) -> WalkS
     ensures { IsBroken result (fails asked.now element numbers.now) }
 {
     match words_of(alloc, numbers) {
-        Ok(places) => WalkStop::Broken(Found {
-            audit: asked.audit,
-            start: asked.start,
-            rule: Rule::C,
-            at: element,
-            expected: None,
-            stop: None,
-            places,
-        }),
+        Ok(places) => broken_by(asked, Rule::C, element, None, places),
         Err(NoMemory) => WalkStop::NoMemory,
     }
 }

@@ -17,9 +17,8 @@ ghost use Rattle.kc_run.specs.Tally.{counts_at};
 use crate::counts::no_walks;
 use crate::laws::know_verdicts;
 use crate::nest::{Known, enter};
-use crate::roots::RunStop;
 use kc_btf::Btf;
-use kc_found::{Asked, Audits, Counts, RootVerdict, Space, Verdict, Verdicts, WalkStop};
+use kc_found::{Asked, Audits, Counts, ReadFailed, RootVerdict, Space, Verdict, Verdicts, WalkStop};
 use kc_plan::{Numbers, Plan, Start};
 use kc_word::{NoMemory, Steps};
 use std::alloc::Global;
@@ -78,7 +77,7 @@ fn judged<S: Space, L: Ledger>(
     root: &Asked,
     audits: &Audits,
     steps: &mut Steps<L>,
-) -> Result<Verdict, RunStop>
+) -> Result<Verdict, ReadFailed>
     requires inside { root.now.audit < length known.now.plan.now.audits }
     requires types { AreInside (length known.now.btf.now.records) known.now.plan.now.audits }
     requires reached { audits.now ≡ reached_from root.now.audit (plan_seen known.now.plan.now) }
@@ -93,16 +92,16 @@ fn judged<S: Space, L: Ledger>(
 {
     let mut counts = match no_walks(alloc, known.plan) {
         Ok(counts) => counts,
-        Err(NoMemory) => return Err(RunStop::NoMemory),
+        Err(NoMemory) => return Err(ReadFailed::NoMemory),
     };
     match enter(alloc, known, space, &mut counts, root, steps) {
         Ok(()) => match counts_at(alloc, &counts, audits) {
             Ok(counts) => Ok(Verdict::Clean(counts)),
-            Err(NoMemory) => Err(RunStop::NoMemory),
+            Err(NoMemory) => Err(ReadFailed::NoMemory),
         },
         Err(WalkStop::Broken(found)) => Ok(Verdict::Broken(found)),
-        Err(WalkStop::Fault) => Err(RunStop::Fault),
-        Err(WalkStop::NoMemory) => Err(RunStop::NoMemory),
+        Err(WalkStop::Fault) => Err(ReadFailed::Fault),
+        Err(WalkStop::NoMemory) => Err(ReadFailed::NoMemory),
     }
 }
 
@@ -113,7 +112,7 @@ fn root_verdict<S: Space, L: Ledger>(
     space: &mut S,
     root: &Asked,
     steps: &mut Steps<L>,
-) -> Result<RootVerdict, RunStop>
+) -> Result<RootVerdict, ReadFailed>
     requires inside { root.now.audit < length known.now.plan.now.audits }
     requires types { AreInside (length known.now.btf.now.records) known.now.plan.now.audits }
 
@@ -127,7 +126,7 @@ fn root_verdict<S: Space, L: Ledger>(
 {
     let audits = match reached_from(alloc, known.plan, root.audit) {
         Ok(audits) => audits,
-        Err(NoMemory) => return Err(RunStop::NoMemory),
+        Err(NoMemory) => return Err(ReadFailed::NoMemory),
     };
     let verdict = judged(alloc, known, space, root, &audits, steps)?;
     Ok(RootVerdict {
@@ -169,7 +168,7 @@ pub fn run_root<S: Space, L: Ledger>(
     root: &Asked,
     space: &mut S,
     steps: &mut Steps<L>,
-) -> Result<RootVerdict, RunStop>
+) -> Result<RootVerdict, ReadFailed>
     requires inside { root.now.audit < length plan.now.audits }
     requires types { AreInside (length btf.now.records) plan.now.audits }
 
@@ -197,7 +196,7 @@ fn add_root<S: Space, L: Ledger>(
     number: u32,
     start: &Start,
     steps: &mut Steps<L>,
-) -> Result<(), RunStop>
+) -> Result<(), ReadFailed>
     requires inside { number < length known.now.plan.now.audits }
     requires types { AreInside (length known.now.btf.now.records) known.now.plan.now.audits }
 
@@ -218,7 +217,7 @@ fn add_root<S: Space, L: Ledger>(
     let verdict = root_verdict(alloc, known, space, &root, steps)?;
     match verdicts.push(verdict) {
         Ok(()) => Ok(()),
-        Err(NoMemory) => Err(RunStop::NoMemory),
+        Err(NoMemory) => Err(ReadFailed::NoMemory),
     }
 }
 
@@ -237,7 +236,7 @@ pub fn run_each<S: Space, L: Ledger>(
     btf: &Btf,
     space: &mut S,
     steps: &mut Steps<L>,
-) -> Result<Verdicts, RunStop>
+) -> Result<Verdicts, ReadFailed>
     requires { AreInside (length btf.now.records) plan.now.audits }
 
     ensures exact { IfOk result (λ found. IfSome (S.image space.old)

@@ -16,4 +16,4 @@ pub use checks::look_checks;
 pub use counts::{count_walk, no_walks};
 pub use each::{root_at, run_each, run_root};
 pub use laws::know_verdicts;
-pub use roots::{RunStop, run};
+pub use roots::run;

@@ -15,20 +15,11 @@ use crate::counts::no_walks;
 use crate::laws::know_verdicts;
 use crate::nest::{Known, enter};
 use kc_btf::Btf;
-use kc_found::{Asked, Counts, Space, Verdict, WalkStop};
+use kc_found::{Asked, Counts, ReadFailed, Space, Verdict, WalkStop};
 use kc_plan::{Plan, Start};
 use kc_word::{NoMemory, Steps};
 use std::alloc::Global;
 use std::sync::ledger::Ledger;
-
-/// Why a plan has no verdict.
-#[derive(Clone, Copy, Debug, PartialEq, Eq)]
-pub enum RunStop {
-    /// Reading the dump failed. The count of faults rose.
-    Fault,
-    /// No memory was left.
-    NoMemory,
-}
 
 // Makes an audit, where it is a root audit.
 fn enter_root<S: Space, L: Ledger>(
@@ -109,7 +100,7 @@ pub fn run<S: Space, L: Ledger>(
     btf: &Btf,
     space: &mut S,
     steps: &mut Steps<L>,
-) -> Result<Verdict, RunStop>
+) -> Result<Verdict, ReadFailed>
     requires { AreInside (length btf.now.records) plan.now.audits }
 
     ensures exact { IfOk result (λ found. IfSome (S.image space.old) (λ image. verdict image (plan_seen plan.now) ≡ found)) }
@@ -126,12 +117,12 @@ pub fn run<S: Space, L: Ledger>(
     let known = Known { plan, btf };
     let mut counts = match no_walks(alloc, plan) {
         Ok(counts) => counts,
-        Err(NoMemory) => return Err(RunStop::NoMemory),
+        Err(NoMemory) => return Err(ReadFailed::NoMemory),
     };
     match enter_roots(alloc, &known, space, &mut counts, steps) {
         Ok(()) => Ok(Verdict::Clean(counts)),
         Err(WalkStop::Broken(found)) => Ok(Verdict::Broken(found)),
-        Err(WalkStop::Fault) => Err(RunStop::Fault),
-        Err(WalkStop::NoMemory) => Err(RunStop::NoMemory),
+        Err(WalkStop::Fault) => Err(ReadFailed::Fault),
+        Err(WalkStop::NoMemory) => Err(ReadFailed::NoMemory),
     }
 }

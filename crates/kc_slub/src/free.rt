@@ -2,26 +2,15 @@
 ghost use Rattle.std.specs.Prelude.{◌≡◌, ℕ, ◌+◌, ◌*◌, ◌^◌, ◌<◌, ◌≤◌, ◌∷◌, ◌++◌, [], length, None, Ok, Some, IfOk, IfSome, OnOk};
 ghost use Rattle.kc_memory.specs.Stays.{SpaceStays};
 ghost use Rattle.kc_found.specs.FiniteLists.{FreeChain, NoFreeChain};
-ghost use Rattle.kc_found.specs.FreeLists.{IsGrid, decoded, free_list, free_next, free_site, is_object, led_by, low_word, number_in, number_taken, places_taken, pointer_at, pointer_by};
+ghost use Rattle.kc_found.specs.FreeLists.{IsGrid, free_list, free_next, free_site, is_object, led_by, low_word, number_in, number_taken, places_taken, pointer_at, pointer_by};
 ghost use Rattle.kc_found.specs.Trials.{passed};
 ghost use Rattle.kc_found.specs.Violations.{places_by};
 ghost use Rattle.kc_found.specs.Walks.{CountsWalkFaults, IsNamed, IsWalk, OnBroken, OnWalkFault, TakesAs, WalksAs, WithinSteps};
 
-use kc_found::{
-    Asked, Claims, FreeLed, Grid, Place, Rule, Scalar, Space, VWord, WalkStop, Walked,
-    broken_field, low_word, read_bits, stopped_behind, take_word,
-};
-use kc_word::{Bits, NoMemory, Steps};
+use kc_found::{Asked, Claims, FreeLed, Grid, Place, Rule, Scalar, Space, VWord, WalkStop, Walked, broken_field, decode, low_word, push_node, read_bits, stopped_behind, take_word};
+use kc_word::{Bits, Steps};
 use std::alloc::Global;
 use std::sync::ledger::Ledger;
-
-/// The pointer that a word at virtual address `at` stands for, in a cache whose `random` is this number: the kernel's
-/// CONFIG_SLAB_FREELIST_HARDENED encodes free pointers so.
-pub fn decode(word: u64, random: u64, at: u64) -> u64
-    ensures { result ≡ decoded word random at }
-{
-    word ^ random ^ at.swap_bytes()
-}
 
 // The pointer that a number at an address stands for.
 fn pointer_by(random: Option<u64>, at: u64, number: &Scalar) -> u64
@@ -173,19 +162,6 @@ pub fn free_next(grid: &Grid, led: &FreeLed, number: Scalar) -> FreeLed
     }
 }
 
-// Adds an object to those that were walked.
-fn push_object(walked: &mut Walked, object: u64) -> Result<(), WalkStop>
-    ensures added { OnOk result (walked.new ≡ walked.old ++ object ∷ []) }
-    ensures fits { OnOk result (length walked.new < 2 ^ 64) }
-    ensures broken { OnBroken result ⊥ }
-    ensures no_fault { OnWalkFault result ⊥ }
-{
-    match walked.push(object) {
-        Ok(()) => Ok(()),
-        Err(NoMemory) => Err(WalkStop::NoMemory),
-    }
-}
-
 /// The free objects of a slab, in the order of its free list, whose first pointer is the number `first`, plain. A
 /// violation names the audit's number, and `start` as where the walk starts.
 ///
@@ -230,7 +206,7 @@ pub fn free_walk<S: Space, L: Ledger>(
             Ok(number) => number,
             Err(stop) => return Err(stop),
         };
-        push_object(&mut walked, led.to)?;
+        push_node(&mut walked, led.to)?;
         led = free_next(grid, &led, number);
     }
     Ok(walked)

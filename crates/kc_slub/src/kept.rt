@@ -8,7 +8,7 @@ use kc_chains::{Chains, HashChains, Rings};
 use kc_found::{Asked, Grid, HShape, Items, ListShape, Scalar, Space, WalkStop, Walked};
 use kc_list::{hchain, ring};
 use kc_view::started_at;
-use kc_word::{NoMemory, Steps};
+use kc_word::Steps;
 use std::alloc::Global;
 use std::sync::ledger::Ledger;
 
@@ -19,31 +19,15 @@ pub struct Kept {
     pub lists: Items<Walked>,
 }
 
-// Another list of the same addresses.
-fn copy_of(alloc: Global, list: &Walked) -> Result<Walked, NoMemory>
-    ensures { IfOk result (λ copy. copy ≡ list.now) }
-{
-    let mut copy = Walked::new(alloc);
-    for at in list.as_slice() {
-        copy.push(*at)?;
-    }
-    Ok(copy)
-}
-
-// Keeps a list behind the others.
+// Keeps a list after the others.
 fn keep(alloc: Global, lists: &mut Items<Walked>, list: &Walked) -> Result<(), WalkStop>
     ensures added { OnOk result (lists.new ≡ lists.old ++ list.now ∷ []) }
     ensures broken { OnBroken result ⊥ }
     ensures no_fault { OnWalkFault result ⊥ }
 {
-    let copy = match copy_of(alloc, list) {
-        Ok(copy) => copy,
-        Err(NoMemory) => return Err(WalkStop::NoMemory),
-    };
-    match lists.push(copy) {
-        Ok(()) => Ok(()),
-        Err(NoMemory) => Err(WalkStop::NoMemory),
-    }
+    let copy = list.copied(alloc)?;
+    lists.push(copy)?;
+    Ok(())
 }
 
 impl Rings for Kept {

@@ -12,7 +12,8 @@ mod walks;
 
 pub use cache::{read_base, read_objects};
 pub use counted::free_walk_counted;
-pub use free::{decode, enter_object, free_next, free_walk};
+pub use free::{enter_object, free_next, free_walk};
+pub use kc_found::decode;
 pub use kept::Kept;
 pub use laws::{know_caches, know_free_lists};
 pub use slab::{grid_of, is_descriptor, page_of};

@@ -13,24 +13,12 @@ use crate::walks::Walks;
 use kc_btf::Btf;
 use kc_chains::{Chains, know_chains};
 use kc_fields::{know_most, read_field};
-use kc_found::{Asked, Rule, Space, WalkStop, Walked, broken_field, low_word, read_bits, stopped};
+use kc_found::{Asked, Rule, Space, WalkStop, Walked, broken_field, low_word, push_node, read_bits, stopped};
 use kc_list::know_lists;
 use kc_view::{SlabObjects, SlubBases, SlubShape, View};
-use kc_word::{Bits, NoMemory, Steps};
+use kc_word::{Bits, Steps};
 use std::alloc::Global;
 use std::sync::ledger::Ledger;
-
-// Adds a slab to those that were looked at.
-fn push_slab(slabs: &mut Walked, slab: u64) -> Result<(), WalkStop>
-    ensures added { OnOk result (slabs.new ≡ slabs.old ++ slab ∷ []) }
-    ensures broken { OnBroken result ⊥ }
-    ensures no_fault { OnWalkFault result ⊥ }
-{
-    match slabs.push(slab) {
-        Ok(()) => Ok(()),
-        Err(NoMemory) => Err(WalkStop::NoMemory),
-    }
-}
 
 // Looks at the slabs of a ring's nodes.
 fn check_slabs<S: Space, C: Chains, L: Ledger>(
@@ -69,7 +57,7 @@ fn check_slabs<S: Space, C: Chains, L: Ledger>(
             Ok(slab) => slab,
             Err(stop) => return Err(stop),
         };
-        match push_slab(slabs, slab) {
+        match push_node(slabs, slab) {
             Ok(()) => {}
             Err(stop) => return Err(stop),
         }

@@ -6,9 +6,8 @@ ghost use Rattle.kc_suspect.specs.Fields.{bit_changes, field_changes, field_in, 
 
 use crate::change::{Change, Changes};
 use crate::links::node_of;
-use crate::suspect::SuspectStop;
 use crate::words::{field_to, unread};
-use kc_found::{Found, Rule, Space, low_word, read_bits};
+use kc_found::{Found, ReadFailed, Rule, Space, low_word, read_bits};
 use kc_kinds::Kind;
 use kc_layout::Field;
 use kc_view::{PidShape, SlubShape, TaskShape};
@@ -34,7 +33,7 @@ pub(crate) fn push_bits<S: Space, L: Ledger>(
     number: Option<u64>,
     space: &mut S,
     steps: &mut Steps<L>,
-) -> Result<(), SuspectStop>
+) -> Result<(), ReadFailed>
     requires bit { bit < 8 }
     requires width { width ≤ 64 }
     ensures added { OnOk result (IfSome (S.image space.old) (λ image. changes.new ≡ changes.old ++ bit_changes image at bit width number)) }
@@ -104,7 +103,7 @@ fn push_field<S: Space, L: Ledger>(
     field: &Field,
     space: &mut S,
     steps: &mut Steps<L>,
-) -> Result<(), SuspectStop>
+) -> Result<(), ReadFailed>
     ensures added { OnOk result (IfSome (S.image space.old) (λ image. changes.new ≡ changes.old ++ field_changes image at number field.now)) }
     ensures stays { SpaceStays S.image S.files S.through S.most space.old space.new }
     ensures cause { CountsSuspectFaults result (S.faults space.old) (S.faults space.new) }
@@ -120,7 +119,7 @@ pub(crate) fn push_member<S: Space, L: Ledger>(
     found: &Found,
     space: &mut S,
     steps: &mut Steps<L>,
-) -> Result<(), SuspectStop>
+) -> Result<(), ReadFailed>
     ensures added { OnOk result (IfSome (S.image space.old) (λ image. changes.new ≡ changes.old ++ member_changes image kind.now found.now)) }
     ensures stays { SpaceStays S.image S.files S.through S.most space.old space.new }
     ensures cause { CountsSuspectFaults result (S.faults space.old) (S.faults space.new) }
@@ -137,7 +136,7 @@ pub(crate) fn number_at<S: Space, L: Ledger>(
     field: &Field,
     at: u64,
     steps: &mut Steps<L>,
-) -> Result<Option<u64>, SuspectStop>
+) -> Result<Option<u64>, ReadFailed>
     ensures number { IfOk result (λ number. IfSome (S.image space.old) (λ image. number ≡ number_at image field.now at)) }
     ensures stays { SpaceStays S.image S.files S.through S.most space.old space.new }
     ensures cause { CountsSuspectFaults result (S.faults space.old) (S.faults space.new) }
@@ -155,7 +154,7 @@ pub(crate) fn push_own<S: Space, L: Ledger>(
     found: &Found,
     space: &mut S,
     steps: &mut Steps<L>,
-) -> Result<(), SuspectStop>
+) -> Result<(), ReadFailed>
     ensures added { OnOk result (IfSome (S.image space.old) (λ image. changes.new ≡ changes.old ++ own_changes image kind.now found.now)) }
     ensures stays { SpaceStays S.image S.files S.through S.most space.old space.new }
     ensures cause { CountsSuspectFaults result (S.faults space.old) (S.faults space.new) }

@@ -9,8 +9,7 @@ use crate::change::{Change, Changes};
 use crate::fields::number_at;
 use crate::links::node_of;
 use crate::rules::{first_address, to};
-use crate::suspect::SuspectStop;
-use kc_found::{Found, Space};
+use kc_found::{Found, ReadFailed, Space};
 use kc_kinds::Kind;
 use kc_view::SlubShape;
 use kc_word::{NoMemory, Steps};
@@ -70,7 +69,7 @@ fn random_at<S: Space, L: Ledger>(
     shape: &SlubShape,
     cache: u64,
     steps: &mut Steps<L>,
-) -> Result<Option<u64>, SuspectStop>
+) -> Result<Option<u64>, ReadFailed>
     ensures random { IfOk result (λ random. IfSome (S.image space.old) (λ image. random ≡ random_at image shape.now cache)) }
     ensures stays { SpaceStays S.image S.files S.through S.most space.old space.new }
     ensures cause { CountsSuspectFaults result (S.faults space.old) (S.faults space.new) }
@@ -89,7 +88,7 @@ fn push_in_cache<S: Space, L: Ledger>(
     at: u64,
     space: &mut S,
     steps: &mut Steps<L>,
-) -> Result<(), SuspectStop>
+) -> Result<(), ReadFailed>
     ensures added { OnOk result (IfSome (S.image space.old) (λ image. changes.new ≡ changes.old ++ free_in image shape.now cache at)) }
     ensures stays { SpaceStays S.image S.files S.through S.most space.old space.new }
     ensures cause { CountsSuspectFaults result (S.faults space.old) (S.faults space.new) }
@@ -110,7 +109,7 @@ pub(crate) fn push_free<S: Space, L: Ledger>(
     found: &Found,
     space: &mut S,
     steps: &mut Steps<L>,
-) -> Result<(), SuspectStop>
+) -> Result<(), ReadFailed>
     ensures added { OnOk result (IfSome (S.image space.old) (λ image. changes.new ≡ changes.old ++ free_changes image kind.now found.now)) }
     ensures stays { SpaceStays S.image S.files S.through S.most space.old space.new }
     ensures cause { CountsSuspectFaults result (S.faults space.old) (S.faults space.new) }

@@ -16,5 +16,5 @@ mod way;
 mod words;
 
 pub use laws::know_suspects;
-pub use suspect::{Suspect, SuspectStop, Suspects};
+pub use suspect::{Suspect, Suspects};
 pub use suspecting::suspects;

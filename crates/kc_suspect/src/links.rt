@@ -4,9 +4,8 @@ ghost use Rattle.kc_memory.specs.Stays.{SpaceStays};
 ghost use Rattle.kc_suspect.specs.Answers.{CountsSuspectFaults};
 ghost use Rattle.kc_suspect.specs.Links.{below_link, chain_link, leading_to, links_below, node_behind, node_of, tree_links};
 
-use crate::suspect::SuspectStop;
 use crate::words::read_word;
-use kc_found::{Items, ListShape, RbShape, Space, VWord};
+use kc_found::{Items, ListShape, RbShape, ReadFailed, Space, VWord};
 use kc_word::{NoMemory, Steps};
 use std::alloc::Global;
 use std::sync::ledger::Ledger;
@@ -32,7 +31,7 @@ pub(crate) fn chain_link<S: Space, L: Ledger>(
     node: u64,
     others: u32,
     steps: &mut Steps<L>,
-) -> Result<Option<u64>, SuspectStop>
+) -> Result<Option<u64>, ReadFailed>
     ensures link { IfOk result (λ link. IfSome (S.image space.old) (λ image. link ≡ chain_link image offset first node others)) }
     ensures stays { SpaceStays S.image S.files S.through S.most space.old space.new }
     ensures cause { CountsSuspectFaults result (S.faults space.old) (S.faults space.new) }
@@ -63,7 +62,7 @@ pub(crate) fn node_behind<S: Space, L: Ledger>(
     head: u64,
     node: u64,
     steps: &mut Steps<L>,
-) -> Result<Option<u64>, SuspectStop>
+) -> Result<Option<u64>, ReadFailed>
     ensures node { IfOk result (λ behind. IfSome (S.image space.old) (λ image. behind ≡ node_behind image shape.now head node)) }
     ensures stays { SpaceStays S.image S.files S.through S.most space.old space.new }
     ensures cause { CountsSuspectFaults result (S.faults space.old) (S.faults space.new) }
@@ -110,7 +109,7 @@ pub(crate) fn tree_links<S: Space, L: Ledger>(
     shape: &RbShape,
     head: u64,
     steps: &mut Steps<L>,
-) -> Result<Items<VWord>, SuspectStop>
+) -> Result<Items<VWord>, ReadFailed>
     ensures links { IfOk result (λ links. IfSome (S.image space.old) (λ image. links ≡ tree_links image shape.now head)) }
     ensures stays { SpaceStays S.image S.files S.through S.most space.old space.new }
     ensures cause { CountsSuspectFaults result (S.faults space.old) (S.faults space.new) }

@@ -6,9 +6,9 @@ ghost use Rattle.kc_suspect.specs.Answers.{CountsSuspectFaults};
 ghost use Rattle.kc_suspect.specs.Changes.{bits_below, flipped, made, made_of, suspect_of};
 
 use crate::change::{Change, Changes, How};
-use crate::suspect::{Suspect, SuspectStop, Suspects};
+use crate::suspect::{Suspect, Suspects};
 use crate::words::read_word;
-use kc_found::{Origin, Space, VWord};
+use kc_found::{Origin, ReadFailed, Space, VWord};
 use kc_word::{NoMemory, Steps};
 use std::alloc::Global;
 use std::sync::ledger::Ledger;
@@ -67,7 +67,7 @@ fn push_made<S: Space, L: Ledger>(
     space: &mut S,
     change: Change,
     steps: &mut Steps<L>,
-) -> Result<(), SuspectStop>
+) -> Result<(), ReadFailed>
     ensures made { OnOk result (IfSome (S.image space.old) (λ image. suspects.new ≡ suspects.old ++ made image change)) }
     ensures stays { SpaceStays S.image S.files S.through S.most space.old space.new }
     ensures cause { CountsSuspectFaults result (S.faults space.old) (S.faults space.new) }
@@ -84,7 +84,7 @@ pub(crate) fn make_all<S: Space, L: Ledger>(
     changes: &Changes,
     space: &mut S,
     steps: &mut Steps<L>,
-) -> Result<Suspects, SuspectStop>
+) -> Result<Suspects, ReadFailed>
     ensures made { IfOk result (λ found. IfSome (S.image space.old) (λ image. found ≡ flat_map (made image) changes.now)) }
     ensures stays { SpaceStays S.image S.files S.through S.most space.old space.new }
     ensures cause { CountsSuspectFaults result (S.faults space.old) (S.faults space.new) }

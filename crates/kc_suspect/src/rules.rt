@@ -11,10 +11,9 @@ use crate::change::{Change, Changes, How};
 use crate::fields::{push_bits, push_member, push_own, push_some};
 use crate::free::push_free;
 use crate::links::{chain_link, node_behind, node_of, second_to, tree_links};
-use crate::suspect::SuspectStop;
 use crate::trees::{push_colours, push_parent};
 use crate::way::{Way, way_of};
-use kc_found::{Found, Place, Space};
+use kc_found::{Found, Place, ReadFailed, Space};
 use kc_kinds::Kind;
 use kc_word::{NoMemory, Steps};
 use std::alloc::Global;
@@ -66,7 +65,7 @@ fn second_link<S: Space, L: Ledger>(
     found: &Found,
     space: &mut S,
     steps: &mut Steps<L>,
-) -> Result<Option<u64>, SuspectStop>
+) -> Result<Option<u64>, ReadFailed>
     ensures link { IfOk result (λ link. IfSome (S.image space.old) (λ image. link ≡ second_link image kind.now found.now)) }
     ensures stays { SpaceStays S.image S.files S.through S.most space.old space.new }
     ensures cause { CountsSuspectFaults result (S.faults space.old) (S.faults space.new) }
@@ -98,7 +97,7 @@ fn push_relinked<S: Space, L: Ledger>(
     link: u64,
     space: &mut S,
     steps: &mut Steps<L>,
-) -> Result<(), SuspectStop>
+) -> Result<(), ReadFailed>
     ensures added { OnOk result (IfSome (S.image space.old) (λ image. changes.new ≡ changes.old ++ relinked image kind.now found.now link)) }
     ensures stays { SpaceStays S.image S.files S.through S.most space.old space.new }
     ensures cause { CountsSuspectFaults result (S.faults space.old) (S.faults space.new) }
@@ -131,7 +130,7 @@ fn push_led<S: Space, L: Ledger>(
     link: Option<u64>,
     space: &mut S,
     steps: &mut Steps<L>,
-) -> Result<(), SuspectStop>
+) -> Result<(), ReadFailed>
     ensures added { OnOk result (IfSome (S.image space.old) (λ image. changes.new ≡ changes.old ++ led_by image kind.now found.now link)) }
     ensures stays { SpaceStays S.image S.files S.through S.most space.old space.new }
     ensures cause { CountsSuspectFaults result (S.faults space.old) (S.faults space.new) }
@@ -160,7 +159,7 @@ fn push_passed<S: Space, L: Ledger>(
     node: u64,
     space: &mut S,
     steps: &mut Steps<L>,
-) -> Result<(), SuspectStop>
+) -> Result<(), ReadFailed>
     ensures added { OnOk result (IfSome (S.image space.old) (λ image. changes.new ≡ changes.old ++ passed_changes image kind.now found.now node)) }
     ensures stays { SpaceStays S.image S.files S.through S.most space.old space.new }
     ensures cause { CountsSuspectFaults result (S.faults space.old) (S.faults space.new) }
@@ -180,7 +179,7 @@ fn push_passed_by<S: Space, L: Ledger>(
     found: &Found,
     space: &mut S,
     steps: &mut Steps<L>,
-) -> Result<(), SuspectStop>
+) -> Result<(), ReadFailed>
     ensures added { OnOk result (IfSome (S.image space.old) (λ image. changes.new ≡ changes.old ++ option_map_or (passed_changes image kind.now found.now) found.now.expected [])) }
     ensures stays { SpaceStays S.image S.files S.through S.most space.old space.new }
     ensures cause { CountsSuspectFaults result (S.faults space.old) (S.faults space.new) }
@@ -198,7 +197,7 @@ fn push_before<S: Space, L: Ledger>(
     found: &Found,
     space: &mut S,
     steps: &mut Steps<L>,
-) -> Result<(), SuspectStop>
+) -> Result<(), ReadFailed>
     ensures added { OnOk result (IfSome (S.image space.old) (λ image. changes.new ≡ changes.old ++ before_changes image kind.now found.now)) }
     ensures stays { SpaceStays S.image S.files S.through S.most space.old space.new }
     ensures cause { CountsSuspectFaults result (S.faults space.old) (S.faults space.new) }
@@ -232,7 +231,7 @@ fn push_by_way<S: Space, L: Ledger>(
     found: &Found,
     space: &mut S,
     steps: &mut Steps<L>,
-) -> Result<(), SuspectStop>
+) -> Result<(), ReadFailed>
     ensures added { OnOk result (IfSome (S.image space.old) (λ image. changes.new ≡ changes.old ++ by_way image kind.now found.now way)) }
     ensures stays { SpaceStays S.image S.files S.through S.most space.old space.new }
     ensures cause { CountsSuspectFaults result (S.faults space.old) (S.faults space.new) }
@@ -275,7 +274,7 @@ pub(crate) fn changes_of<S: Space, L: Ledger>(
     found: &Found,
     space: &mut S,
     steps: &mut Steps<L>,
-) -> Result<Changes, SuspectStop>
+) -> Result<Changes, ReadFailed>
     ensures changes { IfOk result (λ found_changes. IfSome (S.image space.old) (λ image. found_changes ≡ changes image kind.now found.now)) }
     ensures stays { SpaceStays S.image S.files S.through S.most space.old space.new }
     ensures cause { CountsSuspectFaults result (S.faults space.old) (S.faults space.new) }

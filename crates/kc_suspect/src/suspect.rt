@@ -1,10 +1,5 @@
-// A word that is suspected, and why none are told.
-ghost use Rattle.std.specs.Prelude.{◌≡◌};
-ghost use Rattle.kc_suspect.specs.declared.suspect.SuspectStop.TheVariants as stop;
-
+// A word that is suspected.
 use kc_found::Items;
-use kc_word::NoMemory;
-use std::alloc::{AllocError, AllocFailed};
 
 /// A word of the dump, and what it may have held. Its bytes stand in the file, and the two numbers differ.
 #[derive(Clone, Copy, Debug, PartialEq, Eq)]
@@ -23,36 +18,3 @@ pub struct Suspect {
 
 /// The words that are suspected, each with a number that may have stood there, in the order in which they are to be tried.
 pub type Suspects = Items<Suspect>;
-
-/// Why no suspects are told.
-#[derive(Clone, Copy, Debug, PartialEq, Eq)]
-pub enum SuspectStop {
-    /// Reading the dump failed. The count of faults rose.
-    Fault,
-    /// No memory was left.
-    NoMemory,
-}
-
-impl From<NoMemory> for SuspectStop {
-    ghost from_gives = { λ _ s. s ≡ stop.NoMemory };
-
-    fn from(_: NoMemory) -> Self {
-        SuspectStop::NoMemory
-    }
-}
-
-impl From<AllocError> for SuspectStop {
-    ghost from_gives = { λ _ s. s ≡ stop.NoMemory };
-
-    fn from(_: AllocError) -> Self {
-        SuspectStop::NoMemory
-    }
-}
-
-impl<T: Drop> From<AllocFailed<T>> for SuspectStop {
-    ghost from_gives = { λ _ s. s ≡ stop.NoMemory };
-
-    fn from(_: AllocFailed<T>) -> Self {
-        SuspectStop::NoMemory
-    }
-}

@@ -6,8 +6,8 @@ ghost use Rattle.kc_suspect.specs.Suspects.{suspects};
 
 use crate::made::make_all;
 use crate::rules::changes_of;
-use crate::suspect::{SuspectStop, Suspects};
-use kc_found::{Found, Space};
+use crate::suspect::Suspects;
+use kc_found::{Found, ReadFailed, Space};
 use kc_kinds::Kind;
 use kc_word::Steps;
 use std::alloc::Global;
@@ -26,7 +26,7 @@ pub fn suspects<S: Space, L: Ledger>(
     found: &Found,
     space: &mut S,
     steps: &mut Steps<L>,
-) -> Result<Suspects, SuspectStop>
+) -> Result<Suspects, ReadFailed>
     ensures exact { IfOk result (λ suspected. IfSome (S.image space.old) (λ image. suspected ≡ suspects image kind.now found.now)) }
     ensures stays { SpaceStays S.image S.files S.through S.most space.old space.new }
     ensures cause { CountsSuspectFaults result (S.faults space.old) (S.faults space.new) }

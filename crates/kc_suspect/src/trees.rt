@@ -8,9 +8,8 @@ use crate::change::{Change, Changes, How};
 use crate::fields::push_bits;
 use crate::links::{node_of, tree_links};
 use crate::rules::each;
-use crate::suspect::SuspectStop;
 use crate::words::read_word;
-use kc_found::{Found, Items, RbShape, Space, VWord};
+use kc_found::{Found, Items, RbShape, ReadFailed, Space, VWord};
 use kc_kinds::Kind;
 use kc_word::{NoMemory, Steps};
 use std::alloc::Global;
@@ -33,7 +32,7 @@ fn push_link<S: Space, L: Ledger>(
     at: u64,
     space: &mut S,
     steps: &mut Steps<L>,
-) -> Result<(), SuspectStop>
+) -> Result<(), ReadFailed>
     ensures added { OnOk result (IfSome (S.image space.old) (λ image. changes.new ≡ changes.old ++ link_bits image node at)) }
     ensures stays { SpaceStays S.image S.files S.through S.most space.old space.new }
     ensures cause { CountsSuspectFaults result (S.faults space.old) (S.faults space.new) }
@@ -52,7 +51,7 @@ fn push_upper<S: Space, L: Ledger>(
     parent: u64,
     space: &mut S,
     steps: &mut Steps<L>,
-) -> Result<(), SuspectStop>
+) -> Result<(), ReadFailed>
     ensures added { OnOk result (IfSome (S.image space.old) (λ image. changes.new ≡ changes.old ++ upper_bits image shape.now head node parent)) }
     ensures stays { SpaceStays S.image S.files S.through S.most space.old space.new }
     ensures cause { CountsSuspectFaults result (S.faults space.old) (S.faults space.new) }
@@ -78,7 +77,7 @@ fn push_by_parent<S: Space, L: Ledger>(
     parent: u64,
     space: &mut S,
     steps: &mut Steps<L>,
-) -> Result<(), SuspectStop>
+) -> Result<(), ReadFailed>
     ensures added { OnOk result (IfSome (S.image space.old) (λ image. changes.new ≡ changes.old ++ parent_by image shape.now found.now parent)) }
     ensures stays { SpaceStays S.image S.files S.through S.most space.old space.new }
     ensures cause { CountsSuspectFaults result (S.faults space.old) (S.faults space.new) }
@@ -95,7 +94,7 @@ pub(crate) fn push_parent<S: Space, L: Ledger>(
     found: &Found,
     space: &mut S,
     steps: &mut Steps<L>,
-) -> Result<(), SuspectStop>
+) -> Result<(), ReadFailed>
     ensures added { OnOk result (IfSome (S.image space.old) (λ image. changes.new ≡ changes.old ++ parent_changes image kind.now found.now)) }
     ensures stays { SpaceStays S.image S.files S.through S.most space.old space.new }
     ensures cause { CountsSuspectFaults result (S.faults space.old) (S.faults space.new) }
@@ -144,7 +143,7 @@ pub(crate) fn push_colours<S: Space, L: Ledger>(
     found: &Found,
     space: &mut S,
     steps: &mut Steps<L>,
-) -> Result<(), SuspectStop>
+) -> Result<(), ReadFailed>
     ensures added { OnOk result (IfSome (S.image space.old) (λ image. changes.new ≡ changes.old ++ colours image kind.now found.now)) }
     ensures stays { SpaceStays S.image S.files S.through S.most space.old space.new }
     ensures cause { CountsSuspectFaults result (S.faults space.old) (S.faults space.new) }

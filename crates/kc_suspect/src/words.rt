@@ -7,18 +7,17 @@ ghost use Rattle.kc_suspect.specs.Answers.{CountsSuspectFaults, IsUnread};
 ghost use Rattle.kc_suspect.specs.Changes.{field_to, filled, with_bits};
 
 use crate::change::{Change, How};
-use crate::suspect::SuspectStop;
-use kc_found::{Space, Stop, VWord};
+use kc_found::{ReadFailed, Space, Stop, VWord};
 use kc_word::Steps;
 use std::sync::ledger::Ledger;
 
 // Nothing where a word can't be read, unless reading failed.
-pub(crate) fn unread<A>(stop: Stop) -> Result<Option<A>, SuspectStop>
+pub(crate) fn unread<A>(stop: Stop) -> Result<Option<A>, ReadFailed>
     ensures { IsUnread stop result }
 {
     match stop {
         Stop::Miss(_) => Ok(None),
-        Stop::Fault => Err(SuspectStop::Fault),
+        Stop::Fault => Err(ReadFailed::Fault),
     }
 }
 
@@ -27,7 +26,7 @@ pub(crate) fn read_word<S: Space, L: Ledger>(
     space: &mut S,
     va: u64,
     steps: &mut Steps<L>,
-) -> Result<Option<VWord>, SuspectStop>
+) -> Result<Option<VWord>, ReadFailed>
     ensures word { IfOk result (λ word. IfSome (S.image space.old) (λ image. word ≡ readable (vword image va))) }
     ensures at { IfOk result (λ word. IfSome word (λ w. w.va ≡ va)) }
     ensures stays { SpaceStays S.image S.files S.through S.most space.old space.new }
@@ -71,7 +70,7 @@ pub(crate) fn field_to<S: Space, L: Ledger>(
     width: u8,
     number: u64,
     steps: &mut Steps<L>,
-) -> Result<Option<Change>, SuspectStop>
+) -> Result<Option<Change>, ReadFailed>
     requires bit { bit < 8 }
     requires width { width ≤ 64 }
     ensures field { IfOk result (λ change. IfSome (S.image space.old) (λ image. change ≡ field_to image at bit width number)) }

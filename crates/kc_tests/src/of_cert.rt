@@ -5,12 +5,9 @@ ghost use Rattle.std.proofs.Common.{lit≤};
 ghost use Rattle.kc_plan.specs.Inside.{AreInside};
 
 use kc_btf::Btf;
-use kc_cert::{
-    CertAnswer, CertRead, CertStep, CertStop, Certificate, Lists, RecheckStop, cert_text, certify,
-    read_cert, recheck,
-};
+use kc_cert::{CertAnswer, CertRead, CertStep, CertStop, Certificate, Lists, cert_text, certify, read_cert, recheck};
 use kc_fixture::{MAP, btf_file};
-use kc_found::{Counts, ListSpace, Origin, Space, VWord, Walked};
+use kc_found::{Counts, ListSpace, Origin, ReadFailed, Space, VWord, Walked};
 use kc_mem::Memory;
 use kc_memory::{FrameStop, Frames, PWord};
 use kc_notes::Info;
@@ -164,7 +161,7 @@ fn answer<S: Space, L: Ledger>(
     match recheck(alloc, plan, btf, space, cert, &mut steps) {
         Ok(CertAnswer::Yes(counts)) => yes_text(alloc, &counts),
         Ok(CertAnswer::No(number)) => format!(in alloc; "no {number}"),
-        Err(RecheckStop::Fault | RecheckStop::NoMemory) => String::from_str(alloc, "no answer"),
+        Err(ReadFailed::Fault | ReadFailed::NoMemory) => String::from_str(alloc, "no answer"),
     }
 }
 

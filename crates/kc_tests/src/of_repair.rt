@@ -6,12 +6,12 @@ ghost use Rattle.kc_plan.specs.Inside.{AreInside as TypesAreInside};
 use crate::dumps::{fit, opened};
 use kc_btf::Btf;
 use kc_fixture::{MAP, btf_file, core_file, set_word};
-use kc_found::Rule;
+use kc_found::{ReadFailed, Rule};
 use kc_notes::Info;
 use kc_outside::{MemStore, Slot};
 use kc_plan::{PlanStop, read_plan};
 use kc_repair::{Breach, Repair, RootAudit, repair};
-use kc_run::{RunStop, root_at};
+use kc_run::root_at;
 use kc_suspect::Suspect;
 use kc_syms::Symbols;
 use kc_word::{PageCfg, Segment};
@@ -118,7 +118,7 @@ fn suspects_of(alloc: Global, words: &[(u64, u64)]) -> Result<Vec<Suspect>, Allo
     Ok(suspects)
 }
 
-fn told(alloc: Global, repair: Result<Repair, RunStop>) -> Result<String, AllocError> {
+fn told(alloc: Global, repair: Result<Repair, ReadFailed>) -> Result<String, AllocError> {
     match repair {
         Ok(Repair::Stands(s)) => format!(in alloc; "stands {:x} {:x}", s.off, s.value),
         Ok(
@@ -141,8 +141,8 @@ fn told(alloc: Global, repair: Result<Repair, RunStop>) -> Result<String, AllocE
                 then: None,
             },
         ) => format!(in alloc; "nothing {tried} {more}"),
-        Err(RunStop::Fault) => String::from_str(alloc, "failed"),
-        Err(RunStop::NoMemory) => String::from_str(alloc, "out of memory"),
+        Err(ReadFailed::Fault) => String::from_str(alloc, "failed"),
+        Err(ReadFailed::NoMemory) => String::from_str(alloc, "out of memory"),
     }
 }
 

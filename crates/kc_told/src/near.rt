@@ -6,10 +6,10 @@ ghost use Rattle.kc_told.specs.Near.{described_by, lead_at, lead_of, near_word, 
 
 use crate::told::tell_held;
 use kc_btf::Btf;
-use kc_found::{Found, Space, WalkStop};
+use kc_found::{Found, ReadFailed, Space, WalkStop};
 use kc_memory::VWord;
 use kc_object::{Described, Held, ObjectShape, find_described};
-use kc_where::{LookStop, Meaning, Seen, meaning_of, read_word, word_start};
+use kc_where::{Meaning, Seen, meaning_of, read_word, word_start};
 use kc_word::Steps;
 use std::alloc::Global;
 use std::sync::ledger::Ledger;
@@ -50,7 +50,7 @@ fn tell_described<S: Space, L: Ledger>(
     address: u64,
     word: &Seen,
     steps: &mut Steps<L>,
-) -> Result<Option<Described>, LookStop>
+) -> Result<Option<Described>, ReadFailed>
     ensures told { LooksAs (λ d. d) (λ image. described_by image shape.now address word.now) (S.image space.old) result }
     ensures stays { SpaceStays S.image S.files S.through S.most space.old space.new }
     ensures cause { CountsLookFaults result (S.faults space.old) (S.faults space.new) }
@@ -64,8 +64,8 @@ fn tell_described<S: Space, L: Ledger>(
     match find_described(alloc, space, shape, address, steps) {
         Ok(page) => Ok(page),
         Err(WalkStop::Broken(_)) => Ok(None),
-        Err(WalkStop::Fault) => Err(LookStop::Fault),
-        Err(WalkStop::NoMemory) => Err(LookStop::NoMemory),
+        Err(WalkStop::Fault) => Err(ReadFailed::Fault),
+        Err(WalkStop::NoMemory) => Err(ReadFailed::NoMemory),
     }
 }
 
@@ -77,7 +77,7 @@ fn lead_at<S: Space, L: Ledger>(
     shape: &Option<ObjectShape>,
     address: u64,
     steps: &mut Steps<L>,
-) -> Result<Lead, LookStop>
+) -> Result<Lead, ReadFailed>
     ensures told { LooksAs (λ l. l) (λ image. lead_at image shape.now address) (S.image space.old) result }
     ensures stays { SpaceStays S.image S.files S.through S.most space.old space.new }
     ensures cause { CountsLookFaults result (S.faults space.old) (S.faults space.new) }
@@ -99,7 +99,7 @@ fn lead_of<S: Space, L: Ledger>(
     shape: &Option<ObjectShape>,
     word: &VWord,
     steps: &mut Steps<L>,
-) -> Result<Lead, LookStop>
+) -> Result<Lead, ReadFailed>
     ensures told { LooksAs (λ l. l) (λ image. lead_of image shape.now word.now) (S.image space.old) result }
     ensures stays { SpaceStays S.image S.files S.through S.most space.old space.new }
     ensures cause { CountsLookFaults result (S.faults space.old) (S.faults space.new) }
@@ -118,7 +118,7 @@ fn near_word<S: Space, L: Ledger>(
     shape: &Option<ObjectShape>,
     seen: &Seen,
     steps: &mut Steps<L>,
-) -> Result<NearWord, LookStop>
+) -> Result<NearWord, ReadFailed>
     ensures told { LooksAs (λ w. w) (λ image. near_word image shape.now seen.now) (S.image space.old) result }
     ensures stays { SpaceStays S.image S.files S.through S.most space.old space.new }
     ensures cause { CountsLookFaults result (S.faults space.old) (S.faults space.new) }
@@ -138,7 +138,7 @@ pub(crate) fn near_words<S: Space, L: Ledger>(
     shape: &Option<ObjectShape>,
     near: &[Seen],
     steps: &mut Steps<L>,
-) -> Result<Vec<NearWord>, LookStop>
+) -> Result<Vec<NearWord>, ReadFailed>
     ensures told { LooksAs (λ words. words.items) (λ image. near_words image shape.now near.now) (S.image space.old) result }
     ensures stays { SpaceStays S.image S.files S.through S.most space.old space.new }
     ensures cause { CountsLookFaults result (S.faults space.old) (S.faults space.new) }

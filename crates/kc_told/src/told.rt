@@ -16,13 +16,10 @@ use crate::near::{NearWord, near_words};
 use crate::object_text::NEGATIVE;
 use kc_area::{AreaShape, Areas, read_areas};
 use kc_btf::Btf;
-use kc_found::{Found, WalkStop};
+use kc_found::{Found, ReadFailed, WalkStop};
 use kc_memory::Space;
 use kc_object::{Cache, Held, ObjectShape, find_object};
-use kc_where::{
-    Entry, ImageMap, LookStop, Rules, Seen, Sight, Symbol, find_holders, read_sight, read_word,
-    word_start,
-};
+use kc_where::{Entry, ImageMap, Rules, Seen, Sight, Symbol, find_holders, read_sight, read_word, word_start};
 use kc_word::Steps;
 use std::alloc::Global;
 use std::sync::ledger::Ledger;
@@ -76,7 +73,7 @@ pub(crate) fn tell_held<S: Space, L: Ledger>(
     address: u64,
     word: &Seen,
     steps: &mut Steps<L>,
-) -> Result<Option<Result<Held, Found>>, LookStop>
+) -> Result<Option<Result<Held, Found>>, ReadFailed>
     ensures told { LooksAs (λ t. t) (λ image. held_by image shape.now address word.now) (S.image space.old) result }
     ensures stays { SpaceStays S.image S.files S.through S.most space.old space.new }
     ensures cause { CountsLookFaults result (S.faults space.old) (S.faults space.new) }
@@ -91,8 +88,8 @@ pub(crate) fn tell_held<S: Space, L: Ledger>(
     match find_object(alloc, space, types, shape, pa, steps) {
         Ok(held) => Ok(Some(Ok(held))),
         Err(WalkStop::Broken(found)) => Ok(Some(Err(found))),
-        Err(WalkStop::Fault) => Err(LookStop::Fault),
-        Err(WalkStop::NoMemory) => Err(LookStop::NoMemory),
+        Err(WalkStop::Fault) => Err(ReadFailed::Fault),
+        Err(WalkStop::NoMemory) => Err(ReadFailed::NoMemory),
     }
 }
 
@@ -138,7 +135,7 @@ fn tell_areas<S: Space, L: Ledger>(
     stacks: bool,
     address: u64,
     steps: &mut Steps<L>,
-) -> Result<Areas, LookStop>
+) -> Result<Areas, ReadFailed>
     requires { IfSome shape.now.stacks (λ shape. IsInside shape.tasks types.now) }
     ensures told { LooksAs (λ a. a) (λ image. areas image shape.now stacks address) (S.image space.old) result }
     ensures stays { SpaceStays S.image S.files S.through S.most space.old space.new }
@@ -146,8 +143,8 @@ fn tell_areas<S: Space, L: Ledger>(
 {
     match read_areas(alloc, space, types, shape, stacks, address, steps) {
         Ok(areas) => Ok(areas),
-        Err(WalkStop::NoMemory) => Err(LookStop::NoMemory),
-        Err(WalkStop::Fault | WalkStop::Broken(_)) => Err(LookStop::Fault),
+        Err(WalkStop::NoMemory) => Err(ReadFailed::NoMemory),
+        Err(WalkStop::Fault | WalkStop::Broken(_)) => Err(ReadFailed::Fault),
     }
 }
 
@@ -160,7 +157,7 @@ fn tell_outside<S: Space, L: Ledger>(
     address: u64,
     held: &Option<Result<Held, Found>>,
     steps: &mut Steps<L>,
-) -> Result<Areas, LookStop>
+) -> Result<Areas, ReadFailed>
     requires { IfSome shapes.now.words.areas.stacks (λ shape. IsInside shape.tasks types.now) }
     ensures told { LooksAs (λ a. a) (λ image. areas_by image (shapes_view shapes.now) address held.now) (S.image space.old) result }
     ensures stays { SpaceStays S.image S.files S.through S.most space.old space.new }
@@ -192,7 +189,7 @@ fn tell_holders<'m, S: Space, L: Ledger>(
     symbols: &ImageMap<'m>,
     cache: Option<u64>,
     steps: &mut Steps<L>,
-) -> Result<Vec<Symbol<'m>>, LookStop>
+) -> Result<Vec<Symbol<'m>>, ReadFailed>
     ensures told { LooksAs (λ found. map symbol_view found.items) (λ image. holders_by (λ cache. symbols_holding image symbols.now cache) cache) (S.image space.old) result }
     ensures stays { SpaceStays S.image S.files S.through S.most space.old space.new }
     ensures cause { CountsLookFaults result (S.faults space.old) (S.faults space.new) }
@@ -212,7 +209,7 @@ fn tell<'m, S: Space, L: Ledger>(
     address: u64,
     word: &Seen,
     steps: &mut Steps<L>,
-) -> Result<Told<'m>, LookStop>
+) -> Result<Told<'m>, ReadFailed>
     requires { IfSome shapes.now.words.areas.stacks (λ shape. IsInside shape.tasks types.now) }
     ensures told { LooksAs told_view (λ image. told_by image (shapes_view shapes.now) address word.now) (S.image space.old) result }
     ensures stays { SpaceStays S.image S.files S.through S.most space.old space.new }
@@ -248,7 +245,7 @@ pub fn read_told<'m, S: Space, L: Ledger>(
     shapes: &Shapes<'m>,
     address: u64,
     steps: &mut Steps<L>,
-) -> Result<Told<'m>, LookStop>
+) -> Result<Told<'m>, ReadFailed>
     requires { IfSome shapes.now.words.areas.stacks (λ shape. IsInside shape.tasks types.now) }
     ensures told { LooksAs told_view (λ image. told_of image (shapes_view shapes.now) address) (S.image space.old) result }
     ensures stays { SpaceStays S.image S.files S.through S.most space.old space.new }
@@ -270,9 +267,9 @@ pub fn read_sighted<'m, S: Space, L: Ledger>(
     shapes: &Shapes<'m>,
     address: u64,
     rules: &Rules,
-    entries: Result<Vec<Entry>, LookStop>,
+    entries: Result<Vec<Entry>, ReadFailed>,
     steps: &mut Steps<L>,
-) -> Result<Sighted<'m>, LookStop>
+) -> Result<Sighted<'m>, ReadFailed>
     requires { IfSome shapes.now.words.areas.stacks (λ shape. IsInside shape.tasks types.now) }
     ensures address { IfOk result (λ s. s.sight.address ≡ address) }
     ensures entries { IfOk result (λ s. entries ≡ Ok s.sight.entries) }

@@ -5,9 +5,9 @@ ghost use Rattle.kc_memory.specs.Stays.{SpaceStays};
 ghost use Rattle.kc_where.specs.Aliases.{alias_at, aliases, by_direct, by_image, direct_base, fixed_base, same_word};
 ghost use Rattle.kc_where.specs.Looks.{CountsLookFaults, LooksAs};
 
-use crate::stop::LookStop;
 use crate::symbol::IMAGE_START;
 use crate::words::{Seen, read_word};
+use kc_found::ReadFailed;
 use kc_memory::{Space, VWord};
 use kc_syms::SymFault;
 use kc_word::Steps;
@@ -60,7 +60,7 @@ fn read_base<S: Space, L: Ledger>(
     space: &mut S,
     rules: &Rules,
     steps: &mut Steps<L>,
-) -> Result<Option<u64>, LookStop>
+) -> Result<Option<u64>, ReadFailed>
     ensures base { LooksAs (λ b. b) (λ image. direct_base image rules.now.five rules.now.direct) (S.image space.old) result }
     ensures stays { SpaceStays S.image S.files S.through S.most space.old space.new }
     ensures cause { CountsLookFaults result (S.faults space.old) (S.faults space.new) }
@@ -88,7 +88,7 @@ fn read_alias<S: Space, L: Ledger>(
     word: &VWord,
     at: u64,
     steps: &mut Steps<L>,
-) -> Result<Option<VWord>, LookStop>
+) -> Result<Option<VWord>, ReadFailed>
     ensures alias { LooksAs (λ w. w) (λ image. alias_at image word.now at) (S.image space.old) result }
     ensures stays { SpaceStays S.image S.files S.through S.most space.old space.new }
     ensures cause { CountsLookFaults result (S.faults space.old) (S.faults space.new) }
@@ -105,7 +105,7 @@ fn read_direct<S: Space, L: Ledger>(
     word: &VWord,
     base: Option<u64>,
     steps: &mut Steps<L>,
-) -> Result<Option<VWord>, LookStop>
+) -> Result<Option<VWord>, ReadFailed>
     ensures alias { LooksAs (λ w. w) (λ image. by_direct image word.now base) (S.image space.old) result }
     ensures stays { SpaceStays S.image S.files S.through S.most space.old space.new }
     ensures cause { CountsLookFaults result (S.faults space.old) (S.faults space.new) }
@@ -122,7 +122,7 @@ fn read_image<S: Space, L: Ledger>(
     word: &VWord,
     base: u64,
     steps: &mut Steps<L>,
-) -> Result<Option<VWord>, LookStop>
+) -> Result<Option<VWord>, ReadFailed>
     ensures alias { LooksAs (λ w. w) (λ image. by_image image word.now base) (S.image space.old) result }
     ensures stays { SpaceStays S.image S.files S.through S.most space.old space.new }
     ensures cause { CountsLookFaults result (S.faults space.old) (S.faults space.new) }
@@ -137,7 +137,7 @@ fn read_both<S: Space, L: Ledger>(
     word: &VWord,
     rules: &Rules,
     steps: &mut Steps<L>,
-) -> Result<Aliases, LookStop>
+) -> Result<Aliases, ReadFailed>
     ensures aliases { LooksAs (λ a. a) (λ image. aliases image rules.now (Ok word.now)) (S.image space.old) result }
     ensures stays { SpaceStays S.image S.files S.through S.most space.old space.new }
     ensures cause { CountsLookFaults result (S.faults space.old) (S.faults space.new) }
@@ -159,7 +159,7 @@ pub fn read_aliases<S: Space, L: Ledger>(
     word: &Seen,
     rules: &Rules,
     steps: &mut Steps<L>,
-) -> Result<Aliases, LookStop>
+) -> Result<Aliases, ReadFailed>
     ensures aliases { LooksAs (λ a. a) (λ image. aliases image rules.now word.now) (S.image space.old) result }
     ensures stays { SpaceStays S.image S.files S.through S.most space.old space.new }
     ensures cause { CountsLookFaults result (S.faults space.old) (S.faults space.new) }

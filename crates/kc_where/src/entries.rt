@@ -6,7 +6,7 @@ ghost use Rattle.kc_memory.specs.Translation.{index_at, is_canonical, is_set, ju
 ghost use Rattle.kc_where.specs.Entries.{entries, entries_from, page_bytes, table_in};
 ghost use Rattle.kc_where.specs.Looks.{CountsLookFaults, LooksAs};
 
-use crate::stop::LookStop;
+use kc_found::ReadFailed;
 use kc_memory::{FrameStop, Frames, PWord};
 use kc_word::{PageCfg, Steps};
 use std::alloc::Global;
@@ -78,7 +78,7 @@ fn push_entries<F: Frames, L: Ledger>(
     level: u8,
     table: u64,
     steps: &mut Steps<L>,
-) -> Result<(), LookStop>
+) -> Result<(), ReadFailed>
     requires high { level ≤ 5 }
     requires aligned { table % 4096 ≡ 0 }
     requires small { table < 2 ^ 52 }
@@ -96,7 +96,7 @@ fn push_entries<F: Frames, L: Ledger>(
     let word = match frames.word(pa, steps) {
         Ok(word) => word,
         Err(FrameStop::Absent) => return Ok(()),
-        Err(FrameStop::Fault) => return Err(LookStop::Fault),
+        Err(FrameStop::Fault) => return Err(ReadFailed::Fault),
     };
     entries.push(Entry { level, pa, word })?;
     match table_below(level, word.value & !sme) {
@@ -125,7 +125,7 @@ pub fn read_entries<F: Frames, L: Ledger>(
     paging: &PageCfg,
     va: u64,
     steps: &mut Steps<L>,
-) -> Result<Vec<Entry>, LookStop>
+) -> Result<Vec<Entry>, ReadFailed>
     requires aligned { paging.now.table % 4096 ≡ 0 }
     requires small { paging.now.table < 2 ^ 52 }
 

@@ -6,10 +6,10 @@ ghost use Rattle.kc_where.specs.Lines.{row_in};
 ghost use Rattle.kc_where.specs.Looks.{CountsLookFaults, LooksAs};
 ghost use Rattle.kc_where.specs.Views.{row_view, symbol_view, symbols_holding};
 
-use crate::stop::LookStop;
 use crate::symbol::{ImageMap, Row, Symbol, at_run, row_in};
 use crate::words::{Seen, read_word};
 use bstr::ByteSlice;
+use kc_found::ReadFailed;
 use kc_memory::Space;
 use kc_word::Steps;
 use std::alloc::Global;
@@ -32,7 +32,7 @@ fn is_holder<S: Space, L: Ledger>(
     value: u64,
     at: u64,
     steps: &mut Steps<L>,
-) -> Result<bool, LookStop>
+) -> Result<bool, ReadFailed>
     ensures holder { LooksAs (λ b. b) (λ i. is_holder i image.now.text_end image.now.end value at) (S.image space.old) result }
     ensures stays { SpaceStays S.image S.files S.through S.most space.old space.new }
     ensures cause { CountsLookFaults result (S.faults space.old) (S.faults space.new) }
@@ -50,7 +50,7 @@ fn holder_by<'m, S: Space, L: Ledger>(
     value: u64,
     row: Option<Row<'m>>,
     steps: &mut Steps<L>,
-) -> Result<Option<Symbol<'m>>, LookStop>
+) -> Result<Option<Symbol<'m>>, ReadFailed>
     ensures holder { LooksAs (λ s. option_map symbol_view s) (λ i. holder_by i image.now.text_end image.now.end image.now.kaslr value (option_map row_view row.entry)) (S.image space.old) result }
     ensures stays { SpaceStays S.image S.files S.through S.most space.old space.new }
     ensures cause { CountsLookFaults result (S.faults space.old) (S.faults space.new) }
@@ -80,7 +80,7 @@ pub fn find_holders<'m, S: Space, L: Ledger>(
     image: &ImageMap<'m>,
     value: u64,
     steps: &mut Steps<L>,
-) -> Result<Vec<Symbol<'m>>, LookStop>
+) -> Result<Vec<Symbol<'m>>, ReadFailed>
     ensures holders { LooksAs (λ found. map symbol_view found.items) (λ i. symbols_holding i image.now value) (S.image space.old) result }
     ensures stays { SpaceStays S.image S.files S.through S.most space.old space.new }
     ensures cause { CountsLookFaults result (S.faults space.old) (S.faults space.new) }

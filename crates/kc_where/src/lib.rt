@@ -9,7 +9,6 @@ mod laws;
 mod meaning;
 mod sight;
 mod span;
-mod stop;
 mod symbol;
 mod words;
 
@@ -20,6 +19,5 @@ pub use laws::know_sights;
 pub use meaning::{Meaning, meaning_of};
 pub use sight::{Sight, read_sight, word_start};
 pub use span::{Span, is_fill, span_of};
-pub use stop::LookStop;
 pub use symbol::{ImageMap, Symbol, nearest};
 pub use words::{Seen, read_word, read_words};

@@ -8,8 +8,8 @@ ghost use Rattle.kc_where.specs.Sights.{near, page_start, word_start};
 
 use crate::aliases::{Aliases, Rules, read_aliases};
 use crate::entries::Entry;
-use crate::stop::LookStop;
 use crate::words::{Seen, read_word, read_words};
+use kc_found::ReadFailed;
 use kc_memory::Space;
 use kc_word::Steps;
 use std::alloc::Global;
@@ -53,9 +53,9 @@ pub fn read_sight<S: Space, L: Ledger>(
     space: &mut S,
     address: u64,
     rules: &Rules,
-    entries: Result<Vec<Entry>, LookStop>,
+    entries: Result<Vec<Entry>, ReadFailed>,
     steps: &mut Steps<L>,
-) -> Result<Sight, LookStop>
+) -> Result<Sight, ReadFailed>
     ensures address { IfOk result (λ sight. sight.address ≡ address) }
     ensures entries { IfOk result (λ sight. entries ≡ Ok sight.entries) }
     ensures word { LooksAs (λ sight. sight.word) (λ image. vword image (word_start address)) (S.image space.old) result }

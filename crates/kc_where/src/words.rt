@@ -4,7 +4,7 @@ ghost use Rattle.kc_memory.specs.Stays.{SpaceStays};
 ghost use Rattle.kc_memory.specs.Translation.{vword};
 ghost use Rattle.kc_where.specs.Looks.{CountsLookFaults, IsMissing, LooksAs, words};
 
-use crate::stop::LookStop;
+use kc_found::ReadFailed;
 use kc_memory::{Miss, Space, Stop, VWord};
 use kc_word::Steps;
 use std::alloc::Global;
@@ -22,7 +22,7 @@ pub fn read_word<S: Space, L: Ledger>(
     space: &mut S,
     va: u64,
     steps: &mut Steps<L>,
-) -> Result<Seen, LookStop>
+) -> Result<Seen, ReadFailed>
     ensures word { LooksAs (λ w. w) (λ image. vword image va) (S.image space.old) result }
     ensures steps { steps.new ≤ steps.old + S.most space.old }
     ensures stays { SpaceStays S.image S.files S.through S.most space.old space.new }
@@ -35,12 +35,12 @@ pub fn read_word<S: Space, L: Ledger>(
 }
 
 // The miss of a stop.
-fn missing(stop: Stop) -> Result<Seen, LookStop>
+fn missing(stop: Stop) -> Result<Seen, ReadFailed>
     ensures { IsMissing stop result }
 {
     match stop {
         Stop::Miss(miss) => Ok(Err(miss)),
-        Stop::Fault => Err(LookStop::Fault),
+        Stop::Fault => Err(ReadFailed::Fault),
     }
 }
 
@@ -56,7 +56,7 @@ pub fn read_words<S: Space, L: Ledger>(
     first: u64,
     count: u64,
     steps: &mut Steps<L>,
-) -> Result<Vec<Seen>, LookStop>
+) -> Result<Vec<Seen>, ReadFailed>
     ensures words { LooksAs (λ seen. seen.items) (λ image. words image first count) (S.image space.old) result }
     ensures steps { steps.new ≤ steps.old + S.most space.old * count }
     ensures stays { SpaceStays S.image S.files S.through S.most space.old space.new }

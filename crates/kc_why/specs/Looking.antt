@@ -4,8 +4,8 @@ use Rattle.kc_input.specs.declared.halt.Halt.{Halt}
 use Rattle.kc_input.specs.declared.halt.Halt.TheVariants.{Store, Memory}
 use Rattle.kc_memory.specs.Image.{Image}
 use Rattle.kc_where.specs.declared.aliases.Rules.{Rules}
-use Rattle.kc_where.specs.declared.stop.LookStop.{LookStop}
-use Rattle.kc_where.specs.declared.stop.LookStop.TheVariants.{Fault, NoMemory}
+use Rattle.kc_found.specs.declared.failed.ReadFailed.{ReadFailed}
+use Rattle.kc_found.specs.declared.failed.ReadFailed.TheVariants.{Fault, NoMemory}
 use Rattle.kc_where.specs.Sights.{sight}
 use Rattle.kc_where.specs.Views.{sight_view}
 use Rattle.kc_told.specs.declared.told.Sighted.{Sighted}
@@ -14,7 +14,7 @@ use Rattle.kc_told.specs.Objects.{Shapes, told_of}
 use Rattle.kc_told.specs.Views.{told_view}
 
 -- a failure to read is one of the store
-abbrev pub halted : LookStop → Halt
+abbrev pub halted : ReadFailed → Halt
 halted Fault = Store
 halted NoMemory = Memory
 

@@ -8,8 +8,8 @@ use Rattle.kc_object.specs.declared.keys.CacheKey.{CacheKey}
 use Rattle.kc_object.specs.declared.keys.FreeKeys.{FreeKeys}
 use Rattle.kc_object.specs.declared.shape.ObjectShape.{ObjectShape}
 use Rattle.kc_object.specs.Keys.{free_keys}
-use Rattle.kc_refs.specs.declared.stop.SearchStop.{SearchStop}
-use Rattle.kc_refs.specs.declared.stop.SearchStop.TheVariants.{Fault, NoMemory}
+use Rattle.kc_found.specs.declared.failed.ReadFailed.{ReadFailed}
+use Rattle.kc_found.specs.declared.failed.ReadFailed.TheVariants.{Fault, NoMemory}
 use Rattle.kc_refs.specs.Writings.{Sought}
 
 -- what free pointers are encoded with; nothing is told where the kernel lacks what that asks for
@@ -33,6 +33,6 @@ abbrev pub sought_by : ℕ → Option (Result FreeKeys Violation) → Sought
 sought_by value told = record { value = value; direct = direct_in told; randoms = map (λ (k : CacheKey). k.random) (keys_in told) }
 
 -- a failure to read is one of the store
-abbrev pub search_halted : SearchStop → Halt
+abbrev pub search_halted : ReadFailed → Halt
 search_halted Fault = Store
 search_halted NoMemory = Memory

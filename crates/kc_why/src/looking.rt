@@ -16,6 +16,7 @@ ghost use Rattle.kc_view.specs.TaskLists.{IsInside};
 
 use kc_btf::Btf;
 use kc_elf::Core;
+use kc_found::ReadFailed;
 use kc_input::{Halt, paging_by};
 use kc_mem::Memory;
 use kc_notes::Info;
@@ -23,7 +24,7 @@ use kc_outside::Store;
 use kc_phys::{Phys, Room};
 use kc_tlb::Tlb;
 use kc_told::{Shapes, Sighted, read_sighted};
-use kc_where::{LookStop, Rules, read_entries, word_start};
+use kc_where::{Rules, read_entries, word_start};
 use kc_word::{PageCfg, Steps, Tail};
 use std::alloc::Global;
 use std::marker::Brand;
@@ -33,12 +34,12 @@ use std::sync::ledger::{Blank, Ledger};
 const KEPT: usize = 8;
 
 // A failure to read the dump is one of the store.
-fn halted(stop: LookStop) -> Halt
+fn halted(stop: ReadFailed) -> Halt
     ensures { result ≡ halted stop }
 {
     match stop {
-        LookStop::Fault => Halt::Store,
-        LookStop::NoMemory => Halt::Memory,
+        ReadFailed::Fault => Halt::Store,
+        ReadFailed::NoMemory => Halt::Memory,
     }
 }
 
@@ -105,7 +106,7 @@ fn look<'m, S: Store, L: Ledger>(
     shapes: &Shapes<'m>,
     address: u64,
     blank: Blank,
-) -> Result<Sighted<'m>, LookStop>
+) -> Result<Sighted<'m>, ReadFailed>
     requires name { blank.name ≡ L.name }
     requires parts { blank.parts ≡ L.parts }
     requires some { 0 < L.parts }

@@ -21,14 +21,14 @@ ghost use Rattle.kc_why.specs.WordText.{words_text};
 use crate::written::{keys_in, words_text};
 use kc_btf::Btf;
 use kc_elf::Core;
-use kc_found::{Found, Space, WalkStop};
+use kc_found::{Found, ReadFailed, Space, WalkStop};
 use kc_input::{Halt, paging_by};
 use kc_mem::Memory;
 use kc_notes::Info;
 use kc_object::{CacheKey, FreeKeys, ObjectShape, free_keys};
 use kc_outside::Store;
 use kc_phys::{Phys, Room};
-use kc_refs::{FoundWord, SearchStop, Sought, find_words};
+use kc_refs::{FoundWord, Sought, find_words};
 use kc_tlb::Tlb;
 use kc_word::{NoMemory, PageCfg, Segment, Steps, Tail};
 use std::alloc::Global;
@@ -42,12 +42,12 @@ const KEPT: usize = 64;
 pub(crate) type ToldKeys = Option<Result<FreeKeys, Found>>;
 
 // A failure to read the dump is one of the store.
-fn halted(stop: SearchStop) -> Halt
+fn halted(stop: ReadFailed) -> Halt
     ensures { result ≡ search_halted stop }
 {
     match stop {
-        SearchStop::Fault => Halt::Store,
-        SearchStop::NoMemory => Halt::Memory,
+        ReadFailed::Fault => Halt::Store,
+        ReadFailed::NoMemory => Halt::Memory,
     }
 }
 
@@ -58,7 +58,7 @@ fn read_told<S: Space, L: Ledger>(
     types: &Btf,
     shape: &Option<ObjectShape>,
     steps: &mut Steps<L>,
-) -> Result<ToldKeys, SearchStop>
+) -> Result<ToldKeys, ReadFailed>
     ensures told { IfOk result (λ told. IfSome (S.image space.old) (λ i. told ≡ keys_of i shape.now)) }
     ensures stays { SpaceStays S.image S.files S.through S.most space.old space.new }
     ensures cause { CountsFaults result (S.faults space.old) (S.faults space.new) }
@@ -69,8 +69,8 @@ fn read_told<S: Space, L: Ledger>(
     match free_keys(alloc, space, types, shape, steps) {
         Ok(keys) => Ok(Some(Ok(keys))),
         Err(WalkStop::Broken(found)) => Ok(Some(Err(found))),
-        Err(WalkStop::Fault) => Err(SearchStop::Fault),
-        Err(WalkStop::NoMemory) => Err(SearchStop::NoMemory),
+        Err(WalkStop::Fault) => Err(ReadFailed::Fault),
+        Err(WalkStop::NoMemory) => Err(ReadFailed::NoMemory),
     }
 }
 
@@ -117,7 +117,7 @@ fn find_if<S: Store>(
     segments: &[Segment],
     sought: &Sought,
     same: bool,
-) -> Result<Vec<FoundWord>, SearchStop>
+) -> Result<Vec<FoundWord>, ReadFailed>
     requires inside { OnTrue same (AreInside (S.sizes store.old Dump) segments.now) }
     requires below { All (λ s. s.paddr + max s.filesz s.memsz ≤ 2 ^ 64) segments.now }
 
@@ -144,7 +144,7 @@ fn search<S: Store, L: Ledger>(
     shape: &Option<ObjectShape>,
     value: u64,
     blank: Blank,
-) -> Result<Searched, SearchStop>
+) -> Result<Searched, ReadFailed>
     requires name { blank.name ≡ L.name }
     requires parts { blank.parts ≡ L.parts }
     requires some { 0 < L.parts }

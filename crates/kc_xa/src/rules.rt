@@ -9,8 +9,8 @@ ghost use Rattle.kc_found.specs.XaNodes.{breaks_in, shift_in, xa_rules};
 use crate::entries::kind_of;
 use crate::words::byte_of;
 use kc_found::{
-    Asked, Found, Items, Places, Rule, VWord, WalkStop, XaEntry, XaHolder, XaShape, XaWords,
-    broken_at, place_of,
+    Asked, Items, Places, Rule, VWord, WalkStop, XaEntry, XaHolder, XaShape, XaWords, broken_at,
+    broken_by, place_of,
 };
 use kc_word::NoMemory;
 use std::alloc::Global;
@@ -29,15 +29,7 @@ fn broken_in(
 {
     let mut places = Places::new(alloc);
     match places.push(place_of(word)) {
-        Ok(()) => WalkStop::Broken(Found {
-            audit: asked.audit,
-            start: asked.start,
-            rule,
-            at,
-            expected,
-            stop: None,
-            places,
-        }),
+        Ok(()) => broken_by(asked, rule, at, expected, places),
         Err(NoMemory) => WalkStop::NoMemory,
     }
 }

@@ -7,10 +7,10 @@ use anyhow::{Result, bail};
 use kc_btf::Btf;
 use kc_cases::Case;
 use kc_fixture::{MAP, btf_with_pids};
-use kc_found::{Counts, Found, ListSpace, Origin, Verdict};
+use kc_found::{Counts, Found, ListSpace, Origin, ReadFailed, Verdict};
 use kc_notes::Info;
 use kc_plan::{Plan, PlanStop, read_plan};
-use kc_run::{RunStop, run};
+use kc_run::run;
 use kc_syms::Symbols;
 use kc_word::Steps;
 use std::alloc::{AllocError, Global};
@@ -32,8 +32,8 @@ impl Walks for Audits {
         match run(alloc, &plan, &btf, &mut space, steps) {
             Ok(Verdict::Clean(counts)) => Ok(clean_text(alloc, &counts)?),
             Ok(Verdict::Broken(found)) => Ok(broken_text(alloc, &found)?),
-            Err(RunStop::Fault) => bail!("failed"),
-            Err(RunStop::NoMemory) => bail!("out of memory"),
+            Err(ReadFailed::Fault) => bail!("failed"),
+            Err(ReadFailed::NoMemory) => bail!("out of memory"),
         }
     }
 }

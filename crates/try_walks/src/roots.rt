@@ -5,8 +5,8 @@ use anyhow::{Result, bail};
 use kc_btf::Btf;
 use kc_cases::Case;
 use kc_fixture::btf_file;
-use kc_found::{RootVerdict, Verdict, Verdicts};
-use kc_run::{RunStop, run, run_each};
+use kc_found::{ReadFailed, RootVerdict, Verdict, Verdicts};
+use kc_run::{run, run_each};
 use kc_word::Steps;
 use std::alloc::{AllocError, Global};
 use std::sync::ledger::Ledger;
@@ -28,8 +28,8 @@ impl Walks for RootAudits {
         let each = run_each(alloc, &plan, &btf, &mut space, steps);
         match (first, each) {
             (Ok(first), Ok(each)) => Ok(both_text(alloc, &first, &each)?),
-            (Err(RunStop::Fault), _) | (_, Err(RunStop::Fault)) => bail!("failed"),
-            (Err(RunStop::NoMemory), _) | (_, Err(RunStop::NoMemory)) => bail!("out of memory"),
+            (Err(ReadFailed::Fault), _) | (_, Err(ReadFailed::Fault)) => bail!("failed"),
+            (Err(ReadFailed::NoMemory), _) | (_, Err(ReadFailed::NoMemory)) => bail!("out of memory"),
         }
     }
 }

@@ -29,19 +29,19 @@ returns-in-Err-clause-bound g c =
     next_steps (frees c.args.grid.now (asked_at c.args.audit c.args.start) (free_first c.args.first)) (g.S.Space.image c.args.space.now) c.loop-led.claims c.loop-led.walked c.loop-led.led (g.S.Space.most c.args.space.now) c.args.steps.now c.loop-led.steps _
     c.loop-led.invariant.reaches (two_spare _ _ _ _ c.loop-led.invariant.steps) (rw c.loop-led.invariant.stays.same_most at c.in-Err.ensures.steps)
 
-pub returns-in_err-push_object-clause-bound : goal.returns-in_err-push_object-clause-bound
-returns-in_err-push_object-clause-bound g c =
+pub returns-in_err-push_node-clause-bound : goal.returns-in_err-push_node-clause-bound
+returns-in_err-push_node-clause-bound g c =
     next_steps (frees c.args.grid.now (asked_at c.args.audit c.args.start) (free_first c.args.first)) (g.S.Space.image c.args.space.now) c.loop-led.claims c.loop-led.walked c.loop-led.led (g.S.Space.most c.args.space.now) c.args.steps.now c.loop-led.steps _
     c.loop-led.invariant.reaches (two_spare _ _ _ _ c.loop-led.invariant.steps) (rw c.loop-led.invariant.stays.same_most at c.in-Ok.ensures.steps)
 
 pub loop-led-preserved : goal.loop-led-preserved
 loop-led-preserved g c = record {
-  reaches = rw (c.in_ok-push_object.ensures.added, c.free_next-led.ensures) (free_goes (λ (n : Number). c.enter_object.new.claims) (g.S.Space.image c.args.space.now) c.args.grid.now (asked_at c.args.audit c.args.start) (free_first c.args.first) c.loop-led.claims c.loop-led.walked c.loop-led.led c.in-Ok.number c.in-Ok.number
+  reaches = rw (c.in_ok-push_node.ensures.added, c.free_next-led.ensures) (free_goes (λ (n : Number). c.enter_object.new.claims) (g.S.Space.image c.args.space.now) c.args.grid.now (asked_at c.args.audit c.args.start) (free_first c.args.first) c.loop-led.claims c.loop-led.walked c.loop-led.led c.in-Ok.number c.in-Ok.number
       c.loop-led.invariant.reaches (search rules) (rw c.loop-led.invariant.stays.same_image at c.in-Ok.ensures.number) (rw c.loop-led.invariant.stays.same_image at c.in-Ok.ensures.site));
   stays = stays_on g.S.Space.image g.S.Space.files g.S.Space.through g.S.Space.most _ _ _ c.loop-led.invariant.stays c.in-Ok.ensures.stays;
   quiet = c.in-Ok.ensures.cause ∙ c.loop-led.invariant.quiet;
   fits = search rules;
-  steps = rw (ap length c.in_ok-push_object.ensures.added ∙ length-append c.loop-led.walked (c.loop-led.led.to ∷ []))
+  steps = rw (ap length c.in_ok-push_node.ensures.added ∙ length-append c.loop-led.walked (c.loop-led.led.to ∷ []))
       (two_more (g.S.Space.most c.args.space.now) (length c.loop-led.walked) c.args.steps.now c.loop-led.steps _ c.loop-led.invariant.steps (rw c.loop-led.invariant.stays.same_most at c.in-Ok.ensures.steps));
 }
 

@@ -10,7 +10,7 @@ returns-in-Err-clause-exact g c =
 
 pub loop-i-preserved : goal.loop-i-preserved
 loop-i-preserved g c = record {
-  same = rw c.in-Ok-push_slab.ensures.added (slabs_go (g.S.Space.image c.args.space.now) g.C.Chains.free_by c.args.asked.now c.args.shape.now c.args.bases.now c.args.objects.now c.args.slabs.now (g.C.Rings.lists c.args.chains.now) c.args.nodes.now c.loop-i.slabs (g.C.Rings.lists c.loop-i.chains) _ c.loop-i.i _ c.get.result.now c.in-Ok.slab
+  same = rw c.in-Ok-push_node.ensures.added (slabs_go (g.S.Space.image c.args.space.now) g.C.Chains.free_by c.args.asked.now c.args.shape.now c.args.bases.now c.args.objects.now c.args.slabs.now (g.C.Rings.lists c.args.chains.now) c.args.nodes.now c.loop-i.slabs (g.C.Rings.lists c.loop-i.chains) _ c.loop-i.i _ c.get.result.now c.in-Ok.slab
       (omega arith) c.loop-i.invariant.same c.get.ensures (rw (c.loop-i.invariant.stays.same_image, c.new-view.ensures) at c.in-Ok.ensures.exact));
   inside = search rules;
   stays = stays_on g.S.Space.image g.S.Space.files g.S.Space.through g.S.Space.most _ _ _ c.loop-i.invariant.stays c.in-Ok.ensures.stays;
@@ -28,8 +28,8 @@ returns-in-Err-clause-pays g c = λ paid.
     let inside : c.loop-i.i < length c.args.nodes.now = search rules in
     omega (arith, inside, c.loop-i.invariant.pays paid, c.in-Err.ensures.pays paid)
 
-pub returns-in-Err-push_slab-clause-pays : goal.returns-in-Err-push_slab-clause-pays
-returns-in-Err-push_slab-clause-pays g c = λ paid.
+pub returns-in-Err-push_node-clause-pays : goal.returns-in-Err-push_node-clause-pays
+returns-in-Err-push_node-clause-pays g c = λ paid.
     let inside : c.loop-i.i < length c.args.nodes.now = search rules in
     omega (arith, inside, c.loop-i.invariant.pays paid, c.in-Ok.ensures.pays paid)
 
