@@ -30,9 +30,10 @@ use Rattle.kc_entries.specs.Entries.{is_xarray, pointers}
 use Rattle.kc_entries.specs.Laws.{WalksPass, met_pointers}
 use Rattle.kc_given.specs.Laws.{CachesHaveLists, TasksHaveLists}
 use Rattle.kc_pid_lists.specs.Laws.{PidsHaveLists}
-use Rattle.kc_shape.specs.Laws.{HashChainsAreTested, RingsAreTested, TreesPass}
+use Rattle.kc_list.specs.ListedLaws.{HashChainsAreTested, RingsAreTested}
+use Rattle.kc_rb.specs.Listed.Laws.{TreesPass}
 use Rattle.kc_fits.specs.Shapes.{is_shape, nodes_in}
-use Rattle.kc_shape.specs.Trees.{pre}
+use Rattle.kc_rb.specs.Listed.Trees.{pre}
 use Rattle.kc_cert.specs.Complete.{AllShaped, HasShape, CleanIsCertified, ShapedKinds}
 use Rattle.kc_recheck_laws.specs.Judged.{both_true, checks_none, if_so, right_seen, step_fits, tally_parts}
 

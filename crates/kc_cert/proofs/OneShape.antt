@@ -11,8 +11,8 @@ use Rattle.kc_entries.specs.Laws.{XarraysPassOnce}
 use Rattle.kc_entries.specs.Entries.{is_xarray}
 use Rattle.kc_given.specs.Laws.{CacheListsAreTested, TaskListsAreTested}
 use Rattle.kc_pid_lists.specs.Laws.{PidListsAreOne}
-use Rattle.kc_shape.specs.Laws.{TreesPassOnce}
-use Rattle.kc_shape.specs.Trees.{is_tree}
+use Rattle.kc_rb.specs.Listed.Laws.{TreesPassOnce}
+use Rattle.kc_rb.specs.Listed.Trees.{is_tree}
 use Rattle.kc_chains.specs.CachesBy.{cache_lists}
 use Rattle.kc_chains.specs.TasksBy.{task_lists}
 use Rattle.kc_fits.specs.Walked.{ShapesAreWalked}

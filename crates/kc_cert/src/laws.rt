@@ -5,10 +5,9 @@ ghost use Rattle.kc_cert.specs.Single.{CertificatesAreOne, ShapesAreOne};
 use kc_entries::know_entries;
 use kc_fits::know_walked;
 use kc_given::know_given_lists;
-use kc_list::know_lists;
+use kc_list::{know_listed_rings, know_lists};
 use kc_pid_lists::know_pid_lists;
-use kc_rb::know_trees;
-use kc_shape::know_shapes;
+use kc_rb::{know_listed_trees, know_trees};
 
 /// Does nothing. A clean dump has a certificate, with the counts of its verdict, where what is walked of its plan's kinds has
 /// shapes; what is walked of each kind has.
@@ -19,7 +18,8 @@ pub fn know_complete()
     know_entries();
     know_given_lists();
     know_pid_lists();
-    know_shapes();
+    know_listed_rings();
+    know_listed_trees();
     know_lists();
     know_trees();
 }
@@ -30,7 +30,7 @@ pub fn know_single()
     ensures certificates { CertificatesAreOne }
 {
     know_walked();
-    know_shapes();
+    know_listed_trees();
     know_entries();
     know_given_lists();
     know_pid_lists();

@@ -17,10 +17,10 @@ use Rattle.kc_list.specs.Laws.{HashChainsAreWalked, RingsAreWalked}
 use Rattle.kc_kinds.specs.declared.kind.Kind.{Kind}
 use Rattle.kc_kinds.specs.declared.kind.Kind.TheVariants.{Ring, Hlist, Rbtree, Xarray, Slub, Tasks, Pids}
 use Rattle.kc_kinds.specs.Structures.{nodes_of}
-use Rattle.kc_shape.specs.declared.halt.Halt.{Halt}
-use Rattle.kc_shape.specs.declared.halt.Halt.TheVariants as halts
-use Rattle.kc_shape.specs.Collected.{CollectsTree}
-use Rattle.kc_shape.specs.Laws.{HashChainsAreTested, RingsAreTested}
+use Rattle.kc_found.specs.declared.test.TestStop.{TestStop}
+use Rattle.kc_found.specs.declared.test.TestStop.TheVariants as halts
+use Rattle.kc_rb.specs.Listed.Collected.{CollectsTree}
+use Rattle.kc_list.specs.ListedLaws.{HashChainsAreTested, RingsAreTested}
 use Rattle.kc_certify.specs.Certified.{IsSingle, ShapesAs, alone}
 use Rattle.kc_fits.specs.Shapes.{asked_by, is_shape}
 use Rattle.kc_chains.specs.CachesBy.{cache_by}
@@ -91,7 +91,7 @@ gone_by : (image : Option Image) (shape : RbShape) (n start : ℕ) (nodes : List
 gone_by None shape n start nodes stop t e = tt
 gone_by (Some i) shape n start nodes stop t e = absurd (e t)
 
-pub tree_gone : (image now : Option Image) (shape : RbShape) (n start : ℕ) (nodes : List ℕ) (halt : Halt) (stop : WalkStop) → now ≡ image → halt ≡ halts.Unfit → IfSome image (λ i. RbTree (reads_of i) shape start nodes) → CollectsTree shape start nodes now (Err halt) →
+pub tree_gone : (image now : Option Image) (shape : RbShape) (n start : ℕ) (nodes : List ℕ) (halt : TestStop) (stop : WalkStop) → now ≡ image → halt ≡ halts.Unfit → IfSome image (λ i. RbTree (reads_of i) shape start nodes) → CollectsTree shape start nodes now (Err halt) →
     ShapesAs (Rbtree shape) n start image (Err stop)
 tree_gone image now shape n start nodes halt stop same is t e =
     gone_by image shape n start nodes stop t (subst (λ m. CollectsTree shape start nodes m (Err halts.Unfit)) same (subst (λ h. CollectsTree shape start nodes now (Err h)) is e))
@@ -115,7 +115,7 @@ none_listed law (Some i) shape n start items stop w e =
     let p = law i shape n start items w in
     let none : ⊥ = let no = e p.0 in let yes = p.1 in cc in absurd none
 
-pub array_gone : WalksPass → (image now : Option Image) (shape : XaLayout) (n start : ℕ) (items : List XaItem) (halt : Halt) (stop : WalkStop) → now ≡ image → halt ≡ halts.Unfit → WalksAs (λ (is : List XaItem). is) (λ i. xa_judged i shape n start) image (Ok items) → ListsAs (λ i ms. is_xarray i shape start ms) now (Err halt) →
+pub array_gone : WalksPass → (image now : Option Image) (shape : XaLayout) (n start : ℕ) (items : List XaItem) (halt : TestStop) (stop : WalkStop) → now ≡ image → halt ≡ halts.Unfit → WalksAs (λ (is : List XaItem). is) (λ i. xa_judged i shape n start) image (Ok items) → ListsAs (λ i ms. is_xarray i shape start ms) now (Err halt) →
     ShapesAs (Xarray shape) n start image (Err stop)
 array_gone law image now shape n start items halt stop same is w e =
     none_listed law image shape n start items stop w (subst (λ m. ListsAs (λ i ms. is_xarray i shape start ms) m (Err halts.Unfit)) same (subst (λ h. ListsAs (λ i ms. is_xarray i shape start ms) now (Err h)) is e))

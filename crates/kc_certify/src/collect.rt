@@ -14,13 +14,12 @@ use kc_btf::Btf;
 use kc_cert_text::Lists;
 use kc_chains::know_chains;
 use kc_entries::{know_entries, list_xarray};
-use kc_found::{Asked, Places, RbShape, Rule, Space, WalkStop, Walked, XaShape, broken_by};
+use kc_found::{Asked, Places, RbShape, Rule, Space, TestStop, WalkStop, Walked, XaShape, broken_by};
 use kc_given::know_given_lists;
-use kc_list::{hchain, know_lists, ring};
+use kc_list::{hchain, know_listed_rings, know_lists, ring};
 use kc_pid_lists::list_pids;
 use kc_plan::Kind;
-use kc_rb::{know_trees, rb_walk};
-use kc_shape::{Halt, collect_tree, know_shapes};
+use kc_rb::{collect_tree, know_trees, rb_walk};
 use kc_slub::{Kept, cache_walk_by};
 use kc_task::tasks_walk_by;
 use kc_view::{PidShape, SlubShape, TaskShape};
@@ -66,9 +65,9 @@ fn tree_numbers<S: Space, L: Ledger>(
     let nodes = rb_walk(alloc, space, shape, asked.start, asked.audit, steps)?;
     match collect_tree(alloc, space, shape, asked.start, &nodes, steps) {
         Ok(numbers) => Ok(numbers),
-        Err(Halt::Unfit) => Err(gone(alloc, asked, Rule::R1)),
-        Err(Halt::Fault) => Err(WalkStop::Fault),
-        Err(Halt::NoMemory) => Err(WalkStop::NoMemory),
+        Err(TestStop::Unfit) => Err(gone(alloc, asked, Rule::R1)),
+        Err(TestStop::Fault) => Err(WalkStop::Fault),
+        Err(TestStop::NoMemory) => Err(WalkStop::NoMemory),
     }
 }
 
@@ -90,9 +89,9 @@ fn array_entries<S: Space, L: Ledger>(
     xa_walk(alloc, space, shape, asked.start, asked.audit, steps)?;
     match list_xarray(alloc, space, shape, asked.start, steps) {
         Ok(numbers) => Ok(numbers),
-        Err(Halt::Unfit) => Err(gone(alloc, asked, Rule::X1)),
-        Err(Halt::Fault) => Err(WalkStop::Fault),
-        Err(Halt::NoMemory) => Err(WalkStop::NoMemory),
+        Err(TestStop::Unfit) => Err(gone(alloc, asked, Rule::X1)),
+        Err(TestStop::Fault) => Err(WalkStop::Fault),
+        Err(TestStop::NoMemory) => Err(WalkStop::NoMemory),
     }
 }
 
@@ -184,7 +183,7 @@ pub(crate) fn collect_shape<S: Space, L: Ledger>(
     ensures cause { CountsWalkFaults result (S.faults space.old) (S.faults space.new) }
 {
     know_lists();
-    know_shapes();
+    know_listed_rings();
     match kind {
         Kind::Ring(shape) => single(
             alloc,

@@ -17,9 +17,9 @@ use Rattle.kc_found.specs.XaEntries.{kind}
 use Rattle.kc_found.specs.XaLayouts.{XaLayout}
 use Rattle.kc_found.specs.XaNodes.{XaCourse, behind_entry}
 use Rattle.kc_found.specs.XaSites.{words_behind, xa_course}
-use Rattle.kc_shape.specs.declared.halt.Halt.{Halt}
-use Rattle.kc_shape.specs.declared.halt.Halt.TheVariants as halts
-use Rattle.kc_shape.specs.Answers.{TellsAs}
+use Rattle.kc_found.specs.declared.test.TestStop.{TestStop}
+use Rattle.kc_found.specs.declared.test.TestStop.TheVariants as halts
+use Rattle.kc_found.specs.Tests.{TellsAs}
 use Rattle.kc_xa.specs.Steps.{IsOpened}
 use Rattle.kc_entries.specs.declared.spots.XaSpot.{XaSpot}
 use Rattle.kc_entries.specs.Entries.{head_spot, headed_items, is_node, item_at, items_at, items_in, slot_spots, spots_behind, spots_below, spots_next}
@@ -35,7 +35,7 @@ opened_spots : (c : XaCourse) (s : XaSpot) (there : Result XaWords Violation) (o
 opened_spots c s (Ok n) o is = ap (λ (x : XaNode). slot_spots c.shape.chunk x 0 x.slots) (sym is)
 opened_spots c s (Err v) o is = absurd is
 
-pub node_spots : {A : Type 0} (image : Option Image) (shape : XaLayout) (asked : Asked) (s : XaSpot) (pending next : List XaSpot) (o : XaNode) (r : Result A Halt) → is_node (kind shape.chunk s.word.value) ≡ true →
+pub node_spots : {A : Type 0} (image : Option Image) (shape : XaLayout) (asked : Asked) (s : XaSpot) (pending next : List XaSpot) (o : XaNode) (r : Result A TestStop) → is_node (kind shape.chunk s.word.value) ≡ true →
     IfSome image (λ i. IsOpened shape s.word s.index (words_behind (xa_course i shape asked) s.word) o) → OnOk r (next ≡ pending ++ reverse (slot_spots shape.chunk o 0 o.slots)) →
     OnOk r (IfSome image (λ i. reverse next ≡ spots_next (xa_course i shape asked) s ++ reverse pending))
 node_spots image shape asked s pending next o (Err halt) node is to = tt
@@ -46,7 +46,7 @@ node_spots (Some i) shape asked s pending next o (Ok u) node is to =
     ∙ ap (λ xs. xs ++ reverse pending) (sym (cond-true (is_node (kind shape.chunk s.word.value)) _ _ node ∙ opened_spots c s (words_behind c s.word) o is))
 
 -- the head's position
-pub head_gathers : {A : Type 0} (image : Option Image) (shape : XaLayout) (start : ℕ) (pending next : List XaSpot) (h : VWord) (s : XaSpot) (r : Result A Halt) → pending ≡ [] →
+pub head_gathers : {A : Type 0} (image : Option Image) (shape : XaLayout) (start : ℕ) (pending next : List XaSpot) (h : VWord) (s : XaSpot) (r : Result A TestStop) → pending ≡ [] →
     WalksAs (λ (w : VWord). w) (λ i. behind_entry (vword i) (asked_at start) None (at_offset start shape.head)) image (Ok h) → s ≡ head_spot shape.chunk h → OnOk r (next ≡ pending ++ s ∷ []) →
     OnOk r (IfSome image (λ i. (ns : List ℕ) → items_in i shape start ns ≡ items_at (xa_course i shape (asked_at start)) (reverse next) ns))
 unfolding items_in
@@ -89,13 +89,13 @@ gathers_out (Some m) shape asked whole pending ns i items le g =
     sym (g ∙ ap (λ ms. items ++ items_at c (reverse pending) ms) (drop_all i ns le) ∙ ap (λ xs. items ++ xs) (no_more c (reverse pending)) ∙ append-nil items)
 
 -- all that follows the head
-pub gathers_through : (image : Option Image) (before : Image → List ℕ → List XaItem) (after : Image → List ℕ → List XaItem) (ns : List ℕ) (r : Result (List XaItem) Halt) → IfSome image (λ i. (ms : List ℕ) → before i ms ≡ after i ms) →
+pub gathers_through : (image : Option Image) (before : Image → List ℕ → List XaItem) (after : Image → List ℕ → List XaItem) (ns : List ℕ) (r : Result (List XaItem) TestStop) → IfSome image (λ i. (ms : List ℕ) → before i ms ≡ after i ms) →
     IfOk r (λ items. IfSome image (λ i. items ≡ after i ns)) → IfOk r (λ items. IfSome image (λ i. items ≡ before i ns))
 gathers_through image before after ns (Err halt) same e = tt
 gathers_through None before after ns (Ok items) same e = tt
 gathers_through (Some i) before after ns (Ok items) same e = e ∙ sym (same ns)
 
 -- a test ends for want of memory
-pub memory_tells : (A : Type 0) {I : Type 0} (test : I → Bool) (image : Option I) (halt : Halt) → halt ≡ halts.NoMemory → TellsAs {A = A} test image (Err halt)
+pub memory_tells : (A : Type 0) {I : Type 0} (test : I → Bool) (image : Option I) (halt : TestStop) → halt ≡ halts.NoMemory → TellsAs {A = A} test image (Err halt)
 memory_tells A test None halt e = tt
 memory_tells A test (Some i) halt e = rw e tt

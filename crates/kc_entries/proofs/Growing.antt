@@ -13,7 +13,7 @@ use Rattle.kc_found.specs.XaNodes.{XaCourse}
 use Rattle.kc_found.specs.XaSites.{node_site, words_behind, xa_node}
 use Rattle.kc_laws.specs.Trials.{passed_is}
 use Rattle.kc_xa.specs.Nodes.{EntriesAreGood, NodesAreGood}
-use Rattle.kc_shape.specs.Claiming.{Takes, claims, only_claims, takes_on}
+use Rattle.kc_laws.specs.Claiming.{Takes, claims, only_claims, takes_on}
 use Rattle.kc_entries.specs.declared.spots.XaSpot.{XaSpot}
 use Rattle.kc_entries.specs.Entries.{entered, is_node, listed, spot_site, spots_below}
 use Rattle.kc_entries.proofs.Leading.{leaf_is, node_is, none_is}

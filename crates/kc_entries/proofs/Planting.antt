@@ -11,7 +11,7 @@ use Rattle.kc_found.specs.XaEntries.{kind}
 use Rattle.kc_found.specs.XaNodes.{XaCourse}
 use Rattle.kc_found.specs.XaSites.{words_behind, xa_node}
 use Rattle.kc_xa.specs.Nodes.{EntriesAreGood, NodesAreGood}
-use Rattle.kc_shape.specs.Claiming.{Takes, claims, from_claims, takes_parts}
+use Rattle.kc_laws.specs.Claiming.{Takes, claims, from_claims, takes_parts}
 use Rattle.kc_entries.specs.declared.spots.XaSpot.{XaSpot}
 use Rattle.kc_entries.specs.Entries.{entered, entries, is_node, listed, spot_site, spots_below}
 use Rattle.kc_entries.proofs.Growing.{site_is}

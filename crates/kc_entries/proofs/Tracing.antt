@@ -20,9 +20,9 @@ use Rattle.kc_found.specs.XaEntries.{kind}
 use Rattle.kc_found.specs.XaLayouts.{XaLayout}
 use Rattle.kc_found.specs.XaNodes.{XaCourse, behind_entry}
 use Rattle.kc_found.specs.XaSites.{words_behind, xa_course}
-use Rattle.kc_shape.specs.declared.halt.Halt.{Halt}
-use Rattle.kc_shape.specs.declared.halt.Halt.TheVariants as halts
-use Rattle.kc_shape.specs.Answers.{TellsAs, halt_of}
+use Rattle.kc_found.specs.declared.test.TestStop.{TestStop}
+use Rattle.kc_found.specs.declared.test.TestStop.TheVariants as halts
+use Rattle.kc_found.specs.Tests.{TellsAs, test_stop_of}
 use Rattle.kc_xa.specs.Steps.{IsOpened}
 use Rattle.kc_entries.specs.declared.spots.XaSpot.{XaSpot}
 use Rattle.kc_entries.specs.Answers.{ListsAs, PassesAs}
@@ -95,7 +95,7 @@ broken_is : (p : Result (List ℕ) Violation) (there : Result XaWords Violation)
 broken_is (Ok m) there go v e = absurd (cc)
 broken_is (Err w) there go v e = refl
 
-pub node_halts : (A : Type 0) {B : Type 0} (u : B → List ℕ) (image : Option Image) (shape : XaLayout) (asked : Asked) (taken after : List ℕ) (s : XaSpot) (pending next : List XaSpot) (stop : WalkStop) (halt : Halt) → is_some s.fault ≡ false → is_node (kind shape.chunk s.word.value) ≡ true → halt ≡ halt_of stop →
+pub node_halts : (A : Type 0) {B : Type 0} (u : B → List ℕ) (image : Option Image) (shape : XaLayout) (asked : Asked) (taken after : List ℕ) (s : XaSpot) (pending next : List XaSpot) (stop : WalkStop) (halt : TestStop) → is_some s.fault ≡ false → is_node (kind shape.chunk s.word.value) ≡ true → halt ≡ test_stop_of stop →
     WalksAs u (λ i. passed taken (spot_site (xa_course i shape asked) s)) image (Err stop) → PassesAs {A = A} (Before shape asked taken s pending) (After shape asked after next) image (Err halt)
 node_halts A u None shape asked taken after s pending next stop halt f node to e = tt
 node_halts A u (Some m) shape asked taken after s pending next (ends.Broken v) halt f node to e =
@@ -119,11 +119,11 @@ node_goes v (Some m) shape asked taken s pending next o x u f node e is to =
     ∙ entered_at c s (passed taken (spot_site c s)) (words_behind c s.word) (v x) o (reverse pending) ns e is
     ∙ ap (λ ss. listed c (v x) ss ns) (sym (slots_first pending next (slot_spots shape.chunk o 0 o.slots) to))
 
-pub no_memory : (A : Type 0) {I : Type 0} (before after : I → List ℕ → Bool) (image : Option I) (halt : Halt) → halt ≡ halts.NoMemory → PassesAs {A = A} before after image (Err halt)
+pub no_memory : (A : Type 0) {I : Type 0} (before after : I → List ℕ → Bool) (image : Option I) (halt : TestStop) → halt ≡ halts.NoMemory → PassesAs {A = A} before after image (Err halt)
 no_memory A before after None halt e = tt
 no_memory A before after (Some i) halt e = rw e tt
 
-pub node_answers : {A B : Type 0} (v : B → List ℕ) (image : Option Image) (shape : XaLayout) (asked : Asked) (taken : List ℕ) (s : XaSpot) (pending next : List XaSpot) (o : XaNode) (x : B) (r : Result A Halt) → is_some s.fault ≡ false → is_node (kind shape.chunk s.word.value) ≡ true →
+pub node_answers : {A B : Type 0} (v : B → List ℕ) (image : Option Image) (shape : XaLayout) (asked : Asked) (taken : List ℕ) (s : XaSpot) (pending next : List XaSpot) (o : XaNode) (x : B) (r : Result A TestStop) → is_some s.fault ≡ false → is_node (kind shape.chunk s.word.value) ≡ true →
     WalksAs v (λ i. passed taken (spot_site (xa_course i shape asked) s)) image (Ok x) → IfSome image (λ i. IsOpened shape s.word s.index (words_behind (xa_course i shape asked) s.word) o) → OnOk r (next ≡ pending ++ reverse (slot_spots shape.chunk o 0 o.slots)) →
     IfErr r (λ halt. halt ≡ halts.NoMemory) → PassesAs (Before shape asked taken s pending) (After shape asked (v x) next) image r
 node_answers v image shape asked taken s pending next o x (Ok u) f node e is to none = node_goes v image shape asked taken s pending next o x u f node e is to
@@ -140,7 +140,7 @@ headed_not c (Err w) v ns e = refl
 headed_at : (c : XaCourse) (r : Result VWord Violation) (h : VWord) (ns : List ℕ) → r ≡ Ok h → headed c r ns ≡ listed c (with_word [] h.pa) (head_spot c.shape.chunk h ∷ []) ns
 headed_at c r h ns e = ap (λ r. headed c r ns) e
 
-pub head_halts : (A : Type 0) (image : Option Image) (shape : XaLayout) (start : ℕ) (after : List ℕ) (next : List XaSpot) (stop : WalkStop) (halt : Halt) → halt ≡ halt_of stop →
+pub head_halts : (A : Type 0) (image : Option Image) (shape : XaLayout) (start : ℕ) (after : List ℕ) (next : List XaSpot) (stop : WalkStop) (halt : TestStop) → halt ≡ test_stop_of stop →
     WalksAs (λ (w : VWord). w) (λ i. behind_entry (vword i) (asked_at start) None (at_offset start shape.head)) image (Err stop) → PassesAs {A = A} (λ i ns. is_xarray i shape start ns) (After shape (asked_at start) after next) image (Err halt)
 unfolding is_xarray
 head_halts A None shape start after next stop halt to e = tt
@@ -152,7 +152,7 @@ head_halts A (Some m) shape start after next ends.NoMemory halt to e = rw to tt
 never : {B : Type 0} (u : B → List ℕ) (taken : List ℕ) (pa : ℕ) (v w : Violation) → taken ≡ [] → claimed taken pa v ≡ Err w → ⊥
 never u taken pa v w e is = let no : Ok (with_word [] pa) ≡ Err w = sym (ap (λ ts. claimed ts pa v) e) ∙ is in cc
 
-pub claim_halts : (A : Type 0) {B : Type 0} (u : B → List ℕ) (before after : Image → List ℕ → Bool) (image : Option Image) (taken : List ℕ) (pa : ℕ) (v : Violation) (stop : WalkStop) (halt : Halt) → halt ≡ halt_of stop → taken ≡ [] → IsWalk u (claimed taken pa v) (Err stop) → PassesAs {A = A} before after image (Err halt)
+pub claim_halts : (A : Type 0) {B : Type 0} (u : B → List ℕ) (before after : Image → List ℕ → Bool) (image : Option Image) (taken : List ℕ) (pa : ℕ) (v : Violation) (stop : WalkStop) (halt : TestStop) → halt ≡ test_stop_of stop → taken ≡ [] → IsWalk u (claimed taken pa v) (Err stop) → PassesAs {A = A} before after image (Err halt)
 claim_halts A u before after None taken pa v stop halt to none e = tt
 claim_halts A u before after (Some m) taken pa v (ends.Broken f) halt to none e = absurd (never u taken pa v f none e)
 claim_halts A u before after (Some m) taken pa v ends.Fault halt to none e = rw to tt
@@ -169,7 +169,7 @@ head_goes (Some m) shape start taken more pending next h v u none empty e is to 
     let spots : next ≡ head_spot shape.chunk h ∷ [] = to ∙ ap (λ ss. ss ++ head_spot shape.chunk h ∷ []) empty in
     λ ns. headed_at c (behind_entry (vword m) (asked_at start) None (at_offset start shape.head)) h ns e ∙ ap (λ ts. listed c ts (head_spot shape.chunk h ∷ []) ns) same ∙ ap (λ ss. listed c more (reverse ss) ns) (sym spots)
 
-pub head_answers : {A : Type 0} (image : Option Image) (shape : XaLayout) (start : ℕ) (taken more : List ℕ) (pending next : List XaSpot) (h : VWord) (s : XaSpot) (v : Violation) (r : Result A Halt) → taken ≡ [] → pending ≡ [] →
+pub head_answers : {A : Type 0} (image : Option Image) (shape : XaLayout) (start : ℕ) (taken more : List ℕ) (pending next : List XaSpot) (h : VWord) (s : XaSpot) (v : Violation) (r : Result A TestStop) → taken ≡ [] → pending ≡ [] →
     WalksAs (λ (w : VWord). w) (λ i. behind_entry (vword i) (asked_at start) None (at_offset start shape.head)) image (Ok h) → claimed taken h.pa v ≡ Ok more → s ≡ head_spot shape.chunk h → OnOk r (next ≡ pending ++ s ∷ []) → IfErr r (λ halt. halt ≡ halts.NoMemory) →
     PassesAs (λ i ns. is_xarray i shape start ns) (After shape (asked_at start) more next) image r
 head_answers image shape start taken more pending next h s v (Ok u) none empty e is spot to memory = head_goes image shape start taken more pending next h v u none empty e is (to ∙ ap (λ x. pending ++ x ∷ []) spot)
@@ -209,7 +209,7 @@ at_own : (m : Image) (shape : XaLayout) (asked : Asked) (taken : List ℕ) (pend
     After shape asked taken pending m (drop i ns) ≡ Before shape asked taken s rest m (drop (i + 1) ns)
 at_own m shape asked taken pending rest s ns i n is e d = opens m shape asked taken pending rest s ns i n is e ∙ ap (λ k. listed (xa_course m shape asked) taken (s ∷ reverse rest) (k ∷ drop (i + 1) ns)) (eqb-true n s.word.value d)
 
-pub paces_stop : (A B : Type 0) (image : Option Image) (shape : XaLayout) (asked : Asked) (whole : Image → Bool) (taken after : List ℕ) (pending rest next : List XaSpot) (s : XaSpot) (ns : List ℕ) (i n : ℕ) (halt : Halt) → slice_get ns i ≡ Some n → pending ≡ rest ++ s ∷ [] → nat_eq n s.word.value ≡ true →
+pub paces_stop : (A B : Type 0) (image : Option Image) (shape : XaLayout) (asked : Asked) (whole : Image → Bool) (taken after : List ℕ) (pending rest next : List XaSpot) (s : XaSpot) (ns : List ℕ) (i n : ℕ) (halt : TestStop) → slice_get ns i ≡ Some n → pending ≡ rest ++ s ∷ [] → nat_eq n s.word.value ≡ true →
     PassesAs {A = B} (Before shape asked taken s rest) (After shape asked after next) image (Err halt) → Paced image shape asked whole taken pending (drop i ns) → TellsAs {A = A} whole image (Err halt)
 paces_stop A B None shape asked whole taken after pending rest next s ns i n halt is e d q p = tt
 paces_stop A B (Some m) shape asked whole taken after pending rest next s ns i n halts.Unfit is e d q p = p ∙ at_own m shape asked taken pending rest s ns i n is e d ∙ q (drop (i + 1) ns)
@@ -238,14 +238,14 @@ paces_short A (Some m) shape asked whole taken pending ns i le some p =
     ∙ still_waits (xa_course m shape asked) taken (reverse pending) (λ e. let none = ap (λ (ss : List XaSpot). length ss) (sym (reverse-reverse pending) ∙ ap reverse e) in omega (arith, none, some))
 
 -- the test after the head
-pub tells_through : {A B : Type 0} (image : Option Image) (before after : Image → List ℕ → Bool) (ns : List ℕ) (u : B) (r : Result A Halt) → PassesAs before after image (Ok u) → TellsAs (λ i. after i ns) image r → TellsAs (λ i. before i ns) image r
+pub tells_through : {A B : Type 0} (image : Option Image) (before after : Image → List ℕ → Bool) (ns : List ℕ) (u : B) (r : Result A TestStop) → PassesAs before after image (Ok u) → TellsAs (λ i. after i ns) image r → TellsAs (λ i. before i ns) image r
 tells_through None before after ns u r p t = tt
 tells_through (Some m) before after ns u (Ok x) p t = p ns ∙ t
 tells_through (Some m) before after ns u (Err halts.Unfit) p t = p ns ∙ t
 tells_through (Some m) before after ns u (Err halts.Fault) p t = tt
 tells_through (Some m) before after ns u (Err halts.NoMemory) p t = tt
 
-pub tells_halt : (A B : Type 0) (image : Option Image) (before after : Image → List ℕ → Bool) (ns : List ℕ) (halt : Halt) → PassesAs {A = B} before after image (Err halt) → TellsAs {A = A} (λ i. before i ns) image (Err halt)
+pub tells_halt : (A B : Type 0) (image : Option Image) (before after : Image → List ℕ → Bool) (ns : List ℕ) (halt : TestStop) → PassesAs {A = B} before after image (Err halt) → TellsAs {A = A} (λ i. before i ns) image (Err halt)
 tells_halt A B None before after ns halt p = tt
 tells_halt A B (Some m) before after ns halts.Unfit p = p ns
 tells_halt A B (Some m) before after ns halts.Fault p = tt
@@ -294,7 +294,7 @@ writes_on (Some m) shape asked whole taken after pending rest next s ms more u e
     let f = forward m shape asked whole taken pending rest s ms more e to p in
     record { goes = λ ns. f.goes ns ∙ q ns; only = f.only }
 
-pub writes_stop : (B : Type 0) (image : Option Image) (shape : XaLayout) (asked : Asked) (whole : Image → List ℕ → Bool) (taken after : List ℕ) (pending rest next : List XaSpot) (s : XaSpot) (ms more : List ℕ) (halt : Halt) → pending ≡ rest ++ s ∷ [] → more ≡ ms ++ s.word.value ∷ [] →
+pub writes_stop : (B : Type 0) (image : Option Image) (shape : XaLayout) (asked : Asked) (whole : Image → List ℕ → Bool) (taken after : List ℕ) (pending rest next : List XaSpot) (s : XaSpot) (ms more : List ℕ) (halt : TestStop) → pending ≡ rest ++ s ∷ [] → more ≡ ms ++ s.word.value ∷ [] →
     PassesAs {A = B} (Before shape asked taken s rest) (After shape asked after next) image (Err halt) → Writes image shape asked whole taken pending ms → ListsAs whole image (Err halt)
 writes_stop B None shape asked whole taken after pending rest next s ms more halt e to q p = tt
 writes_stop B (Some m) shape asked whole taken after pending rest next s ms more halts.Unfit e to q p =
@@ -312,18 +312,18 @@ writes_out None shape asked whole taken pending ms e p = tt
 writes_out (Some m) shape asked whole taken pending ms e p =
     ap (whole m) (sym (append-nil ms)) ∙ p.goes [] ∙ ap (λ ss. listed (xa_course m shape asked) taken (reverse ss) []) e
 
-pub memory_out : {I : Type 0} (whole : I → List ℕ → Bool) (image : Option I) (halt : Halt) → halt ≡ halts.NoMemory → ListsAs whole image (Err halt)
+pub memory_out : {I : Type 0} (whole : I → List ℕ → Bool) (image : Option I) (halt : TestStop) → halt ≡ halts.NoMemory → ListsAs whole image (Err halt)
 memory_out whole None halt e = tt
 memory_out whole (Some i) halt e = rw e tt
 
-pub lists_through : {B : Type 0} (image : Option Image) (before after : Image → List ℕ → Bool) (u : B) (r : Result (List ℕ) Halt) → PassesAs before after image (Ok u) → ListsAs after image r → ListsAs before image r
+pub lists_through : {B : Type 0} (image : Option Image) (before after : Image → List ℕ → Bool) (u : B) (r : Result (List ℕ) TestStop) → PassesAs before after image (Ok u) → ListsAs after image r → ListsAs before image r
 lists_through None before after u r p t = tt
 lists_through (Some m) before after u (Ok ns) p t = p ns ∙ t
 lists_through (Some m) before after u (Err halts.Unfit) p t = λ ns. p ns ∙ t ns
 lists_through (Some m) before after u (Err halts.Fault) p t = tt
 lists_through (Some m) before after u (Err halts.NoMemory) p t = tt
 
-pub lists_halt : (B : Type 0) (image : Option Image) (before after : Image → List ℕ → Bool) (halt : Halt) → PassesAs {A = B} before after image (Err halt) → ListsAs before image (Err halt)
+pub lists_halt : (B : Type 0) (image : Option Image) (before after : Image → List ℕ → Bool) (halt : TestStop) → PassesAs {A = B} before after image (Err halt) → ListsAs before image (Err halt)
 lists_halt B None before after halt p = tt
 lists_halt B (Some m) before after halts.Unfit p = p
 lists_halt B (Some m) before after halts.Fault p = tt

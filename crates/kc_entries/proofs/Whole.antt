@@ -12,7 +12,7 @@ use Rattle.kc_found.specs.XaEntries.{head_fault, kind}
 use Rattle.kc_found.specs.XaNodes.{XaCourse, behind_entry, found_by}
 use Rattle.kc_xa.specs.Laws.{XarraysAreWalked}
 use Rattle.kc_xa.specs.Nodes.{EntriesAreGood, HeadsAreGood, NodesAreGood}
-use Rattle.kc_shape.specs.Claiming.{Takes, distinct_takes, takes_distinct, takes_first, takes_more}
+use Rattle.kc_laws.specs.Claiming.{Takes, distinct_takes, takes_distinct, takes_first, takes_more}
 use Rattle.kc_entries.specs.Entries.{head_spot, headed, is_xarray, is_xarray_of, listed, pointers, top_entries}
 use Rattle.kc_entries.specs.Laws.{OnlyWalksPass, OnlyXarraysPass, WalksPass, XarraysPass, met_pointers}
 use Rattle.kc_entries.proofs.Growing.{grove}

@@ -3,27 +3,26 @@ ghost use Rattle.std.specs.Prelude.{◌≡◌, [], ◌∷◌, ◌++◌, reverse,
 ghost use Rattle.std.specs.List.{AllByRecursion};
 ghost use Rattle.kc_memory.specs.Stays.{SpaceStays};
 ghost use Rattle.kc_found.specs.XaSites.{xa_course};
-ghost use Rattle.kc_shape.specs.Answers.{CountsTestFaults};
+ghost use Rattle.kc_found.specs.Tests.{CountsTestFaults};
 ghost use Rattle.kc_entries.specs.Answers.{ListsAs};
 ghost use Rattle.kc_entries.specs.Entries.{is_xarray, listed};
 ghost use Rattle.kc_entries.specs.Falling.{IsSound};
 
 use crate::spots::XaSpot;
 use crate::steps::{enter_head, pass_spot};
-use kc_found::{Asked, Claims, Space, Walked, XaShape};
-use kc_shape::Halt;
+use kc_found::{Asked, Claims, Space, TestStop, Walked, XaShape};
 use kc_word::{NoMemory, Steps};
 use std::alloc::Global;
 use std::sync::ledger::Ledger;
 
 // Adds a number.
-fn push_number(numbers: &mut Walked, number: u64) -> Result<(), Halt>
+fn push_number(numbers: &mut Walked, number: u64) -> Result<(), TestStop>
     ensures added { OnOk result (numbers.new ≡ numbers.old ++ number ∷ []) }
-    ensures memory { IfErr result (λ halt. halt ≡ Halt.NoMemory) }
+    ensures memory { IfErr result (λ halt. halt ≡ TestStop.NoMemory) }
 {
     match numbers.push(number) {
         Ok(()) => Ok(()),
-        Err(NoMemory) => Err(Halt::NoMemory),
+        Err(NoMemory) => Err(TestStop::NoMemory),
     }
 }
 
@@ -37,7 +36,7 @@ fn list_numbers<S: Space, L: Ledger>(
     claims: &mut Claims,
     pending: &mut Vec<XaSpot>,
     steps: &mut Steps<L>,
-) -> Result<Walked, Halt>
+) -> Result<Walked, TestStop>
     requires { AllByRecursion (IsSound shape.now.chunk) pending.old.items }
     ensures lists { ListsAs (λ i ns. listed (xa_course i shape.now asked.now) claims.old (reverse pending.old.items) ns) (S.image space.old) result }
 
@@ -63,7 +62,7 @@ pub fn list_xarray<S: Space, L: Ledger>(
     shape: &XaShape,
     start: u64,
     steps: &mut Steps<L>,
-) -> Result<Walked, Halt>
+) -> Result<Walked, TestStop>
     ensures lists { ListsAs (λ i ns. is_xarray i shape.now start ns) (S.image space.old) result }
 
     ensures stays { SpaceStays S.image S.files S.through S.most space.old space.new }

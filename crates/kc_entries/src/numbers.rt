@@ -3,23 +3,22 @@ ghost use Rattle.std.specs.Prelude.{◌≡◌, ◌+◌, ◌*◌, ◌≤◌, ◌+
 ghost use Rattle.std.specs.List.{AllByRecursion};
 ghost use Rattle.kc_memory.specs.Stays.{SpaceStays};
 ghost use Rattle.kc_found.specs.XaSites.{xa_course};
-ghost use Rattle.kc_shape.specs.Answers.{CountsTestFaults, TellsAs};
+ghost use Rattle.kc_found.specs.Tests.{CountsTestFaults, TellsAs};
 ghost use Rattle.kc_entries.specs.Entries.{is_xarray, item_at, items_at, items_in, listed, pointers};
 ghost use Rattle.kc_entries.specs.Falling.{IsSound};
 
 use crate::spots::XaSpot;
 use crate::steps::{enter_head, pass_spot};
-use kc_found::{Asked, Claims, Space, Walked, XaEntry, XaItem, XaShape, XaWalked};
-use kc_shape::Halt;
+use kc_found::{Asked, Claims, Space, TestStop, Walked, XaEntry, XaItem, XaShape, XaWalked};
 use kc_word::{NoMemory, Steps};
 use kc_xa::entry_of;
 use std::alloc::Global;
 use std::sync::ledger::Ledger;
 
 // Adds the pointer at a position, if there is one.
-fn push_pointer(items: &mut XaWalked, shape: &XaShape, spot: &XaSpot) -> Result<(), Halt>
+fn push_pointer(items: &mut XaWalked, shape: &XaShape, spot: &XaSpot) -> Result<(), TestStop>
     ensures added { OnOk result (items.new ≡ items.old ++ item_at shape.now.chunk spot.now) }
-    ensures memory { IfErr result (λ halt. halt ≡ Halt.NoMemory) }
+    ensures memory { IfErr result (λ halt. halt ≡ TestStop.NoMemory) }
 {
     match entry_of(shape, &spot.word) {
         XaEntry::Pointer => {}
@@ -36,7 +35,7 @@ fn push_pointer(items: &mut XaWalked, shape: &XaShape, spot: &XaSpot) -> Result<
     };
     match items.push(item) {
         Ok(()) => Ok(()),
-        Err(NoMemory) => Err(Halt::NoMemory),
+        Err(NoMemory) => Err(TestStop::NoMemory),
     }
 }
 
@@ -51,7 +50,7 @@ fn test_numbers<S: Space, L: Ledger>(
     pending: &mut Vec<XaSpot>,
     numbers: &Walked,
     steps: &mut Steps<L>,
-) -> Result<XaWalked, Halt>
+) -> Result<XaWalked, TestStop>
     requires { AllByRecursion (IsSound shape.now.chunk) pending.old.items }
     ensures test { TellsAs (λ i. listed (xa_course i shape.now asked.now) claims.old (reverse pending.old.items) numbers.now) (S.image space.old) result }
     ensures items { IfOk result (λ items. IfSome (S.image space.old) (λ i. items ≡ items_at (xa_course i shape.now asked.now) (reverse pending.old.items) numbers.now)) }
@@ -65,10 +64,10 @@ fn test_numbers<S: Space, L: Ledger>(
         let number = *numbers.get(i);
         let spot = match pending.pop() {
             Some(spot) => spot,
-            None => return Err(Halt::Unfit),
+            None => return Err(TestStop::Unfit),
         };
         if number != spot.word.value {
-            return Err(Halt::Unfit);
+            return Err(TestStop::Unfit);
         }
         push_pointer(&mut items, shape, &spot)?;
         pass_spot(alloc, space, shape, asked, claims, pending, &spot, steps)?;
@@ -76,7 +75,7 @@ fn test_numbers<S: Space, L: Ledger>(
     if pending.len() == 0 {
         Ok(items)
     } else {
-        Err(Halt::Unfit)
+        Err(TestStop::Unfit)
     }
 }
 
@@ -94,7 +93,7 @@ pub fn xarray_items<S: Space, L: Ledger>(
     start: u64,
     numbers: &Walked,
     steps: &mut Steps<L>,
-) -> Result<XaWalked, Halt>
+) -> Result<XaWalked, TestStop>
     ensures test { TellsAs (λ i. is_xarray i shape.now start numbers.now) (S.image space.old) result }
     ensures items { IfOk result (λ items. IfSome (S.image space.old) (λ i. items ≡ items_in i shape.now start numbers.now)) }
     ensures steps { steps.new ≤ steps.old + 12 + 420 * length numbers.now }
@@ -130,7 +129,7 @@ pub fn test_xarray<S: Space, L: Ledger>(
     start: u64,
     numbers: &Walked,
     steps: &mut Steps<L>,
-) -> Result<(), Halt>
+) -> Result<(), TestStop>
     ensures test { TellsAs (λ i. is_xarray i shape.now start numbers.now) (S.image space.old) result }
     ensures steps { steps.new ≤ steps.old + 12 + 420 * length numbers.now }
 

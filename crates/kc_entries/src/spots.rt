@@ -2,8 +2,7 @@
 ghost use Rattle.std.specs.Prelude.{◌≡◌, ◌<◌, ◌≤◌, [], ◌∷◌, ◌++◌, length, reverse, IfErr, OnOk};
 ghost use Rattle.kc_entries.specs.Entries.{head_spot, slot_spot, slot_spots};
 
-use kc_found::{Rule, VWord, XaHolder, XaNode, XaShape};
-use kc_shape::Halt;
+use kc_found::{Rule, TestStop, VWord, XaHolder, XaNode, XaShape};
 use kc_xa::{entry_of, head_fault, index_of, slot_fault};
 
 /// A position in an xarray: its head, or a slot.
@@ -54,13 +53,13 @@ fn slot_spot(shape: &XaShape, node: &XaNode, slot: u64, word: VWord) -> XaSpot
 }
 
 // Adds a position.
-pub(crate) fn push_spot(pending: &mut Vec<XaSpot>, spot: XaSpot) -> Result<(), Halt>
+pub(crate) fn push_spot(pending: &mut Vec<XaSpot>, spot: XaSpot) -> Result<(), TestStop>
     ensures added { OnOk result (pending.new.items ≡ pending.old.items ++ spot ∷ []) }
-    ensures memory { IfErr result (λ halt. halt ≡ Halt.NoMemory) }
+    ensures memory { IfErr result (λ halt. halt ≡ TestStop.NoMemory) }
 {
     match pending.push(spot) {
         Ok(()) => Ok(()),
-        Err(_) => Err(Halt::NoMemory),
+        Err(_) => Err(TestStop::NoMemory),
     }
 }
 
@@ -69,11 +68,11 @@ pub(crate) fn push_slots(
     pending: &mut Vec<XaSpot>,
     shape: &XaShape,
     node: &XaNode,
-) -> Result<(), Halt>
+) -> Result<(), TestStop>
     requires small { node.now.shift ≤ 60 }
     requires size { length node.now.slots ≤ 64 }
     ensures added { OnOk result (pending.new.items ≡ pending.old.items ++ reverse (slot_spots shape.now.chunk node.now 0 node.now.slots)) }
-    ensures memory { IfErr result (λ halt. halt ≡ Halt.NoMemory) }
+    ensures memory { IfErr result (λ halt. halt ≡ TestStop.NoMemory) }
 {
     let count = node.slots.len();
     for i in 0..count {

@@ -3,14 +3,13 @@ ghost use Rattle.std.specs.Prelude.{◌≡◌, ℕ, ◌+◌, ◌*◌, ◌≤◌,
 ghost use Rattle.std.specs.List.{AllByRecursion};
 ghost use Rattle.kc_memory.specs.Stays.{SpaceStays};
 ghost use Rattle.kc_found.specs.XaSites.{xa_course};
-ghost use Rattle.kc_shape.specs.Answers.{CountsTestFaults};
+ghost use Rattle.kc_found.specs.Tests.{CountsTestFaults};
 ghost use Rattle.kc_entries.specs.Answers.{PassesAs};
 ghost use Rattle.kc_entries.specs.Entries.{is_xarray, items_at, items_in, listed, spots_next};
 ghost use Rattle.kc_entries.specs.Falling.{IsSound, weights, weight};
 
 use crate::spots::{XaSpot, head_spot, push_slots, push_spot};
-use kc_found::{Asked, Claims, Space, XaEntry, XaShape, take_word};
-use kc_shape::{Halt, halt_of, know_most};
+use kc_found::{Asked, Claims, Space, TestStop, XaEntry, XaShape, know_most, take_word, test_stop_of};
 use kc_word::Steps;
 use kc_xa::{entry_of, know_chunk, open_node, read_head};
 use std::alloc::Global;
@@ -26,7 +25,7 @@ pub(crate) fn enter_head<S: Space, L: Ledger>(
     claims: &mut Claims,
     pending: &mut Vec<XaSpot>,
     steps: &mut Steps<L>,
-) -> Result<(), Halt>
+) -> Result<(), TestStop>
     requires none { claims.old ≡ [] }
     requires empty { pending.old.items ≡ [] }
     ensures passes { PassesAs (λ i ns. is_xarray i shape.now start ns) (λ i ns. listed (xa_course i shape.now (record { audit = 0; start = start })) claims.new (reverse pending.new.items) ns) (S.image space.old) result }
@@ -41,11 +40,11 @@ pub(crate) fn enter_head<S: Space, L: Ledger>(
     know_most(space);
     let head = match read_head(alloc, space, shape, &asked, steps) {
         Ok(head) => head,
-        Err(stop) => return Err(halt_of(stop)),
+        Err(stop) => return Err(test_stop_of(stop)),
     };
     match take_word(alloc, claims, &asked, &head) {
         Ok(()) => {}
-        Err(stop) => return Err(halt_of(stop)),
+        Err(stop) => return Err(test_stop_of(stop)),
     }
     push_spot(pending, head_spot(shape, head))
 }
@@ -76,7 +75,7 @@ pub(crate) fn pass_spot<S: Space, L: Ledger>(
     pending: &mut Vec<XaSpot>,
     spot: &XaSpot,
     steps: &mut Steps<L>,
-) -> Result<(), Halt>
+) -> Result<(), TestStop>
     requires spot { IsSound shape.now.chunk spot.now }
     requires pending { AllByRecursion (IsSound shape.now.chunk) pending.old.items }
     ensures passes { PassesAs (λ i ns. listed (xa_course i shape.now asked.now) claims.old (spot.now ∷ reverse pending.old.items) (spot.now.word.value ∷ ns)) (λ i ns. listed (xa_course i shape.now asked.now) claims.new (reverse pending.new.items) ns) (S.image space.old) result }
@@ -89,7 +88,7 @@ pub(crate) fn pass_spot<S: Space, L: Ledger>(
     ensures cause { CountsTestFaults result (S.faults space.old) (S.faults space.new) }
 {
     if spot.fault.is_some() {
-        return Err(Halt::Unfit);
+        return Err(TestStop::Unfit);
     }
     if !is_node(entry_of(shape, &spot.word)) {
         return Ok(());
@@ -108,7 +107,7 @@ pub(crate) fn pass_spot<S: Space, L: Ledger>(
         steps,
     ) {
         Ok(node) => node,
-        Err(stop) => return Err(halt_of(stop)),
+        Err(stop) => return Err(test_stop_of(stop)),
     };
     push_slots(pending, shape, &node)
 }

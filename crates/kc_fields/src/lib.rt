@@ -10,18 +10,13 @@ ghost use Rattle.kc_found.specs.Walks.{CountsWalkFaults, IsNamed, WalksAs};
 ghost use Rattle.kc_view.specs.Fields.{field_of, holds, or_missed};
 ghost use Rattle.kc_view.specs.Words.{WalkStepsOf, words_at};
 
-use kc_found::{Asked, Rule, WalkStop, broken_field, stopped};
+use kc_found::{Asked, Rule, WalkStop, broken_field, know_most, stopped};
 use kc_layout::Field;
 use kc_memory::Space;
 use kc_view::{FieldNumber, View, field_of};
 use kc_word::Steps;
 use std::alloc::Global;
 use std::sync::ledger::Ledger;
-
-/// Does nothing. A word takes six steps at most.
-pub fn know_most<S: Space>(space: &S)
-    ensures { S.most space.now ≤ 6 }
-{}
 
 /// A field of a struct of this type, which a walk reads. It reads no word that the number doesn't need, and
 /// takes memory for the place of a refused paging entry alone.

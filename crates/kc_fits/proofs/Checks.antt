@@ -9,8 +9,8 @@ use Rattle.kc_plan.specs.Events.{Event, Walk, Wrong, first_wrong}
 use Rattle.kc_plan.specs.Planned.{AuditAt, CheckAt}
 use Rattle.kc_plan.specs.Seen.{checks_seen, world}
 use Rattle.kc_run.specs.Tally.{TalliesAs, added, tally}
-use Rattle.kc_shape.specs.declared.halt.Halt.TheVariants.{Unfit}
-use Rattle.kc_shape.specs.Answers.{TellsAs}
+use Rattle.kc_found.specs.declared.test.TestStop.TheVariants.{Unfit}
+use Rattle.kc_found.specs.Tests.{TellsAs}
 use Rattle.kc_fits.specs.Fits.{checks_hold}
 
 -- what is counted, and the first violation

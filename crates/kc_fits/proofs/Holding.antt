@@ -6,9 +6,9 @@ use Rattle.kc_memory.specs.Image.{Image}
 use Rattle.kc_plan.specs.Planned.{AuditAt}
 use Rattle.kc_plan.specs.Seen.{container_of}
 use Rattle.kc_cert_text.specs.Drops.{drop_at}
-use Rattle.kc_shape.specs.declared.halt.Halt.{Halt}
-use Rattle.kc_shape.specs.declared.halt.Halt.TheVariants.{Unfit, Fault, NoMemory}
-use Rattle.kc_shape.specs.Answers.{TellsAs}
+use Rattle.kc_found.specs.declared.test.TestStop.{TestStop}
+use Rattle.kc_found.specs.declared.test.TestStop.TheVariants.{Unfit, Fault, NoMemory}
+use Rattle.kc_found.specs.Tests.{TellsAs}
 use Rattle.kc_fits.specs.Fits.{all_hold, checks_hold}
 
 -- the checks of some elements, and of one more
@@ -27,7 +27,7 @@ pub hold_goes : {A : Type 0} (image : Option Image) (n : ℕ) (a : AuditAt) (sta
 hold_goes None n a start nodes k node u is l e = tt
 hold_goes (Some i) n a start nodes k node u is l e = l ∙ all_hold_at i n a start nodes k node is ∙ ap (λ b. b && all_hold i n a start (drop (k + 1) nodes)) e
 
-pub hold_halts : (A B : Type 0) (image : Option Image) (n : ℕ) (a : AuditAt) (start : ℕ) (nodes : List ℕ) (k node : ℕ) (halt : Halt) → slice_get nodes k ≡ Some node → HoldLeft image n a start nodes (drop k nodes) →
+pub hold_halts : (A B : Type 0) (image : Option Image) (n : ℕ) (a : AuditAt) (start : ℕ) (nodes : List ℕ) (k node : ℕ) (halt : TestStop) → slice_get nodes k ≡ Some node → HoldLeft image n a start nodes (drop k nodes) →
     TellsAs {A = B} (λ i. checks_hold i n a start (container_of a.link node)) image (Err halt) → TellsAs {A = A} (λ i. all_hold i n a start nodes) image (Err halt)
 hold_halts A B None n a start nodes k node halt is l e = tt
 hold_halts A B (Some i) n a start nodes k node Unfit is l e = l ∙ all_hold_at i n a start nodes k node is ∙ ap (λ b. b && all_hold i n a start (drop (k + 1) nodes)) e

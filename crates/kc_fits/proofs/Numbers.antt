@@ -9,7 +9,7 @@ use Rattle.kc_pid_lists.specs.Laws.{FewPidNodes}
 use Rattle.kc_fits.specs.Walked.{ShapesAreLong}
 use Rattle.kc_fits.specs.Size.{lists_size}
 use Rattle.kc_fits.specs.Shapes.{first_list}
-use Rattle.kc_shape.specs.Trees.{popped, turn}
+use Rattle.kc_rb.specs.Listed.Trees.{popped, turn}
 
 pub first_short : (lists : List (List ℕ)) → length (first_list lists) ≤ lists_size lists
 first_short [] = omega arith

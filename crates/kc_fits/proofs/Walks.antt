@@ -6,12 +6,13 @@ use Rattle.kc_kinds.specs.declared.kind.Kind.TheVariants.{Ring, Hlist, Rbtree, X
 use Rattle.kc_found.specs.XaSites.{entries_in}
 use Rattle.kc_plan.specs.Seen.{walked}
 use Rattle.kc_kinds.specs.Structures.{nodes_of}
-use Rattle.kc_shape.specs.Laws.{HashChainsAreTested, OnlyTreesPass, RingsAreTested}
+use Rattle.kc_list.specs.ListedLaws.{HashChainsAreTested, RingsAreTested}
+use Rattle.kc_rb.specs.Listed.Laws.{OnlyTreesPass}
 use Rattle.kc_rb.specs.Laws.{TreesAreWalked}
 use Rattle.kc_entries.specs.Laws.{OnlyWalksPass}
 use Rattle.kc_given.specs.Laws.{CacheListsGive, TaskListsGive}
 use Rattle.kc_pid_lists.specs.Laws.{PidListsGive}
-use Rattle.kc_shape.specs.Trees.{turn}
+use Rattle.kc_rb.specs.Listed.Trees.{turn}
 use Rattle.kc_fits.specs.Walked.{ShapesAreWalked}
 use Rattle.kc_fits.specs.Shapes.{is_shape}
 

@@ -3,8 +3,8 @@ use Rattle.std.specs.Prelude.{ℕ, Bool, false, List, [], ◌∷◌}
 use Rattle.kc_found.specs.declared.asked.Asked.{Asked}
 use Rattle.kc_memory.specs.Image.{Image}
 use Rattle.kc_memory.specs.Translation.{vword}
-use Rattle.kc_shape.specs.Rings.{is_hash_chain, is_ring}
-use Rattle.kc_shape.specs.Trees.{is_tree, turn}
+use Rattle.kc_list.specs.Listed.{is_hash_chain, is_ring}
+use Rattle.kc_rb.specs.Listed.Trees.{is_tree, turn}
 use Rattle.kc_entries.specs.Entries.{is_xarray, pointers}
 use Rattle.kc_given.specs.Apart.{cache_nodes, task_nodes}
 use Rattle.kc_given.specs.Tests.{are_cache_lists, are_task_lists}

@@ -3,7 +3,7 @@ ghost use Rattle.std.specs.Prelude.{◌≡◌, ◌+◌, ◌*◌, ◌≤◌, leng
 ghost use Rattle.kc_memory.specs.Stays.{SpaceStays};
 ghost use Rattle.kc_kinds.specs.Inside.{KindInside};
 ghost use Rattle.kc_plan.specs.Planned.{audit_seen};
-ghost use Rattle.kc_shape.specs.Answers.{CountsTestFaults, TellsAs};
+ghost use Rattle.kc_found.specs.Tests.{CountsTestFaults, TellsAs};
 ghost use Rattle.kc_fits.specs.Fits.{all_hold, checks_hold, fits};
 ghost use Rattle.kc_fits.specs.Size.{lists_size};
 ghost use Rattle.kc_fits.specs.Shapes.{nodes_in};
@@ -11,10 +11,9 @@ ghost use Rattle.kc_fits.specs.Shapes.{nodes_in};
 use crate::shape::test_shape;
 use kc_btf::Btf;
 use kc_cert_text::CertStep;
-use kc_found::{Asked, Space, WalkStop, Walked};
+use kc_found::{Asked, Space, TestStop, WalkStop, Walked};
 use kc_plan::Audit;
 use kc_run::{container_of, look_checks};
-use kc_shape::Halt;
 use kc_word::Steps;
 use std::alloc::Global;
 use std::sync::ledger::Ledger;
@@ -28,7 +27,7 @@ fn test_checks<S: Space, L: Ledger>(
     asked: &Asked,
     element: u64,
     steps: &mut Steps<L>,
-) -> Result<(), Halt>
+) -> Result<(), TestStop>
     ensures test { TellsAs (λ i. checks_hold i asked.now.audit (audit_seen audit.now) asked.now.start element) (S.image space.old) result }
     ensures steps { steps.new ≤ steps.old + 15360 }
 
@@ -37,9 +36,9 @@ fn test_checks<S: Space, L: Ledger>(
 {
     match look_checks(alloc, btf, space, asked, &audit.checks, element, steps) {
         Ok(()) => Ok(()),
-        Err(WalkStop::Broken(_)) => Err(Halt::Unfit),
-        Err(WalkStop::Fault) => Err(Halt::Fault),
-        Err(WalkStop::NoMemory) => Err(Halt::NoMemory),
+        Err(WalkStop::Broken(_)) => Err(TestStop::Unfit),
+        Err(WalkStop::Fault) => Err(TestStop::Fault),
+        Err(WalkStop::NoMemory) => Err(TestStop::NoMemory),
     }
 }
 
@@ -52,7 +51,7 @@ fn test_elements<S: Space, L: Ledger>(
     asked: &Asked,
     nodes: &Walked,
     steps: &mut Steps<L>,
-) -> Result<(), Halt>
+) -> Result<(), TestStop>
     ensures test { TellsAs (λ i. all_hold i asked.now.audit (audit_seen audit.now) asked.now.start nodes.now) (S.image space.old) result }
     ensures steps { steps.new ≤ steps.old + 15360 * length nodes.now }
 
@@ -82,7 +81,7 @@ pub fn test_step<S: Space, L: Ledger>(
     step: &CertStep,
     nodes: &Walked,
     steps: &mut Steps<L>,
-) -> Result<(), Halt>
+) -> Result<(), TestStop>
     requires nodes { nodes.now ≡ nodes_in audit.now.kind step.now.lists }
     requires kind { KindInside (length btf.now.records) audit.now.kind }
 
@@ -93,7 +92,7 @@ pub fn test_step<S: Space, L: Ledger>(
     ensures cause { CountsTestFaults result (S.faults space.old) (S.faults space.new) }
 {
     if step.audit != asked.audit || step.start != asked.start {
-        return Err(Halt::Unfit);
+        return Err(TestStop::Unfit);
     }
     test_shape(alloc, space, btf, &audit.kind, asked, &step.lists, steps)?;
     test_elements(alloc, btf, space, audit, asked, nodes, steps)

@@ -3,10 +3,9 @@ ghost use Rattle.kc_fits.specs.Walked.{ShapesAreLong, ShapesAreWalked};
 
 use kc_entries::know_entries;
 use kc_given::know_given_lists;
-use kc_list::know_lists;
+use kc_list::{know_listed_rings, know_lists};
 use kc_pid_lists::know_pid_lists;
-use kc_rb::know_trees;
-use kc_shape::know_shapes;
+use kc_rb::{know_listed_trees, know_trees};
 
 /// Does nothing. Shapes are what is walked, and have no more nodes than numbers.
 pub fn know_walked()
@@ -16,7 +15,8 @@ pub fn know_walked()
     know_entries();
     know_given_lists();
     know_pid_lists();
-    know_shapes();
+    know_listed_rings();
+    know_listed_trees();
     know_lists();
     know_trees();
 }

@@ -2,18 +2,19 @@
 ghost use Rattle.std.specs.Prelude.{◌≡◌, ◌+◌, ◌*◌, ◌≤◌, length, IfOk};
 ghost use Rattle.kc_memory.specs.Stays.{SpaceStays};
 ghost use Rattle.kc_kinds.specs.Inside.{KindInside};
-ghost use Rattle.kc_shape.specs.Answers.{CountsTestFaults, TellsAs};
+ghost use Rattle.kc_found.specs.Tests.{CountsTestFaults, TellsAs};
 ghost use Rattle.kc_fits.specs.Size.{lists_size};
 ghost use Rattle.kc_fits.specs.Shapes.{first_list, is_shape, nodes_in};
 
 use kc_btf::Btf;
 use kc_cert_text::Lists;
 use kc_entries::{pointers_in, test_xarray};
-use kc_found::{Asked, Space, Walked};
+use kc_found::{Asked, Space, TestStop, Walked};
 use kc_given::{cache_nodes, task_nodes, test_cache, test_tasks};
+use kc_list::{test_chain, test_ring};
 use kc_pid_lists::{pid_nodes, test_pids};
 use kc_plan::Kind;
-use kc_shape::{Halt, test_chain, test_ring, test_tree, turned};
+use kc_rb::{test_tree, turned};
 use kc_word::{NoMemory, Steps};
 use std::alloc::Global;
 use std::sync::ledger::Ledger;
@@ -28,7 +29,7 @@ pub(crate) fn test_shape<S: Space, L: Ledger>(
     asked: &Asked,
     lists: &Lists,
     steps: &mut Steps<L>,
-) -> Result<(), Halt>
+) -> Result<(), TestStop>
     requires { KindInside (length btf.now.records) kind.now }
 
     ensures test { TellsAs (λ i. is_shape i kind.now asked.now.audit asked.now.start lists.now) (S.image space.old) result }
@@ -40,25 +41,25 @@ pub(crate) fn test_shape<S: Space, L: Ledger>(
     match kind {
         Kind::Ring(shape) => {
             let [nodes] = lists.as_slice() else {
-                return Err(Halt::Unfit);
+                return Err(TestStop::Unfit);
             };
             test_ring(alloc, space, shape, asked.start, nodes, steps)
         }
         Kind::Hlist(shape) => {
             let [nodes] = lists.as_slice() else {
-                return Err(Halt::Unfit);
+                return Err(TestStop::Unfit);
             };
             test_chain(alloc, space, shape, asked.start, nodes, steps)
         }
         Kind::Rbtree(shape) => {
             let [preorder] = lists.as_slice() else {
-                return Err(Halt::Unfit);
+                return Err(TestStop::Unfit);
             };
             test_tree(alloc, space, shape, asked.start, preorder, steps)
         }
         Kind::Xarray(shape) => {
             let [entries] = lists.as_slice() else {
-                return Err(Halt::Unfit);
+                return Err(TestStop::Unfit);
             };
             test_xarray(alloc, space, shape, asked.start, entries, steps)
         }

@@ -21,9 +21,9 @@ use Rattle.kc_found.specs.Walks.{TakesAs}
 use Rattle.kc_laws.specs.Chains.{told_begins, told_ends, told_goes, told_goes_broken}
 use Rattle.kc_laws.specs.Trials.{met-append, passed_is, unbroken_parts}
 use Rattle.kc_slub.specs.Laws.{FreeListsAreChains}
-use Rattle.kc_shape.specs.declared.halt.Halt.{Halt}
-use Rattle.kc_shape.specs.declared.halt.Halt.TheVariants.{Unfit}
-use Rattle.kc_shape.specs.Answers.{TellsAs, halt_of}
+use Rattle.kc_found.specs.declared.test.TestStop.{TestStop}
+use Rattle.kc_found.specs.declared.test.TestStop.TheVariants.{Unfit}
+use Rattle.kc_found.specs.Tests.{TellsAs, test_stop_of}
 use Rattle.kc_given.specs.Tests.{is_free_list, nobody}
 use Rattle.kc_given.specs.Same.{false_by, free_list_is, no_err, ok_is}
 
@@ -87,7 +87,7 @@ tells_not A (Some i) grid first os none = false_by (is_free_list i grid first os
 heads : {xs ys : List ℕ} {x y : ℕ} → x ∷ xs ≡ y ∷ ys → x ≡ y
 heads {xs} {ys} {x} {y} e = ap (λ ms. get_or ms 0 0) e
 
-pub tells_stop : (A B : Type 0) (image : Option Image) (grid : Grid) (first : Number) (taken after os : List ℕ) (i : ℕ) (s : FreeLed) (stop : WalkStop) (halt : Halt) → halt ≡ halt_of stop → Comes image grid first taken os i s → nat_eq s.to 0 ≡ false →
+pub tells_stop : (A B : Type 0) (image : Option Image) (grid : Grid) (first : Number) (taken after os : List ℕ) (i : ℕ) (s : FreeLed) (stop : WalkStop) (halt : TestStop) → halt ≡ test_stop_of stop → Comes image grid first taken os i s → nat_eq s.to 0 ≡ false →
     TakesAs {A = B} (λ i. free_site nobody grid (number_in i (pointer_at grid s.to)) s) taken after image (Err stop) → TellsAs {A = A} (λ i. is_free_list i grid first os) image (Err halt)
 tells_stop A B None grid first taken after os i s stop halt to c inner e = tt
 tells_stop A B (Some d) grid first taken after os i s (ends.Broken v) halt to c inner e =

@@ -18,8 +18,8 @@ use Rattle.kc_chains.specs.Given.{GivenFreeAreTaken, GivenRingsAreTaken, free_gi
 use Rattle.kc_chains.specs.Laws.{CacheListsAreTaken, CacheListsAreWalked, CachesAgree, ChainsAreKept, TaskListsAreTaken, TaskListsAreWalked, TasksAgree}
 use Rattle.kc_chains.specs.TasksBy.{task_lists}
 use Rattle.kc_list.specs.Laws.{RingsAreWalked}
-use Rattle.kc_shape.specs.Laws.{RingsAreTested}
-use Rattle.kc_shape.specs.Rings.{is_ring}
+use Rattle.kc_list.specs.ListedLaws.{RingsAreTested}
+use Rattle.kc_list.specs.Listed.{is_ring}
 use Rattle.kc_slub.specs.Laws.{FreeListsAreWalked}
 use Rattle.kc_given.specs.Apart.{cache_nodes, nodes_apart, numbers, task_nodes}
 use Rattle.kc_given.specs.Laws.{CacheListsAreKept, CacheListsAreUsedUp, CacheListsGive, CachesHaveLists, ChainsAreTested, FewCacheNodes, FewTaskNodes, TaskListsAreKept, TaskListsAreUsedUp, TaskListsGive, TasksHaveLists, asked_by}

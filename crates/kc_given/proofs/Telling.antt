@@ -15,9 +15,9 @@ use Rattle.kc_found.specs.Violations.{Violation}
 use Rattle.kc_found.specs.Walks.{OnBroken, WalksAs}
 use Rattle.kc_chains.specs.Chains.{Came, ChainPays, Lists, size}
 use Rattle.kc_chains.specs.Given.{misfit, taken_if}
-use Rattle.kc_shape.specs.declared.halt.Halt.{Halt}
-use Rattle.kc_shape.specs.declared.halt.Halt.TheVariants.{Unfit, Fault, NoMemory}
-use Rattle.kc_shape.specs.Answers.{TellsAs}
+use Rattle.kc_found.specs.declared.test.TestStop.{TestStop}
+use Rattle.kc_found.specs.declared.test.TestStop.TheVariants.{Unfit, Fault, NoMemory}
+use Rattle.kc_found.specs.Tests.{TellsAs}
 use Rattle.kc_given.specs.Apart.{nodes_apart, task_nodes}
 use Rattle.kc_given.specs.Ends.{ended}
 use Rattle.kc_given.proofs.CachesTake.{give_first, give_none, pass_over}
@@ -62,7 +62,7 @@ list_taken (Some i) test v lists at ns (Err ends.Fault) u is same none e = tt
 list_taken (Some i) test v lists at ns (Err ends.NoMemory) u is same none e = tt
 
 -- where its test halts, the walk ends
-pub list_halts : (A B : Type 0) (image : Option Image) (test : Image → List ℕ → Bool) (asked : Asked) (rule : Rule) (va : ℕ) (view : B → List ℕ × Lists) (lists : Lists) (at : ℕ) (ns : List ℕ) (halt : Halt) (stop : WalkStop) →
+pub list_halts : (A B : Type 0) (image : Option Image) (test : Image → List ℕ → Bool) (asked : Asked) (rule : Rule) (va : ℕ) (view : B → List ℕ × Lists) (lists : Lists) (at : ℕ) (ns : List ℕ) (halt : TestStop) (stop : WalkStop) →
     slice_get lists at ≡ Some ns → stop ≡ ended asked rule va halt → TellsAs {A = A} (λ i. test i ns) image (Err halt) → WalksAs view (λ i. taken_if (test i) (misfit asked rule va) (drop at lists)) image (Err stop)
 list_halts A B None test asked rule va view lists at ns halt stop is to e = tt
 list_halts A B (Some i) test asked rule va view lists at ns Unfit stop is to e =

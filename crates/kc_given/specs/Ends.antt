@@ -5,11 +5,11 @@ use Rattle.kc_found.specs.declared.asked.Asked.{Asked}
 use Rattle.kc_found.specs.declared.found.WalkStop.{WalkStop}
 use Rattle.kc_found.specs.declared.found.WalkStop.TheVariants as ends
 use Rattle.kc_chains.specs.Given.{misfit}
-use Rattle.kc_shape.specs.declared.halt.Halt.{Halt}
-use Rattle.kc_shape.specs.declared.halt.Halt.TheVariants.{Unfit, Fault, NoMemory}
+use Rattle.kc_found.specs.declared.test.TestStop.{TestStop}
+use Rattle.kc_found.specs.declared.test.TestStop.TheVariants.{Unfit, Fault, NoMemory}
 
 -- at a chain whose test halted
-abbrev pub ended : Asked → Rule → ℕ → Halt → WalkStop
+abbrev pub ended : Asked → Rule → ℕ → TestStop → WalkStop
 ended asked rule at Unfit = ends.Broken (misfit asked rule at)
 ended asked rule at Fault = ends.Fault
 ended asked rule at NoMemory = ends.NoMemory

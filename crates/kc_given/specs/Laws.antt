@@ -11,7 +11,7 @@ use Rattle.kc_chains.specs.CachesBy.{cache_by, cache_lists}
 use Rattle.kc_chains.specs.Chains.{Lists, free_kept, ring_kept}
 use Rattle.kc_chains.specs.Given.{TestsFree, TestsRings, free_given, ring_given}
 use Rattle.kc_chains.specs.TasksBy.{task_lists, tasks_all_by}
-use Rattle.kc_shape.specs.Rings.{is_ring}
+use Rattle.kc_list.specs.Listed.{is_ring}
 use Rattle.kc_given.specs.Apart.{cache_nodes, numbers, task_nodes}
 use Rattle.kc_given.specs.Tests.{are_cache_lists, are_task_lists, is_free_list}
 

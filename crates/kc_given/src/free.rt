@@ -2,11 +2,10 @@
 ghost use Rattle.std.specs.Prelude.{◌≡◌, ◌+◌, ◌*◌, ◌≤◌, length};
 ghost use Rattle.kc_memory.specs.Stays.{SpaceStays};
 ghost use Rattle.kc_found.specs.FreeLists.{IsGrid};
-ghost use Rattle.kc_shape.specs.Answers.{CountsTestFaults, TellsAs};
+ghost use Rattle.kc_found.specs.Tests.{CountsTestFaults, TellsAs};
 ghost use Rattle.kc_given.specs.Tests.{is_free_list};
 
-use kc_found::{Asked, Claims, FreeLed, Grid, Scalar, Space, WalkStop, Walked, low_word};
-use kc_shape::{Halt, know_most};
+use kc_found::{Asked, Claims, FreeLed, Grid, Scalar, Space, TestStop, WalkStop, Walked, know_most, low_word};
 use kc_slub::{enter_object, free_next, know_free_lists};
 use kc_word::Steps;
 use std::alloc::Global;
@@ -25,7 +24,7 @@ pub fn test_free_list<S: Space, L: Ledger>(
     first: Scalar,
     objects: &Walked,
     steps: &mut Steps<L>,
-) -> Result<(), Halt>
+) -> Result<(), TestStop>
     requires { IsGrid grid.now }
     ensures test { TellsAs (λ i. is_free_list i grid.now first objects.now) (S.image space.old) result }
     ensures steps { steps.new ≤ steps.old + 12 * length objects.now }
@@ -43,23 +42,23 @@ pub fn test_free_list<S: Space, L: Ledger>(
     };
     for i in 0..objects.len() {
         if led.to == 0 {
-            return Err(Halt::Unfit);
+            return Err(TestStop::Unfit);
         }
         if *objects.get(i) != led.to {
-            return Err(Halt::Unfit);
+            return Err(TestStop::Unfit);
         }
         know_most(space);
         let number = match enter_object(alloc, space, grid, &asked, &mut claims, &led, steps) {
             Ok(number) => number,
-            Err(WalkStop::Broken(_)) => return Err(Halt::Unfit),
-            Err(WalkStop::Fault) => return Err(Halt::Fault),
-            Err(WalkStop::NoMemory) => return Err(Halt::NoMemory),
+            Err(WalkStop::Broken(_)) => return Err(TestStop::Unfit),
+            Err(WalkStop::Fault) => return Err(TestStop::Fault),
+            Err(WalkStop::NoMemory) => return Err(TestStop::NoMemory),
         };
         led = free_next(grid, &led, number);
     }
     if led.to == 0 {
         Ok(())
     } else {
-        Err(Halt::Unfit)
+        Err(TestStop::Unfit)
     }
 }

@@ -4,17 +4,14 @@ ghost use Rattle.kc_memory.specs.Translation.{vword};
 ghost use Rattle.kc_found.specs.Violations.{is_of_reading};
 ghost use Rattle.kc_found.specs.Walks.{OnBroken, OnWalkFault};
 ghost use Rattle.kc_chains.specs.Given.{free_given, hash_given, misfit, ring_given};
-ghost use Rattle.kc_shape.specs.Rings.{is_hash_chain, is_ring};
+ghost use Rattle.kc_list.specs.Listed.{is_hash_chain, is_ring};
 ghost use Rattle.kc_given.specs.Ends.{ended};
 ghost use Rattle.kc_given.specs.Tests.{is_free_list};
 
 use crate::free::test_free_list;
 use kc_chains::{Chains, HashChains, Rings};
-use kc_found::{
-    Asked, Grid, HShape, Items, ListShape, Places, Rule, Scalar, Space, WalkStop, Walked, broken_by,
-    low_word,
-};
-use kc_shape::{Halt, test_chain, test_ring};
+use kc_found::{Asked, Grid, HShape, Items, ListShape, Places, Rule, Scalar, Space, TestStop, WalkStop, Walked, broken_by, low_word};
+use kc_list::{test_chain, test_ring};
 use kc_word::Steps;
 use std::alloc::Global;
 use std::sync::ledger::Ledger;
@@ -39,14 +36,14 @@ fn copy_of(alloc: Global, list: &Walked) -> Result<Walked, WalkStop>
 }
 
 // How a walk ends at a chain that isn't its list.
-fn ended(alloc: Global, asked: &Asked, rule: Rule, at: u64, halt: Halt) -> WalkStop
+fn ended(alloc: Global, asked: &Asked, rule: Rule, at: u64, halt: TestStop) -> WalkStop
     requires { is_of_reading rule ≡ false }
     ensures { result ≡ ended asked.now rule at halt }
 {
     match halt {
-        Halt::Unfit => broken_by(asked, rule, at, None, Places::new(alloc)),
-        Halt::Fault => WalkStop::Fault,
-        Halt::NoMemory => WalkStop::NoMemory,
+        TestStop::Unfit => broken_by(asked, rule, at, None, Places::new(alloc)),
+        TestStop::Fault => WalkStop::Fault,
+        TestStop::NoMemory => WalkStop::NoMemory,
     }
 }
 
@@ -68,7 +65,7 @@ impl Rings for GivenLists<'_> {
     ) -> Result<Walked, WalkStop> {
         let lists = self.lists;
         if self.at >= lists.len() {
-            return Err(ended(alloc, asked, Rule::L1, head, Halt::Unfit));
+            return Err(ended(alloc, asked, Rule::L1, head, TestStop::Unfit));
         }
         let nodes = lists.get(self.at);
         self.at += 1;
@@ -94,7 +91,7 @@ impl Chains for GivenLists<'_> {
         let lists = self.lists;
         let at = low_word(&first);
         if self.at >= lists.len() {
-            return Err(ended(alloc, asked, Rule::U5, at, Halt::Unfit));
+            return Err(ended(alloc, asked, Rule::U5, at, TestStop::Unfit));
         }
         let objects = lists.get(self.at);
         self.at += 1;
@@ -123,7 +120,7 @@ impl HashChains for GivenLists<'_> {
     ) -> Result<Walked, WalkStop> {
         let lists = self.lists;
         if self.at >= lists.len() {
-            return Err(ended(alloc, asked, Rule::H1, head, Halt::Unfit));
+            return Err(ended(alloc, asked, Rule::H1, head, TestStop::Unfit));
         }
         let nodes = lists.get(self.at);
         self.at += 1;

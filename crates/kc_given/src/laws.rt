@@ -2,8 +2,7 @@
 ghost use Rattle.kc_given.specs.Laws.{CacheListsAreKept, CacheListsAreTested, CacheListsAreUsedUp, CacheListsGive, CachesHaveLists, ChainsAreTested, FewCacheNodes, FewTaskNodes, TaskListsAreKept, TaskListsAreTested, TaskListsAreUsedUp, TaskListsGive, TasksHaveLists};
 
 use kc_chains::{know_chains, know_given};
-use kc_list::know_lists;
-use kc_shape::know_shapes;
+use kc_list::{know_listed_rings, know_lists};
 use kc_slub::{know_caches, know_free_lists};
 use kc_task::know_tasks;
 
@@ -26,7 +25,7 @@ pub fn know_given_lists()
     ensures few_threads { FewTaskNodes }
 {
     know_lists();
-    know_shapes();
+    know_listed_rings();
     know_free_lists();
     know_chains();
     know_given();

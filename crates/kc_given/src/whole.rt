@@ -4,14 +4,13 @@ ghost use Rattle.kc_memory.specs.Stays.{SpaceStays};
 ghost use Rattle.kc_view.specs.Caches as caches;
 ghost use Rattle.kc_view.specs.TaskLists as tasks;
 ghost use Rattle.kc_chains.specs.Chains.{size};
-ghost use Rattle.kc_shape.specs.Answers.{CountsTestFaults, TellsAs};
+ghost use Rattle.kc_found.specs.Tests.{CountsTestFaults, TellsAs};
 ghost use Rattle.kc_given.specs.Tests.{are_cache_lists, are_task_lists};
 
 use crate::given::GivenLists;
 use crate::laws::know_given_lists;
 use kc_btf::Btf;
-use kc_found::{Asked, Items, Space, WalkStop, Walked};
-use kc_shape::Halt;
+use kc_found::{Asked, Items, Space, TestStop, WalkStop, Walked};
 use kc_slub::cache_walk_by;
 use kc_task::tasks_walk_by;
 use kc_view::{SlubShape, TaskShape};
@@ -24,12 +23,12 @@ use std::sync::ledger::Ledger;
 /// # Errors
 ///
 /// `Unfit` exactly where one is.
-pub fn all_taken(given: &GivenLists<'_>) -> Result<(), Halt>
+pub fn all_taken(given: &GivenLists<'_>) -> Result<(), TestStop>
     ensures taken { OnOk result (drop given.now.at given.now.lists.now ≡ []) }
-    ensures left { IfErr result (λ halt. (halt ≡ Halt.Unfit) × (1 ≤ length (drop given.now.at given.now.lists.now))) }
+    ensures left { IfErr result (λ halt. (halt ≡ TestStop.Unfit) × (1 ≤ length (drop given.now.at given.now.lists.now))) }
 {
     if given.at < given.lists.len() {
-        Err(Halt::Unfit)
+        Err(TestStop::Unfit)
     } else {
         Ok(())
     }
@@ -50,7 +49,7 @@ pub fn test_cache<S: Space, L: Ledger>(
     asked: &Asked,
     lists: &Items<Walked>,
     steps: &mut Steps<L>,
-) -> Result<(), Halt>
+) -> Result<(), TestStop>
     requires { caches.IsInside shape.now btf.now }
     ensures test { TellsAs (λ i. are_cache_lists i shape.now asked.now lists.now) (S.image space.old) result }
     ensures steps { steps.new ≤ steps.old + 800000 + 1000 * size lists.now }
@@ -62,9 +61,9 @@ pub fn test_cache<S: Space, L: Ledger>(
     let mut chains = GivenLists { lists, at: 0 };
     match cache_walk_by(alloc, space, &mut chains, asked, btf, shape, steps) {
         Ok(_) => {}
-        Err(WalkStop::Broken(_)) => return Err(Halt::Unfit),
-        Err(WalkStop::Fault) => return Err(Halt::Fault),
-        Err(WalkStop::NoMemory) => return Err(Halt::NoMemory),
+        Err(WalkStop::Broken(_)) => return Err(TestStop::Unfit),
+        Err(WalkStop::Fault) => return Err(TestStop::Fault),
+        Err(WalkStop::NoMemory) => return Err(TestStop::NoMemory),
     }
     all_taken(&chains)
 }
@@ -84,7 +83,7 @@ pub fn test_tasks<S: Space, L: Ledger>(
     asked: &Asked,
     lists: &Items<Walked>,
     steps: &mut Steps<L>,
-) -> Result<(), Halt>
+) -> Result<(), TestStop>
     requires { tasks.IsInside shape.now btf.now }
     ensures test { TellsAs (λ i. are_task_lists i shape.now asked.now lists.now) (S.image space.old) result }
     ensures steps { steps.new ≤ steps.old + 1000 * size lists.now }
@@ -96,9 +95,9 @@ pub fn test_tasks<S: Space, L: Ledger>(
     let mut rings = GivenLists { lists, at: 0 };
     match tasks_walk_by(alloc, space, &mut rings, asked, btf, shape, steps) {
         Ok(_) => {}
-        Err(WalkStop::Broken(_)) => return Err(Halt::Unfit),
-        Err(WalkStop::Fault) => return Err(Halt::Fault),
-        Err(WalkStop::NoMemory) => return Err(Halt::NoMemory),
+        Err(WalkStop::Broken(_)) => return Err(TestStop::Unfit),
+        Err(WalkStop::Fault) => return Err(TestStop::Fault),
+        Err(WalkStop::NoMemory) => return Err(TestStop::NoMemory),
     }
     all_taken(&rings)
 }

@@ -1,4 +1,6 @@
 pub mod Chains
+pub mod Claiming
+pub mod Drops
 pub mod First
 pub mod Formats
 pub mod Lists

@@ -23,8 +23,8 @@ use Rattle.kc_chains.specs.Chains.{HashBy, Lists, TakesHashes, hash_kept}
 use Rattle.kc_chains.specs.Given.{GivenHashesAreTaken, hash_given}
 use Rattle.kc_chains.specs.Laws.{PidListsAreBehind, PidListsAreTaken, PidListsAreWalked}
 use Rattle.kc_chains.specs.PidsBy.{pid_by, pid_lists}
-use Rattle.kc_shape.specs.Laws.{HashChainsAreTested}
-use Rattle.kc_shape.specs.Rings.{is_hash_chain}
+use Rattle.kc_list.specs.ListedLaws.{HashChainsAreTested}
+use Rattle.kc_list.specs.Listed.{is_hash_chain}
 use Rattle.kc_entries.specs.Entries.{is_xarray, items_in, pointers}
 use Rattle.kc_entries.specs.Laws.{ItemsAreWalked, OnlyWalksPass, PointersAreFew, WalksPass, XarraysPassOnce, met_pointers}
 use Rattle.kc_given.specs.Apart.{numbers}

@@ -12,9 +12,9 @@ use Rattle.kc_found.specs.Violations.{Violation}
 use Rattle.kc_found.specs.Walks.{WalksAs}
 use Rattle.kc_chains.specs.Chains.{Lists, WalkPays, size}
 use Rattle.kc_chains.specs.PidsBy.{pids_by}
-use Rattle.kc_shape.specs.declared.halt.Halt.{Halt}
-use Rattle.kc_shape.specs.declared.halt.Halt.TheVariants.{Unfit, Fault, NoMemory}
-use Rattle.kc_shape.specs.Answers.{TellsAs}
+use Rattle.kc_found.specs.declared.test.TestStop.{TestStop}
+use Rattle.kc_found.specs.declared.test.TestStop.TheVariants.{Unfit, Fault, NoMemory}
+use Rattle.kc_found.specs.Tests.{TellsAs}
 use Rattle.kc_entries.specs.Entries.{is_xarray, items_in}
 use Rattle.kc_given.specs.Same.{false_by, no_err, ok_is}
 use Rattle.kc_pid_lists.specs.Laws.{PidListsAreUsedUp}
@@ -48,7 +48,7 @@ array_not : (i : Image) (shape : PidShape) (asked : Asked) (ns : List ℕ) (rest
 unfolding are_pid_lists
 array_not i shape asked ns rest is = and_left (is_xarray i shape.xa (table_of shape asked.start) ns) _ is
 
-pub array_halts : (A B : Type 0) (image : Option Image) (shape : PidShape) (asked : Asked) (lists : Lists) (ns : List ℕ) (halt : Halt) → slice_get lists 0 ≡ Some ns → TellsAs {A = A} (Array shape asked ns) image (Err halt) →
+pub array_halts : (A B : Type 0) (image : Option Image) (shape : PidShape) (asked : Asked) (lists : Lists) (ns : List ℕ) (halt : TestStop) → slice_get lists 0 ≡ Some ns → TellsAs {A = A} (Array shape asked ns) image (Err halt) →
     TellsAs {A = B} (Test shape asked lists) image (Err halt)
 array_halts A B None shape asked lists ns halt is e = tt
 array_halts A B (Some i) shape asked lists ns Unfit is e = ap (are_pid_lists i shape asked) (first_is lists ns is) ∙ array_not i shape asked ns (drop 1 lists) e
@@ -70,7 +70,7 @@ walk_broken A u v law (Some i) shape asked lists ns items f is array same e =
 some_left : (left : Lists) → 1 ≤ length left → left ≡ [] → ⊥
 some_left left some none = let e = ap (λ (ls : Lists). length ls) none in omega (arith, some, e)
 
-pub walk_ends : {A U V : Type 0} (u : U → Lists) (x : U) (v : V) (left : Lists) → PidListsAreUsedUp → (image : Option Image) (shape : PidShape) (asked : Asked) (lists : Lists) (ns : List ℕ) (items : List XaItem) (r : Result A Halt) → slice_get lists 0 ≡ Some ns →
+pub walk_ends : {A U V : Type 0} (u : U → Lists) (x : U) (v : V) (left : Lists) → PidListsAreUsedUp → (image : Option Image) (shape : PidShape) (asked : Asked) (lists : Lists) (ns : List ℕ) (items : List XaItem) (r : Result A TestStop) → slice_get lists 0 ≡ Some ns →
     TellsAs (Array shape asked ns) image (Ok v) → IfSome image (λ i. items ≡ items_in i shape.xa (table_of shape asked.start) ns) → WalksAs u (Walked shape asked items (drop 1 lists)) image (Ok x) → u x ≡ left →
     OnOk r (left ≡ []) → IfErr r (λ halt. (halt ≡ Unfit) × (1 ≤ length left)) → TellsAs (Test shape asked lists) image r
 walk_ends u x v left law None shape asked lists ns items r is array same e to all some = tt

@@ -13,7 +13,7 @@ use Rattle.kc_chains.specs.PidsBy.{pids_by}
 use Rattle.kc_entries.specs.Entries.{is_xarray, items_in}
 use Rattle.kc_given.specs.Apart.{numbers}
 use Rattle.kc_given.specs.Laws.{asked_by}
-use Rattle.kc_shape.specs.Rings.{is_hash_chain}
+use Rattle.kc_list.specs.Listed.{is_hash_chain}
 use Rattle.kc_pid_lists.specs.Tests.{are_pid_lists, pid_nodes}
 
 -- where the first list is the entries of the table's xarray, a walk of its process ids that takes the others uses up just theirs

@@ -3,9 +3,8 @@ ghost use Rattle.kc_pid_lists.specs.Laws.{FewPidNodes, PidListsAreKept, PidLists
 
 use kc_chains::{know_given, know_hash_chains};
 use kc_entries::know_entries;
-use kc_list::know_lists;
+use kc_list::{know_listed_rings, know_lists};
 use kc_pid::know_pids;
-use kc_shape::know_shapes;
 
 /// Does nothing. Lists pass the test of a table of process ids exactly where they are the entries of its xarray and then the lists that
 /// the walk of its process ids keeps, so no two do; the process ids of its walk are the pointers among those entries, whatever audit
@@ -19,7 +18,7 @@ pub fn know_pid_lists()
     ensures few { FewPidNodes }
 {
     know_lists();
-    know_shapes();
+    know_listed_rings();
     know_hash_chains();
     know_given();
     know_entries();

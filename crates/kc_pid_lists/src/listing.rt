@@ -12,9 +12,8 @@ use crate::laws::know_pid_lists;
 use kc_btf::Btf;
 use kc_chains::know_hash_chains;
 use kc_entries::{know_entries, list_xarray};
-use kc_found::{Asked, Items, Places, Rule, Space, WalkStop, Walked, broken_by};
+use kc_found::{Asked, Items, Places, Rule, Space, TestStop, WalkStop, Walked, broken_by};
 use kc_pid::{ids_in, pids_walk_by};
-use kc_shape::Halt;
 use kc_slub::Kept;
 use kc_view::PidShape;
 use kc_word::{NoMemory, Steps};
@@ -45,9 +44,9 @@ fn table_numbers<S: Space, L: Ledger>(
     let table = asked.start.wrapping_add(shape.idr_rt);
     match list_xarray(alloc, space, &shape.xa, table, steps) {
         Ok(numbers) => Ok(numbers),
-        Err(Halt::Unfit) => Err(gone(alloc, asked)),
-        Err(Halt::Fault) => Err(WalkStop::Fault),
-        Err(Halt::NoMemory) => Err(WalkStop::NoMemory),
+        Err(TestStop::Unfit) => Err(gone(alloc, asked)),
+        Err(TestStop::Fault) => Err(WalkStop::Fault),
+        Err(TestStop::NoMemory) => Err(WalkStop::NoMemory),
     }
 }
 

@@ -2,17 +2,16 @@
 ghost use Rattle.std.specs.Prelude.{◌≡◌, ◌+◌, ◌*◌, ◌≤◌, IfOk};
 ghost use Rattle.kc_memory.specs.Stays.{SpaceStays};
 ghost use Rattle.kc_chains.specs.Chains.{size};
-ghost use Rattle.kc_shape.specs.Answers.{CountsTestFaults, TellsAs};
+ghost use Rattle.kc_found.specs.Tests.{CountsTestFaults, TellsAs};
 ghost use Rattle.kc_pid_lists.specs.Tests.{are_pid_lists};
 ghost use Rattle.kc_pid_lists.specs.Tests as tests;
 
 use crate::laws::know_pid_lists;
 use kc_btf::Btf;
 use kc_entries::{pointers_in, xarray_items};
-use kc_found::{Asked, Items, Space, WalkStop, Walked};
+use kc_found::{Asked, Items, Space, TestStop, WalkStop, Walked};
 use kc_given::{GivenLists, all_taken};
 use kc_pid::pids_walk_by;
-use kc_shape::Halt;
 use kc_view::PidShape;
 use kc_word::{NoMemory, Steps};
 use std::alloc::Global;
@@ -32,7 +31,7 @@ pub fn test_pids<S: Space, L: Ledger>(
     asked: &Asked,
     lists: &Items<Walked>,
     steps: &mut Steps<L>,
-) -> Result<(), Halt>
+) -> Result<(), TestStop>
     ensures test { TellsAs (λ i. are_pid_lists i shape.now asked.now lists.now) (S.image space.old) result }
     ensures steps { steps.new ≤ steps.old + 1000 * size lists.now }
 
@@ -41,7 +40,7 @@ pub fn test_pids<S: Space, L: Ledger>(
 {
     know_pid_lists();
     if lists.len() == 0 {
-        return Err(Halt::Unfit);
+        return Err(TestStop::Unfit);
     }
     let numbers = lists.get(0);
     let table = asked.start.wrapping_add(shape.idr_rt);
@@ -49,9 +48,9 @@ pub fn test_pids<S: Space, L: Ledger>(
     let mut chains = GivenLists { lists, at: 1 };
     match pids_walk_by(alloc, space, &mut chains, asked, btf, shape, &items, steps) {
         Ok(()) => {}
-        Err(WalkStop::Broken(_)) => return Err(Halt::Unfit),
-        Err(WalkStop::Fault) => return Err(Halt::Fault),
-        Err(WalkStop::NoMemory) => return Err(Halt::NoMemory),
+        Err(WalkStop::Broken(_)) => return Err(TestStop::Unfit),
+        Err(WalkStop::Fault) => return Err(TestStop::Fault),
+        Err(WalkStop::NoMemory) => return Err(TestStop::NoMemory),
     }
     all_taken(&chains)
 }

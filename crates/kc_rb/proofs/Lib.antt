@@ -2,6 +2,7 @@ mod Descent
 mod Growth
 mod Judging
 mod Law
+mod Listed
 mod Nulls
 mod Opening
 mod Order

@@ -25,9 +25,9 @@ use Rattle.kc_run.specs.Tally.{added}
 use Rattle.kc_cert_text.specs.Drops.{drop_at}
 use Rattle.kc_cert_text.specs.declared.certificate.CertStep.{CertStep}
 use Rattle.kc_recheck.specs.declared.nest.Cursor.{Cursor}
-use Rattle.kc_shape.specs.declared.halt.Halt.{Halt}
-use Rattle.kc_shape.specs.declared.halt.Halt.TheVariants.{Unfit, Fault, NoMemory}
-use Rattle.kc_shape.specs.Answers.{TellsAs}
+use Rattle.kc_found.specs.declared.test.TestStop.{TestStop}
+use Rattle.kc_found.specs.declared.test.TestStop.TheVariants.{Unfit, Fault, NoMemory}
+use Rattle.kc_found.specs.Tests.{TellsAs}
 use Rattle.kc_recheck.specs.Answers.{JudgesAs, progress}
 use Rattle.kc_fits.specs.Fits.{fits}
 use Rattle.kc_recheck.specs.Certificates.{Progress, Judged, Judge, below_judged, each_judged, entry_judged, judged, nodes_judged, after_walk, walk_judged}
@@ -52,7 +52,7 @@ turn_goes None before now after whole judge xs i x u is l e = tt
 turn_goes (Some m) before now after whole judge xs i x u is l e =
     l ∙ ap (λ zs. each_judged (judge m) zs now) (drop_at xs i x is) ∙ ap (λ r. and_then r (each_judged (judge m) (drop (i + 1) xs))) e
 
-pub turn_halts : {X : Type 0} (A B : Type 0) (image : Option Image) (before now after : Progress) (whole : Image → Judge) (judge : Image → X → Judge) (xs : List X) (i : ℕ) (x : X) (halt : Halt) → slice_get xs i ≡ Some x →
+pub turn_halts : {X : Type 0} (A B : Type 0) (image : Option Image) (before now after : Progress) (whole : Image → Judge) (judge : Image → X → Judge) (xs : List X) (i : ℕ) (x : X) (halt : TestStop) → slice_get xs i ≡ Some x →
     Left image before whole now judge (drop i xs) → JudgesAs {A = B} (λ m. judge m x) now after image (Err halt) → JudgesAs {A = A} whole before after image (Err halt)
 turn_halts A B None before now after whole judge xs i x halt is l e = tt
 turn_halts A B (Some m) before now after whole judge xs i x Unfit is l e =
@@ -85,7 +85,7 @@ none_left A (Some i) audits a n start steps c le =
     ap (walk_judged i n a start (under i audits) c.counts) none ∙ ap Err (sym none)
 
 -- the step doesn't fit
-pub step_halts : (A B : Type 0) (image : Option Image) (audits : List AuditAt) (a : AuditAt) (n start : ℕ) (steps : List CertStep) (c : Cursor) (s : CertStep) (halt : Halt) → slice_get steps c.at ≡ Some s →
+pub step_halts : (A B : Type 0) (image : Option Image) (audits : List AuditAt) (a : AuditAt) (n start : ℕ) (steps : List CertStep) (c : Cursor) (s : CertStep) (halt : TestStop) → slice_get steps c.at ≡ Some s →
     TellsAs {A = B} (λ i. fits i n a start s) image (Err halt) → JudgesAs {A = A} (looked audits a n start) (progress steps c) (progress steps c) image (Err halt)
 step_halts A B None audits a n start steps c s halt is e = tt
 step_halts A B (Some i) audits a n start steps c s Unfit is e =
@@ -146,7 +146,7 @@ entering i audits count a view to n base p there is are from path leads =
     let end : end_at i a view.at ≡ end_of there = rw (← path) (sym (end_behind i view to view.at (hop_list to.hops)) ∙ ap end_of leads) in
     rw (← from) (whole ∙ ap (λ r. entry_judged i n a (under i audits) r p) end)
 
-pub enter_goes : {A : Type 0} (image : Option Image) (audits : List AuditAt) (count : ℕ) (a : AuditAt) (view end : Typed) (to : Located) (n base start : ℕ) (before after : Progress) (r : Result A Halt) → slice_get audits n ≡ Some a → are_later 0 count audits ≡ true → view.at ≡ base → byte_view to ≡ path_of a.start → start ≡ end.at →
+pub enter_goes : {A : Type 0} (image : Option Image) (audits : List AuditAt) (count : ℕ) (a : AuditAt) (view end : Typed) (to : Located) (n base start : ℕ) (before after : Progress) (r : Result A TestStop) → slice_get audits n ≡ Some a → are_later 0 count audits ≡ true → view.at ≡ base → byte_view to ≡ path_of a.start → start ≡ end.at →
     AnswersAs (λ i. followed i view to) image (Ok (At end)) → JudgesAs (looked audits a n start) before after image r → JudgesAs (λ i. judged i audits 0 n base) before after image r
 enter_goes None audits count a view end to n base start before after r is are from path to_start leads e = tt
 enter_goes {A = A} (Some i) audits count a view end to n base start before after r is are from path to_start leads e = by_result r e
@@ -154,7 +154,7 @@ enter_goes {A = A} (Some i) audits count a view end to n base start before after
     whole : judged i audits 0 n base before ≡ walk_judged i n a start (under i audits) before.counts before.left
     whole = entering i audits count a view to n base before (Ok (At end)) is are from path leads ∙ ap (λ s. walk_judged i n a s (under i audits) before.counts before.left) (sym to_start)
 
-    by_result : (r : Result A Halt) → JudgesAs (looked audits a n start) before after (Some i) r → JudgesAs (λ i. judged i audits 0 n base) before after (Some i) r
+    by_result : (r : Result A TestStop) → JudgesAs (looked audits a n start) before after (Some i) r → JudgesAs (λ i. judged i audits 0 n base) before after (Some i) r
     by_result (Ok u) e = whole ∙ e
     by_result (Err Unfit) e = whole ∙ e
     by_result (Err Fault) e = tt
@@ -202,7 +202,7 @@ roots_go (Some m) before now after whole audits a i u is l e =
     l ∙ ap (λ rs. each_judged (from_root audits m) rs now) (roots_at audits a i is) ∙ turn_append (from_root audits m) (root_of i a.start) (roots (i + 1) (drop (i + 1) audits)) now
     ∙ ap (λ r. and_then r (each_judged (from_root audits m) (roots (i + 1) (drop (i + 1) audits)))) e
 
-pub roots_halt : (A B : Type 0) (image : Option Image) (before now after : Progress) (whole : Image → Judge) (audits : List AuditAt) (a : AuditAt) (i : ℕ) (halt : Halt) → slice_get audits i ≡ Some a →
+pub roots_halt : (A B : Type 0) (image : Option Image) (before now after : Progress) (whole : Image → Judge) (audits : List AuditAt) (a : AuditAt) (i : ℕ) (halt : TestStop) → slice_get audits i ≡ Some a →
     Left image before whole now (from_root audits) (roots i (drop i audits)) → JudgesAs {A = B} (λ m. each_judged (from_root audits m) (root_of i a.start)) now after image (Err halt) → JudgesAs {A = A} whole before after image (Err halt)
 roots_halt A B None before now after whole audits a i halt is l e = tt
 roots_halt A B (Some m) before now after whole audits a i Unfit is l e =
@@ -212,7 +212,7 @@ roots_halt A B (Some m) before now after whole audits a i Fault is l e = tt
 roots_halt A B (Some m) before now after whole audits a i NoMemory is l e = tt
 
 -- a root audit alone
-pub one_root : {A : Type 0} (image : Option Image) (before after : Progress) (audits : List AuditAt) (n base : ℕ) (r : Result A Halt) → JudgesAs (λ i. judged i audits 0 n base) before after image r →
+pub one_root : {A : Type 0} (image : Option Image) (before after : Progress) (audits : List AuditAt) (n base : ℕ) (r : Result A TestStop) → JudgesAs (λ i. judged i audits 0 n base) before after image r →
     JudgesAs (λ i. each_judged (from_root audits i) ((n, base) ∷ [])) before after image r
 one_root None before after audits n base r e = tt
 one_root (Some i) before after audits n base (Ok u) e = ap (λ r. and_then r (each_judged (from_root audits i) [])) e

@@ -26,7 +26,7 @@ use Rattle.kc_cert_text.specs.declared.certificate.CertStep.{CertStep}
 use Rattle.kc_recheck.specs.declared.against.CertAnswer.{CertAnswer}
 use Rattle.kc_recheck.specs.declared.against.CertAnswer.TheVariants.{Yes, No}
 use Rattle.kc_recheck.specs.declared.nest.Cursor.{Cursor}
-use Rattle.kc_shape.specs.declared.halt.Halt.TheVariants.{Unfit}
+use Rattle.kc_found.specs.declared.test.TestStop.TheVariants.{Unfit}
 use Rattle.kc_recheck.specs.Answers.{IsRight, JudgesAs, progress}
 use Rattle.kc_recheck.specs.Laws.{AnswersAreRight}
 use Rattle.kc_fits.specs.Fits.{all_hold, checks_hold, fits}

@@ -3,8 +3,8 @@ use Rattle.std.specs.Prelude.{◌≡◌, ℕ, ◌+◌, ◌*◌, ◌≤◌, List,
 use Rattle.kc_outside.specs.Counts.{Rose}
 use Rattle.kc_memory.specs.Image.{Image}
 use Rattle.kc_found.specs.declared.verdict.Verdict.TheVariants.{Clean}
-use Rattle.kc_shape.specs.declared.halt.Halt.{Halt}
-use Rattle.kc_shape.specs.declared.halt.Halt.TheVariants.{Unfit, Fault, NoMemory}
+use Rattle.kc_found.specs.declared.test.TestStop.{TestStop}
+use Rattle.kc_found.specs.declared.test.TestStop.TheVariants.{Unfit, Fault, NoMemory}
 use Rattle.kc_plan.specs.Planned.{AuditAt}
 use Rattle.kc_plan.specs.Stands.{PlanStands}
 use Rattle.kc_plan.specs.Verdicts.{verdict}
@@ -21,7 +21,7 @@ abbrev pub progress : List CertStep → Cursor → Progress
 progress steps c = record { left = drop c.at steps; counts = c.counts }
 
 -- steps fit up to here, or the one that is looked at doesn't
-abbrev pub JudgesAs : {A I : Type 0} → (I → Judge) → Progress → Progress → Option I → Result A Halt → Type 0
+abbrev pub JudgesAs : {A I : Type 0} → (I → Judge) → Progress → Progress → Option I → Result A TestStop → Type 0
 JudgesAs judge before after None r = ⊤
 JudgesAs judge before after (Some i) (Ok x) = judge i before ≡ Ok after
 JudgesAs judge before after (Some i) (Err Unfit) = judge i before ≡ Err after.left
@@ -39,7 +39,7 @@ abbrev pub cost : ℕ
 cost = 1200000
 
 -- the steps that are made, where so much of the certificate is left before and after: what fits is paid by what it takes
-abbrev pub Spends : {A : Type 0} → Result A Halt → ℕ → ℕ → ℕ → ℕ → ℕ → Type 0
+abbrev pub Spends : {A : Type 0} → Result A TestStop → ℕ → ℕ → ℕ → ℕ → ℕ → Type 0
 Spends (Ok x) before after old new more = new + cost * after ≤ old + cost * before + more
 Spends (Err stop) before after old new more = new ≤ old + cost * before + more
 

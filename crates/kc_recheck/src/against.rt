@@ -5,7 +5,7 @@ ghost use Rattle.kc_plan.specs.Inside.{AreInside};
 ghost use Rattle.kc_plan.specs.Planned.{start_seen};
 ghost use Rattle.kc_plan.specs.Seen.{root_of};
 ghost use Rattle.kc_plan.specs.Views.{plan_seen};
-ghost use Rattle.kc_shape.specs.Answers.{CountsTestFaults};
+ghost use Rattle.kc_found.specs.Tests.{CountsTestFaults};
 ghost use Rattle.kc_recheck.specs.Answers.{CountsRecheckFaults, IsRight, JudgesAs, Spends, progress};
 ghost use Rattle.kc_recheck.specs.Certificates.{answer, answer_by, each_judged, judged, number_of, roots_judged};
 ghost use Rattle.kc_fits.specs.Size.{size};
@@ -14,10 +14,9 @@ use crate::nest::{Cursor, Known, enter};
 use kc_btf::Btf;
 use kc_cert_text::Certificate;
 use kc_fits::know_walked;
-use kc_found::{Asked, Counts, ReadFailed, Space};
+use kc_found::{Asked, Counts, ReadFailed, Space, TestStop};
 use kc_plan::{Plan, Start};
 use kc_run::{know_verdicts, no_walks};
-use kc_shape::Halt;
 use kc_word::{NoMemory, Steps};
 use std::alloc::Global;
 use std::sync::ledger::Ledger;
@@ -40,7 +39,7 @@ fn enter_root<S: Space, L: Ledger>(
     number: u32,
     start: &Start,
     steps: &mut Steps<L>,
-) -> Result<(), Halt>
+) -> Result<(), TestStop>
     requires inside { number < length known.now.plan.now.audits }
     requires types { AreInside (length known.now.btf.now.records) known.now.plan.now.audits }
     requires counted { length cursor.old.counts ≡ length known.now.plan.now.audits }
@@ -73,7 +72,7 @@ fn enter_roots<S: Space, L: Ledger>(
     space: &mut S,
     cursor: &mut Cursor,
     steps: &mut Steps<L>,
-) -> Result<(), Halt>
+) -> Result<(), TestStop>
     requires types { AreInside (length known.now.btf.now.records) known.now.plan.now.audits }
     requires counted { length cursor.old.counts ≡ length known.now.plan.now.audits }
 
@@ -154,8 +153,8 @@ pub fn recheck<S: Space, L: Ledger>(
     let mut cursor = Cursor { at: 0, counts };
     match enter_roots(alloc, &known, space, &mut cursor, steps) {
         Ok(()) => Ok(answer_by(cert, cursor)),
-        Err(Halt::Unfit) => Ok(CertAnswer::No(number_of(cert, cursor.at))),
-        Err(Halt::Fault) => Err(ReadFailed::Fault),
-        Err(Halt::NoMemory) => Err(ReadFailed::NoMemory),
+        Err(TestStop::Unfit) => Ok(CertAnswer::No(number_of(cert, cursor.at))),
+        Err(TestStop::Fault) => Err(ReadFailed::Fault),
+        Err(TestStop::NoMemory) => Err(ReadFailed::NoMemory),
     }
 }

@@ -6,7 +6,7 @@ ghost use Rattle.kc_kinds.specs.Inside.{KindInside};
 ghost use Rattle.kc_plan.specs.Kept.{are_between};
 ghost use Rattle.kc_plan.specs.Planned.{audit_seen};
 ghost use Rattle.kc_plan.specs.Views.{plan_seen};
-ghost use Rattle.kc_shape.specs.Answers.{CountsTestFaults};
+ghost use Rattle.kc_found.specs.Tests.{CountsTestFaults};
 ghost use Rattle.kc_recheck.specs.Answers.{JudgesAs, Spends, progress};
 ghost use Rattle.kc_recheck.specs.Certificates.{below_judged, judged, walk_judged};
 ghost use Rattle.kc_fits.specs.Size.{size};
@@ -14,10 +14,9 @@ ghost use Rattle.kc_fits.specs.Size.{size};
 use kc_btf::Btf;
 use kc_cert_text::Certificate;
 use kc_fits::{know_walked, nodes_in, test_step};
-use kc_found::{Asked, Counts, Space, Stop};
+use kc_found::{Asked, Counts, Space, Stop, TestStop, know_most};
 use kc_plan::{Audit, Plan};
 use kc_run::{container_of, count_walk, is_optional, path_of};
-use kc_shape::{Halt, know_most};
 use kc_view::{Led, View};
 use kc_word::{NoMemory, Steps};
 use std::alloc::Global;
@@ -51,7 +50,7 @@ pub(crate) fn enter<S: Space, L: Ledger>(
     cursor: &mut Cursor,
     base: &Asked,
     steps: &mut Steps<L>,
-) -> Result<(), Halt>
+) -> Result<(), TestStop>
     requires inside { base.now.audit < length known.now.plan.now.audits }
     requires types { AreInside (length known.now.btf.now.records) known.now.plan.now.audits }
     requires counted { length cursor.old.counts ≡ length known.now.plan.now.audits }
@@ -81,11 +80,11 @@ pub(crate) fn enter<S: Space, L: Ledger>(
             if is_optional(&audit.start) {
                 Ok(())
             } else {
-                Err(Halt::Unfit)
+                Err(TestStop::Unfit)
             }
         }
-        Err(Stop::Miss(_)) => Err(Halt::Unfit),
-        Err(Stop::Fault) => Err(Halt::Fault),
+        Err(Stop::Miss(_)) => Err(TestStop::Unfit),
+        Err(Stop::Fault) => Err(TestStop::Fault),
     }
 }
 
@@ -100,7 +99,7 @@ fn look<S: Space, L: Ledger>(
     audit: &Audit,
     asked: &Asked,
     steps: &mut Steps<L>,
-) -> Result<(), Halt>
+) -> Result<(), TestStop>
     requires inside { asked.now.audit < length known.now.plan.now.audits }
     requires types { AreInside (length known.now.btf.now.records) known.now.plan.now.audits }
     requires counted { length cursor.old.counts ≡ length known.now.plan.now.audits }
@@ -120,12 +119,12 @@ fn look<S: Space, L: Ledger>(
 {
     know_walked();
     if cursor.at >= known.cert.len() {
-        return Err(Halt::Unfit);
+        return Err(TestStop::Unfit);
     }
     let step = known.cert.get(cursor.at);
     let nodes = match nodes_in(alloc, &audit.kind, &step.lists) {
         Ok(nodes) => nodes,
-        Err(NoMemory) => return Err(Halt::NoMemory),
+        Err(NoMemory) => return Err(TestStop::NoMemory),
     };
     test_step(alloc, known.btf, space, audit, asked, step, &nodes, steps)?;
     cursor.at += 1;
@@ -148,7 +147,7 @@ fn look_below<S: Space, L: Ledger>(
     asked: &Asked,
     element: u64,
     steps: &mut Steps<L>,
-) -> Result<(), Halt>
+) -> Result<(), TestStop>
     requires inside { asked.now.audit < length known.now.plan.now.audits }
     requires types { AreInside (length known.now.btf.now.records) known.now.plan.now.audits }
     requires counted { length cursor.old.counts ≡ length known.now.plan.now.audits }

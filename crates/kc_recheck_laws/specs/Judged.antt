@@ -13,7 +13,7 @@ use Rattle.kc_plan.specs.Kept.{are_later}
 use Rattle.kc_plan.specs.Planned.{AuditAt, CheckAt}
 use Rattle.kc_plan.specs.Seen.{is_optional, path_of, root_of, roots, checks_seen, world}
 use Rattle.kc_run.specs.Tally.{tally}
-use Rattle.kc_shape.specs.declared.halt.Halt.{Halt}
+use Rattle.kc_found.specs.declared.test.TestStop.{TestStop}
 use Rattle.kc_recheck.specs.Answers.{JudgesAs}
 use Rattle.kc_fits.specs.Fits.{all_hold, fits}
 use Rattle.kc_recheck.specs.Certificates.{Progress, Judge, each_judged, judged}
@@ -58,7 +58,7 @@ abbrev pub elements_judged : List AuditAt → AuditAt → ℕ → Image → Judg
 elements_judged = judging.elements_judged
 
 -- an audit's path leads on, or its null pointer is passed over
-pub enter_goes : {A : Type 0} (image : Option Image) (audits : List AuditAt) (count : ℕ) (a : AuditAt) (view end : Typed) (to : Located) (n base start : ℕ) (before after : Progress) (r : Result A Halt) → slice_get audits n ≡ Some a → are_later 0 count audits ≡ true → view.at ≡ base → byte_view to ≡ path_of a.start → start ≡ end.at →
+pub enter_goes : {A : Type 0} (image : Option Image) (audits : List AuditAt) (count : ℕ) (a : AuditAt) (view end : Typed) (to : Located) (n base start : ℕ) (before after : Progress) (r : Result A TestStop) → slice_get audits n ≡ Some a → are_later 0 count audits ≡ true → view.at ≡ base → byte_view to ≡ path_of a.start → start ≡ end.at →
     AnswersAs (λ i. followed i view to) image (Ok (At end)) → JudgesAs (looked audits a n start) before after image r → JudgesAs (λ i. judged i audits 0 n base) before after image r
 enter_goes = judging.enter_goes
 
@@ -70,7 +70,7 @@ enter_skips = judging.enter_skips
 abbrev pub from_root : List AuditAt → Image → ℕ × ℕ → Judge
 from_root = judging.from_root
 
-pub one_root : {A : Type 0} (image : Option Image) (before after : Progress) (audits : List AuditAt) (n base : ℕ) (r : Result A Halt) → JudgesAs (λ i. judged i audits 0 n base) before after image r →
+pub one_root : {A : Type 0} (image : Option Image) (before after : Progress) (audits : List AuditAt) (n base : ℕ) (r : Result A TestStop) → JudgesAs (λ i. judged i audits 0 n base) before after image r →
     JudgesAs (λ i. each_judged (from_root audits i) ((n, base) ∷ [])) before after image r
 one_root = judging.one_root
 

@@ -14,7 +14,7 @@ ghost use Rattle.kc_run.specs.Tally.{TalliesAs};
 
 use kc_btf::Btf;
 use kc_expr::eval;
-use kc_found::{Asked, Items, Places, Rule, Scalar, Space, Stop, WalkStop, broken_by, stopped};
+use kc_found::{Asked, Items, Places, Rule, Scalar, Space, Stop, WalkStop, broken_by, know_most, stopped};
 use kc_layout::Field;
 use kc_plan::{Check, Checks, Fields};
 use kc_view::View;
@@ -71,11 +71,6 @@ fn holds(alloc: Global, check: &Check, numbers: &Numbers) -> Result<bool, AllocE
     }
     Ok(eval(&check.expr, &values) != 0)
 }
-
-// Does nothing. A word takes six steps at most.
-fn know_most<S: Space>(space: &S)
-    ensures { S.most space.now ≤ 6 }
-{}
 
 // The number of a field of an element.
 fn read_one<S: Space, L: Ledger>(

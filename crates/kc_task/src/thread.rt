@@ -11,8 +11,8 @@ ghost use Rattle.kc_view.specs.TaskLists.{IsInside, all_pass, end_checked, share
 use crate::rings::tasks_on;
 use kc_btf::Btf;
 use kc_chains::Rings;
-use kc_fields::{check_field, know_most, read_field};
-use kc_found::{Asked, Rule, Space, WalkStop, Walked, broken_at, stopped};
+use kc_fields::{check_field, read_field};
+use kc_found::{Asked, Rule, Space, WalkStop, Walked, broken_at, know_most, stopped};
 use kc_view::{TaskShape, ThreadGroup, View};
 use kc_word::Steps;
 use std::alloc::Global;

@@ -2,8 +2,7 @@
 ghost use Rattle.std.specs.Prelude.{◌≡◌, ◌<◌};
 
 use kc_entries::{list_xarray, pointers_in, test_xarray, xarray_items};
-use kc_found::{ListSpace, Origin, VWord, Walked, XaItem, XaShape, XaWalked};
-use kc_shape::Halt;
+use kc_found::{ListSpace, Origin, TestStop, VWord, Walked, XaItem, XaShape, XaWalked};
 use kc_word::Steps;
 use std::alloc::{AllocError, Global};
 use std::marker::Brand;
@@ -93,7 +92,7 @@ fn answer<L: Ledger>(alloc: Global, list: &Walked, blank: Blank) -> Result<bool,
     let mut steps = Steps::<L>::new(blank);
     match test_xarray(alloc, &mut space, &SHAPE, 1000, list, &mut steps) {
         Ok(()) => Ok(true),
-        Err(Halt::Unfit) => Ok(false),
+        Err(TestStop::Unfit) => Ok(false),
         Err(_) => Err(AllocError),
     }
 }

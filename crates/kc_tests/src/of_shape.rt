@@ -3,7 +3,8 @@ ghost use Rattle.std.specs.Prelude.{◌≡◌, ◌<◌};
 
 use crate::words::{list_of, space_of};
 use kc_found::{HShape, ListShape, RbShape, Walked};
-use kc_shape::{collect_tree, test_chain, test_ring, test_tree, turned};
+use kc_list::{test_chain, test_ring};
+use kc_rb::{collect_tree, test_tree, turned};
 use kc_word::Steps;
 use std::alloc::{AllocError, Global};
 use std::marker::Brand;

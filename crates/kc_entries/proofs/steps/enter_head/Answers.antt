@@ -6,11 +6,11 @@ use Rattle.kc_entries.proofs.steps.enter_head.Goals as goal
 
 pub returns-in-Err-clause-passes : goal.returns-in-Err-clause-passes
 returns-in-Err-clause-passes g c =
-    head_halts _ (g.S.Space.image c.args.space.now) c.args.shape.now c.args.start c.args.claims.now c.args.pending.now.items c.in-Err.stop c.halt_of.result c.halt_of.ensures c.in-Err.ensures.word
+    head_halts _ (g.S.Space.image c.args.space.now) c.args.shape.now c.args.start c.args.claims.now c.args.pending.now.items c.in-Err.stop c.test_stop_of.result c.test_stop_of.ensures c.in-Err.ensures.word
 
 pub returns-in-Err-take_word-clause-passes : goal.returns-in-Err-take_word-clause-passes
 returns-in-Err-take_word-clause-passes g c =
-    claim_halts _ (λ (x : Unit {0}). c.take_word.new.claims) _ _ (g.S.Space.image c.args.space.now) c.args.claims.now c.in-Ok.head.pa _ c.in-Err-take_word.stop c.halt_of-in-Err-take_word.result c.halt_of-in-Err-take_word.ensures c.requires.none c.in-Err-take_word.ensures.taken
+    claim_halts _ (λ (x : Unit {0}). c.take_word.new.claims) _ _ (g.S.Space.image c.args.space.now) c.args.claims.now c.in-Ok.head.pa _ c.in-Err-take_word.stop c.test_stop_of-in-Err-take_word.result c.test_stop_of-in-Err-take_word.ensures c.requires.none c.in-Err-take_word.ensures.taken
 
 pub returns-clause-passes : goal.returns-clause-passes
 returns-clause-passes g c =

@@ -21,8 +21,8 @@ returns-then-not-is_node-clause-falls g c = leaf_falls c.args.spot.now c.args.pe
 
 pub returns-in-Err-clause-passes : goal.returns-in-Err-clause-passes
 returns-in-Err-clause-passes g c =
-    node_halts _ _ (g.S.Space.image c.args.space.now) c.args.shape.now c.args.asked.now c.args.claims.now c.open_node.new.claims c.args.spot.now c.args.pending.now.items c.args.pending.now.items c.in-Err.stop c.halt_of.result (sym c.is_some.ensures ∙ c.if-is_some.false)
-    (ap is_node (sym c.entry_of.ensures) ∙ sym c.is_node.ensures ∙ c.if-not-is_node.false) c.halt_of.ensures c.in-Err.ensures.site
+    node_halts _ _ (g.S.Space.image c.args.space.now) c.args.shape.now c.args.asked.now c.args.claims.now c.open_node.new.claims c.args.spot.now c.args.pending.now.items c.args.pending.now.items c.in-Err.stop c.test_stop_of.result (sym c.is_some.ensures ∙ c.if-is_some.false)
+    (ap is_node (sym c.entry_of.ensures) ∙ sym c.is_node.ensures ∙ c.if-not-is_node.false) c.test_stop_of.ensures c.in-Err.ensures.site
 
 pub push_slots-requires-clause-small : goal.push_slots-requires-clause-small
 push_slots-requires-clause-small g c = shift_low c.args.shape.now.chunk c.args.spot.now.holder c.in-Ok.node.shift c.in-Ok.ensures.is c.requires.spot.0

@@ -4,11 +4,11 @@ use Rattle.kc_fits.proofs.laws.know_walked.Goals as goal
 
 pub returns-clause-walked : goal.returns-clause-walked
 returns-clause-walked c = shape_walked (record {
-  rings = c.know_shapes.ensures.rings;
-  chains = c.know_shapes.ensures.chains;
+  rings = c.know_listed_rings.ensures.rings;
+  chains = c.know_listed_rings.ensures.chains;
   ring_walks = c.know_lists.ensures.rings;
   chain_walks = c.know_lists.ensures.hash_chains;
-  trees = c.know_shapes.ensures.trees;
+  trees = c.know_listed_trees.ensures.trees;
   tree_walks = c.know_trees.ensures.trees;
   arrays = c.know_entries.ensures.walks;
   caches = c.know_given_lists.ensures.cache_lists;

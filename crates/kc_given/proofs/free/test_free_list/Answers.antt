@@ -1,7 +1,7 @@
 use Rattle.std.proofs.Common.{rules, arith, ◌∙◌, sym, ap}
 use Rattle.kc_memory.specs.Stays.{stays_on}
-use Rattle.kc_shape.specs.declared.halt.Halt.TheVariants.{Unfit}
-use Rattle.kc_shape.specs.Answers.{halt_of}
+use Rattle.kc_found.specs.declared.test.TestStop.TheVariants.{Unfit}
+use Rattle.kc_found.specs.Tests.{test_stop_of}
 use Rattle.kc_given.proofs.FreeTests.{comes_first, comes_on, tells_long, tells_other, tells_short, tells_stop, tells_whole}
 use Rattle.kc_given.proofs.free.test_free_list.Goals as goal
 
@@ -23,7 +23,7 @@ returns-then-get-led-clause-test g c =
 
 pub returns-in-Err-Broken-clause-test : goal.returns-in-Err-Broken-clause-test
 returns-in-Err-Broken-clause-test g c =
-    tells_stop _ _ (g.S.Space.image c.args.space.now) c.args.grid.now c.args.first c.loop-i.claims c.enter_object.new.claims c.args.objects.now c.loop-i.i c.loop-i.led c.in-Err-Broken.field-0 Unfit (sym (ap halt_of c.in-Err-Broken.field-0-is)) c.loop-i.invariant.0 (search rules)
+    tells_stop _ _ (g.S.Space.image c.args.space.now) c.args.grid.now c.args.first c.loop-i.claims c.enter_object.new.claims c.args.objects.now c.loop-i.i c.loop-i.led c.in-Err-Broken.field-0 Unfit (sym (ap test_stop_of c.in-Err-Broken.field-0-is)) c.loop-i.invariant.0 (search rules)
     (rw c.loop-i.invariant.1.same_image at c.in-Err-Broken.ensures.site)
 
 pub loop-i-preserved : goal.loop-i-preserved

@@ -3,7 +3,7 @@ use Rattle.kc_given.specs.Same.{cache_lists_are, task_lists_are}
 use Rattle.kc_given.proofs.laws.know_given_lists.Goals as goal
 
 pub returns-clause-chains : goal.returns-clause-chains
-returns-clause-chains c = chains_tested c.know_lists.ensures.rings c.know_shapes.ensures.rings c.know_free_lists.ensures.walked
+returns-clause-chains c = chains_tested c.know_lists.ensures.rings c.know_listed_rings.ensures.rings c.know_free_lists.ensures.walked
 
 pub returns-clause-few_slabs : goal.returns-clause-few_slabs
 returns-clause-few_slabs c = few_cache_nodes

@@ -4,7 +4,7 @@ use Rattle.kc_pid_lists.proofs.laws.know_pid_lists.Goals as goal
 pub returns-clause-used : goal.returns-clause-used
 returns-clause-used c = pid_lists_are_used_up (record {
   walked = c.know_lists.ensures.hash_chains;
-  tested = c.know_shapes.ensures.chains;
+  tested = c.know_listed_rings.ensures.chains;
   given = c.know_given.ensures.hashes;
   lists = c.know_hash_chains.ensures.pid_lists;
   taken = c.know_hash_chains.ensures.pids_taken;
@@ -19,7 +19,7 @@ returns-clause-used c = pid_lists_are_used_up (record {
 pub returns-clause-lists : goal.returns-clause-lists
 returns-clause-lists c = pid_lists_give (record {
   walked = c.know_lists.ensures.hash_chains;
-  tested = c.know_shapes.ensures.chains;
+  tested = c.know_listed_rings.ensures.chains;
   given = c.know_given.ensures.hashes;
   lists = c.know_hash_chains.ensures.pid_lists;
   taken = c.know_hash_chains.ensures.pids_taken;
@@ -34,7 +34,7 @@ returns-clause-lists c = pid_lists_give (record {
 pub returns-clause-pids : goal.returns-clause-pids
 returns-clause-pids c = pids_have_lists (record {
   walked = c.know_lists.ensures.hash_chains;
-  tested = c.know_shapes.ensures.chains;
+  tested = c.know_listed_rings.ensures.chains;
   given = c.know_given.ensures.hashes;
   lists = c.know_hash_chains.ensures.pid_lists;
   taken = c.know_hash_chains.ensures.pids_taken;
@@ -49,7 +49,7 @@ returns-clause-pids c = pids_have_lists (record {
 pub returns-clause-kept : goal.returns-clause-kept
 returns-clause-kept c = pid_lists_are_kept (record {
   walked = c.know_lists.ensures.hash_chains;
-  tested = c.know_shapes.ensures.chains;
+  tested = c.know_listed_rings.ensures.chains;
   given = c.know_given.ensures.hashes;
   lists = c.know_hash_chains.ensures.pid_lists;
   taken = c.know_hash_chains.ensures.pids_taken;
@@ -64,7 +64,7 @@ returns-clause-kept c = pid_lists_are_kept (record {
 pub returns-clause-one : goal.returns-clause-one
 returns-clause-one c = pid_lists_are_one (record {
   walked = c.know_lists.ensures.hash_chains;
-  tested = c.know_shapes.ensures.chains;
+  tested = c.know_listed_rings.ensures.chains;
   given = c.know_given.ensures.hashes;
   lists = c.know_hash_chains.ensures.pid_lists;
   taken = c.know_hash_chains.ensures.pids_taken;
@@ -79,7 +79,7 @@ returns-clause-one c = pid_lists_are_one (record {
 pub returns-clause-few : goal.returns-clause-few
 returns-clause-few c = few_pid_nodes (record {
   walked = c.know_lists.ensures.hash_chains;
-  tested = c.know_shapes.ensures.chains;
+  tested = c.know_listed_rings.ensures.chains;
   given = c.know_given.ensures.hashes;
   lists = c.know_hash_chains.ensures.pid_lists;
   taken = c.know_hash_chains.ensures.pids_taken;

@@ -1,6 +1,6 @@
 use Rattle.kc_memory.specs.declared.rule.Rule.TheVariants.{L1}
 use Rattle.kc_memory.specs.Translation.{vword}
-use Rattle.kc_shape.specs.Rings.{is_ring}
+use Rattle.kc_list.specs.Listed.{is_ring}
 use Rattle.kc_chains.specs.Given.{misfit}
 use Rattle.kc_given.proofs.Telling.{copy_pays, halt_pays, list_halts, list_taken}
 use Rattle.kc_given.proofs.given.GivenListsRings.ring.Goals as goal

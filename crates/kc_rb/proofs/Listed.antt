@@ -1,0 +1,5 @@
+mod Collecting
+mod Growing
+mod Pacing
+mod Planting
+mod Single

@@ -1,4 +1,0 @@
-use Rattle.kc_run.proofs.checks.know_most.Goals as goal
-
-pub returns : goal.returns
-returns g c = g.met.S.Space.most_small c.args.space.now

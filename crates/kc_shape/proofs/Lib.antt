@@ -1,8 +1,0 @@
-mod Collecting
-mod Drops
-mod Growing
-mod Meeting
-mod Pacing
-mod Planting
-mod Single
-mod Tested
