@@ -2,19 +2,19 @@
 use Rattle.std.proofs.Common.{◌≡◌, ℕ, nat_eq, List, Option, Some, None, inl, inr, sym, ◌∙◌, ap}
 use Rattle.std.specs.Prelude.{Result, Ok, Err}
 use Rattle.std.specs.Bool.{OnTrue}
-use Rattle.kc_input.specs.declared.halt.Halt.{Halt}
-use Rattle.kc_input.specs.declared.halt.Halt.TheVariants.{Refused, Store, Memory}
-use Rattle.kc_input.specs.declared.refusal.Refusal.{Refusal}
-use Rattle.kc_input.specs.declared.refusal.Refusal.TheVariants as refusals
-use Rattle.kc_input.specs.declared.refusal.ReportFault.TheVariants as faults_of
-use Rattle.kc_input.specs.Calls.{called, refused_calls}
-use Rattle.kc_ends.specs.declared.answer.Answer.{Answer}
-use Rattle.kc_ends.specs.declared.answer.Answer.TheVariants.{Done, Broken}
-use Rattle.kc_ends.specs.declared.status.Status.{Status}
-use Rattle.kc_ends.specs.declared.status.Status.TheVariants as status
-use Rattle.kc_ends.specs.Answers.{ending}
-use Rattle.kc_ends.specs.Ends.{IsWritten}
-use Rattle.kc_ends.specs.Status.{At, is_answer}
+use Rattle.kc_command.specs.declared.halt.Halt.{Halt}
+use Rattle.kc_command.specs.declared.halt.Halt.TheVariants.{Refused, Store, Memory}
+use Rattle.kc_command.specs.declared.refusal.Refusal.{Refusal}
+use Rattle.kc_command.specs.declared.refusal.Refusal.TheVariants as refusals
+use Rattle.kc_command.specs.declared.refusal.ReportFault.TheVariants as faults_of
+use Rattle.kc_command.specs.Calls.{called, refused_calls}
+use Rattle.kc_command.specs.declared.ends.answer.Answer.{Answer}
+use Rattle.kc_command.specs.declared.ends.answer.Answer.TheVariants.{Done, Broken}
+use Rattle.kc_command.specs.declared.ends.status.Status.{Status}
+use Rattle.kc_command.specs.declared.ends.status.Status.TheVariants as status
+use Rattle.kc_command.specs.Ends.Answers.{ending}
+use Rattle.kc_command.specs.Ends.Ends.{IsWritten}
+use Rattle.kc_command.specs.Ends.Status.{At, is_answer}
 use Rattle.kc_app.specs.Calls.{FewCalls, LayoutCalls}
 
 -- the calls of a refusal are two or three

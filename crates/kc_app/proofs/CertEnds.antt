@@ -11,23 +11,23 @@ use Rattle.kc_found.specs.declared.verdict.Verdict.TheVariants.{Clean, Broken}
 use Rattle.kc_plan.specs.Planned.{AuditAt}
 use Rattle.kc_plan.specs.Stands.{PlanStands}
 use Rattle.kc_plan.specs.Verdicts.{verdict}
-use Rattle.kc_cert_text.specs.declared.certificate.CertStep.{CertStep}
+use Rattle.kc_cert.specs.declared.text.certificate.CertStep.{CertStep}
 use Rattle.kc_memory.specs.Image.{Image}
-use Rattle.kc_recheck.specs.declared.against.CertAnswer.{CertAnswer}
-use Rattle.kc_recheck.specs.declared.against.CertAnswer.TheVariants.{Yes, No}
-use Rattle.kc_recheck.specs.Answers.{IsRight}
-use Rattle.kc_recheck.specs.Certificates.{answer}
-use Rattle.kc_recheck.specs.Laws.{AnswersAreRight}
-use Rattle.kc_cert_text.specs.CertTexts.{IsCertificate, IsNoCertificate, TextsTold, cert_in}
-use Rattle.kc_input.specs.declared.refusal.Refusal.{Refusal}
-use Rattle.kc_input.specs.declared.refusal.Refusal.TheVariants.{Certificate, TooLong}
-use Rattle.kc_input.specs.Lines.{refusal_line}
-use Rattle.kc_input.specs.Made.{◌>>=◌, Made, checked, gives, refuses}
-use Rattle.kc_ends.specs.declared.status.Status.{Status}
-use Rattle.kc_ends.specs.declared.status.Status.TheVariants as status
-use Rattle.kc_ends.specs.Ends.{IsTold, IsWritten}
-use Rattle.kc_ends.specs.Output.{Output, Ends}
-use Rattle.kc_ends.specs.Status.{is_answer}
+use Rattle.kc_cert.specs.declared.rechecking.against.CertAnswer.{CertAnswer}
+use Rattle.kc_cert.specs.declared.rechecking.against.CertAnswer.TheVariants.{Yes, No}
+use Rattle.kc_cert.specs.Rechecking.Answers.{IsRight}
+use Rattle.kc_cert.specs.Rechecking.Certificates.{answer}
+use Rattle.kc_cert.specs.Rechecking.Laws.{AnswersAreRight}
+use Rattle.kc_cert.specs.Text.CertTexts.{IsCertificate, IsNoCertificate, TextsTold, cert_in}
+use Rattle.kc_command.specs.declared.refusal.Refusal.{Refusal}
+use Rattle.kc_command.specs.declared.refusal.Refusal.TheVariants.{Certificate, TooLong}
+use Rattle.kc_command.specs.Lines.{refusal_line}
+use Rattle.kc_command.specs.Made.{◌>>=◌, Made, checked, gives, refuses}
+use Rattle.kc_command.specs.declared.ends.status.Status.{Status}
+use Rattle.kc_command.specs.declared.ends.status.Status.TheVariants as status
+use Rattle.kc_command.specs.Ends.Ends.{IsTold, IsWritten}
+use Rattle.kc_command.specs.Ends.Output.{Output, Ends}
+use Rattle.kc_command.specs.Ends.Status.{is_answer}
 use Rattle.kc_app.specs.CertHeadline.{CertifyBy, CertifyEnds, RecheckBy, RecheckEnds, TellsCert, TellsProof}
 use Rattle.kc_app.specs.Certify.{certified, certified_by}
 use Rattle.kc_app.specs.Check.{Audited, ChecksStand, Files, TellsStanding, audited, names_of, verdict_said, verdict_shown}

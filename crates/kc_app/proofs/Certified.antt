@@ -6,24 +6,24 @@ use Rattle.kc_outside.specs.Counts.{Rose}
 use Rattle.kc_outside.specs.Files.{Files as Told}
 use Rattle.kc_found.specs.declared.verdict.Verdict.TheVariants as verdicts
 use Rattle.kc_plan.specs.Verdicts.{verdict_places}
-use Rattle.kc_recheck.specs.declared.against.CertAnswer.{CertAnswer}
-use Rattle.kc_cert_text.specs.declared.certificate.CertStep.{CertStep}
-use Rattle.kc_certify.specs.declared.issue.CertStop.{CertStop}
-use Rattle.kc_certify.specs.declared.issue.CertStop.TheVariants.{Broken, Fault, NoMemory}
+use Rattle.kc_cert.specs.declared.rechecking.against.CertAnswer.{CertAnswer}
+use Rattle.kc_cert.specs.declared.text.certificate.CertStep.{CertStep}
+use Rattle.kc_cert.specs.declared.certifying.issue.CertStop.{CertStop}
+use Rattle.kc_cert.specs.declared.certifying.issue.CertStop.TheVariants.{Broken, Fault, NoMemory}
 use Rattle.kc_found.specs.declared.failed.ReadFailed.{ReadFailed}
 use Rattle.kc_found.specs.declared.failed.ReadFailed.TheVariants as stops
-use Rattle.kc_recheck.specs.Answers.{CountsRecheckFaults}
-use Rattle.kc_recheck.specs.Certificates.{answer}
-use Rattle.kc_certify.specs.Certified.{Certifies, CertifiesAs, CountsCertifyFaults}
-use Rattle.kc_input.specs.declared.halt.Halt.{Halt}
-use Rattle.kc_input.specs.declared.halt.Halt.TheVariants.{Refused, Store, Memory}
-use Rattle.kc_input.specs.Halts.{OnStore, UnlessStore}
-use Rattle.kc_input.specs.Made.{◌>>=◌, IsOf, Made, gives}
-use Rattle.kc_input.specs.Slots.{RefusesIn, refused_slot}
-use Rattle.kc_ends.specs.declared.answer.Answer.{Answer}
-use Rattle.kc_ends.specs.declared.status.Status.{Status}
-use Rattle.kc_ends.specs.Answers.{StayBehind}
-use Rattle.kc_ends.specs.Asked.{AllStay, behind}
+use Rattle.kc_cert.specs.Rechecking.Answers.{CountsRecheckFaults}
+use Rattle.kc_cert.specs.Rechecking.Certificates.{answer}
+use Rattle.kc_cert.specs.Certifying.Certified.{Certifies, CertifiesAs, CountsCertifyFaults}
+use Rattle.kc_command.specs.declared.halt.Halt.{Halt}
+use Rattle.kc_command.specs.declared.halt.Halt.TheVariants.{Refused, Store, Memory}
+use Rattle.kc_command.specs.Halts.{OnStore, UnlessStore}
+use Rattle.kc_command.specs.Made.{◌>>=◌, IsOf, Made, gives}
+use Rattle.kc_command.specs.Slots.{RefusesIn, refused_slot}
+use Rattle.kc_command.specs.declared.ends.answer.Answer.{Answer}
+use Rattle.kc_command.specs.declared.ends.status.Status.{Status}
+use Rattle.kc_command.specs.Ends.Answers.{StayBehind}
+use Rattle.kc_command.specs.Ends.Asked.{AllStay, behind}
 use Rattle.kc_app.specs.declared.held.Held.{Held}
 use Rattle.kc_app.specs.Answer.{WritesText}
 use Rattle.kc_app.specs.Certified.{IsFound, IsMade, IsSpelled, IsUnclean}

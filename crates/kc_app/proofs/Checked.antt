@@ -16,14 +16,14 @@ use Rattle.kc_found.specs.declared.verdict.Verdict.{Verdict}
 use Rattle.kc_plan.specs.Planned.{AuditAt, PlanAt}
 use Rattle.kc_plan.specs.Roots.{root_verdicts}
 use Rattle.kc_plan.specs.Verdicts.{verdict, verdict_places}
-use Rattle.kc_input.specs.declared.halt.Halt.{Halt}
-use Rattle.kc_input.specs.declared.halt.Halt.TheVariants.{Refused, Store, Memory}
-use Rattle.kc_input.specs.declared.refusal.Refusal.TheVariants.{Notes}
-use Rattle.kc_input.specs.Inputs.{dump_parts, types_in}
-use Rattle.kc_input.specs.Made.{IsOf, checked, gives}
-use Rattle.kc_input.specs.Paging.{by_info}
-use Rattle.kc_ends.specs.declared.answer.Answer.{Answer}
-use Rattle.kc_ends.specs.Answers.{Prints, PrintsOf, PrintsOfBytes, StayBehind}
+use Rattle.kc_command.specs.declared.halt.Halt.{Halt}
+use Rattle.kc_command.specs.declared.halt.Halt.TheVariants.{Refused, Store, Memory}
+use Rattle.kc_command.specs.declared.refusal.Refusal.TheVariants.{Notes}
+use Rattle.kc_command.specs.Inputs.{dump_parts, types_in}
+use Rattle.kc_command.specs.Made.{IsOf, checked, gives}
+use Rattle.kc_command.specs.Paging.{by_info}
+use Rattle.kc_command.specs.declared.ends.answer.Answer.{Answer}
+use Rattle.kc_command.specs.Ends.Answers.{Prints, PrintsOf, PrintsOfBytes, StayBehind}
 use Rattle.kc_app.specs.Answer.{Writes, WritesRoots, WritesText}
 use Rattle.kc_app.specs.Check.{Audited, Files, RefusesLate, audited_by, audited_shown, check_asked, check_made, names_of, planned_in, root_seen, roots_shown, verdict_said, verdict_shown}
 use Rattle.kc_app.specs.Shown.{Shown, shown_status, shown_text, shown_written}

@@ -8,14 +8,14 @@ use Rattle.kc_btf.specs.Btf.{Types}
 use Rattle.kc_notes.specs.declared.info.Info.{Info}
 use Rattle.kc_notes.specs.Info.{info}
 use Rattle.kc_plan.specs.Planned.{PlanAt}
-use Rattle.kc_input.specs.declared.halt.Halt.{Halt}
-use Rattle.kc_input.specs.declared.halt.Halt.TheVariants.{Refused, Store, Memory}
-use Rattle.kc_input.specs.declared.refusal.Refusal.TheVariants.{Notes}
-use Rattle.kc_input.specs.Inputs.{dump_parts, module_in, types_in}
-use Rattle.kc_input.specs.Made.{IsOf, checked, gives}
-use Rattle.kc_input.specs.Paging.{by_info}
-use Rattle.kc_ends.specs.declared.answer.Answer.{Answer}
-use Rattle.kc_ends.specs.Answers.{Prints, PrintsOf, PrintsOfBytes, StayBehind}
+use Rattle.kc_command.specs.declared.halt.Halt.{Halt}
+use Rattle.kc_command.specs.declared.halt.Halt.TheVariants.{Refused, Store, Memory}
+use Rattle.kc_command.specs.declared.refusal.Refusal.TheVariants.{Notes}
+use Rattle.kc_command.specs.Inputs.{dump_parts, module_in, types_in}
+use Rattle.kc_command.specs.Made.{IsOf, checked, gives}
+use Rattle.kc_command.specs.Paging.{by_info}
+use Rattle.kc_command.specs.declared.ends.answer.Answer.{Answer}
+use Rattle.kc_command.specs.Ends.Answers.{Prints, PrintsOf, PrintsOfBytes, StayBehind}
 use Rattle.kc_app.specs.Check.{RefusesLate, planned_in}
 use Rattle.kc_app.specs.CheckModule.{FiveFiles, module_asked, module_made}
 use Rattle.kc_app.specs.Shown.{shown_written}

@@ -12,17 +12,17 @@ use Rattle.kc_plan.specs.Roots.{root_verdicts}
 use Rattle.kc_plan.specs.Seen.{roots}
 use Rattle.kc_plan.specs.Verdicts.{IsClean, verdict, verdict_places}
 use Rattle.kc_run.specs.Laws.{CleanRootsStand, CleanWhereStanding, FirstOfRoots}
-use Rattle.kc_cert_text.specs.declared.certificate.CertStep.{CertStep}
+use Rattle.kc_cert.specs.declared.text.certificate.CertStep.{CertStep}
 use Rattle.kc_report.specs.declared.report.Report.{Report}
 use Rattle.kc_report.specs.Copies.{counted, report_each, report_of}
 use Rattle.kc_report.specs.IsReport.{report_text}
 use Rattle.kc_report.specs.ReportText.{clean_text}
-use Rattle.kc_input.specs.Made.{◌>>=◌, Made, gives}
-use Rattle.kc_ends.specs.declared.status.Status.{Status}
-use Rattle.kc_ends.specs.declared.status.Status.TheVariants.{Done, Broken}
-use Rattle.kc_ends.specs.Ends.{IsTold, IsWritten}
-use Rattle.kc_ends.specs.Output.{Output, Ends, word_files}
-use Rattle.kc_ends.specs.Status.{is_answer}
+use Rattle.kc_command.specs.Made.{◌>>=◌, Made, gives}
+use Rattle.kc_command.specs.declared.ends.status.Status.{Status}
+use Rattle.kc_command.specs.declared.ends.status.Status.TheVariants.{Done, Broken}
+use Rattle.kc_command.specs.Ends.Ends.{IsTold, IsWritten}
+use Rattle.kc_command.specs.Ends.Output.{Output, Ends, word_files}
+use Rattle.kc_command.specs.Ends.Status.{is_answer}
 use Rattle.kc_app.specs.Check.{Audited, ChecksStand, ReportsShown, RootsTold, TellsRoots, TellsStanding, audited, audited_shown, names_of, roots_shown, verdict_said, verdict_shown}
 use Rattle.kc_app.specs.Headline.{CheckEnds, CheckPrints, ChecksEnd, EndsBy, PrintsBy, check_words}
 use Rattle.kc_app.specs.Output.{FitsFiles, FitsOutput, IsToldBy, ShownStand, StandsIn, TookTrue, out_of, output_written, written_of}

@@ -7,24 +7,24 @@ use Rattle.std.proofs.lemmas.Slice.Eq.{bytes_eq-Decides}
 use Rattle.kc_outside.specs.declared.store.Slot.{Slot}
 use Rattle.kc_outside.specs.Counts.{Rose}
 use Rattle.kc_outside.specs.Files.{Files}
-use Rattle.kc_cert_text.specs.declared.certificate.CertStep.{CertStep}
-use Rattle.kc_input.specs.declared.halt.Halt.{Halt}
-use Rattle.kc_input.specs.declared.halt.Halt.TheVariants.{Refused, Store, Memory}
-use Rattle.kc_input.specs.declared.refusal.Refusal.{Refusal}
-use Rattle.kc_input.specs.Made.{Made, gives}
-use Rattle.kc_ends.specs.declared.answer.Answer.{Answer}
-use Rattle.kc_ends.specs.declared.answer.Answer.TheVariants.{Done, Broken}
-use Rattle.kc_ends.specs.declared.status.Status.{Status}
-use Rattle.kc_ends.specs.declared.status.Status.TheVariants as status
-use Rattle.kc_ends.specs.declared.status.Status.TheVariants.{SinkFailed}
-use Rattle.kc_ends.specs.Answers.{OnStoreIn, Prints, PrintsOf, Runs, ending, written_by}
-use Rattle.kc_ends.specs.Asked.{Asked, asked_files, word_in}
-use Rattle.kc_ends.specs.Ending.{fails, parts, tells}
-use Rattle.kc_ends.specs.Ends.{IsWritten, TookLine, TookOut}
-use Rattle.kc_ends.specs.Output.{Ends, ended, output_of, word_files}
-use Rattle.kc_ends.specs.Status.{At, is_answer, number}
-use Rattle.kc_ends.specs.Unopened.{AskedStay, MadeStay}
-use Rattle.kc_ends.specs.Written.{Written}
+use Rattle.kc_cert.specs.declared.text.certificate.CertStep.{CertStep}
+use Rattle.kc_command.specs.declared.halt.Halt.{Halt}
+use Rattle.kc_command.specs.declared.halt.Halt.TheVariants.{Refused, Store, Memory}
+use Rattle.kc_command.specs.declared.refusal.Refusal.{Refusal}
+use Rattle.kc_command.specs.Made.{Made, gives}
+use Rattle.kc_command.specs.declared.ends.answer.Answer.{Answer}
+use Rattle.kc_command.specs.declared.ends.answer.Answer.TheVariants.{Done, Broken}
+use Rattle.kc_command.specs.declared.ends.status.Status.{Status}
+use Rattle.kc_command.specs.declared.ends.status.Status.TheVariants as status
+use Rattle.kc_command.specs.declared.ends.status.Status.TheVariants.{SinkFailed}
+use Rattle.kc_command.specs.Ends.Answers.{OnStoreIn, Prints, PrintsOf, Runs, ending, written_by}
+use Rattle.kc_command.specs.Ends.Asked.{Asked, asked_files, word_in}
+use Rattle.kc_command.specs.Ends.Ending.{fails, parts, tells}
+use Rattle.kc_command.specs.Ends.Ends.{IsWritten, TookLine, TookOut}
+use Rattle.kc_command.specs.Ends.Output.{Ends, ended, output_of, word_files}
+use Rattle.kc_command.specs.Ends.Status.{At, is_answer, number}
+use Rattle.kc_command.specs.Ends.Unopened.{AskedStay, MadeStay}
+use Rattle.kc_command.specs.Ends.Written.{Written}
 use Rattle.kc_app.specs.Calls.{IsLayout}
 use Rattle.kc_app.specs.Commands.{command}
 use Rattle.kc_app.specs.Fitted.{IsFitted, Replies, RepliesOf, RepliesTo, RunsAs}

@@ -10,14 +10,14 @@ use Rattle.kc_notes.specs.Info.{info}
 use Rattle.kc_plan.specs.declared.plan.Plan.{Plan}
 use Rattle.kc_plan.specs.Planned.{PlanAt}
 use Rattle.kc_plan.specs.Views.{plan_whole}
-use Rattle.kc_input.specs.declared.halt.Halt.{Halt}
-use Rattle.kc_input.specs.declared.halt.Halt.TheVariants.{Refused, Store, Memory}
-use Rattle.kc_input.specs.declared.refusal.Refusal.TheVariants.{Notes}
-use Rattle.kc_input.specs.Inputs.{dump_parts, types_in}
-use Rattle.kc_input.specs.Made.{◌>>=◌, IsOf, Made, checked, gives}
-use Rattle.kc_input.specs.Paging.{by_info}
-use Rattle.kc_ends.specs.declared.answer.Answer.{Answer}
-use Rattle.kc_ends.specs.Answers.{PrintsOf, PrintsOfBytes}
+use Rattle.kc_command.specs.declared.halt.Halt.{Halt}
+use Rattle.kc_command.specs.declared.halt.Halt.TheVariants.{Refused, Store, Memory}
+use Rattle.kc_command.specs.declared.refusal.Refusal.TheVariants.{Notes}
+use Rattle.kc_command.specs.Inputs.{dump_parts, types_in}
+use Rattle.kc_command.specs.Made.{◌>>=◌, IsOf, Made, checked, gives}
+use Rattle.kc_command.specs.Paging.{by_info}
+use Rattle.kc_command.specs.declared.ends.answer.Answer.{Answer}
+use Rattle.kc_command.specs.Ends.Answers.{PrintsOf, PrintsOfBytes}
 use Rattle.kc_app.specs.declared.held.Held.{Held}
 use Rattle.kc_app.specs.Check.{Audited, Files, audited, audited_by, audited_shown, planned_in}
 use Rattle.kc_app.specs.Fitted.{RepliesOf, RepliesOfBytes}

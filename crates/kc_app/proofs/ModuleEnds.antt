@@ -3,11 +3,11 @@ use Rattle.std.proofs.Common.{◌≡◌, ℕ, List, Option, Some, None, IfSome}
 use Rattle.std.specs.Bool.{OnTrue}
 use Rattle.kc_outside.specs.declared.store.Slot.TheVariants.{Dump, Btf, Map, Plan, Module}
 use Rattle.kc_outside.specs.Files.{Files as Told}
-use Rattle.kc_cert_text.specs.declared.certificate.CertStep.{CertStep}
-use Rattle.kc_ends.specs.declared.status.Status.{Status}
-use Rattle.kc_ends.specs.Ends.{IsTold, IsWritten}
-use Rattle.kc_ends.specs.Output.{word_files}
-use Rattle.kc_ends.specs.Status.{is_answer}
+use Rattle.kc_cert.specs.declared.text.certificate.CertStep.{CertStep}
+use Rattle.kc_command.specs.declared.ends.status.Status.{Status}
+use Rattle.kc_command.specs.Ends.Ends.{IsTold, IsWritten}
+use Rattle.kc_command.specs.Ends.Output.{word_files}
+use Rattle.kc_command.specs.Ends.Status.{is_answer}
 use Rattle.kc_app.specs.Check.{ChecksStand, RootsTold}
 use Rattle.kc_app.specs.CheckModule.{audited_with}
 use Rattle.kc_app.specs.ModuleHeadline.{ModuleCheckEnds, ModuleCheckPrints, ModuleChecksEnd, module_words}

@@ -8,9 +8,9 @@ use Rattle.kc_syms.specs.Rows.{RowText}
 use Rattle.kc_plan.specs.declared.plan.Plan.{Plan}
 use Rattle.kc_plan.specs.Planned.{AuditAt}
 use Rattle.kc_plan.specs.Views.{plan_whole}
-use Rattle.kc_input.specs.declared.halt.Halt.{Halt}
-use Rattle.kc_input.specs.Inputs.{map_in, plan_in, rows_in}
-use Rattle.kc_input.specs.Made.{Is, IsOf, gives}
+use Rattle.kc_command.specs.declared.halt.Halt.{Halt}
+use Rattle.kc_command.specs.Inputs.{map_in, plan_in, rows_in}
+use Rattle.kc_command.specs.Made.{Is, IsOf, gives}
 use Rattle.kc_app.specs.Audits.{plan_over}
 use Rattle.kc_app.specs.Check.{names_of, planned_in}
 

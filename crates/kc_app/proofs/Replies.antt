@@ -10,11 +10,11 @@ use Rattle.kc_memory.specs.Places.{AllStandIn}
 use Rattle.kc_found.specs.declared.verdict.Verdict.{Verdict}
 use Rattle.kc_found.specs.declared.verdict.Verdict.TheVariants.{Clean, Broken}
 use Rattle.kc_plan.specs.Verdicts.{verdict, verdict_places}
-use Rattle.kc_cert_text.specs.declared.certificate.CertStep.{CertStep}
-use Rattle.kc_recheck.specs.Certificates.{answer}
-use Rattle.kc_input.specs.Made.{◌>>=◌, Made, gives}
-use Rattle.kc_ends.specs.Asked.{Asked}
-use Rattle.kc_ends.specs.Output.{Ends, output_of}
+use Rattle.kc_cert.specs.declared.text.certificate.CertStep.{CertStep}
+use Rattle.kc_cert.specs.Rechecking.Certificates.{answer}
+use Rattle.kc_command.specs.Made.{◌>>=◌, Made, gives}
+use Rattle.kc_command.specs.Ends.Asked.{Asked}
+use Rattle.kc_command.specs.Ends.Output.{Ends, output_of}
 use Rattle.kc_app.specs.Certify.{certified, certified_by, certify_asks, certify_made}
 use Rattle.kc_app.specs.Check.{Audited, audited}
 use Rattle.kc_app.specs.Commands.{command}

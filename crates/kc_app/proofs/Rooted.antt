@@ -21,9 +21,9 @@ use Rattle.kc_report.specs.Copies.{names_of as reached_names}
 use Rattle.kc_report.specs.ReportText.{clean_text}
 use Rattle.kc_report.specs.Roots.{each_text, result_text}
 use Rattle.kc_report.specs.Roots.{root_text as report_text}
-use Rattle.kc_ends.specs.declared.status.Status.{Status}
-use Rattle.kc_ends.specs.declared.status.Status.TheVariants as status
-use Rattle.kc_ends.specs.Written.{Written}
+use Rattle.kc_command.specs.declared.ends.status.Status.{Status}
+use Rattle.kc_command.specs.declared.ends.status.Status.TheVariants as status
+use Rattle.kc_command.specs.Ends.Written.{Written}
 use Rattle.kc_app.specs.Check.{Audited, TellsRoot, names_of, root_said, root_seen}
 use Rattle.kc_app.specs.Shown.{RootSeen, root_text, rooted_text, roots_status, said_status, seen_text}
 

@@ -26,11 +26,11 @@ use Rattle.kc_plan.specs.Roots.{root_verdicts}
 use Rattle.kc_plan.specs.Seen.{roots}
 use Rattle.kc_plan.specs.Verdicts.{verdict}
 use Rattle.kc_run.specs.Laws.{RootVerdictsStand, VerdictsStand}
-use Rattle.kc_input.specs.declared.refusal.Refusal.TheVariants.{NoType, Path}
-use Rattle.kc_input.specs.Inputs.{types_in}
-use Rattle.kc_input.specs.Made.{◌>>=◌, Made, gives, wanted}
-use Rattle.kc_ends.specs.Asked.{Asked}
-use Rattle.kc_ends.specs.Output.{Output, Usage, Ends, output_of}
+use Rattle.kc_command.specs.declared.refusal.Refusal.TheVariants.{NoType, Path}
+use Rattle.kc_command.specs.Inputs.{types_in}
+use Rattle.kc_command.specs.Made.{◌>>=◌, Made, gives, wanted}
+use Rattle.kc_command.specs.Ends.Asked.{Asked}
+use Rattle.kc_command.specs.Ends.Output.{Output, Usage, Ends, output_of}
 use Rattle.kc_app.specs.Check.{Audited, audited, audited_shown, check_asks, check_made, names_of, roots_shown, verdict_shown}
 use Rattle.kc_app.specs.CheckModule.{audited_with, check_form, checks_asks, module_made}
 use Rattle.kc_app.specs.Commands.{command, forms}

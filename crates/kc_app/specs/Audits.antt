@@ -6,8 +6,8 @@ use Rattle.kc_syms.specs.Rows.{RowText, addresses}
 use Rattle.kc_plan.specs.Planned.{PlanAt}
 use Rattle.kc_kinds.specs.Kernels.{Kernel}
 use Rattle.kc_plan.specs.Plans.{plan}
-use Rattle.kc_input.specs.declared.refusal.Refusal.TheVariants as refusal
-use Rattle.kc_input.specs.Made.{Made, checked}
+use Rattle.kc_command.specs.declared.refusal.Refusal.TheVariants as refusal
+use Rattle.kc_command.specs.Made.{Made, checked}
 
 -- a kernel's types, the addresses that the rows of its map list, and what its notes tell
 abbrev pub kernel_by : Types → List RowText → Info → Kernel

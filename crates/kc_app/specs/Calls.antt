@@ -1,9 +1,9 @@
 -- How often `layout` calls its store.
 use Rattle.std.specs.Prelude.{◌≡◌, ◌⊎◌, ℕ, List, [], ◌∷◌, codes, IsTrue, Option, Some, None, Result}
 use Rattle.std.specs.Str.{bytes_eq}
-use Rattle.kc_input.specs.declared.halt.Halt.{Halt}
-use Rattle.kc_input.specs.Calls.{FailedLast, ReadsOnce, called}
-use Rattle.kc_ends.specs.declared.answer.Answer.{Answer}
+use Rattle.kc_command.specs.declared.halt.Halt.{Halt}
+use Rattle.kc_command.specs.Calls.{FailedLast, ReadsOnce, called}
+use Rattle.kc_command.specs.declared.ends.answer.Answer.{Answer}
 
 -- the words name `layout`
 abbrev pub IsLayout : List (List ℕ) → Type 0

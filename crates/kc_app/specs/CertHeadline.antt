@@ -5,14 +5,14 @@ use Rattle.kc_outside.specs.Files.{Files as Told}
 use Rattle.kc_outside.specs.Texts.{with_piece}
 use Rattle.kc_plan.specs.Stands.{PlanStands}
 use Rattle.kc_plan.specs.Verdicts.{verdict}
-use Rattle.kc_cert_text.specs.declared.certificate.CertStep.{CertStep}
-use Rattle.kc_recheck.specs.Certificates.{answer}
-use Rattle.kc_cert_text.specs.CertTexts.{IsCertificate, IsNoCertificate, cert_text}
-use Rattle.kc_input.specs.declared.refusal.Refusal.TheVariants.{Certificate, TooLong}
-use Rattle.kc_input.specs.Lines.{refusal_line}
-use Rattle.kc_input.specs.Made.{Made}
-use Rattle.kc_ends.specs.declared.status.Status.{Status}
-use Rattle.kc_ends.specs.declared.status.Status.TheVariants as status
+use Rattle.kc_cert.specs.declared.text.certificate.CertStep.{CertStep}
+use Rattle.kc_cert.specs.Rechecking.Certificates.{answer}
+use Rattle.kc_cert.specs.Text.CertTexts.{IsCertificate, IsNoCertificate, cert_text}
+use Rattle.kc_command.specs.declared.refusal.Refusal.TheVariants.{Certificate, TooLong}
+use Rattle.kc_command.specs.Lines.{refusal_line}
+use Rattle.kc_command.specs.Made.{Made}
+use Rattle.kc_command.specs.declared.ends.status.Status.{Status}
+use Rattle.kc_command.specs.declared.ends.status.Status.TheVariants as status
 use Rattle.kc_app.specs.Check.{Audited, Files, TellsStanding, audited, names_of, verdict_shown}
 use Rattle.kc_app.specs.Recheck.{CertFiles}
 use Rattle.kc_app.specs.Reply.{Proves, answer_line, answer_status}

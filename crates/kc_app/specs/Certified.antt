@@ -2,19 +2,19 @@
 use Rattle.std.specs.Prelude.{◌≡◌, ⊤, ℕ, List, [], Result, Ok, Err}
 use Rattle.kc_found.specs.declared.verdict.Verdict.TheVariants as verdicts
 use Rattle.kc_plan.specs.Verdicts.{verdict_places}
-use Rattle.kc_recheck.specs.declared.against.CertAnswer.{CertAnswer}
-use Rattle.kc_cert_text.specs.declared.certificate.CertStep.{CertStep}
-use Rattle.kc_certify.specs.declared.issue.CertStop.{CertStop}
-use Rattle.kc_certify.specs.declared.issue.CertStop.TheVariants.{Broken, Fault, NoMemory}
+use Rattle.kc_cert.specs.declared.rechecking.against.CertAnswer.{CertAnswer}
+use Rattle.kc_cert.specs.declared.text.certificate.CertStep.{CertStep}
+use Rattle.kc_cert.specs.declared.certifying.issue.CertStop.{CertStop}
+use Rattle.kc_cert.specs.declared.certifying.issue.CertStop.TheVariants.{Broken, Fault, NoMemory}
 use Rattle.kc_found.specs.declared.failed.ReadFailed.{ReadFailed}
 use Rattle.kc_found.specs.declared.failed.ReadFailed.TheVariants as stops
-use Rattle.kc_certify.specs.Certified.{NamesAudit}
-use Rattle.kc_cert_text.specs.CertTexts.{IsCertificate, cert_text}
-use Rattle.kc_input.specs.declared.halt.Halt.{Halt}
-use Rattle.kc_input.specs.declared.halt.Halt.TheVariants as halts
-use Rattle.kc_ends.specs.declared.answer.Answer.{Answer}
-use Rattle.kc_ends.specs.declared.status.Status.TheVariants as status
-use Rattle.kc_ends.specs.Answers.{written_by}
+use Rattle.kc_cert.specs.Certifying.Certified.{NamesAudit}
+use Rattle.kc_cert.specs.Text.CertTexts.{IsCertificate, cert_text}
+use Rattle.kc_command.specs.declared.halt.Halt.{Halt}
+use Rattle.kc_command.specs.declared.halt.Halt.TheVariants as halts
+use Rattle.kc_command.specs.declared.ends.answer.Answer.{Answer}
+use Rattle.kc_command.specs.declared.ends.status.Status.TheVariants as status
+use Rattle.kc_command.specs.Ends.Answers.{written_by}
 use Rattle.kc_app.specs.Answer.{Writes, WritesText}
 use Rattle.kc_app.specs.Check.{verdict_said}
 use Rattle.kc_app.specs.Reply.{answer_line, answer_status}

@@ -21,18 +21,18 @@ use Rattle.kc_report.specs.declared.report.Report.{Report}
 use Rattle.kc_report.specs.Copies.{counted, name_of, report_each, report_of, told_stop}
 use Rattle.kc_report.specs.Copies.{names_of as reached_names}
 use Rattle.kc_report.specs.IsReport.{report_text}
-use Rattle.kc_input.specs.declared.halt.Halt.{Halt}
-use Rattle.kc_input.specs.declared.halt.Halt.TheVariants.{Refused, Store, Memory}
-use Rattle.kc_input.specs.declared.refusal.Refusal.TheVariants.{Notes}
-use Rattle.kc_input.specs.Inputs.{dump_parts, map_in, plan_in, rows_in, types_in}
-use Rattle.kc_input.specs.Made.{◌>>=◌, Made, checked, gives}
-use Rattle.kc_input.specs.Paging.{by_info}
-use Rattle.kc_input.specs.Slots.{refused_slot}
-use Rattle.kc_ends.specs.Asked.{Asked}
+use Rattle.kc_command.specs.declared.halt.Halt.{Halt}
+use Rattle.kc_command.specs.declared.halt.Halt.TheVariants.{Refused, Store, Memory}
+use Rattle.kc_command.specs.declared.refusal.Refusal.TheVariants.{Notes}
+use Rattle.kc_command.specs.Inputs.{dump_parts, map_in, plan_in, rows_in, types_in}
+use Rattle.kc_command.specs.Made.{◌>>=◌, Made, checked, gives}
+use Rattle.kc_command.specs.Paging.{by_info}
+use Rattle.kc_command.specs.Slots.{refused_slot}
+use Rattle.kc_command.specs.Ends.Asked.{Asked}
 use Rattle.kc_app.specs.Audits.{plan_over}
 use Rattle.kc_app.specs.declared.check.Asks.{Asks}
-use Rattle.kc_ends.specs.declared.status.Status.{Status}
-use Rattle.kc_ends.specs.declared.status.Status.TheVariants as status
+use Rattle.kc_command.specs.declared.ends.status.Status.{Status}
+use Rattle.kc_command.specs.declared.ends.status.Status.TheVariants as status
 use Rattle.kc_app.specs.Shown.{Said, Sound, Unsound, RootSeen, Shown, Seen, Rooted, Listed, said_status, shown_status, shown_text}
 use Rattle.kc_app.specs.Word.{bytes_of, image_of}
 

@@ -3,11 +3,11 @@ use Rattle.std.specs.Prelude.{ℕ, List, [], ◌∷◌, codes, Option, Some, Non
 use Rattle.std.specs.Option.{option_or}
 use Rattle.kc_outside.specs.declared.store.Slot.TheVariants as slot
 use Rattle.kc_notes.specs.Info.{info}
-use Rattle.kc_input.specs.declared.refusal.Refusal.TheVariants.{Notes}
-use Rattle.kc_input.specs.Inputs.{dump_parts, module_in, types_in}
-use Rattle.kc_input.specs.Made.{◌>>=◌, Made, checked, gives}
-use Rattle.kc_input.specs.Paging.{by_info}
-use Rattle.kc_ends.specs.Asked.{Asked}
+use Rattle.kc_command.specs.declared.refusal.Refusal.TheVariants.{Notes}
+use Rattle.kc_command.specs.Inputs.{dump_parts, module_in, types_in}
+use Rattle.kc_command.specs.Made.{◌>>=◌, Made, checked, gives}
+use Rattle.kc_command.specs.Paging.{by_info}
+use Rattle.kc_command.specs.Ends.Asked.{Asked}
 use Rattle.kc_app.specs.declared.check_module.Asks.{Asks}
 use Rattle.kc_app.specs.Check.{Audited, Files, audited_by, audited_shown, check_asks, files_view, planned_in}
 use Rattle.kc_app.specs.Form.{Form}

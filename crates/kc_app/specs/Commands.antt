@@ -1,7 +1,7 @@
 -- The commands that show words of a dump, and which one the words of a command line are.
 use Rattle.std.specs.Prelude.{ℕ, List, [], ◌∷◌, ◌++◌, codes, find, Option, None, option_and_then}
 use Rattle.std.specs.Str.{bytes_eq}
-use Rattle.kc_ends.specs.Asked.{Asked}
+use Rattle.kc_command.specs.Ends.Asked.{Asked}
 use Rattle.kc_app.specs.CheckModule.{check_form}
 use Rattle.kc_app.specs.Form.{Form}
 use Rattle.kc_app.specs.Layout.{layout_form}

@@ -2,12 +2,12 @@
 use Rattle.std.specs.Prelude.{◌≡◌, ⊤, ℕ, List, Option, Some, None, Result, Ok, Err}
 use Rattle.kc_outside.specs.declared.store.Slot.{Slot}
 use Rattle.kc_outside.specs.Files.{Files}
-use Rattle.kc_cert_text.specs.declared.certificate.CertStep.{CertStep}
-use Rattle.kc_input.specs.declared.halt.Halt.{Halt}
-use Rattle.kc_input.specs.Made.{Halts, Made, gives}
-use Rattle.kc_ends.specs.declared.answer.Answer.{Answer}
-use Rattle.kc_ends.specs.Answers.{StayBehind, written_by}
-use Rattle.kc_ends.specs.Asked.{Asked, asked_files}
+use Rattle.kc_cert.specs.declared.text.certificate.CertStep.{CertStep}
+use Rattle.kc_command.specs.declared.halt.Halt.{Halt}
+use Rattle.kc_command.specs.Made.{Halts, Made, gives}
+use Rattle.kc_command.specs.declared.ends.answer.Answer.{Answer}
+use Rattle.kc_command.specs.Ends.Answers.{StayBehind, written_by}
+use Rattle.kc_command.specs.Ends.Asked.{Asked, asked_files}
 use Rattle.kc_app.specs.Reply.{Fits, Reply, reply_written}
 
 -- an answer is the text of a reply, by a certificate that fits

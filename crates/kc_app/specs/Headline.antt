@@ -4,10 +4,10 @@ use Rattle.kc_outside.specs.declared.store.Slot.{Slot}
 use Rattle.kc_outside.specs.declared.store.Slot.TheVariants.{Dump, Btf, Map, Plan}
 use Rattle.kc_outside.specs.Files.{Files as Told}
 use Rattle.kc_outside.specs.Texts.{with_piece}
-use Rattle.kc_input.specs.Made.{Made, gives}
-use Rattle.kc_cert_text.specs.declared.certificate.CertStep.{CertStep}
-use Rattle.kc_ends.specs.declared.status.Status.{Status}
-use Rattle.kc_ends.specs.declared.status.Status.TheVariants as status
+use Rattle.kc_command.specs.Made.{Made, gives}
+use Rattle.kc_cert.specs.declared.text.certificate.CertStep.{CertStep}
+use Rattle.kc_command.specs.declared.ends.status.Status.{Status}
+use Rattle.kc_command.specs.declared.ends.status.Status.TheVariants as status
 use Rattle.kc_app.specs.Check.{Audited, Files, TellsRoots, TellsStanding, audited, audited_shown}
 use Rattle.kc_app.specs.Output.{out, output_written}
 use Rattle.kc_app.specs.Shown.{shown_text}

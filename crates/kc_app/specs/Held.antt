@@ -2,9 +2,9 @@
 use Rattle.std.specs.Prelude.{◌≡◌, ⊤, ℕ, List, Option, Some, None, Result, Ok, Err}
 use Rattle.kc_outside.specs.Files.{Files as Told}
 use Rattle.kc_plan.specs.Views.{plan_whole}
-use Rattle.kc_input.specs.declared.halt.Halt.{Halt}
-use Rattle.kc_input.specs.Made.{Halts, Made, gives}
-use Rattle.kc_input.specs.Paging.{by_info}
+use Rattle.kc_command.specs.declared.halt.Halt.{Halt}
+use Rattle.kc_command.specs.Made.{Halts, Made, gives}
+use Rattle.kc_command.specs.Paging.{by_info}
 use Rattle.kc_app.specs.declared.held.Held.{Held}
 use Rattle.kc_app.specs.Check.{Audited, audited_by}
 

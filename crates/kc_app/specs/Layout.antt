@@ -6,10 +6,10 @@ use Rattle.kc_layout.specs.declared.fault.QRule.TheVariants.{Q5}
 use Rattle.kc_layout.specs.Find.{find}
 use Rattle.kc_layout.specs.Bare.{compound_under}
 use Rattle.kc_layout.specs.Listing.{listing}
-use Rattle.kc_input.specs.declared.refusal.Refusal.TheVariants.{NoType, Path}
-use Rattle.kc_input.specs.Inputs.{types_in}
-use Rattle.kc_input.specs.Made.{◌>>=◌, Made, gives, wanted}
-use Rattle.kc_ends.specs.Asked.{Asked}
+use Rattle.kc_command.specs.declared.refusal.Refusal.TheVariants.{NoType, Path}
+use Rattle.kc_command.specs.Inputs.{types_in}
+use Rattle.kc_command.specs.Made.{◌>>=◌, Made, gives, wanted}
+use Rattle.kc_command.specs.Ends.Asked.{Asked}
 use Rattle.kc_app.specs.declared.layout.Asks.{Asks}
 use Rattle.kc_app.specs.Form.{Form}
 use Rattle.kc_app.specs.Shown.{Shown, Listed}

@@ -22,8 +22,8 @@ pub mod Selftest
 pub mod Show
 pub mod Shown
 pub mod Word
-pub use Rattle.kc_input.specs.Halts
-pub use Rattle.kc_input.specs.Inputs
-pub use Rattle.kc_input.specs.Lines
-pub use Rattle.kc_input.specs.Made
-pub use Rattle.kc_input.specs.Slots
+pub use Rattle.kc_command.specs.Halts
+pub use Rattle.kc_command.specs.Inputs
+pub use Rattle.kc_command.specs.Lines
+pub use Rattle.kc_command.specs.Made
+pub use Rattle.kc_command.specs.Slots

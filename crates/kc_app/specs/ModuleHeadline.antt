@@ -3,8 +3,8 @@ use Rattle.std.specs.Prelude.{◌≡◌, ℕ, List, [], ◌∷◌, codes, Option
 use Rattle.kc_outside.specs.declared.store.Slot.{Slot}
 use Rattle.kc_outside.specs.declared.store.Slot.TheVariants.{Dump, Btf, Map, Plan, Module}
 use Rattle.kc_outside.specs.Files.{Files as Told}
-use Rattle.kc_cert_text.specs.declared.certificate.CertStep.{CertStep}
-use Rattle.kc_ends.specs.declared.status.Status.{Status}
+use Rattle.kc_cert.specs.declared.text.certificate.CertStep.{CertStep}
+use Rattle.kc_command.specs.declared.ends.status.Status.{Status}
 use Rattle.kc_app.specs.CheckModule.{FiveFiles, audited_with}
 use Rattle.kc_app.specs.Headline.{EndsBy, PrintsBy}
 use Rattle.kc_app.specs.Output.{out, output_written}

@@ -3,11 +3,11 @@ use Rattle.std.specs.Prelude.{◌≡◌, ⊤, ℕ, List, Option, Some, None, IfS
 use Rattle.kc_outside.specs.declared.store.Slot.{Slot}
 use Rattle.kc_outside.specs.Files.{Files}
 use Rattle.kc_outside.specs.Texts.{with_piece}
-use Rattle.kc_cert_text.specs.declared.certificate.CertStep.{CertStep}
-use Rattle.kc_ends.specs.declared.status.Status.{Status}
-use Rattle.kc_ends.specs.Ends.{ErrFailed, IsTold, TookPart}
-use Rattle.kc_ends.specs.Output.{Output, Usage, Ends, output_of, word_files, written, written_files}
-use Rattle.kc_ends.specs.Written.{Written}
+use Rattle.kc_cert.specs.declared.text.certificate.CertStep.{CertStep}
+use Rattle.kc_command.specs.declared.ends.status.Status.{Status}
+use Rattle.kc_command.specs.Ends.Ends.{ErrFailed, IsTold, TookPart}
+use Rattle.kc_command.specs.Ends.Output.{Output, Usage, Ends, output_of, word_files, written, written_files}
+use Rattle.kc_command.specs.Ends.Written.{Written}
 use Rattle.kc_app.specs.Program.{program, usage_text}
 use Rattle.kc_app.specs.Reply.{Reply, CertificateOf, Fits, Rechecks, Shows, reply_written}
 use Rattle.kc_app.specs.Shown.{IsTrueOfDump}

@@ -2,7 +2,7 @@
 use Rattle.std.specs.Prelude.{ℕ, List, [], ◌∷◌, ◌++◌, find, Option, None, option_and_then, option_map}
 use Rattle.std.specs.Option.{option_or}
 use Rattle.std.specs.Str.{bytes_eq}
-use Rattle.kc_ends.specs.Asked.{Asked}
+use Rattle.kc_command.specs.Ends.Asked.{Asked}
 use Rattle.kc_app.specs.declared.certs.CertAsks.{CertAsks}
 use Rattle.kc_app.specs.declared.certs.CertAsks.TheVariants as certs
 use Rattle.kc_app.specs.Certify.{certify_asked, certify_form}

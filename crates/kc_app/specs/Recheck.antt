@@ -1,13 +1,13 @@
 -- `recheck`: whether a certificate fits the structures of a kernel, by a plan.
 use Rattle.std.specs.Prelude.{ℕ, List, [], ◌∷◌, ◌++◌, codes, Option, Some, None}
 use Rattle.kc_outside.specs.declared.store.Slot.TheVariants as slot
-use Rattle.kc_cert_text.specs.declared.certificate.CertStep.{CertStep}
-use Rattle.kc_recheck.specs.Certificates.{answer}
-use Rattle.kc_cert_text.specs.CertTexts.{cert_in}
-use Rattle.kc_input.specs.declared.refusal.Refusal.TheVariants.{Certificate}
-use Rattle.kc_input.specs.Inputs.{cert_bytes_in}
-use Rattle.kc_input.specs.Made.{◌>>=◌, Made, checked, gives}
-use Rattle.kc_ends.specs.Asked.{Asked}
+use Rattle.kc_cert.specs.declared.text.certificate.CertStep.{CertStep}
+use Rattle.kc_cert.specs.Rechecking.Certificates.{answer}
+use Rattle.kc_cert.specs.Text.CertTexts.{cert_in}
+use Rattle.kc_command.specs.declared.refusal.Refusal.TheVariants.{Certificate}
+use Rattle.kc_command.specs.Inputs.{cert_bytes_in}
+use Rattle.kc_command.specs.Made.{◌>>=◌, Made, checked, gives}
+use Rattle.kc_command.specs.Ends.Asked.{Asked}
 use Rattle.kc_app.specs.declared.recheck.Asks.{Asks}
 use Rattle.kc_app.specs.Check.{Files, audited, check_asked, files_view}
 use Rattle.kc_app.specs.Form.{Form}

@@ -3,16 +3,16 @@ use Rattle.std.specs.Prelude.{◌≡◌, ⊤, ℕ, List, [], ◌++◌, codes, de
 use Rattle.kc_memory.specs.Image.{Image}
 use Rattle.kc_found.specs.declared.verdict.AuditCount.{AuditCount}
 use Rattle.kc_plan.specs.Planned.{AuditAt}
-use Rattle.kc_recheck.specs.declared.against.CertAnswer.{CertAnswer}
-use Rattle.kc_recheck.specs.declared.against.CertAnswer.TheVariants.{Yes, No}
-use Rattle.kc_cert_text.specs.declared.certificate.CertStep.{CertStep}
-use Rattle.kc_recheck.specs.Certificates.{answer}
-use Rattle.kc_cert_text.specs.CertTexts.{IsCertificate, cert_text}
-use Rattle.kc_input.specs.Made.{◌>>=◌, Made, gives}
-use Rattle.kc_ends.specs.declared.status.Status.{Status}
-use Rattle.kc_ends.specs.declared.status.Status.TheVariants.{Done, Broken}
-use Rattle.kc_ends.specs.Asked.{Asked}
-use Rattle.kc_ends.specs.Written.{Written}
+use Rattle.kc_cert.specs.declared.rechecking.against.CertAnswer.{CertAnswer}
+use Rattle.kc_cert.specs.declared.rechecking.against.CertAnswer.TheVariants.{Yes, No}
+use Rattle.kc_cert.specs.declared.text.certificate.CertStep.{CertStep}
+use Rattle.kc_cert.specs.Rechecking.Certificates.{answer}
+use Rattle.kc_cert.specs.Text.CertTexts.{IsCertificate, cert_text}
+use Rattle.kc_command.specs.Made.{◌>>=◌, Made, gives}
+use Rattle.kc_command.specs.declared.ends.status.Status.{Status}
+use Rattle.kc_command.specs.declared.ends.status.Status.TheVariants.{Done, Broken}
+use Rattle.kc_command.specs.Ends.Asked.{Asked}
+use Rattle.kc_command.specs.Ends.Written.{Written}
 use Rattle.kc_app.specs.Shown.{Shown, shown_status, shown_text}
 
 -- Of a certificate a reply tells the memory and the audits: which certificate of these it is, no definition says.

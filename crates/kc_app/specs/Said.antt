@@ -1,11 +1,11 @@
 -- What the code says of a word and of a number.
 use Rattle.std.specs.Prelude.{[], ◌∷◌, Result, Ok, Err}
-use Rattle.kc_input.specs.declared.halt.Halt.{Halt}
+use Rattle.kc_command.specs.declared.halt.Halt.{Halt}
 use Rattle.kc_memory.specs.declared.space.Stop.{Stop}
 use Rattle.kc_memory.specs.declared.words.VWord.{VWord}
 use Rattle.kc_memory.specs.Bits.{Number, number_places}
 use Rattle.kc_memory.specs.Places.{place_of}
-use Rattle.kc_ends.specs.declared.answer.Answer.{Answer}
+use Rattle.kc_command.specs.declared.ends.answer.Answer.{Answer}
 use Rattle.kc_app.specs.Answer.{IsStopped, Writes}
 use Rattle.kc_app.specs.Shown.{Bare, Value}
 

@@ -4,8 +4,8 @@ use Rattle.kc_word.specs.Decimal.{decimal_digits}
 use Rattle.kc_gen.specs.Header.{dump}
 use Rattle.kc_gen.specs.Texts.{map, plan}
 use Rattle.kc_gen.specs.Types.{btf}
-use Rattle.kc_input.specs.Made.{Made}
-use Rattle.kc_ends.specs.Asked.{Asked}
+use Rattle.kc_command.specs.Made.{Made}
+use Rattle.kc_command.specs.Ends.Asked.{Asked}
 use Rattle.kc_app.specs.Check.{check_made}
 use Rattle.kc_app.specs.Form.{Form}
 use Rattle.kc_app.specs.Shown.{Shown}

@@ -11,11 +11,11 @@ use Rattle.kc_layout.specs.Views.{number_view}
 use Rattle.kc_notes.specs.Info.{info}
 use Rattle.kc_syms.specs.Rows.{addresses}
 use Rattle.kc_view.specs.Pointers.{value_at}
-use Rattle.kc_input.specs.declared.refusal.Refusal.TheVariants.{Notes}
-use Rattle.kc_input.specs.Inputs.{dump_parts, map_in, number_at, rows_in, symbol_at, type_named, types_in}
-use Rattle.kc_input.specs.Made.{◌>>=◌, Made, checked, gives}
-use Rattle.kc_input.specs.Paging.{by_info}
-use Rattle.kc_ends.specs.Asked.{Asked}
+use Rattle.kc_command.specs.declared.refusal.Refusal.TheVariants.{Notes}
+use Rattle.kc_command.specs.Inputs.{dump_parts, map_in, number_at, rows_in, symbol_at, type_named, types_in}
+use Rattle.kc_command.specs.Made.{◌>>=◌, Made, checked, gives}
+use Rattle.kc_command.specs.Paging.{by_info}
+use Rattle.kc_command.specs.Ends.Asked.{Asked}
 use Rattle.kc_app.specs.declared.show.Asks.{Asks}
 use Rattle.kc_app.specs.declared.show.Target.{Target as CodeTarget}
 use Rattle.kc_app.specs.Form.{Form}

@@ -17,9 +17,9 @@ use Rattle.kc_text.specs.Text.{hex, name_text, visible}
 use Rattle.kc_report.specs.Lines.{address_text, origin_text, place_lines, rule_lines, stop_line}
 use Rattle.kc_report.specs.Report.{AuditLine}
 use Rattle.kc_report.specs.ReportText.{broken_lines, clean_text}
-use Rattle.kc_ends.specs.declared.status.Status.{Status}
-use Rattle.kc_ends.specs.declared.status.Status.TheVariants.{Done, Broken}
-use Rattle.kc_ends.specs.Written.{Written}
+use Rattle.kc_command.specs.declared.ends.status.Status.{Status}
+use Rattle.kc_command.specs.declared.ends.status.Status.TheVariants.{Done, Broken}
+use Rattle.kc_command.specs.Ends.Written.{Written}
 
 -- what is said of words of a dump, beside the words themselves: nothing; the number that they hold; the rule, the
 -- virtual address, the level and the physical address of a stop; that no structure breaks a rule, with each audit's

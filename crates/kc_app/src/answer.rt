@@ -1,8 +1,7 @@
 // The answer where memory can't be read.
 ghost use Rattle.kc_app.specs.Answer.{IsStopped};
 
-use kc_ends::Answer;
-use kc_input::Halt;
+use kc_command::{Answer, Halt};
 use kc_memory::Stop;
 use kc_report::broken_text;
 use std::alloc::Global;

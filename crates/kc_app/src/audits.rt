@@ -6,13 +6,13 @@ ghost use Rattle.kc_syms.specs.Rows.{RowText};
 ghost use Rattle.kc_syms.specs.Symbols.{symbol};
 ghost use Rattle.kc_plan.specs.Inside.{AreInside};
 ghost use Rattle.kc_plan.specs.Views.{plan_whole};
-ghost use Rattle.kc_input.specs.Halts.{NotStore};
-ghost use Rattle.kc_input.specs.Slots.{RefusesIn};
-ghost use Rattle.kc_input.specs.Made.{Is};
+ghost use Rattle.kc_command.specs.Halts.{NotStore};
+ghost use Rattle.kc_command.specs.Slots.{RefusesIn};
+ghost use Rattle.kc_command.specs.Made.{Is};
 ghost use Rattle.kc_app.specs.Audits.{plan_over};
 
 use kc_btf::Btf;
-use kc_input::Halt;
+use kc_command::Halt;
 use kc_notes::Info;
 use kc_plan::{Plan, know_plans, read_plan};
 use kc_syms::Symbols;

@@ -4,8 +4,8 @@ ghost use Rattle.std.specs.Option.{ForSome};
 ghost use Rattle.std.specs.String.{string_bytes};
 ghost use Rattle.kc_outside.specs.declared.store.Slot.{Slot};
 ghost use Rattle.kc_outside.specs.Counts.{Rose};
-ghost use Rattle.kc_input.specs.Halts.{OnStore, UnlessStore};
-ghost use Rattle.kc_ends.specs.Asked.{word_in};
+ghost use Rattle.kc_command.specs.Halts.{OnStore, UnlessStore};
+ghost use Rattle.kc_command.specs.Ends.Asked.{word_in};
 ghost use Rattle.kc_app.specs.Fitted.{RepliesTo};
 ghost use Rattle.kc_app.specs.Certify.{certify_asks};
 ghost use Rattle.kc_app.specs.Program.{certs_asks, certs_view};
@@ -13,8 +13,7 @@ ghost use Rattle.kc_app.specs.Recheck.{recheck_asks};
 
 use crate::check::Asks;
 use crate::recheck::Asks as CertFiles;
-use kc_ends::Answer;
-use kc_input::Halt;
+use kc_command::{Answer, Halt};
 use kc_outside::Store;
 use std::alloc::Global;
 

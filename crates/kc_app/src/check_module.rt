@@ -5,15 +5,14 @@ ghost use Rattle.std.specs.String.{string_bytes};
 ghost use Rattle.kc_outside.specs.declared.store.Slot.{Slot};
 ghost use Rattle.kc_outside.specs.declared.store.Slot.TheVariants.{Dump, Map};
 ghost use Rattle.kc_outside.specs.Counts.{Rose};
-ghost use Rattle.kc_input.specs.Halts.{OnStore, UnlessStore};
-ghost use Rattle.kc_ends.specs.Answers.{OnNone, OnStoreIn, PrintsOf, Runs, StayBehind, UnlessStoreIn};
-ghost use Rattle.kc_ends.specs.Asked.{word_in};
+ghost use Rattle.kc_command.specs.Halts.{OnStore, UnlessStore};
+ghost use Rattle.kc_command.specs.Ends.Answers.{OnNone, OnStoreIn, PrintsOf, Runs, StayBehind, UnlessStoreIn};
+ghost use Rattle.kc_command.specs.Ends.Asked.{word_in};
 ghost use Rattle.kc_app.specs.CheckModule.{checks_asks, five_view, module_asked, module_asks, module_made, module_view};
 ghost use Rattle.kc_app.specs.Shown.{shown_written};
 
 use crate::check::{Asks as FourAsks, find_plan, judge};
-use kc_ends::Answer;
-use kc_input::{Halt, read_dump, read_info, read_module, read_types};
+use kc_command::{Answer, Halt, read_dump, read_info, read_module, read_types};
 use kc_outside::Store;
 use std::alloc::Global;
 

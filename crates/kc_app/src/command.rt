@@ -4,15 +4,14 @@ ghost use Rattle.std.specs.Option.{ForSome};
 ghost use Rattle.std.specs.String.{string_bytes};
 ghost use Rattle.kc_outside.specs.declared.store.Slot.{Slot};
 ghost use Rattle.kc_outside.specs.Counts.{Rose};
-ghost use Rattle.kc_ends.specs.Answers.{OnNone, OnStoreIn, Runs, UnlessStoreIn};
-ghost use Rattle.kc_ends.specs.Asked.{word_in};
+ghost use Rattle.kc_command.specs.Ends.Answers.{OnNone, OnStoreIn, Runs, UnlessStoreIn};
+ghost use Rattle.kc_command.specs.Ends.Asked.{word_in};
 ghost use Rattle.kc_app.specs.Calls.{IsLayout, LayoutCalls};
 ghost use Rattle.kc_app.specs.Commands.{command};
 ghost use Rattle.kc_app.specs.Selftest.{IsSelftest};
 ghost use Rattle.kc_app.specs.Shown.{shown_written};
 
-use kc_ends::Answer;
-use kc_input::Halt;
+use kc_command::{Answer, Halt};
 use kc_outside::Store;
 use std::alloc::Global;
 

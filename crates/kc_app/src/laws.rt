@@ -1,6 +1,6 @@
 // What the definition of the output says.
-ghost use Rattle.kc_cert_text.specs.CertTexts.{TextsTold};
-ghost use Rattle.kc_recheck.specs.Laws.{AnswersAreRight};
+ghost use Rattle.kc_cert.specs.Text.CertTexts.{TextsTold};
+ghost use Rattle.kc_cert.specs.Rechecking.Laws.{AnswersAreRight};
 ghost use Rattle.kc_app.specs.Check.{ChecksStand, ReportsShown, RootsTold};
 ghost use Rattle.kc_app.specs.Headline.{ChecksEnd};
 ghost use Rattle.kc_app.specs.ModuleHeadline.{ModuleChecksEnd};

@@ -19,6 +19,6 @@ mod show;
 mod top;
 mod word;
 
-pub use kc_ends::Status;
+pub use kc_command::Status;
 pub use laws::{know_reports, know_shown};
 pub use top::kaudit;

@@ -19,17 +19,17 @@ use Rattle.kc_told.specs.Views.{shapes_view}
 use Rattle.kc_report.specs.Copies.{report_each, report_of}
 use Rattle.kc_report.specs.declared.report.Report.{Report}
 use Rattle.kc_report.specs.IsReport.{report_text}
-use Rattle.kc_input.specs.declared.halt.Halt.{Halt}
-use Rattle.kc_input.specs.declared.halt.Halt.TheVariants.{Refused, Store, Memory}
-use Rattle.kc_input.specs.Halts.{NotRefused}
-use Rattle.kc_input.specs.Inputs.{report_bytes_in}
-use Rattle.kc_input.specs.Made.{Is, IsOf, Made, gives}
-use Rattle.kc_input.specs.Paging.{by_info}
-use Rattle.kc_input.specs.Slots.{RefusesIn, refused_slot}
-use Rattle.kc_ends.specs.declared.answer.Answer.{Answer}
-use Rattle.kc_ends.specs.declared.answer.Answer.TheVariants.{Done, Broken}
-use Rattle.kc_ends.specs.Answers.{Prints, PrintsOf, PrintsOfBytes, StayBehind}
-use Rattle.kc_ends.specs.Asked.{AllStay, behind}
+use Rattle.kc_command.specs.declared.halt.Halt.{Halt}
+use Rattle.kc_command.specs.declared.halt.Halt.TheVariants.{Refused, Store, Memory}
+use Rattle.kc_command.specs.Halts.{NotRefused}
+use Rattle.kc_command.specs.Inputs.{report_bytes_in}
+use Rattle.kc_command.specs.Made.{Is, IsOf, Made, gives}
+use Rattle.kc_command.specs.Paging.{by_info}
+use Rattle.kc_command.specs.Slots.{RefusesIn, refused_slot}
+use Rattle.kc_command.specs.declared.ends.answer.Answer.{Answer}
+use Rattle.kc_command.specs.declared.ends.answer.Answer.TheVariants.{Done, Broken}
+use Rattle.kc_command.specs.Ends.Answers.{Prints, PrintsOf, PrintsOfBytes, StayBehind}
+use Rattle.kc_command.specs.Ends.Asked.{AllStay, behind}
 use Rattle.kc_cause.specs.declared.held.Held.{Held}
 use Rattle.kc_cause.specs.declared.held.Planned.{Planned}
 use Rattle.kc_cause.specs.declared.judged.PlanOf.{PlanOf}

@@ -12,12 +12,12 @@ use Rattle.kc_plan.specs.declared.plan.Plan.{Plan}
 use Rattle.kc_plan.specs.Planned.{AuditAt}
 use Rattle.kc_plan.specs.Plans.{plan as plan_in_text}
 use Rattle.kc_plan.specs.Views.{plan_whole}
-use Rattle.kc_input.specs.declared.refusal.Refusal.TheVariants as refusal
-use Rattle.kc_input.specs.declared.refusal.Refusal.TheVariants.{Notes}
-use Rattle.kc_input.specs.Inputs.{dump_parts, map_in, plan_in, rows_in, types_in}
-use Rattle.kc_input.specs.declared.halt.Halt.{Halt}
-use Rattle.kc_input.specs.declared.halt.Halt.TheVariants.{Refused, Store, Memory}
-use Rattle.kc_input.specs.Made.{Halts, IsOf, checked, gives}
+use Rattle.kc_command.specs.declared.refusal.Refusal.TheVariants as refusal
+use Rattle.kc_command.specs.declared.refusal.Refusal.TheVariants.{Notes}
+use Rattle.kc_command.specs.Inputs.{dump_parts, map_in, plan_in, rows_in, types_in}
+use Rattle.kc_command.specs.declared.halt.Halt.{Halt}
+use Rattle.kc_command.specs.declared.halt.Halt.TheVariants.{Refused, Store, Memory}
+use Rattle.kc_command.specs.Made.{Halts, IsOf, checked, gives}
 use Rattle.kc_told.specs.declared.told.Shapes.{Shapes}
 use Rattle.kc_told.specs.Objects.{kernel_by, shapes_by}
 use Rattle.kc_told.specs.SeenText.{map_symbols, symbols_by}

@@ -23,14 +23,14 @@ use Rattle.kc_report.specs.Copies.{report_each, report_of}
 use Rattle.kc_report.specs.IsReport.{report_text}
 use Rattle.kc_report.specs.Reads.{report_in}
 use Rattle.kc_text.specs.Compose.{texts}
-use Rattle.kc_input.specs.declared.refusal.Refusal.TheVariants as refusal
-use Rattle.kc_input.specs.declared.refusal.Refusal.TheVariants.{Notes}
-use Rattle.kc_input.specs.declared.refusal.ReportFault.TheVariants.{Y1, Y2}
-use Rattle.kc_input.specs.Inputs.{dump_parts, map_in, plan_in, report_bytes_in, rows_in, types_in}
-use Rattle.kc_input.specs.Made.{◌>>=◌, Made, checked, gives, refuses}
-use Rattle.kc_input.specs.Paging.{by_info}
-use Rattle.kc_ends.specs.declared.status.Status.TheVariants.{Done}
-use Rattle.kc_ends.specs.Written.{Written}
+use Rattle.kc_command.specs.declared.refusal.Refusal.TheVariants as refusal
+use Rattle.kc_command.specs.declared.refusal.Refusal.TheVariants.{Notes}
+use Rattle.kc_command.specs.declared.refusal.ReportFault.TheVariants.{Y1, Y2}
+use Rattle.kc_command.specs.Inputs.{dump_parts, map_in, plan_in, report_bytes_in, rows_in, types_in}
+use Rattle.kc_command.specs.Made.{◌>>=◌, Made, checked, gives, refuses}
+use Rattle.kc_command.specs.Paging.{by_info}
+use Rattle.kc_command.specs.declared.ends.status.Status.TheVariants.{Done}
+use Rattle.kc_command.specs.Ends.Written.{Written}
 use Rattle.kc_report.specs.Lines.{place_line}
 use Rattle.kc_told.specs.Objects.{Shapes, kernel_by, shapes_by, told_of}
 use Rattle.kc_told.specs.SeenText.{MapSymbols, symbols_by, told_lines}

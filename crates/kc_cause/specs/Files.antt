@@ -3,10 +3,10 @@ use Rattle.std.specs.Prelude.{◌≡◌, ◌⊎◌, ⊤, ℕ, List, [], ◌∷�
 use Rattle.kc_outside.specs.declared.store.Slot.{Slot}
 use Rattle.kc_outside.specs.declared.store.Slot.TheVariants as slot
 use Rattle.kc_plan.specs.Views.{plan_whole}
-use Rattle.kc_input.specs.declared.halt.Halt.{Halt}
-use Rattle.kc_input.specs.declared.halt.Halt.TheVariants.{Refused, Store, Memory}
-use Rattle.kc_input.specs.Slots.{refused_slot}
-use Rattle.kc_ends.specs.Asked.{Asked, Named}
+use Rattle.kc_command.specs.declared.halt.Halt.{Halt}
+use Rattle.kc_command.specs.declared.halt.Halt.TheVariants.{Refused, Store, Memory}
+use Rattle.kc_command.specs.Slots.{refused_slot}
+use Rattle.kc_command.specs.Ends.Asked.{Asked, Named}
 use Rattle.kc_cause.specs.declared.files.Asks.{Asks}
 use Rattle.kc_cause.specs.declared.held.Held.{Held}
 use Rattle.kc_cause.specs.declared.held.PlanFiles.{PlanFiles}

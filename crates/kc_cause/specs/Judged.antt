@@ -13,13 +13,13 @@ use Rattle.kc_report.specs.declared.report.Report.{Report}
 use Rattle.kc_report.specs.Copies.{IsOfPlan, report_each, report_of}
 use Rattle.kc_report.specs.Copies.{AreOfPlan as AreOfNames}
 use Rattle.kc_report.specs.IsReport.{report_text}
-use Rattle.kc_input.specs.declared.halt.Halt.{Halt}
-use Rattle.kc_input.specs.declared.halt.Halt.TheVariants.{Refused, Store, Memory}
-use Rattle.kc_input.specs.declared.refusal.Refusal.TheVariants as refusals
-use Rattle.kc_input.specs.declared.refusal.ReportFault.TheVariants.{Y2}
-use Rattle.kc_input.specs.Paging.{IsTable}
-use Rattle.kc_ends.specs.declared.answer.Answer.{Answer}
-use Rattle.kc_ends.specs.declared.answer.Answer.TheVariants.{Done, Broken}
+use Rattle.kc_command.specs.declared.halt.Halt.{Halt}
+use Rattle.kc_command.specs.declared.halt.Halt.TheVariants.{Refused, Store, Memory}
+use Rattle.kc_command.specs.declared.refusal.Refusal.TheVariants as refusals
+use Rattle.kc_command.specs.declared.refusal.ReportFault.TheVariants.{Y2}
+use Rattle.kc_command.specs.Paging.{IsTable}
+use Rattle.kc_command.specs.declared.ends.answer.Answer.{Answer}
+use Rattle.kc_command.specs.declared.ends.answer.Answer.TheVariants.{Done, Broken}
 use Rattle.kc_view.specs.TaskLists.{IsInside}
 use Rattle.kc_told.specs.SeenText.{map_symbols}
 use Rattle.kc_told.specs.Views.{shapes_view}

@@ -11,12 +11,12 @@ use Rattle.kc_kinds.specs.declared.kind.Kind.{Kind}
 use Rattle.kc_plan.specs.Planned.{AuditAt}
 use Rattle.kc_plan.specs.Seen.{container_of}
 use Rattle.kc_report.specs.Lines.{rule_code}
-use Rattle.kc_member.specs.MemberPaths.{member_path}
+use Rattle.kc_layout.specs.MemberPath.MemberPaths.{member_path}
 use Rattle.kc_element.specs.declared.element.Element.{Element}
 use Rattle.kc_element.specs.declared.number.Part.{Part}
 use Rattle.kc_element.specs.Elements.{element_of}
 use Rattle.kc_element.specs.Numbers.{differing, part_of}
-use Rattle.kc_suspect.specs.declared.suspect.Suspect.{Suspect}
+use Rattle.kc_repair.specs.declared.suspect.suspect.Suspect.{Suspect}
 use Rattle.kc_repair.specs.declared.outcome.Next.{Next}
 use Rattle.kc_repair.specs.declared.outcome.Repair.{Repair}
 use Rattle.kc_repair.specs.declared.outcome.Repair.TheVariants.{Stands, Nothing}

@@ -3,7 +3,7 @@ ghost use Rattle.std.specs.Prelude.{◌≡◌, ◌++◌, ◌≤◌, length, IfSo
 ghost use Rattle.kc_plan.specs.Inside.{IsInside};
 ghost use Rattle.kc_plan.specs.Planned.{audit_seen};
 ghost use Rattle.kc_plan.specs.Seen.{container_of};
-ghost use Rattle.kc_member.specs.MemberPaths.{member_path};
+ghost use Rattle.kc_layout.specs.MemberPath.MemberPaths.{member_path};
 ghost use Rattle.kc_cause.specs.Lines.{about_part, bytes_line, element_lines, is_of_member, named_lines, number_line, number_lines, path_part, rule_line, type_name, typed_part};
 
 use crate::sentences::sentence;
@@ -11,7 +11,7 @@ use kc_btf::Btf;
 use kc_element::{Element, Part, element_of, part_of};
 use kc_found::{Found, Name};
 use kc_kinds::Kind;
-use kc_member::push_member;
+use kc_layout::push_member;
 use kc_memory::Rule;
 use kc_plan::Audit;
 use kc_report::rule_code;

@@ -19,23 +19,25 @@ use Rattle.kc_plan.specs.Seen.{PathEnd, EndsAt, NullAt, at_element, below, check
 use Rattle.kc_kinds.specs.Structures.{nodes_of}
 use Rattle.kc_plan.specs.Verdicts.{verdict}
 use Rattle.kc_run.specs.Tally.{added, tally, zeros}
-use Rattle.kc_run_laws.specs.Runs.{ends_broken, ends_clean}
-use Rattle.kc_cert_text.specs.declared.certificate.CertStep.{CertStep}
-use Rattle.kc_fits.specs.Fits.{all_hold, checks_hold, fits}
-use Rattle.kc_recheck.specs.Certificates.{Judge, Judged, after_walk, answer_of, at, below_judged, each_judged, entry_judged, judged, nodes_judged, walk_judged}
+use Rattle.kc_cert.specs.RunLaws.Runs.{ends_broken, ends_clean}
+use Rattle.kc_cert.specs.declared.text.certificate.CertStep.{CertStep}
+use Rattle.kc_cert.specs.Fits.Fits.{all_hold, checks_hold, fits}
+use Rattle.kc_cert.specs.Rechecking.Certificates.{Judge, Judged, after_walk, answer_of, at, below_judged, each_judged, entry_judged, judged, nodes_judged, walk_judged}
 use Rattle.kc_found.specs.declared.xarrays.XaItem.{XaItem}
 use Rattle.kc_found.specs.XaLayouts.{XaLayout}
 use Rattle.kc_found.specs.XaSites.{entries_in, xa_judged}
-use Rattle.kc_entries.specs.Entries.{is_xarray, pointers}
-use Rattle.kc_entries.specs.Laws.{WalksPass, met_pointers}
-use Rattle.kc_given.specs.Laws.{CachesHaveLists, TasksHaveLists}
-use Rattle.kc_pid_lists.specs.Laws.{PidsHaveLists}
+use Rattle.kc_xa.specs.Listed.Entries.{is_xarray, pointers}
+use Rattle.kc_xa.specs.Listed.Laws.{WalksPass, met_pointers}
+use Rattle.kc_by_lists.specs.Laws.{CachesHaveLists, TasksHaveLists}
+use Rattle.kc_by_lists.specs.Pids.Laws.{PidsHaveLists}
 use Rattle.kc_list.specs.ListedLaws.{HashChainsAreTested, RingsAreTested}
 use Rattle.kc_rb.specs.Listed.Laws.{TreesPass}
-use Rattle.kc_fits.specs.Shapes.{is_shape, nodes_in}
+use Rattle.kc_cert.specs.Fits.Shapes.{is_shape, nodes_in}
 use Rattle.kc_rb.specs.Listed.Trees.{pre}
 use Rattle.kc_cert.specs.Complete.{AllShaped, HasShape, CleanIsCertified, ShapedKinds}
-use Rattle.kc_recheck_laws.specs.Judged.{both_true, checks_none, if_so, right_seen, step_fits, tally_parts}
+use Rattle.kc_cert.proofs.Rechecking.Fitting.{both_true, if_so, step_fits, tally_parts}
+use Rattle.kc_cert.proofs.Rechecking.Right.{checks_none}
+use Rattle.kc_cert.proofs.Fits.Checks.{right_seen}
 
 -- steps that are taken, whatever follows them
 abbrev MadeAt : Judge → List AuditCount → List AuditCount → Type 0

@@ -7,16 +7,16 @@ use Rattle.kc_found.specs.Violations.{Violation}
 use Rattle.kc_kinds.specs.declared.kind.Kind.{Kind}
 use Rattle.kc_kinds.specs.declared.kind.Kind.TheVariants.{Ring, Hlist, Rbtree, Xarray, Slub, Tasks, Pids}
 use Rattle.kc_kinds.specs.Structures.{nodes_of}
-use Rattle.kc_entries.specs.Laws.{XarraysPassOnce}
-use Rattle.kc_entries.specs.Entries.{is_xarray}
-use Rattle.kc_given.specs.Laws.{CacheListsAreTested, TaskListsAreTested}
-use Rattle.kc_pid_lists.specs.Laws.{PidListsAreOne}
+use Rattle.kc_xa.specs.Listed.Laws.{XarraysPassOnce}
+use Rattle.kc_xa.specs.Listed.Entries.{is_xarray}
+use Rattle.kc_by_lists.specs.Laws.{CacheListsAreTested, TaskListsAreTested}
+use Rattle.kc_by_lists.specs.Pids.Laws.{PidListsAreOne}
 use Rattle.kc_rb.specs.Listed.Laws.{TreesPassOnce}
 use Rattle.kc_rb.specs.Listed.Trees.{is_tree}
-use Rattle.kc_chains.specs.CachesBy.{cache_lists}
-use Rattle.kc_chains.specs.TasksBy.{task_lists}
-use Rattle.kc_fits.specs.Walked.{ShapesAreWalked}
-use Rattle.kc_fits.specs.Shapes.{is_shape, nodes_in, one_list}
+use Rattle.kc_steps.specs.CachesBy.{cache_lists}
+use Rattle.kc_steps.specs.TasksBy.{task_lists}
+use Rattle.kc_cert.specs.Fits.Walked.{ShapesAreWalked}
+use Rattle.kc_cert.specs.Fits.Shapes.{is_shape, nodes_in, one_list}
 use Rattle.kc_cert.specs.Single.{ShapesAreOne}
 
 -- what came, where something did

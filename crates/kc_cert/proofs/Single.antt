@@ -9,12 +9,12 @@ use Rattle.kc_found.specs.Trials.{ok_after}
 use Rattle.kc_plan.specs.Planned.{AuditAt}
 use Rattle.kc_plan.specs.Seen.{PathEnd, EndsAt, NullAt, container_of, is_optional, path_end, path_of, roots}
 use Rattle.kc_run.specs.Tally.{added, zeros}
-use Rattle.kc_recheck.specs.declared.against.CertAnswer.TheVariants.{Yes, No}
-use Rattle.kc_cert_text.specs.declared.certificate.CertStep.{CertStep}
-use Rattle.kc_fits.specs.Fits.{all_hold, fits}
-use Rattle.kc_recheck.specs.Certificates.{Judge, Judged, Progress, after_walk, answer, answer_by, answer_of, below_judged, each_judged, entry_judged, judged, nodes_judged, roots_judged, walk_judged}
+use Rattle.kc_cert.specs.declared.rechecking.against.CertAnswer.TheVariants.{Yes, No}
+use Rattle.kc_cert.specs.declared.text.certificate.CertStep.{CertStep}
+use Rattle.kc_cert.specs.Fits.Fits.{all_hold, fits}
+use Rattle.kc_cert.specs.Rechecking.Certificates.{Judge, Judged, Progress, after_walk, answer, answer_by, answer_of, below_judged, each_judged, entry_judged, judged, nodes_judged, roots_judged, walk_judged}
 use Rattle.kc_cert.specs.Single.{CertificatesAreOne, ShapesAreOne}
-use Rattle.kc_fits.specs.Shapes.{is_shape, nodes_in}
+use Rattle.kc_cert.specs.Fits.Shapes.{is_shape, nodes_in}
 
 -- what was taken of two certificates is the same
 record Taken (p q after_p after_q : Progress) : Type 0 where

@@ -1,2 +1,7 @@
 pub mod Complete
 pub mod Single
+pub mod RunLaws
+pub mod Text
+pub mod Fits
+pub mod Rechecking
+pub mod Certifying

@@ -4,10 +4,10 @@ use Rattle.kc_memory.specs.Image.{Image}
 use Rattle.kc_found.specs.declared.verdict.AuditCount.{AuditCount}
 use Rattle.kc_kinds.specs.declared.kind.Kind.{Kind}
 use Rattle.kc_plan.specs.Planned.{AuditAt}
-use Rattle.kc_recheck.specs.declared.against.CertAnswer.TheVariants.{Yes}
-use Rattle.kc_cert_text.specs.declared.certificate.CertStep.{CertStep}
-use Rattle.kc_recheck.specs.Certificates.{answer}
-use Rattle.kc_fits.specs.Shapes.{is_shape}
+use Rattle.kc_cert.specs.declared.rechecking.against.CertAnswer.TheVariants.{Yes}
+use Rattle.kc_cert.specs.declared.text.certificate.CertStep.{CertStep}
+use Rattle.kc_cert.specs.Rechecking.Certificates.{answer}
+use Rattle.kc_cert.specs.Fits.Shapes.{is_shape}
 
 -- a structure has one shape
 abbrev pub ShapesAreOne : Type 0

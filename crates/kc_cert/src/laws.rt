@@ -2,12 +2,11 @@
 ghost use Rattle.kc_cert.specs.Complete.{CleanIsCertified, ShapedKinds};
 ghost use Rattle.kc_cert.specs.Single.{CertificatesAreOne, ShapesAreOne};
 
-use kc_entries::know_entries;
-use kc_fits::know_walked;
-use kc_given::know_given_lists;
+use crate::know_walked;
+use kc_by_lists::{know_given_lists, know_pid_lists};
 use kc_list::{know_listed_rings, know_lists};
-use kc_pid_lists::know_pid_lists;
 use kc_rb::{know_listed_trees, know_trees};
+use kc_xa::know_entries;
 
 /// Does nothing. A clean dump has a certificate, with the counts of its verdict, where what is walked of its plan's kinds has
 /// shapes; what is walked of each kind has.

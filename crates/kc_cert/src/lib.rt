@@ -2,9 +2,14 @@
 //! against a dump without a search.
 #![tactic(auto)]
 
+mod certifying;
+mod fits;
 mod laws;
+mod rechecking;
+mod text;
 
-pub use kc_cert_text::{CertRead, CertStep, Certificate, Lists, cert_text, know_texts, read_cert};
-pub use kc_certify::{CertStop, certify};
-pub use kc_recheck::{CertAnswer, know_answers, recheck};
+pub use certifying::{CertStop, certify};
+pub use fits::{know_walked, nodes_in, test_step};
 pub use laws::{know_complete, know_single};
+pub use rechecking::{CertAnswer, know_answers, recheck};
+pub use text::{CertRead, CertStep, Certificate, Lists, cert_text, know_texts, read_cert};

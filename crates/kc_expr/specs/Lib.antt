@@ -7,3 +7,4 @@ pub mod Told
 pub mod Tree
 pub mod Values
 pub mod Views
+pub mod Keys

@@ -4,6 +4,7 @@
 mod evaluation;
 mod expr;
 mod fields;
+mod keys;
 mod laws;
 mod parsing;
 mod piece;
@@ -17,6 +18,7 @@ mod value;
 
 pub use evaluation::eval;
 pub use expr::Expr;
+pub use keys::{PRule, PlanFault, PlanKey, PlanStop, spelling};
 pub use laws::{know_checks, know_trees};
 pub use parsing::parse;
 pub use stop::ExprStop;

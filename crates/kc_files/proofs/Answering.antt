@@ -8,14 +8,14 @@ use Rattle.kc_memory.specs.Stopped.{Stopped}
 use Rattle.kc_kallsyms.specs.declared.stop.ReadStop.{ReadStop}
 use Rattle.kc_kallsyms.specs.declared.stop.ReadStop.TheVariants.{Miss, Fault, Table, NoMemory}
 use Rattle.kc_kallsyms.specs.Reading.{CountsReadFaults, Missed, Reads, ReadsAs, Stops, Why}
-use Rattle.kc_input.specs.declared.halt.Halt.{Halt}
-use Rattle.kc_input.specs.declared.halt.Halt.TheVariants.{Refused, Store, Memory}
-use Rattle.kc_input.specs.declared.refusal.Refusal.TheVariants.{Tables}
-use Rattle.kc_input.specs.Halts.{OnStore, UnlessStore}
-use Rattle.kc_input.specs.Slots.{RefusesIn}
-use Rattle.kc_ends.specs.declared.answer.Answer.{Answer}
-use Rattle.kc_ends.specs.declared.answer.Answer.TheVariants.{Done}
-use Rattle.kc_ends.specs.Answers.{Prints, PrintsOfBytes}
+use Rattle.kc_command.specs.declared.halt.Halt.{Halt}
+use Rattle.kc_command.specs.declared.halt.Halt.TheVariants.{Refused, Store, Memory}
+use Rattle.kc_command.specs.declared.refusal.Refusal.TheVariants.{Tables}
+use Rattle.kc_command.specs.Halts.{OnStore, UnlessStore}
+use Rattle.kc_command.specs.Slots.{RefusesIn}
+use Rattle.kc_command.specs.declared.ends.answer.Answer.{Answer}
+use Rattle.kc_command.specs.declared.ends.answer.Answer.TheVariants.{Done}
+use Rattle.kc_command.specs.Ends.Answers.{Prints, PrintsOfBytes}
 use Rattle.kc_files.specs.Answered.{IsAnswer, IsStopped, ShowsMiss}
 use Rattle.kc_files.specs.Made.{files_written, shown_by}
 

@@ -5,12 +5,12 @@ use Rattle.std.specs.Prelude.{ℕ}
 use Rattle.kc_memory.specs.Stopped.{Stopped}
 use Rattle.kc_kallsyms.specs.declared.stop.ReadStop.{ReadStop}
 use Rattle.kc_kallsyms.specs.declared.stop.ReadStop.TheVariants.{Miss, Fault, Table, NoMemory}
-use Rattle.kc_input.specs.declared.halt.Halt.{Halt}
-use Rattle.kc_input.specs.declared.halt.Halt.TheVariants.{Refused, Store, Memory}
-use Rattle.kc_input.specs.declared.refusal.Refusal.TheVariants.{Tables}
-use Rattle.kc_ends.specs.declared.answer.Answer.{Answer}
-use Rattle.kc_ends.specs.declared.answer.Answer.TheVariants.{Done}
-use Rattle.kc_ends.specs.Answers.{written_by}
+use Rattle.kc_command.specs.declared.halt.Halt.{Halt}
+use Rattle.kc_command.specs.declared.halt.Halt.TheVariants.{Refused, Store, Memory}
+use Rattle.kc_command.specs.declared.refusal.Refusal.TheVariants.{Tables}
+use Rattle.kc_command.specs.declared.ends.answer.Answer.{Answer}
+use Rattle.kc_command.specs.declared.ends.answer.Answer.TheVariants.{Done}
+use Rattle.kc_command.specs.Ends.Answers.{written_by}
 use Rattle.kc_files.specs.Made.{Broken, files_written}
 
 -- a miss is shown, unless no memory was left

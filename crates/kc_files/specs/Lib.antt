@@ -1,5 +1,5 @@
 pub mod Answered
 pub mod Made
 pub mod Wished
-pub use Rattle.kc_ends.specs.Ends
-pub use Rattle.kc_ends.specs.Status
+pub use Rattle.kc_command.specs.Ends.Ends
+pub use Rattle.kc_command.specs.Ends.Status

@@ -12,14 +12,14 @@ use Rattle.kc_kallsyms.specs.declared.places.Places.{Places}
 use Rattle.kc_kallsyms.specs.Places.{places_in}
 use Rattle.kc_kallsyms.specs.Reading.{Why, Missed, Bad}
 use Rattle.kc_report.specs.Lines.{broken_text}
-use Rattle.kc_input.specs.declared.refusal.Refusal.TheVariants.{Notes, Tables}
-use Rattle.kc_input.specs.Inputs.{dump_parts}
-use Rattle.kc_input.specs.Made.{◌>>=◌, Made, checked, gives, refuses}
-use Rattle.kc_input.specs.Paging.{by_info}
-use Rattle.kc_ends.specs.declared.status.Status.TheVariants.{Done, Broken as broken_status}
-use Rattle.kc_ends.specs.Asked.{Asked}
-use Rattle.kc_ends.specs.Output.{written_files}
-use Rattle.kc_ends.specs.Written.{Written}
+use Rattle.kc_command.specs.declared.refusal.Refusal.TheVariants.{Notes, Tables}
+use Rattle.kc_command.specs.Inputs.{dump_parts}
+use Rattle.kc_command.specs.Made.{◌>>=◌, Made, checked, gives, refuses}
+use Rattle.kc_command.specs.Paging.{by_info}
+use Rattle.kc_command.specs.declared.ends.status.Status.TheVariants.{Done, Broken as broken_status}
+use Rattle.kc_command.specs.Ends.Asked.{Asked}
+use Rattle.kc_command.specs.Ends.Output.{written_files}
+use Rattle.kc_command.specs.Ends.Written.{Written}
 use Rattle.kc_files.specs.declared.files.Asks.{Asks}
 use Rattle.kc_files.specs.declared.wish.Wish.{Wish}
 use Rattle.kc_files.specs.declared.wish.Wish.TheVariants.{Map, Types}

@@ -6,13 +6,13 @@ ghost use Rattle.kc_outside.specs.Files.{content};
 ghost use Rattle.kc_memory.specs.Stays.{SpaceStays};
 ghost use Rattle.kc_phys.specs.Stored.{AreInside};
 ghost use Rattle.kc_tlb.specs.Entries.{AreEmpty};
-ghost use Rattle.kc_input.specs.Paging.{IsTable, by_info};
+ghost use Rattle.kc_command.specs.Paging.{IsTable, by_info};
 ghost use Rattle.kc_kallsyms.specs.Reading.{CountsReadFaults, ReadsAs};
 ghost use Rattle.kc_files.specs.Wished.{image_of, wished};
 
 use crate::wish::Wish;
+use kc_command::paging_by;
 use kc_elf::Core;
-use kc_input::paging_by;
 use kc_kallsyms::{Places, ReadStop, read_map, read_types};
 use kc_mem::Memory;
 use kc_memory::Space;

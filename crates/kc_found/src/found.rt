@@ -88,7 +88,14 @@ pub fn broken_by(
 ) -> WalkStop
     requires { is_of_reading rule ≡ false }
     ensures { result ≡ WalkStop.Broken (record {
-        audit = asked.now.audit; start = asked.now.start; rule = rule; at = at; expected = expected; stop = None; places = places }) }
+      audit = asked.now.audit;
+      start = asked.now.start;
+      rule = rule;
+      at = at;
+      expected = expected;
+      stop = None;
+      places = places;
+    }) }
 {
     WalkStop::Broken(Found {
         audit: asked.audit,

@@ -11,3 +11,4 @@ pub mod Search
 pub mod Size
 pub mod Spelling
 pub mod Views
+pub mod MemberPath

@@ -10,7 +10,9 @@ ghost use Rattle.kc_found.specs.Walks.{CountsWalkFaults, IsNamed, OnBroken, Take
 ghost use Rattle.kc_list.specs.Near.{EndsSoon};
 
 use crate::words::{enter_both, is_poison};
-use kc_found::{Asked, Claims, ListShape, Rule, Space, VWord, WalkStop, Walked, broken_at, push_node};
+use kc_found::{
+    Asked, Claims, ListShape, Rule, Space, VWord, WalkStop, Walked, broken_at, push_node,
+};
 use kc_word::Steps;
 use std::alloc::Global;
 use std::sync::ledger::Ledger;

@@ -2,10 +2,10 @@
 use Rattle.std.proofs.Common.{◌≡◌, ℕ, List, Option, Some, Ok, option_map, sym, ap, ◌∙◌}
 use Rattle.kc_btf.specs.Btf.{Types}
 use Rattle.kc_syms.specs.Rows.{RowText, addresses}
-use Rattle.kc_input.specs.Inputs.{rows_in}
-use Rattle.kc_ends.specs.declared.answer.Answer.{Answer}
-use Rattle.kc_ends.specs.Output.{ended}
-use Rattle.kc_ends.specs.Answers.{written_by}
+use Rattle.kc_command.specs.Inputs.{rows_in}
+use Rattle.kc_command.specs.declared.ends.answer.Answer.{Answer}
+use Rattle.kc_command.specs.Ends.Output.{ended}
+use Rattle.kc_command.specs.Ends.Answers.{written_by}
 use Rattle.kc_match.specs.Match.{match_written, matched, matched_in}
 
 -- symbols that list the addresses of the rows are those of the map

@@ -7,5 +7,5 @@ pub mod Outcomes
 pub mod Spelling
 pub mod Text
 pub mod Views
-pub use Rattle.kc_ends.specs.Ends
-pub use Rattle.kc_ends.specs.Status
+pub use Rattle.kc_command.specs.Ends.Ends
+pub use Rattle.kc_command.specs.Ends.Status

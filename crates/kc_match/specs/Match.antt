@@ -7,14 +7,14 @@ use Rattle.kc_notes.specs.Info.{info}
 use Rattle.kc_notes.specs.Notes.{text_in}
 use Rattle.kc_notes.specs.Values.{lines_of}
 use Rattle.kc_syms.specs.Rows.{RowText, addresses}
-use Rattle.kc_input.specs.declared.refusal.Refusal.TheVariants.{Notes}
-use Rattle.kc_input.specs.Inputs.{dump_parts, map_in, rows_in, types_in}
-use Rattle.kc_input.specs.Made.{◌>>=◌, Made, checked, gives}
-use Rattle.kc_ends.specs.declared.status.Status.{Status}
-use Rattle.kc_ends.specs.declared.status.Status.TheVariants.{Done, Broken}
-use Rattle.kc_ends.specs.Asked.{Asked}
-use Rattle.kc_ends.specs.Output.{written_files}
-use Rattle.kc_ends.specs.Written.{Written}
+use Rattle.kc_command.specs.declared.refusal.Refusal.TheVariants.{Notes}
+use Rattle.kc_command.specs.Inputs.{dump_parts, map_in, rows_in, types_in}
+use Rattle.kc_command.specs.Made.{◌>>=◌, Made, checked, gives}
+use Rattle.kc_command.specs.declared.ends.status.Status.{Status}
+use Rattle.kc_command.specs.declared.ends.status.Status.TheVariants.{Done, Broken}
+use Rattle.kc_command.specs.Ends.Asked.{Asked}
+use Rattle.kc_command.specs.Ends.Output.{written_files}
+use Rattle.kc_command.specs.Ends.Written.{Written}
 use Rattle.kc_match.specs.declared.files.Asks.{Asks}
 use Rattle.kc_match.specs.Findings.{Finding, findings}
 use Rattle.kc_match.specs.Outcomes.{Kernel}

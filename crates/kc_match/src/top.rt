@@ -6,17 +6,17 @@ ghost use Rattle.std.specs.String.{string_bytes};
 ghost use Rattle.kc_outside.specs.declared.store.Slot.{Slot};
 ghost use Rattle.kc_outside.specs.Counts.{Rose};
 ghost use Rattle.kc_outside.specs.Texts.{with_piece};
-ghost use Rattle.kc_ends.specs.declared.status.Status.TheVariants.{NoCommand, OutOfMemory, Refused, SinkFailed, StoreFailed};
-ghost use Rattle.kc_ends.specs.Asked.{word_in};
-ghost use Rattle.kc_ends.specs.Ends.{ErrFailed, IsTold, TookPart, TookPrefix};
-ghost use Rattle.kc_ends.specs.Failures.{store_failed, memory_refused, sink_failed};
-ghost use Rattle.kc_ends.specs.Last.{StopsAtFailure};
-ghost use Rattle.kc_ends.specs.Status.{At, is_answer, is_silent, is_sink_quiet, is_store_quiet, number};
-ghost use Rattle.kc_ends.specs.Unopened.{AskedStay};
+ghost use Rattle.kc_command.specs.declared.ends.status.Status.TheVariants.{NoCommand, OutOfMemory, Refused, SinkFailed, StoreFailed};
+ghost use Rattle.kc_command.specs.Ends.Asked.{word_in};
+ghost use Rattle.kc_command.specs.Ends.Ends.{ErrFailed, IsTold, TookPart, TookPrefix};
+ghost use Rattle.kc_command.specs.Ends.Failures.{store_failed, memory_refused, sink_failed};
+ghost use Rattle.kc_command.specs.Ends.Last.{StopsAtFailure};
+ghost use Rattle.kc_command.specs.Ends.Status.{At, is_answer, is_silent, is_sink_quiet, is_store_quiet, number};
+ghost use Rattle.kc_command.specs.Ends.Unopened.{AskedStay};
 ghost use Rattle.kc_match.specs.Match.{match_asks, usage_text, written_of};
 
 use crate::files::run;
-use kc_ends::{Status, finish};
+use kc_command::{Status, finish};
 use kc_outside::{Sink, Store};
 use std::alloc::Global;
 

@@ -22,7 +22,7 @@ use Rattle.kc_found.specs.Walks.{OnBroken, WalksAs}
 use Rattle.kc_found.specs.XaSites.{entries, xa_judged}
 use Rattle.kc_list.specs.Laws.{HashChainsAreWalked}
 use Rattle.kc_xa.specs.Laws.{XarraysAreWalked}
-use Rattle.kc_chains.specs.Passing.{passed, passing}
+use Rattle.kc_steps.specs.Passing.{passed, passing}
 use Rattle.kc_pid.specs.Laws.{PidsAreWalked}
 
 -- what the laws of hash chains and xarrays say

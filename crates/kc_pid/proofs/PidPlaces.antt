@@ -16,7 +16,7 @@ use Rattle.kc_found.specs.Nodes.{at_offset}
 use Rattle.kc_found.specs.XaSites.{entries, xa_judged}
 use Rattle.kc_list.specs.Laws.{HashPlacesStand}
 use Rattle.kc_xa.specs.Laws.{XarrayPlacesStand}
-use Rattle.kc_chains.specs.Passing.{all_show}
+use Rattle.kc_steps.specs.Passing.{all_show}
 use Rattle.kc_pid.specs.Laws.{PidPlacesStand}
 use Rattle.kc_pid.proofs.PidLaw.{all_checked}
 

@@ -14,9 +14,9 @@ use Rattle.kc_found.specs.Trials.{and_then}
 use Rattle.kc_found.specs.Violations.{Violation}
 use Rattle.kc_found.specs.Walks.{OnBroken, WalksAs}
 use Rattle.kc_found.specs.XaSites.{entries}
-use Rattle.kc_chains.specs.Chains.{Lists, hash_walked}
-use Rattle.kc_chains.specs.Laws.{HashesAreWalked, PidsAgree}
-use Rattle.kc_chains.specs.PidsBy.{pids_by}
+use Rattle.kc_steps.specs.Chains.{Lists, hash_walked}
+use Rattle.kc_steps.specs.Laws.{HashesAreWalked, PidsAgree}
+use Rattle.kc_steps.specs.PidsBy.{pids_by}
 use Rattle.kc_pid.proofs.PidLaw.{all_checked}
 
 -- the answer of the walk of the xarray, and of the process ids where their chains are walked

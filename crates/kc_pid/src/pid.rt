@@ -4,13 +4,12 @@ ghost use Rattle.kc_memory.specs.Stays.{SpaceStays};
 ghost use Rattle.kc_found.specs.Walks.{CountsWalkFaults, IsNamed, WalksAs};
 ghost use Rattle.kc_view.specs.PidTables.{task_names};
 ghost use Rattle.kc_view.specs.TaskLists.{all_pass};
-ghost use Rattle.kc_chains.specs.Chains.{WalkPays, size};
-ghost use Rattle.kc_chains.specs.PidsBy.{pid_by};
+ghost use Rattle.kc_steps.specs.Chains.{WalkPays, size};
+ghost use Rattle.kc_steps.specs.PidsBy.{pid_by};
 
 use kc_btf::Btf;
-use kc_chains::HashChains;
-use kc_fields::check_field;
 use kc_found::{Asked, Rule, Space, WalkStop, Walked, XaItem};
+use kc_steps::{HashChains, check_field};
 use kc_view::{PidShape, View};
 use kc_word::Steps;
 use std::alloc::Global;

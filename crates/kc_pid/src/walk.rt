@@ -5,15 +5,15 @@ ghost use Rattle.kc_found.specs.Walks.{CountsWalkFaults, IsNamed, OnBroken, OnWa
 ghost use Rattle.kc_found.specs.XaSites.{entries};
 ghost use Rattle.kc_view.specs.FinitePids.{NoPids, Pids};
 ghost use Rattle.kc_view.specs.PidTables.{ids_in, pid_table};
-ghost use Rattle.kc_chains.specs.Chains.{WalkPays, size};
-ghost use Rattle.kc_chains.specs.PidsBy.{pids_by};
+ghost use Rattle.kc_steps.specs.Chains.{WalkPays, size};
+ghost use Rattle.kc_steps.specs.PidsBy.{pids_by};
 
 use crate::pid::check_pid;
 use crate::walks::Walks;
 use kc_btf::Btf;
-use kc_chains::{HashChains, know_hash_chains};
 use kc_found::{Asked, Space, WalkStop, Walked, XaWalked};
 use kc_list::know_lists;
+use kc_steps::{HashChains, know_hash_chains};
 use kc_view::{PidShape, started_at};
 use kc_word::{NoMemory, Steps};
 use kc_xa::{know_xarrays, xa_walk};

@@ -2,6 +2,7 @@
 #![tactic(auto)]
 
 mod calls;
+mod copying;
 mod keeping;
 mod opening;
 mod pages;
@@ -10,10 +11,13 @@ mod plain_core;
 mod shape;
 mod shown;
 mod stop;
+mod unpacked;
 mod view;
 
+pub use copying::{CopyStop, copy_file};
 pub use place::{Kept, PagePlace, Room};
 pub use plain_core::PlainCore;
 pub use shape::Shape;
 pub use stop::{BadPage, ViewFault};
+pub use unpacked::{PAGE_BYTES, PageFault, descriptor_fault, know_page, unpack};
 pub use view::View;

@@ -4,7 +4,7 @@ use Rattle.std.specs.Str.{is_utf8}
 use Rattle.std.proofs.lemmas.Str.{IsUtf8-from_is_utf8, is_utf8-from_IsUtf8}
 use Rattle.toml.specs.Data.{Members}
 use Rattle.toml.specs.Parse.{parse_document}
-use Rattle.kc_keys.specs.declared.fault.PRule.TheVariants.{P1}
+use Rattle.kc_expr.specs.declared.keys.fault.PRule.TheVariants.{P1}
 use Rattle.kc_plan.specs.Steps.{document, parsed}
 
 pub parsed-whole : (bytes : List ℕ) (table : Members) → IsUtf8 bytes → parse_document bytes ≡ Some table → parsed (document bytes) ≡ Ok table

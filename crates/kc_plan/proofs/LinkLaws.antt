@@ -3,8 +3,8 @@ use Rattle.std.proofs.Common.{◌≡◌, ℕ, zero, suc, ◌+◌, ◌<◌, Bool,
 use Rattle.std.specs.Prelude.{is_some, ⊤, nat_lt, ◌==◌, if◌then◌else◌}
 use Rattle.std.specs.Str.{bytes_eq}
 use Rattle.std.proofs.lemmas.Bool.{and_parts, cond_both, eqb-true, ltb-true, not-false}
-use Rattle.kc_keys.specs.declared.fault.PRule.TheVariants.{P6}
-use Rattle.kc_keys.specs.declared.fault.PlanKey.TheVariants.{Each, From}
+use Rattle.kc_expr.specs.declared.keys.fault.PRule.TheVariants.{P6}
+use Rattle.kc_expr.specs.declared.keys.fault.PlanKey.TheVariants.{Each, From}
 use Rattle.kc_plan.specs.declared.item.Link.{Link}
 use Rattle.kc_plan.specs.Audits.{AuditText}
 use Rattle.kc_plan.specs.Links.{all_named, all_within, audit_links, is_named, linked, links_for, name_links, numbered, unless_named}

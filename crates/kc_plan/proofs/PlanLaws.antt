@@ -11,9 +11,9 @@ use Rattle.kc_layout.specs.Ends.{BitsAt, ByteAt, located}
 use Rattle.kc_btf.specs.Btf.{Types}
 use Rattle.kc_text.specs.Readers.{is_name}
 use Rattle.toml.specs.Data.{Members}
-use Rattle.kc_keys.specs.declared.fault.PRule.TheVariants.{P9, P10, P11}
-use Rattle.kc_keys.specs.declared.fault.PlanFault.{PlanFault}
-use Rattle.kc_keys.specs.declared.fault.PlanKey.TheVariants as key
+use Rattle.kc_expr.specs.declared.keys.fault.PRule.TheVariants.{P9, P10, P11}
+use Rattle.kc_expr.specs.declared.keys.fault.PlanFault.{PlanFault}
+use Rattle.kc_expr.specs.declared.keys.fault.PlanKey.TheVariants as key
 use Rattle.kc_plan.specs.declared.item.PlanWords.{PlanWords}
 use Rattle.kc_plan.specs.declared.item.Link.{Link}
 use Rattle.kc_kinds.specs.declared.kind.Kind.{Kind}

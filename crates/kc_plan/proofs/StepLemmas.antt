@@ -2,8 +2,8 @@
 use Rattle.std.proofs.Common.{◌≡◌, ℕ, Bool, true, false, Option, Some, None, Result, Ok, Err, refl, subst}
 use Rattle.std.specs.Prelude.{is_some, ⊤}
 use Rattle.toml.specs.Data.{Data}
-use Rattle.kc_keys.specs.declared.fault.PRule.{PRule}
-use Rattle.kc_keys.specs.declared.fault.PlanKey.{PlanKey}
+use Rattle.kc_expr.specs.declared.keys.fault.PRule.{PRule}
+use Rattle.kc_expr.specs.declared.keys.fault.PlanKey.{PlanKey}
 use Rattle.kc_kinds.specs.declared.needs.Need.TheVariants.{Allowed}
 use Rattle.kc_plan.specs.Values.{◌>>=◌, at, asked, refuse_if, some_of, value_of}
 

@@ -6,9 +6,9 @@ use Rattle.std.proofs.lemmas.Bool.{not-false}
 use Rattle.toml.specs.Data.{Members, as_str}
 use Rattle.kc_word.specs.declared.plain.Tail.{Tail}
 use Rattle.kc_text.specs.Readers.{is_name}
-use Rattle.kc_keys.specs.declared.fault.PRule.TheVariants.{P3, P4, P5}
-use Rattle.kc_keys.specs.declared.fault.PlanFault.{PlanFault}
-use Rattle.kc_keys.specs.declared.fault.PlanKey.TheVariants as key
+use Rattle.kc_expr.specs.declared.keys.fault.PRule.TheVariants.{P3, P4, P5}
+use Rattle.kc_expr.specs.declared.keys.fault.PlanFault.{PlanFault}
+use Rattle.kc_expr.specs.declared.keys.fault.PlanKey.TheVariants as key
 use Rattle.kc_kinds.specs.declared.needs.Need.TheVariants.{Allowed}
 use Rattle.kc_kinds.specs.declared.kinds.Sort.{Sort}
 use Rattle.kc_plan.specs.Audits.{AuditText, PartText, PlanText, StartText, all_keys, audit_for, audits_for, is_among, kind_for, name_for, parts_for, start_for}

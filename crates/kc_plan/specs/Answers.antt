@@ -1,8 +1,8 @@
 -- What a call answers.
 use Rattle.std.specs.Prelude.{◌≡◌, Option, Some, None, Result, Ok, Err, ⊤}
-use Rattle.kc_keys.specs.declared.fault.PlanFault.{PlanFault}
-use Rattle.kc_keys.specs.declared.fault.PlanStop.{PlanStop}
-use Rattle.kc_keys.specs.declared.fault.PlanStop.TheVariants.{Fault, NoMemory}
+use Rattle.kc_expr.specs.declared.keys.fault.PlanFault.{PlanFault}
+use Rattle.kc_expr.specs.declared.keys.fault.PlanStop.{PlanStop}
+use Rattle.kc_expr.specs.declared.keys.fault.PlanStop.TheVariants.{Fault, NoMemory}
 
 -- The result, seen by view, is the meant one; or memory was wanting.
 abbrev pub Gives : {X Y : Type 0} → (X → Y) → Result X PlanStop → Result Y PlanFault → Type 0

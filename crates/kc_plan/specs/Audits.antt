@@ -5,11 +5,11 @@ use Rattle.std.specs.Str.{bytes_eq}
 use Rattle.toml.specs.Data.{Data, Members, no_members, member, as_str, as_array}
 use Rattle.kc_word.specs.declared.plain.Tail.{Tail}
 use Rattle.kc_text.specs.Readers.{is_name}
-use Rattle.kc_keys.specs.declared.fault.PRule.{PRule}
-use Rattle.kc_keys.specs.declared.fault.PRule.TheVariants.{P3, P4, P5}
-use Rattle.kc_keys.specs.declared.fault.PlanFault.{PlanFault}
-use Rattle.kc_keys.specs.declared.fault.PlanKey.{PlanKey}
-use Rattle.kc_keys.specs.declared.fault.PlanKey.TheVariants.{Name, Kind, Root, RootType, RootPath, From, Optional, Element, Link, Key, Unique, Cached, Check, Each, Other}
+use Rattle.kc_expr.specs.declared.keys.fault.PRule.{PRule}
+use Rattle.kc_expr.specs.declared.keys.fault.PRule.TheVariants.{P3, P4, P5}
+use Rattle.kc_expr.specs.declared.keys.fault.PlanFault.{PlanFault}
+use Rattle.kc_expr.specs.declared.keys.fault.PlanKey.{PlanKey}
+use Rattle.kc_expr.specs.declared.keys.fault.PlanKey.TheVariants.{Name, Kind, Root, RootType, RootPath, From, Optional, Element, Link, Key, Unique, Cached, Check, Each, Other}
 use Rattle.kc_kinds.specs.declared.needs.Need.{Need}
 use Rattle.kc_kinds.specs.declared.needs.Need.TheVariants.{Required, Allowed, Barred}
 use Rattle.kc_kinds.specs.declared.needs.Needs.{Needs}

@@ -4,10 +4,10 @@ use Rattle.kc_btf.specs.Btf.{Types}
 use Rattle.kc_expr.specs.Machine.{parsed}
 use Rattle.kc_expr.specs.Values.{fields_of}
 use Rattle.kc_layout.specs.Ends.{NumberAt, field}
-use Rattle.kc_keys.specs.declared.fault.PRule.{PRule}
-use Rattle.kc_keys.specs.declared.fault.PRule.TheVariants.{P12}
-use Rattle.kc_keys.specs.declared.fault.PlanFault.{PlanFault}
-use Rattle.kc_keys.specs.declared.fault.PlanKey.TheVariants.{Check}
+use Rattle.kc_expr.specs.declared.keys.fault.PRule.{PRule}
+use Rattle.kc_expr.specs.declared.keys.fault.PRule.TheVariants.{P12}
+use Rattle.kc_expr.specs.declared.keys.fault.PlanFault.{PlanFault}
+use Rattle.kc_expr.specs.declared.keys.fault.PlanKey.TheVariants.{Check}
 use Rattle.kc_plan.specs.Planned.{CheckAt}
 use Rattle.kc_plan.specs.Values.{◌>>=◌, at, refuse_if}
 

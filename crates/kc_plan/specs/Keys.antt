@@ -2,9 +2,9 @@
 use Rattle.std.specs.Prelude.{ℕ, List, [], ◌∷◌, Bool}
 use Rattle.std.specs.List.{list_any}
 use Rattle.std.specs.Str.{bytes_eq}
-use Rattle.kc_keys.specs.declared.fault.PlanKey.{PlanKey}
-use Rattle.kc_keys.specs.declared.fault.PlanKey.TheVariants as key
-use Rattle.kc_keys.specs.Keys.{spelled}
+use Rattle.kc_expr.specs.declared.keys.fault.PlanKey.{PlanKey}
+use Rattle.kc_expr.specs.declared.keys.fault.PlanKey.TheVariants as key
+use Rattle.kc_expr.specs.Keys.Keys.{spelled}
 
 -- a text spells one of these keys
 abbrev pub is_one_of : List PlanKey → List ℕ → Bool

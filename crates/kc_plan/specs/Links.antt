@@ -1,10 +1,10 @@
 -- Which audit names which in `each`.
 use Rattle.std.specs.Prelude.{ℕ, zero, suc, ◌+◌, List, [], ◌∷◌, ◌++◌, Bool, true, false, not, ◌&&◌, ◌||◌, ◌==◌, nat_lt, Option, Some, None, is_some, Result, Ok, Err, ⊤, if◌then◌else◌}
 use Rattle.std.specs.Str.{bytes_eq}
-use Rattle.kc_keys.specs.declared.fault.PRule.{PRule}
-use Rattle.kc_keys.specs.declared.fault.PRule.TheVariants.{P6, P7}
-use Rattle.kc_keys.specs.declared.fault.PlanFault.{PlanFault}
-use Rattle.kc_keys.specs.declared.fault.PlanKey.TheVariants.{Each, From}
+use Rattle.kc_expr.specs.declared.keys.fault.PRule.{PRule}
+use Rattle.kc_expr.specs.declared.keys.fault.PRule.TheVariants.{P6, P7}
+use Rattle.kc_expr.specs.declared.keys.fault.PlanFault.{PlanFault}
+use Rattle.kc_expr.specs.declared.keys.fault.PlanKey.TheVariants.{Each, From}
 use Rattle.kc_plan.specs.declared.item.Link.{Link}
 use Rattle.kc_plan.specs.Audits.{AuditText}
 use Rattle.kc_plan.specs.Values.{◌>>=◌, at, refuse_if}

@@ -6,10 +6,10 @@ use Rattle.kc_layout.specs.declared.fault.PathFault.{PathFault}
 use Rattle.kc_layout.specs.Ends.{BitsAt, ByteAt, NumberAt, field, located}
 use Rattle.kc_layout.specs.Find.{find}
 use Rattle.kc_syms.specs.declared.fault.SymFault.{SymFault}
-use Rattle.kc_keys.specs.declared.fault.PRule.{PRule}
-use Rattle.kc_keys.specs.declared.fault.PRule.TheVariants.{P9, P10, P11}
-use Rattle.kc_keys.specs.declared.fault.PlanFault.{PlanFault}
-use Rattle.kc_keys.specs.declared.fault.PlanKey.TheVariants as key
+use Rattle.kc_expr.specs.declared.keys.fault.PRule.{PRule}
+use Rattle.kc_expr.specs.declared.keys.fault.PRule.TheVariants.{P9, P10, P11}
+use Rattle.kc_expr.specs.declared.keys.fault.PlanFault.{PlanFault}
+use Rattle.kc_expr.specs.declared.keys.fault.PlanKey.TheVariants as key
 use Rattle.kc_plan.specs.declared.item.Link.{Link}
 use Rattle.kc_kinds.specs.declared.kind.Kind.{Kind}
 use Rattle.kc_kinds.specs.declared.row.Row.{Row}

@@ -6,10 +6,10 @@ use Rattle.toml.specs.Data.{Data, Members, as_integer, as_array, as_table}
 use Rattle.toml.specs.Parse.{parse_document}
 use Rattle.kc_word.specs.declared.plain.Tail.{Tail}
 use Rattle.kc_word.specs.declared.plain.Tail.TheVariants as tail
-use Rattle.kc_keys.specs.declared.fault.PRule.{PRule}
-use Rattle.kc_keys.specs.declared.fault.PRule.TheVariants.{P1, P2, P3, P4, P8}
-use Rattle.kc_keys.specs.declared.fault.PlanFault.{PlanFault}
-use Rattle.kc_keys.specs.declared.fault.PlanKey.TheVariants as key
+use Rattle.kc_expr.specs.declared.keys.fault.PRule.{PRule}
+use Rattle.kc_expr.specs.declared.keys.fault.PRule.TheVariants.{P1, P2, P3, P4, P8}
+use Rattle.kc_expr.specs.declared.keys.fault.PlanFault.{PlanFault}
+use Rattle.kc_expr.specs.declared.keys.fault.PlanKey.TheVariants as key
 use Rattle.kc_kinds.specs.declared.needs.Need.TheVariants.{Allowed}
 use Rattle.kc_plan.specs.Audits.{PlanText, all_keys, audits_for}
 use Rattle.kc_plan.specs.Keys.{is_one_of, top_keys}

@@ -2,13 +2,13 @@
 use Rattle.std.specs.Prelude.{ℕ, List, [], ◌∷◌, Bool, Option, Some, None, Result, Ok, Err, ⊤, is_some, if◌then◌else◌}
 use Rattle.std.specs.Option.{ok_or}
 use Rattle.toml.specs.Data.{Data, Items, no_items, item, Members, get_member, as_str, as_bool}
-use Rattle.kc_keys.specs.declared.fault.PRule.{PRule}
-use Rattle.kc_keys.specs.declared.fault.PRule.TheVariants.{P3, P4}
-use Rattle.kc_keys.specs.declared.fault.PlanKey.{PlanKey}
-use Rattle.kc_keys.specs.declared.fault.PlanFault.{PlanFault}
+use Rattle.kc_expr.specs.declared.keys.fault.PRule.{PRule}
+use Rattle.kc_expr.specs.declared.keys.fault.PRule.TheVariants.{P3, P4}
+use Rattle.kc_expr.specs.declared.keys.fault.PlanKey.{PlanKey}
+use Rattle.kc_expr.specs.declared.keys.fault.PlanFault.{PlanFault}
 use Rattle.kc_kinds.specs.declared.needs.Need.{Need}
 use Rattle.kc_kinds.specs.declared.needs.Need.TheVariants.{Required, Allowed, Barred}
-use Rattle.kc_keys.specs.Keys.{spelled}
+use Rattle.kc_expr.specs.Keys.Keys.{spelled}
 
 infixl 10 ◌>>=◌
 abbrev pub ◌>>=◌ : {A B E : Type 0} → Result A E → (A → Result B E) → Result B E

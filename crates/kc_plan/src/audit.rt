@@ -12,7 +12,7 @@ use crate::start::start_of;
 use crate::value::{
     flag_at, has, has_only, names_at, put, refuse_if, required_text, stop, text_at,
 };
-use kc_keys::{PRule, PlanKey, PlanStop};
+use kc_expr::{PRule, PlanKey, PlanStop};
 use kc_kinds::{Need, Needs, Sort, needs_of, sort_of};
 use kc_text::is_name;
 use std::alloc::Global;

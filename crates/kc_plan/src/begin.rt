@@ -3,7 +3,7 @@ ghost use Rattle.std.specs.Prelude.{◌≡◌, ◌≤◌, [], length, Some, unwr
 ghost use Rattle.std.specs.Option.{option_copied};
 ghost use Rattle.kc_layout.specs.Ends.{located};
 ghost use Rattle.kc_layout.specs.Views.{byte_view, bits_view};
-ghost use Rattle.kc_keys.specs.declared.fault.PlanKey.TheVariants as key;
+ghost use Rattle.kc_expr.specs.declared.keys.fault.PlanKey.TheVariants as key;
 ghost use Rattle.kc_plan.specs.Answers.{Gives};
 ghost use Rattle.kc_plan.specs.Plans.{struct_at, type_named, addressed, root_at, from_at, root_for, is_headless, begun, element_at, link_for, key_for, first_byte};
 ghost use Rattle.kc_kinds.specs.Rows.{IsRow};
@@ -19,7 +19,7 @@ use crate::item::StartWords;
 use crate::planned::Start;
 use crate::value::stop;
 use kc_btf::Btf;
-use kc_keys::{PRule, PlanKey, PlanStop};
+use kc_expr::{PRule, PlanKey, PlanStop};
 use kc_kinds::{Known, Row, is_struct};
 use kc_layout::{Hops, Located, locate, resolve};
 use kc_syms::Symbols;

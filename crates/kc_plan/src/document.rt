@@ -10,7 +10,7 @@ use crate::audit::audits_of;
 use crate::item::PlanWords;
 use crate::keys::TOP_KEYS;
 use crate::value::{has_only, refuse_if, required_number, stop, tables_at, text_at};
-use kc_keys::{PRule, PlanFault, PlanKey, PlanStop};
+use kc_expr::{PRule, PlanFault, PlanKey, PlanStop};
 use kc_kinds::Need;
 use kc_word::Tail;
 use std::alloc::Global;

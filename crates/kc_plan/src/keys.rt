@@ -1,5 +1,5 @@
 // The keys of a plan.
-use kc_keys::PlanKey;
+use kc_expr::PlanKey;
 
 // The keys of a plan.
 pub(crate) const TOP_KEYS: [PlanKey; 3] = [PlanKey::Version, PlanKey::Tail, PlanKey::Audit];

@@ -15,7 +15,7 @@ mod read;
 mod start;
 mod value;
 
-pub use kc_keys::{PRule, PlanFault, PlanKey, PlanStop, spelling};
+pub use kc_expr::{PRule, PlanFault, PlanKey, PlanStop, spelling};
 pub use kc_kinds::Kind;
 pub use laws::know_plans;
 pub use plan::Plan;

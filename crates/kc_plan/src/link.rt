@@ -6,7 +6,7 @@ ghost use Rattle.kc_plan.specs.Views.{audit_text, links_in, text};
 
 use crate::item::{AuditWords, Link};
 use crate::value::{put, refuse_if, stop};
-use kc_keys::{PRule, PlanKey, PlanStop};
+use kc_expr::{PRule, PlanKey, PlanStop};
 use std::alloc::Global;
 
 /// How deep audits stand at most.

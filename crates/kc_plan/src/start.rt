@@ -7,7 +7,7 @@ ghost use Rattle.kc_plan.specs.Views.{start_text};
 
 use crate::item::StartWords;
 use crate::value::{flag_at, has, refuse_if, text_at};
-use kc_keys::{PRule, PlanKey, PlanStop};
+use kc_expr::{PRule, PlanKey, PlanStop};
 use kc_kinds::Need;
 use toml::Table;
 

@@ -3,16 +3,16 @@ ghost use Rattle.std.specs.Prelude.{◌≡◌, ◌∷◌, [], ◌++◌, Some, No
 ghost use Rattle.std.specs.Option.{option_copied};
 ghost use Rattle.toml.specs.Data.{as_str, as_bool, as_integer, as_array, as_table, get_member};
 ghost use Rattle.toml.specs.View.{view, array_view, table_view};
-ghost use Rattle.kc_keys.specs.declared.fault.PlanStop.TheVariants.{Fault};
+ghost use Rattle.kc_expr.specs.declared.keys.fault.PlanStop.TheVariants.{Fault};
 ghost use Rattle.kc_plan.specs.Answers.{Gives, ReadsAll};
 ghost use Rattle.kc_plan.specs.Audits.{all_keys, names_for};
 ghost use Rattle.kc_plan.specs.Keys.{is_one_of};
-ghost use Rattle.kc_keys.specs.Keys.{spelled};
+ghost use Rattle.kc_expr.specs.Keys.Keys.{spelled};
 ghost use Rattle.kc_plan.specs.Steps.{tables};
 ghost use Rattle.kc_plan.specs.Values.{all_read, at, asked, refuse_if, required, has, value_at, text_for, flag_for};
 ghost use Rattle.kc_plan.specs.Views.{text, texts, tables_seen};
 
-use kc_keys::{PRule, PlanFault, PlanKey, PlanStop, spelling};
+use kc_expr::{PRule, PlanFault, PlanKey, PlanStop, spelling};
 use kc_kinds::Need;
 use kc_word::NoMemory;
 use std::alloc::Global;

@@ -10,7 +10,9 @@ use crate::node::enter_node;
 use crate::reading::enter_head;
 use crate::rules::{judge_leftmost, judge_null};
 use crate::spots::{left_of, right_of, root_of};
-use kc_found::{Asked, Claims, RbKey, RbLinks, RbShape, RbSpot, Space, WalkStop, Walked, push_node};
+use kc_found::{
+    Asked, Claims, RbKey, RbLinks, RbShape, RbSpot, Space, WalkStop, Walked, push_node,
+};
 use kc_word::Steps;
 use std::alloc::Global;
 use std::sync::ledger::Ledger;

@@ -12,8 +12,8 @@ use Rattle.kc_kinds.specs.declared.kind.Kind.{Kind}
 use Rattle.kc_plan.specs.Planned.{AuditAt}
 use Rattle.kc_plan.specs.Roots.{Root}
 use Rattle.kc_found.specs.declared.failed.ReadFailed.{ReadFailed}
-use Rattle.kc_suspect.specs.declared.suspect.Suspect.{Suspect}
-use Rattle.kc_suspect.specs.Suspects.{suspects}
+use Rattle.kc_repair.specs.declared.suspect.suspect.Suspect.{Suspect}
+use Rattle.kc_repair.specs.Suspect.Suspects.{suspects}
 use Rattle.kc_repair.specs.declared.outcome.Breach.{Breach}
 use Rattle.kc_repair.specs.declared.outcome.Next.{Next}
 use Rattle.kc_repair.specs.declared.outcome.Repair.{Repair}

@@ -1,3 +1,4 @@
 mod Determined
 mod Told
 mod Trying
+pub mod Suspect

@@ -22,7 +22,7 @@ use Rattle.kc_found.specs.declared.failed.ReadFailed.{ReadFailed}
 use Rattle.kc_found.specs.declared.failed.ReadFailed.TheVariants.{Fault, NoMemory}
 use Rattle.kc_run.specs.Answers.{CountsRunFaults}
 use Rattle.kc_run.specs.Laws.{CleanRootsStand}
-use Rattle.kc_suspect.specs.declared.suspect.Suspect.{Suspect}
+use Rattle.kc_repair.specs.declared.suspect.suspect.Suspect.{Suspect}
 use Rattle.kc_repair.specs.declared.outcome.Breach.{Breach}
 use Rattle.kc_repair.specs.declared.outcome.Next.{Next}
 use Rattle.kc_repair.specs.declared.outcome.Repair.{Repair}

@@ -6,9 +6,9 @@ use Rattle.kc_found.specs.Violations.{Violation}
 use Rattle.kc_kinds.specs.declared.kind.Kind.{Kind}
 use Rattle.kc_plan.specs.Planned.{AuditAt}
 use Rattle.kc_plan.specs.Roots.{Root}
-use Rattle.kc_suspect.specs.declared.suspect.Suspect.{Suspect}
-use Rattle.kc_suspect.specs.Laws.{IsSuspect}
-use Rattle.kc_suspect.specs.Suspects.{suspects}
+use Rattle.kc_repair.specs.declared.suspect.suspect.Suspect.{Suspect}
+use Rattle.kc_repair.specs.Suspect.Laws.{IsSuspect}
+use Rattle.kc_repair.specs.Suspect.Suspects.{suspects}
 use Rattle.kc_repair.specs.declared.outcome.Next.{Next}
 use Rattle.kc_repair.specs.declared.outcome.Repair.{Repair}
 use Rattle.kc_repair.specs.declared.outcome.Repair.TheVariants.{Stands, Nothing}

@@ -15,10 +15,10 @@ use Rattle.kc_plan.specs.Planned.{AuditAt}
 use Rattle.kc_plan.specs.Roots.{Root, broken_in, root_verdict}
 use Rattle.kc_plan.specs.Stands.{RootStands}
 use Rattle.kc_found.specs.declared.failed.ReadFailed.{ReadFailed}
-use Rattle.kc_suspect.specs.declared.suspect.Suspect.{Suspect}
-use Rattle.kc_suspect.specs.Suspects.{suspects}
-use Rattle.kc_patch.specs.declared.change.Change.{Change}
-use Rattle.kc_patch.specs.Changed.{patched}
+use Rattle.kc_repair.specs.declared.suspect.suspect.Suspect.{Suspect}
+use Rattle.kc_repair.specs.Suspect.Suspects.{suspects}
+use Rattle.kc_phys.specs.declared.patch.change.Change.{Change}
+use Rattle.kc_phys.specs.Patch.Changed.{patched}
 use Rattle.kc_repair.specs.declared.outcome.Breach.{Breach}
 use Rattle.kc_repair.specs.declared.outcome.Next.{Next}
 use Rattle.kc_repair.specs.declared.outcome.Repair.{Repair}

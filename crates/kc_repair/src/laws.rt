@@ -1,8 +1,8 @@
 // What the definitions say.
 ghost use Rattle.kc_repair.specs.Laws.{RepairWordsStand, RepairsStand};
 
+use crate::know_suspects;
 use kc_run::know_verdicts;
-use kc_suspect::know_suspects;
 
 /// Does nothing. With a suspect that repairs a violation the structures of the root audit stand, and where none does, they stand with
 /// none that is tried. Each suspect that is told is a word of the dump, at its place in the file, with another number than stands there.

@@ -5,11 +5,13 @@
 mod laws;
 mod outcome;
 mod seeking;
+mod suspect;
 mod trial;
 mod tries;
 
 pub use laws::know_repairs;
 pub use outcome::{Breach, Next, Repair};
 pub use seeking::repair_over;
+pub use suspect::{Suspect, Suspects, know_suspects, suspects};
 pub use trial::RootAudit;
 pub use tries::{MOST, Repaired, repair};

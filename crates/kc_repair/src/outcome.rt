@@ -1,6 +1,6 @@
 // What comes of trying suspects.
+use crate::Suspect;
 use kc_found::Rule;
-use kc_suspect::Suspect;
 
 /// What a root audit found first: a rule that is broken, and the address that this is about.
 #[derive(Clone, Copy, Debug, PartialEq, Eq)]

@@ -10,13 +10,13 @@ ghost use Rattle.kc_plan.specs.Views.{plan_seen};
 ghost use Rattle.kc_run.specs.Answers.{CountsRunFaults};
 ghost use Rattle.kc_repair.specs.Repairs.{GoesOn, IsRepair, Judges, StandsAs, image_of, verdict_with};
 
+use crate::Suspect;
 use crate::outcome::{Breach, Next, Repair};
 use crate::trial::{RootAudit, try_suspect};
 use kc_found::{Found, ReadFailed, Verdict};
 use kc_outside::Store;
 use kc_phys::{Phys, Room};
 use kc_run::know_verdicts;
-use kc_suspect::Suspect;
 use kc_word::{NoMemory, PageCfg, Segment};
 use std::alloc::Global;
 

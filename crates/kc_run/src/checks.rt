@@ -14,7 +14,9 @@ ghost use Rattle.kc_run.specs.Tally.{TalliesAs};
 
 use kc_btf::Btf;
 use kc_expr::eval;
-use kc_found::{Asked, Items, Places, Rule, Scalar, Space, Stop, WalkStop, broken_by, know_most, stopped};
+use kc_found::{
+    Asked, Items, Places, Rule, Scalar, Space, Stop, WalkStop, broken_by, know_most, stopped,
+};
 use kc_layout::Field;
 use kc_plan::{Check, Checks, Fields};
 use kc_view::View;

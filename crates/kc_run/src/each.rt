@@ -18,7 +18,9 @@ use crate::counts::no_walks;
 use crate::laws::know_verdicts;
 use crate::nest::{Known, enter};
 use kc_btf::Btf;
-use kc_found::{Asked, Audits, Counts, ReadFailed, RootVerdict, Space, Verdict, Verdicts, WalkStop};
+use kc_found::{
+    Asked, Audits, Counts, ReadFailed, RootVerdict, Space, Verdict, Verdicts, WalkStop,
+};
 use kc_plan::{Numbers, Plan, Start};
 use kc_word::{NoMemory, Steps};
 use std::alloc::Global;

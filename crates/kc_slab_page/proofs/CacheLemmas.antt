@@ -3,7 +3,7 @@ use Rattle.std.proofs.Common.{◌≡◌, ℕ, zero, suc, ◌+◌, ◌≤◌, ◌
 use Rattle.std.specs.Prelude.{IfSome, Ok}
 use Rattle.kc_memory.specs.Image.{Image}
 use Rattle.kc_found.specs.Walks.{WalksAs}
-use Rattle.kc_object.specs.declared.shape.ObjectShape.{ObjectShape}
+use Rattle.kc_owner.specs.declared.object.shape.ObjectShape.{ObjectShape}
 use Rattle.kc_slab_page.specs.Caches.{Entries, caches_from, with_cache}
 
 drop_next : {X : Type 0} (xs : List X) (n : ℕ) (x : X) → slice_get xs n ≡ Some x → drop n xs ≡ x ∷ drop (suc n) xs

@@ -26,8 +26,8 @@ use Rattle.kc_found.specs.FreeLists.{IsGrid, free_list, low_word, number_in}
 use Rattle.kc_found.specs.Nodes.{readable}
 use Rattle.kc_found.specs.Trials.{and_then, ok_after}
 use Rattle.kc_found.specs.Violations.{Violation, breaks_field}
-use Rattle.kc_lookup.specs.Looked.{looked_at}
-use Rattle.kc_object.specs.Pages.{descriptor_of}
+use Rattle.kc_owner.specs.Looked.{looked_at}
+use Rattle.kc_owner.specs.Object.Pages.{descriptor_of}
 use Rattle.kc_slub.specs.Laws.{FreeListsAreWalked, FreePlacesStand}
 use Rattle.kc_slab_page.specs.declared.caches.CacheSeen.{CacheSeen}
 use Rattle.kc_slab_page.specs.declared.page.SlabState.{SlabState}

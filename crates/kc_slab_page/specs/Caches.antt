@@ -10,12 +10,12 @@ use Rattle.kc_view.specs.Caches.{objects_of}
 use Rattle.kc_found.specs.Rings.{ring_walk}
 use Rattle.kc_found.specs.Trials.{and_then}
 use Rattle.kc_found.specs.Violations.{Violation}
-use Rattle.kc_lookup.specs.Known.{known}
-use Rattle.kc_lookup.specs.Looked.{looked_at}
-use Rattle.kc_object.specs.declared.shape.ObjectShape.{ObjectShape}
-use Rattle.kc_object.specs.Caches.{text_by}
-use Rattle.kc_object.specs.Keys.{cache_by}
-use Rattle.kc_object.specs.Pages.{bases_at}
+use Rattle.kc_owner.specs.Known.{known}
+use Rattle.kc_owner.specs.Looked.{looked_at}
+use Rattle.kc_owner.specs.declared.object.shape.ObjectShape.{ObjectShape}
+use Rattle.kc_owner.specs.Object.Caches.{text_by}
+use Rattle.kc_owner.specs.Object.Keys.{cache_by}
+use Rattle.kc_owner.specs.Object.Pages.{bases_at}
 use Rattle.kc_slab_page.specs.declared.caches.CacheSeen.{CacheSeen}
 use Rattle.kc_slab_page.specs.declared.caches.SlabCaches.{SlabCaches}
 

@@ -4,3 +4,4 @@ pub mod Marks
 pub mod Pages
 pub mod Shapes
 pub mod Slabs
+pub mod Frames

@@ -10,7 +10,7 @@ use Rattle.kc_layout.specs.declared.place.Field.{Field}
 use Rattle.kc_memory.specs.Image.{Image}
 use Rattle.kc_notes.specs.Values.{value_of}
 use Rattle.kc_kinds.specs.Members.{scalar_in}
-use Rattle.kc_lookup.specs.Known.{known}
+use Rattle.kc_owner.specs.Known.{known}
 use Rattle.kc_slab_page.specs.declared.mark.Mark.{Mark}
 use Rattle.kc_slab_page.specs.declared.mark.Mark.TheVariants.{Flag, PageType}
 

@@ -16,7 +16,7 @@ use Rattle.kc_found.specs.declared.found.WalkStop.{WalkStop}
 use Rattle.kc_found.specs.declared.found.WalkStop.TheVariants as ends
 use Rattle.kc_found.specs.Nodes.{readable}
 use Rattle.kc_found.specs.Violations.{Violation}
-use Rattle.kc_object.specs.Pages.{descriptor_of}
+use Rattle.kc_owner.specs.Object.Pages.{descriptor_of}
 use Rattle.kc_slab_page.specs.declared.caches.CacheSeen.{CacheSeen}
 use Rattle.kc_slab_page.specs.declared.page.PageSeen.{PageSeen}
 use Rattle.kc_slab_page.specs.declared.page.PageSeen.TheVariants.{Absent, Other, Unmarked, Slab}

@@ -2,7 +2,7 @@
 use Rattle.std.specs.Prelude.{ℕ, List, codes, Option, option_and_then, option_map}
 use Rattle.kc_kinds.specs.Kernels.{Kernel}
 use Rattle.kc_kinds.specs.Members.{struct_named}
-use Rattle.kc_object.specs.Shapes.{object_shape}
+use Rattle.kc_owner.specs.Object.Shapes.{object_shape}
 use Rattle.kc_slab_page.specs.declared.shape.PageShape.{PageShape}
 use Rattle.kc_slab_page.specs.Marks.{mark_of}
 

@@ -14,7 +14,7 @@ use Rattle.kc_found.specs.declared.free.Grid.{Grid}
 use Rattle.kc_found.specs.FreeLists.{free_list}
 use Rattle.kc_found.specs.Trials.{and_then}
 use Rattle.kc_found.specs.Violations.{Violation, breaks_field}
-use Rattle.kc_lookup.specs.Looked.{looked_at}
+use Rattle.kc_owner.specs.Looked.{looked_at}
 use Rattle.kc_slab_page.specs.declared.slab.Counted.{Counted}
 use Rattle.kc_slab_page.specs.declared.slab.SlabFree.{SlabFree}
 

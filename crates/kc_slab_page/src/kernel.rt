@@ -6,8 +6,7 @@ ghost use Rattle.kc_slab_page.specs.Shapes.{page_shape};
 use crate::mark::mark_of;
 use crate::shape::PageShape;
 use kc_kinds::Known;
-use kc_lookup::struct_named;
-use kc_object::object_shape;
+use kc_owner::{object_shape, struct_named};
 
 /// Where a kernel has these words, by the text of its dump's VMCOREINFO, or `None` where it lacks what `object_shape` asks for or both marks.
 pub fn page_shape(known: &Known<'_>, note: &[u8]) -> Option<PageShape>

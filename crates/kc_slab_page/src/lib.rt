@@ -3,6 +3,7 @@
 #![tactic(auto)]
 
 mod caches;
+mod frames;
 mod kernel;
 mod laws;
 mod mark;
@@ -11,6 +12,7 @@ mod shape;
 mod slab;
 
 pub use caches::{CacheSeen, SlabCaches, read_caches};
+pub use frames::{FrameRun, frame_runs};
 pub use kernel::page_shape;
 pub use laws::know_slab_pages;
 pub use mark::Mark;

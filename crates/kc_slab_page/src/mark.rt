@@ -8,8 +8,8 @@ ghost use Rattle.kc_slab_page.specs.Marks.{bit_of, field_in, flag_mark, has_mark
 use kc_btf::Btf;
 use kc_found::{Space, WalkStop};
 use kc_layout::Field;
-use kc_lookup::{read_known, scalar_in};
 use kc_notes::value;
+use kc_owner::{read_known, scalar_in};
 use kc_view::View;
 use kc_word::{Steps, read_dec};
 use std::alloc::Global;

@@ -2,7 +2,7 @@
 ghost use Rattle.std.specs.Prelude.{◌≡◌, Ok};
 ghost use Rattle.kc_memory.specs.Stays.{SpaceStays};
 ghost use Rattle.kc_found.specs.Walks.{CountsWalkFaults, OnBroken, WalksAs};
-ghost use Rattle.kc_object.specs.Pages.{descriptor_of};
+ghost use Rattle.kc_owner.specs.Object.Pages.{descriptor_of};
 ghost use Rattle.kc_slab_page.specs.Caches.{caches_view};
 ghost use Rattle.kc_slab_page.specs.Pages.{IsAbsent, by_cache, by_mark, page_seen, state_by, state_with};
 
@@ -12,7 +12,7 @@ use crate::shape::PageShape;
 use crate::slab::{SlabFree, is_laid, read_slab};
 use kc_btf::Btf;
 use kc_found::{Found, Space, Stop, WalkStop};
-use kc_lookup::view_at;
+use kc_owner::view_at;
 use kc_view::{FieldNumber, SlabObjects, SlubBases, View, field_of};
 use kc_word::Steps;
 use std::alloc::Global;

@@ -1,6 +1,6 @@
 // Where the words stand that tell what a page is.
 use crate::mark::Mark;
-use kc_object::ObjectShape;
+use kc_owner::ObjectShape;
 
 /// Where the words stand that tell which pages are slabs.
 #[derive(Clone, Copy, Debug, PartialEq, Eq)]

@@ -6,10 +6,10 @@ ghost use Rattle.kc_found.specs.Walks.{CountsWalkFaults, WalksAs};
 ghost use Rattle.kc_view.specs.Caches.{grid_of};
 ghost use Rattle.kc_slab_page.specs.Slabs.{counted, free_of, is_laid, own_list, slab_free};
 
-use kc_fields::read_field;
 use kc_found::{Grid, Rule, Space, WalkStop, Walked, broken_field};
-use kc_lookup::looked_at;
+use kc_owner::looked_at;
 use kc_slub::{free_walk, grid_of, is_descriptor};
+use kc_steps::read_field;
 use kc_view::{FieldNumber, SlabObjects, SlubBases, SlubShape, View};
 use kc_word::Steps;
 use std::alloc::Global;

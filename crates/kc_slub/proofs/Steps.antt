@@ -19,8 +19,8 @@ use Rattle.kc_view.specs.Fields.{breaks_at, unless}
 use Rattle.kc_view.specs.declared.slub.SlubBases.{SlubBases}
 use Rattle.kc_view.specs.declared.slub.SlabObjects.{SlabObjects}
 use Rattle.kc_view.specs.Caches.{slab_of}
-use Rattle.kc_chains.specs.CachesBy.{list_by, node_by, nodes_by, slab_by, slabs_by}
-use Rattle.kc_chains.specs.Chains.{Came, FreeBy, Lists, RingBy, alone}
+use Rattle.kc_steps.specs.CachesBy.{list_by, node_by, nodes_by, slab_by, slabs_by}
+use Rattle.kc_steps.specs.Chains.{Came, FreeBy, Lists, RingBy, alone}
 use Rattle.kc_memory.specs.declared.rule.Rule.TheVariants.{U6}
 
 -- the first of two steps stops

@@ -4,9 +4,11 @@ ghost use Rattle.kc_memory.specs.Stays.{SpaceStays};
 ghost use Rattle.kc_found.specs.Walks.{CountsWalkFaults, IsNamed, WalksAs};
 ghost use Rattle.kc_view.specs.Caches.{base_of, bases_of, count_of, objects_of, optional_of};
 
-use kc_fields::read_field;
-use kc_found::{Asked, Rule, Space, WalkStop, broken_field, know_most, low_word, read_bits, stopped};
+use kc_found::{
+    Asked, Rule, Space, WalkStop, broken_field, know_most, low_word, read_bits, stopped,
+};
 use kc_layout::Field;
+use kc_steps::read_field;
 use kc_view::{Base, SlabObjects, SlubBases, SlubShape, View};
 use kc_word::{Bits, Steps};
 use std::alloc::Global;

@@ -7,7 +7,10 @@ ghost use Rattle.kc_found.specs.Trials.{passed};
 ghost use Rattle.kc_found.specs.Violations.{places_by};
 ghost use Rattle.kc_found.specs.Walks.{CountsWalkFaults, IsNamed, IsWalk, OnBroken, OnWalkFault, TakesAs, WalksAs, WithinSteps};
 
-use kc_found::{Asked, Claims, FreeLed, Grid, Place, Rule, Scalar, Space, VWord, WalkStop, Walked, broken_field, decode, low_word, push_node, read_bits, stopped_behind, take_word};
+use kc_found::{
+    Asked, Claims, FreeLed, Grid, Place, Rule, Scalar, Space, VWord, WalkStop, Walked,
+    broken_field, decode, low_word, push_node, read_bits, stopped_behind, take_word,
+};
 use kc_word::{Bits, Steps};
 use std::alloc::Global;
 use std::sync::ledger::Ledger;

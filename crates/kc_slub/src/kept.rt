@@ -1,12 +1,12 @@
 // Chains that are walked, and whose lists are kept.
 ghost use Rattle.std.specs.Prelude.{◌≡◌, ◌∷◌, ◌++◌, [], IfOk, OnOk};
 ghost use Rattle.kc_found.specs.Walks.{OnBroken, OnWalkFault};
-ghost use Rattle.kc_chains.specs.Chains.{free_kept, hash_kept, ring_kept};
+ghost use Rattle.kc_steps.specs.Chains.{free_kept, hash_kept, ring_kept};
 
 use crate::free::free_walk;
-use kc_chains::{Chains, HashChains, Rings};
 use kc_found::{Asked, Grid, HShape, Items, ListShape, Scalar, Space, WalkStop, Walked};
 use kc_list::{hchain, ring};
+use kc_steps::{Chains, HashChains, Rings};
 use kc_view::started_at;
 use kc_word::Steps;
 use std::alloc::Global;

@@ -3,13 +3,12 @@ ghost use Rattle.std.specs.Prelude.{◌≡◌, ◌≤◌, ◌+◌, ◌*◌, leng
 ghost use Rattle.kc_memory.specs.Stays.{SpaceStays};
 ghost use Rattle.kc_found.specs.FreeLists.{IsGrid};
 ghost use Rattle.kc_found.specs.Walks.{CountsWalkFaults, IsNamed, WalksAs};
-ghost use Rattle.kc_chains.specs.Chains.{WalkPays, size};
-ghost use Rattle.kc_chains.specs.CachesBy.{counts_by, free_by, list_by, slab_by};
+ghost use Rattle.kc_steps.specs.Chains.{WalkPays, size};
+ghost use Rattle.kc_steps.specs.CachesBy.{counts_by, free_by, list_by, slab_by};
 ghost use Rattle.kc_view.specs.Caches.{grid_of, is_descriptor, page_of};
 
-use kc_chains::Chains;
-use kc_fields::{check_field, read_field};
 use kc_found::{Asked, Grid, Rule, Scalar, Space, WalkStop, broken_field};
+use kc_steps::{Chains, check_field, read_field};
 use kc_view::{FieldNumber, SlabObjects, SlubBases, SlubShape, View};
 use kc_word::Steps;
 use std::alloc::Global;

@@ -2,8 +2,8 @@
 ghost use Rattle.std.specs.Prelude.{◌≡◌, ℕ, ◌∷◌, ◌++◌, [], ◌≤◌, ◌+◌, ◌*◌, ◌^◌, ◌<◌, length, IfOk, IfSome, OnOk};
 ghost use Rattle.kc_memory.specs.Stays.{SpaceStays};
 ghost use Rattle.kc_found.specs.Walks.{CountsWalkFaults, IsNamed, OnBroken, OnWalkFault, WalksAs};
-ghost use Rattle.kc_chains.specs.Chains.{WalkPays, size};
-ghost use Rattle.kc_chains.specs.CachesBy.{cache_by, knode_by, node_by, nodes_by, slabs_by};
+ghost use Rattle.kc_steps.specs.Chains.{WalkPays, size};
+ghost use Rattle.kc_steps.specs.CachesBy.{cache_by, knode_by, node_by, nodes_by, slabs_by};
 ghost use Rattle.kc_view.specs.Caches.{IsInside, cache_slabs};
 ghost use Rattle.kc_view.specs.FiniteCaches.{NoSlub, Slub};
 
@@ -11,10 +11,12 @@ use crate::cache::{read_bases, read_objects};
 use crate::slab::check_slab;
 use crate::walks::Walks;
 use kc_btf::Btf;
-use kc_chains::{Chains, know_chains};
-use kc_fields::read_field;
-use kc_found::{Asked, Rule, Space, WalkStop, Walked, broken_field, know_most, low_word, push_node, read_bits, stopped};
+use kc_found::{
+    Asked, Rule, Space, WalkStop, Walked, broken_field, know_most, low_word, push_node, read_bits,
+    stopped,
+};
 use kc_list::know_lists;
+use kc_steps::{Chains, know_chains, read_field};
 use kc_view::{SlabObjects, SlubBases, SlubShape, View};
 use kc_word::{Bits, Steps};
 use std::alloc::Global;

@@ -1,11 +1,11 @@
 // Chains that are walked.
 ghost use Rattle.std.specs.Prelude.{[]};
-ghost use Rattle.kc_chains.specs.Chains.{free_walked, ring_walked};
+ghost use Rattle.kc_steps.specs.Chains.{free_walked, ring_walked};
 
 use crate::free::free_walk;
-use kc_chains::{Chains, Rings};
 use kc_found::{Asked, Grid, ListShape, Scalar, Space, WalkStop, Walked};
 use kc_list::ring;
+use kc_steps::{Chains, Rings};
 use kc_view::started_at;
 use kc_word::Steps;
 use std::alloc::Global;

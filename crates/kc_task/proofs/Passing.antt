@@ -11,9 +11,9 @@ use Rattle.kc_found.specs.Trials.{and_then}
 use Rattle.kc_found.specs.Violations.{Violation}
 use Rattle.kc_found.specs.Walks.{WalksAs}
 use Rattle.kc_view.specs.TaskLists.{task_of}
-use Rattle.kc_chains.specs.Chains.{Came, Lists, alone}
-use Rattle.kc_chains.specs.Passing.{here}
-use Rattle.kc_chains.specs.TasksBy.{gathered_by}
+use Rattle.kc_steps.specs.Chains.{Came, Lists, alone}
+use Rattle.kc_steps.specs.Passing.{here}
+use Rattle.kc_steps.specs.TasksBy.{gathered_by}
 
 pub one_more : (ns : List ℕ) (k n : ℕ) → slice_get ns k ≡ Some n → take (k + 1) ns ≡ take k ns ++ n ∷ []
 one_more ns k n e = rw add-one (take-suc ns k 0 (slice_get_within ns k n e) ∙ ap (λ m. take k ns ++ m ∷ []) (get_or_from_slice_get ns k n 0 e))

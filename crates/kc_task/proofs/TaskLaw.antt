@@ -24,7 +24,7 @@ use Rattle.kc_list.specs.Laws.{RingsAreWalked}
 use Rattle.kc_laws.specs.Lists.{first_of, some_word}
 use Rattle.kc_view.specs.declared.tasks.ThreadGroup.{ThreadGroup}
 use Rattle.kc_view.specs.FiniteTasks.{AreGroups, AreOn, IsGroup, IsStack, IsThread, NoTasks, Tasks}
-use Rattle.kc_chains.specs.Passing.{passed, passing}
+use Rattle.kc_steps.specs.Passing.{passed, passing}
 use Rattle.kc_task.specs.Laws.{HeadIsRead, TasksAreWalked}
 use Rattle.kc_view.specs.TaskLists.{all_pass, among_checked, children_checked, end_checked, gathered, group_of, is_among, leader_checked, shared_checked, stack_checked, stack_end, task_list, task_of, tasks_on, tgid_checked, thread_checked, thread_head, threads_checked}
 

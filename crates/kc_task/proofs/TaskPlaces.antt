@@ -15,7 +15,7 @@ use Rattle.kc_found.specs.Rings.{ring_walk}
 use Rattle.kc_found.specs.Violations.{Violation, breaks}
 use Rattle.kc_list.specs.Laws.{RingPlacesStand}
 use Rattle.kc_view.specs.declared.tasks.ThreadGroup.{ThreadGroup}
-use Rattle.kc_chains.specs.Passing.{all_show}
+use Rattle.kc_steps.specs.Passing.{all_show}
 use Rattle.kc_task.specs.Laws.{TaskPlacesStand}
 use Rattle.kc_view.specs.TaskLists.{all_pass, among_checked, children_checked, end_checked, gathered, group_of, is_among, leader_checked, shared_checked, stack_checked, stack_end, task_list, task_of, tasks_on, tgid_checked, thread_checked, thread_head}
 

@@ -2,16 +2,15 @@
 ghost use Rattle.std.specs.Prelude.{◌≡◌, ◌≤◌, ◌+◌, ◌*◌, length};
 ghost use Rattle.kc_memory.specs.Stays.{SpaceStays};
 ghost use Rattle.kc_found.specs.Walks.{CountsWalkFaults, IsNamed, WalksAs};
-ghost use Rattle.kc_chains.specs.Chains.{WalkPays, size};
-ghost use Rattle.kc_chains.specs.TasksBy.{leader_by, passed_by, thread_by, threads_by};
+ghost use Rattle.kc_steps.specs.Chains.{WalkPays, size};
+ghost use Rattle.kc_steps.specs.TasksBy.{leader_by, passed_by, thread_by, threads_by};
 ghost use Rattle.kc_view.specs.TaskLists.{IsInside, among_checked, group_of, is_among, tgid_checked, thread_head};
 
 use crate::rings::tasks_on;
 use crate::thread::check_thread;
 use kc_btf::Btf;
-use kc_chains::Rings;
-use kc_fields::{check_field, read_field};
 use kc_found::{Asked, Rule, Space, WalkStop, Walked, broken_at, broken_field, know_most, stopped};
+use kc_steps::{Rings, check_field, read_field};
 use kc_view::{TaskShape, ThreadGroup, View};
 use kc_word::Steps;
 use std::alloc::Global;

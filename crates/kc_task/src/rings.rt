@@ -2,12 +2,12 @@
 ghost use Rattle.std.specs.Prelude.{◌≡◌, map, IfOk};
 ghost use Rattle.kc_memory.specs.Stays.{SpaceStays};
 ghost use Rattle.kc_found.specs.Walks.{CountsWalkFaults, IsNamed, WalksAs};
-ghost use Rattle.kc_chains.specs.Chains.{ChainPays, size};
-ghost use Rattle.kc_chains.specs.TasksBy.{tasks_by};
+ghost use Rattle.kc_steps.specs.Chains.{ChainPays, size};
+ghost use Rattle.kc_steps.specs.TasksBy.{tasks_by};
 ghost use Rattle.kc_view.specs.TaskLists.{task_of};
 
-use kc_chains::Rings;
 use kc_found::{Asked, Space, WalkStop, Walked};
+use kc_steps::Rings;
 use kc_view::TaskShape;
 use kc_word::{NoMemory, Steps};
 use std::alloc::Global;

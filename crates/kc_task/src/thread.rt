@@ -4,15 +4,14 @@ ghost use Rattle.kc_memory.specs.declared.rule.Rule.TheVariants.{T5};
 ghost use Rattle.kc_memory.specs.Stays.{SpaceStays};
 ghost use Rattle.kc_found.specs.Walks.{CountsWalkFaults, IsNamed, WalksAs};
 ghost use Rattle.kc_view.specs.Fields.{holds};
-ghost use Rattle.kc_chains.specs.Chains.{WalkPays, size};
-ghost use Rattle.kc_chains.specs.TasksBy.{children_by, thread_by};
+ghost use Rattle.kc_steps.specs.Chains.{WalkPays, size};
+ghost use Rattle.kc_steps.specs.TasksBy.{children_by, thread_by};
 ghost use Rattle.kc_view.specs.TaskLists.{IsInside, all_pass, end_checked, shared_checked, stack_checked};
 
 use crate::rings::tasks_on;
 use kc_btf::Btf;
-use kc_chains::Rings;
-use kc_fields::{check_field, read_field};
 use kc_found::{Asked, Rule, Space, WalkStop, Walked, broken_at, know_most, stopped};
+use kc_steps::{Rings, check_field, read_field};
 use kc_view::{TaskShape, ThreadGroup, View};
 use kc_word::Steps;
 use std::alloc::Global;

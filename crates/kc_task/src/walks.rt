@@ -1,10 +1,10 @@
 // Rings that are walked.
 ghost use Rattle.std.specs.Prelude.{[]};
-ghost use Rattle.kc_chains.specs.Chains.{ring_walked};
+ghost use Rattle.kc_steps.specs.Chains.{ring_walked};
 
-use kc_chains::Rings;
 use kc_found::{Asked, ListShape, Space, WalkStop, Walked};
 use kc_list::ring;
+use kc_steps::Rings;
 use kc_view::started_at;
 use kc_word::Steps;
 use std::alloc::Global;

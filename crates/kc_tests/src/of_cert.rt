@@ -5,7 +5,10 @@ ghost use Rattle.std.proofs.Common.{lit≤};
 ghost use Rattle.kc_plan.specs.Inside.{AreInside};
 
 use kc_btf::Btf;
-use kc_cert::{CertAnswer, CertRead, CertStep, CertStop, Certificate, Lists, cert_text, certify, read_cert, recheck};
+use kc_cert::{
+    CertAnswer, CertRead, CertStep, CertStop, Certificate, Lists, cert_text, certify, read_cert,
+    recheck,
+};
 use kc_fixture::{MAP, btf_file};
 use kc_found::{Counts, ListSpace, Origin, ReadFailed, Space, VWord, Walked};
 use kc_mem::Memory;

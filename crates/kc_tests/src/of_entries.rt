@@ -1,9 +1,9 @@
 // An xarray over a few words, and lists of its entries.
 ghost use Rattle.std.specs.Prelude.{◌≡◌, ◌<◌};
 
-use kc_entries::{list_xarray, pointers_in, test_xarray, xarray_items};
 use kc_found::{ListSpace, Origin, TestStop, VWord, Walked, XaItem, XaShape, XaWalked};
 use kc_word::Steps;
+use kc_xa::{list_xarray, pointers_in, test_xarray, xarray_items};
 use std::alloc::{AllocError, Global};
 use std::marker::Brand;
 use std::sync::ledger::{Blank, Ledger};

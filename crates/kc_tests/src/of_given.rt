@@ -3,8 +3,8 @@ ghost use Rattle.std.specs.Prelude.{◌≡◌, ◌<◌, ◌≤◌};
 
 use crate::words::{NO_TYPES, field, lists_of, space_of};
 use kc_btf::Btf;
+use kc_by_lists::{cache_nodes, task_nodes, test_cache, test_tasks};
 use kc_found::{Asked, Items, ListShape, Walked};
-use kc_given::{cache_nodes, task_nodes, test_cache, test_tasks};
 use kc_view::{Base, SlubShape, TaskShape};
 use kc_word::Steps;
 use std::alloc::{AllocError, Global};

@@ -1,8 +1,7 @@
 // Members of the types of a small kernel.
 use kc_btf::Btf;
 use kc_fixture::{Types, btf_with_pids};
-use kc_layout::find_type;
-use kc_member::push_member;
+use kc_layout::{find_type, push_member};
 use std::test::Fail;
 
 #[test]

@@ -3,8 +3,8 @@ ghost use Rattle.std.specs.Prelude.{◌≡◌, ◌<◌, ◌≤◌};
 
 use crate::words::{NO_TYPES, field, lists_of, space_of};
 use kc_btf::Btf;
+use kc_by_lists::{list_pids, pid_nodes, test_pids};
 use kc_found::{Asked, HShape, Items, Walked, XaShape};
-use kc_pid_lists::{list_pids, pid_nodes, test_pids};
 use kc_view::PidShape;
 use kc_word::Steps;
 use std::alloc::{AllocError, Global};

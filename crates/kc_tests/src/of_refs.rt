@@ -4,7 +4,7 @@ ghost use Rattle.kc_outside.specs.MemStore.{size_in};
 
 use crate::dumps::opened;
 use kc_outside::{MemStore, Slot};
-use kc_refs::{FoundWord, Sought, WordPlace, Writing, find_words};
+use kc_sight::{FoundWord, Sought, WordPlace, Writing, find_words};
 use kc_slub::decode;
 use kc_word::Segment;
 use std::alloc::Global;

@@ -8,7 +8,7 @@ use kc_found::{
     Asked, HShape, ListShape, Origin, RbShape, Rule, VWord, WalkStop, XaShape, broken_at,
 };
 use kc_kinds::Kind;
-use kc_suspect::{Suspects, suspects};
+use kc_repair::{Suspects, suspects};
 use kc_view::{Base, SlubShape, TaskShape};
 use kc_word::Steps;
 use std::alloc::{AllocError, Global};

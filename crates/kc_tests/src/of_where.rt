@@ -1,6 +1,6 @@
 // What words say, how far it goes on, and symbols of a map. What is read of a dump is tried by kc_why.
 use kc_memory::{Origin, VWord};
-use kc_where::{ImageMap, Meaning, Seen, meaning_of, nearest, span_of};
+use kc_sight::{ImageMap, Meaning, Seen, meaning_of, nearest, span_of};
 use std::alloc::{AllocError, Global};
 use std::test::Fail;
 

@@ -6,15 +6,15 @@ use Rattle.kc_memory.specs.Image.{Image}
 use Rattle.kc_notes.specs.declared.info.Info.{Info}
 use Rattle.kc_syms.specs.Addresses.{common_of}
 use Rattle.kc_syms.specs.Rows.{RowText, addresses, rows}
-use Rattle.kc_where.specs.declared.symbol.ImageMap.{ImageMap}
-use Rattle.kc_where.specs.Holders.{holders}
-use Rattle.kc_where.specs.Laws.{HoldersAreRows, SymbolsAreRows, SymbolsFromAreRows}
-use Rattle.kc_where.specs.Nearest.{image_end}
-use Rattle.kc_where.specs.Views.{symbols_holding}
-use Rattle.kc_area.specs.declared.shape.AreaShape.{AreaShape}
-use Rattle.kc_area.specs.Shapes.{area_shape}
-use Rattle.kc_object.specs.declared.shape.ObjectShape.{ObjectShape}
-use Rattle.kc_object.specs.Shapes.{object_shape}
+use Rattle.kc_sight.specs.declared.symbol.ImageMap.{ImageMap}
+use Rattle.kc_sight.specs.Holders.{holders}
+use Rattle.kc_sight.specs.Laws.{HoldersAreRows, SymbolsAreRows, SymbolsFromAreRows}
+use Rattle.kc_sight.specs.Nearest.{image_end}
+use Rattle.kc_sight.specs.Views.{symbols_holding}
+use Rattle.kc_owner.specs.declared.area.shape.AreaShape.{AreaShape}
+use Rattle.kc_owner.specs.Area.Shapes.{area_shape}
+use Rattle.kc_owner.specs.declared.object.shape.ObjectShape.{ObjectShape}
+use Rattle.kc_owner.specs.Object.Shapes.{object_shape}
 use Rattle.kc_told.specs.Objects.{data_start, kernel_by, kernel_with, shapes_by}
 use Rattle.kc_told.specs.SeenText.{map_symbols, symbols_by}
 use Rattle.kc_told.specs.Views.{shapes_view}

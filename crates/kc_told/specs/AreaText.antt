@@ -2,11 +2,11 @@
 use Rattle.std.specs.Prelude.{ℕ, List, [], ◌++◌, codes, decimal, map, Option, Some, None, Result, Ok, Err}
 use Rattle.kc_text.specs.Text.{visible}
 use Rattle.kc_found.specs.Violations.{Violation}
-use Rattle.kc_area.specs.declared.areas.Areas.{Areas}
-use Rattle.kc_area.specs.declared.modules.InModule.{InModule}
-use Rattle.kc_area.specs.declared.processors.InProcessor.{InProcessor}
-use Rattle.kc_area.specs.declared.stacks.InStack.{InStack}
-use Rattle.kc_where.specs.Nearest.{SymbolAt}
+use Rattle.kc_owner.specs.declared.area.areas.Areas.{Areas}
+use Rattle.kc_owner.specs.declared.area.modules.InModule.{InModule}
+use Rattle.kc_owner.specs.declared.area.processors.InProcessor.{InProcessor}
+use Rattle.kc_owner.specs.declared.area.stacks.InStack.{InStack}
+use Rattle.kc_sight.specs.Nearest.{SymbolAt}
 use Rattle.kc_told.specs.ObjectText.{unknown_text}
 use Rattle.kc_told.specs.Text.{symbol_text}
 

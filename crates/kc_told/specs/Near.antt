@@ -5,13 +5,13 @@ use Rattle.kc_memory.specs.Image.{Image}
 use Rattle.kc_memory.specs.Stopped.{Stopped}
 use Rattle.kc_memory.specs.Translation.{vword}
 use Rattle.kc_found.specs.Violations.{Violation}
-use Rattle.kc_object.specs.declared.described.Described.{Described}
-use Rattle.kc_object.specs.declared.shape.ObjectShape.{ObjectShape}
-use Rattle.kc_object.specs.Described.{described}
-use Rattle.kc_where.specs.declared.meaning.Meaning.{Meaning}
-use Rattle.kc_where.specs.declared.meaning.Meaning.TheVariants.{Number}
-use Rattle.kc_where.specs.Meanings.{meaning}
-use Rattle.kc_where.specs.Sights.{near, word_start}
+use Rattle.kc_owner.specs.declared.object.described.Described.{Described}
+use Rattle.kc_owner.specs.declared.object.shape.ObjectShape.{ObjectShape}
+use Rattle.kc_owner.specs.Object.Described.{described}
+use Rattle.kc_sight.specs.declared.meaning.Meaning.{Meaning}
+use Rattle.kc_sight.specs.declared.meaning.Meaning.TheVariants.{Number}
+use Rattle.kc_sight.specs.Meanings.{meaning}
+use Rattle.kc_sight.specs.Sights.{near, word_start}
 use Rattle.kc_told.specs.declared.near.Lead.{Lead}
 use Rattle.kc_told.specs.declared.near.NearWord.{NearWord}
 use Rattle.kc_told.specs.Objects.{Shapes, held_by}

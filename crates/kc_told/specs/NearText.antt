@@ -2,12 +2,12 @@
 use Rattle.std.specs.Prelude.{ℕ, Bool, true, false, List, [], ◌++◌, codes, decimal, map, Option, Some, None, Result, Ok, Err}
 use Rattle.kc_text.specs.Text.{hex, visible}
 use Rattle.kc_found.specs.Violations.{Violation}
-use Rattle.kc_object.specs.declared.described.Described.{Described}
-use Rattle.kc_object.specs.declared.free.FreeSpot.{FreeSpot}
-use Rattle.kc_object.specs.declared.held.Held.{Held}
-use Rattle.kc_object.specs.declared.slab.Slab.{Slab}
-use Rattle.kc_object.specs.declared.spot.Spot.{Spot}
-use Rattle.kc_object.specs.declared.spot.Spot.TheVariants.{Object}
+use Rattle.kc_owner.specs.declared.object.described.Described.{Described}
+use Rattle.kc_owner.specs.declared.object.free.FreeSpot.{FreeSpot}
+use Rattle.kc_owner.specs.declared.object.held.Held.{Held}
+use Rattle.kc_owner.specs.declared.object.slab.Slab.{Slab}
+use Rattle.kc_owner.specs.declared.object.spot.Spot.{Spot}
+use Rattle.kc_owner.specs.declared.object.spot.Spot.TheVariants.{Object}
 use Rattle.kc_told.specs.declared.near.Lead.{Lead}
 
 -- a byte of an object: the name of the object's cache, the byte, and what is said of whether the object is free

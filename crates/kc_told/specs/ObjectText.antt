@@ -2,17 +2,17 @@
 use Rattle.std.specs.Prelude.{ℕ, nat_lt, if◌then◌else◌, Bool, true, false, List, [], ◌∷◌, ◌++◌, codes, decimal, map, Option, Some, None, Result, Ok, Err}
 use Rattle.kc_text.specs.Compose.{texts}
 use Rattle.kc_text.specs.Text.{hex, visible}
-use Rattle.kc_where.specs.Nearest.{SymbolAt}
+use Rattle.kc_sight.specs.Nearest.{SymbolAt}
 use Rattle.kc_report.specs.Lines.{rule_code}
 use Rattle.kc_found.specs.Violations.{Violation}
-use Rattle.kc_object.specs.declared.cache.Cache.{Cache}
-use Rattle.kc_object.specs.declared.free.FreeSpot.{FreeSpot}
-use Rattle.kc_object.specs.declared.held.Held.{Held}
-use Rattle.kc_object.specs.declared.page.Page.{Page}
-use Rattle.kc_object.specs.declared.slab.Slab.{Slab}
-use Rattle.kc_object.specs.declared.spot.ObjectSpot.{ObjectSpot}
-use Rattle.kc_object.specs.declared.spot.Spot.{Spot}
-use Rattle.kc_object.specs.declared.spot.Spot.TheVariants.{Before, Pad, Object, Past}
+use Rattle.kc_owner.specs.declared.object.cache.Cache.{Cache}
+use Rattle.kc_owner.specs.declared.object.free.FreeSpot.{FreeSpot}
+use Rattle.kc_owner.specs.declared.object.held.Held.{Held}
+use Rattle.kc_owner.specs.declared.object.page.Page.{Page}
+use Rattle.kc_owner.specs.declared.object.slab.Slab.{Slab}
+use Rattle.kc_owner.specs.declared.object.spot.ObjectSpot.{ObjectSpot}
+use Rattle.kc_owner.specs.declared.object.spot.Spot.{Spot}
+use Rattle.kc_owner.specs.declared.object.spot.Spot.TheVariants.{Before, Pad, Object, Past}
 
 -- why something can't be told: the rule, and what it is about
 abbrev pub unknown_text : Violation → List ℕ

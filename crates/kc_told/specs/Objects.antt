@@ -11,19 +11,19 @@ use Rattle.kc_syms.specs.Addresses.{common_of}
 use Rattle.kc_syms.specs.Rows.{RowText, addresses}
 use Rattle.kc_found.specs.Violations.{Violation}
 use Rattle.kc_kinds.specs.Kernels.{Kernel}
-use Rattle.kc_area.specs.declared.areas.Areas.{Areas}
-use Rattle.kc_area.specs.declared.shape.AreaShape.{AreaShape}
-use Rattle.kc_area.specs.Areas.{areas}
-use Rattle.kc_area.specs.Shapes.{area_shape}
-use Rattle.kc_object.specs.declared.cache.Cache.{Cache}
-use Rattle.kc_object.specs.declared.held.Held.{Held}
-use Rattle.kc_object.specs.declared.shape.ObjectShape.{ObjectShape}
-use Rattle.kc_object.specs.declared.slab.Slab.{Slab}
-use Rattle.kc_object.specs.Shapes.{object_shape}
-use Rattle.kc_object.specs.Slabs.{held}
-use Rattle.kc_where.specs.Holders.{holders}
-use Rattle.kc_where.specs.Nearest.{SymbolAt, image_end, in_image}
-use Rattle.kc_where.specs.Sights.{word_start}
+use Rattle.kc_owner.specs.declared.area.areas.Areas.{Areas}
+use Rattle.kc_owner.specs.declared.area.shape.AreaShape.{AreaShape}
+use Rattle.kc_owner.specs.Area.Areas.{areas}
+use Rattle.kc_owner.specs.Area.Shapes.{area_shape}
+use Rattle.kc_owner.specs.declared.object.cache.Cache.{Cache}
+use Rattle.kc_owner.specs.declared.object.held.Held.{Held}
+use Rattle.kc_owner.specs.declared.object.shape.ObjectShape.{ObjectShape}
+use Rattle.kc_owner.specs.declared.object.slab.Slab.{Slab}
+use Rattle.kc_owner.specs.Object.Shapes.{object_shape}
+use Rattle.kc_owner.specs.Object.Slabs.{held}
+use Rattle.kc_sight.specs.Holders.{holders}
+use Rattle.kc_sight.specs.Nearest.{SymbolAt, image_end, in_image}
+use Rattle.kc_sight.specs.Sights.{word_start}
 
 -- where a kernel has what tells of an address: page descriptors and slab caches, areas, where its image ends, and the symbols whose words
 -- hold a value in a memory

@@ -1,10 +1,10 @@
 -- What is printed of an address.
 use Rattle.std.specs.Prelude.{ℕ, List, ◌++◌, Option}
 use Rattle.kc_syms.specs.Rows.{RowText}
-use Rattle.kc_where.specs.declared.symbol.ImageMap.{ImageMap}
-use Rattle.kc_where.specs.Nearest.{SymbolAt, image_symbol, nearest}
-use Rattle.kc_where.specs.Sights.{Sight}
-use Rattle.kc_where.specs.Views.{image_symbols, symbols_from}
+use Rattle.kc_sight.specs.declared.symbol.ImageMap.{ImageMap}
+use Rattle.kc_sight.specs.Nearest.{SymbolAt, image_symbol, nearest}
+use Rattle.kc_sight.specs.Sights.{Sight}
+use Rattle.kc_sight.specs.Views.{image_symbols, symbols_from}
 use Rattle.kc_told.specs.AreaText.{area_lines}
 use Rattle.kc_told.specs.declared.near.NearWord.{NearWord}
 use Rattle.kc_told.specs.Objects.{Told}

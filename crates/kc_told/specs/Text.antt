@@ -9,15 +9,15 @@ use Rattle.kc_memory.specs.Stopped.{Stopped}
 use Rattle.kc_text.specs.Compose.{texts}
 use Rattle.kc_text.specs.Text.{hex, visible}
 use Rattle.kc_report.specs.Lines.{origin_text, place_line, rule_code}
-use Rattle.kc_where.specs.declared.entries.Entry.{Entry}
-use Rattle.kc_where.specs.declared.meaning.Meaning.{Meaning}
-use Rattle.kc_where.specs.declared.meaning.Meaning.TheVariants.{Zero, Own, Unlisted, Pattern, Text, Small, Number}
-use Rattle.kc_where.specs.declared.span.Span.{Span}
-use Rattle.kc_where.specs.Entries.{page_bytes}
-use Rattle.kc_where.specs.Meanings.{meaning}
-use Rattle.kc_where.specs.Nearest.{SymbolAt}
-use Rattle.kc_where.specs.Sights.{Sight}
-use Rattle.kc_where.specs.Spans.{fills_on, span}
+use Rattle.kc_sight.specs.declared.entries.Entry.{Entry}
+use Rattle.kc_sight.specs.declared.meaning.Meaning.{Meaning}
+use Rattle.kc_sight.specs.declared.meaning.Meaning.TheVariants.{Zero, Own, Unlisted, Pattern, Text, Small, Number}
+use Rattle.kc_sight.specs.declared.span.Span.{Span}
+use Rattle.kc_sight.specs.Entries.{page_bytes}
+use Rattle.kc_sight.specs.Meanings.{meaning}
+use Rattle.kc_sight.specs.Nearest.{SymbolAt}
+use Rattle.kc_sight.specs.Sights.{Sight}
+use Rattle.kc_sight.specs.Spans.{fills_on, span}
 use Rattle.kc_told.specs.declared.near.Lead.{Lead}
 use Rattle.kc_told.specs.declared.near.NearWord.{NearWord}
 use Rattle.kc_told.specs.NearText.{lead_text}

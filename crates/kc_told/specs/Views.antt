@@ -1,6 +1,6 @@
 -- What contracts see of the code's data.
 use Rattle.std.specs.Prelude.{map}
-use Rattle.kc_where.specs.Views.{symbol_view, symbols_holding}
+use Rattle.kc_sight.specs.Views.{symbol_view, symbols_holding}
 use Rattle.kc_told.specs.declared.told.Shapes.{Shapes as CodeShapes}
 use Rattle.kc_told.specs.declared.near_text.InObject.{InObject as CodeInObject}
 use Rattle.kc_told.specs.declared.told.Told.{Told as CodeTold}

@@ -1,14 +1,14 @@
 // What is printed of the areas in which an address lies.
 ghost use Rattle.std.specs.Prelude.{◌≡◌, ◌++◌, option_map, OnOk};
-ghost use Rattle.kc_where.specs.Views.{symbol_view, symbols_from};
+ghost use Rattle.kc_sight.specs.Views.{symbol_view, symbols_from};
 ghost use Rattle.kc_told.specs.AreaText.{area_lines, module_line, processor_line, stack_line, variable_text};
 
 use crate::object_text::push_unknown;
 use crate::text::push_symbol;
-use kc_area::{Areas, InModule, InProcessor, InStack};
 use kc_found::Found;
+use kc_owner::{Areas, InModule, InProcessor, InStack};
+use kc_sight::{ImageMap, Symbol};
 use kc_text::{push, push_name, push_numbered};
-use kc_where::{ImageMap, Symbol};
 use kc_word::NoMemory;
 
 // The line of a module.

@@ -1,15 +1,15 @@
 // What the words beside an address lead to.
 ghost use Rattle.std.specs.Prelude.{◌≡◌};
 ghost use Rattle.kc_memory.specs.Stays.{SpaceStays};
-ghost use Rattle.kc_where.specs.Looks.{CountsLookFaults, LooksAs};
+ghost use Rattle.kc_sight.specs.Looks.{CountsLookFaults, LooksAs};
 ghost use Rattle.kc_told.specs.Near.{described_by, lead_at, lead_of, near_word, near_words, nothing};
 
 use crate::told::tell_held;
 use kc_btf::Btf;
 use kc_found::{Found, ReadFailed, Space, WalkStop};
 use kc_memory::VWord;
-use kc_object::{Described, Held, ObjectShape, find_described};
-use kc_where::{Meaning, Seen, meaning_of, read_word, word_start};
+use kc_owner::{Described, Held, ObjectShape, find_described};
+use kc_sight::{Meaning, Seen, meaning_of, read_word, word_start};
 use kc_word::Steps;
 use std::alloc::Global;
 use std::sync::ledger::Ledger;

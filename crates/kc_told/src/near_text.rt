@@ -5,7 +5,7 @@ ghost use Rattle.kc_told.specs.Views.{in_object_view};
 
 use crate::near::Lead;
 use kc_found::{Found, Name};
-use kc_object::{Described, FreeSpot, Held, Spot};
+use kc_owner::{Described, FreeSpot, Held, Spot};
 use kc_text::{push, push_hex, push_name, push_numbered};
 use kc_word::NoMemory;
 

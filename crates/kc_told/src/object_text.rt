@@ -2,14 +2,14 @@
 ghost use Rattle.std.specs.Prelude.{◌≡◌, ◌++◌, map, OnOk};
 ghost use Rattle.kc_text.specs.Compose.{texts};
 ghost use Rattle.kc_text.specs.Text.{hex};
-ghost use Rattle.kc_where.specs.Views.{symbol_view};
+ghost use Rattle.kc_sight.specs.Views.{symbol_view};
 ghost use Rattle.kc_told.specs.ObjectText.{cache_line, free_text, held_lines, holder_line, holder_text, object_lines, object_text, page_line, place_text, slab_line, slab_lines, spot_line, unknown_text, users_text, whole_slab};
 
 use kc_found::Found;
-use kc_object::{Cache, FreeSpot, Held, ObjectSpot, Page, Slab, Spot};
+use kc_owner::{Cache, FreeSpot, Held, ObjectSpot, Page, Slab, Spot};
 use kc_report::rule_code;
+use kc_sight::Symbol;
 use kc_text::{push, push_hex, push_name, push_numbered};
-use kc_where::Symbol;
 use kc_word::NoMemory;
 
 // The least number of 64 bits that is negative.

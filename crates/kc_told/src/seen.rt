@@ -1,6 +1,6 @@
 // The text of what is seen of an address, and of what is told of it.
 ghost use Rattle.std.specs.Prelude.{◌≡◌, ◌++◌, IfOk, OnOk};
-ghost use Rattle.kc_where.specs.Views.{sight_view};
+ghost use Rattle.kc_sight.specs.Views.{sight_view};
 ghost use Rattle.kc_told.specs.SeenText.{map_symbols, seen_text, told_lines};
 ghost use Rattle.kc_told.specs.Views.{told_view};
 
@@ -8,7 +8,7 @@ use crate::area_text::push_areas;
 use crate::object_text::push_objects;
 use crate::text::{push_head, push_sight, push_symbol_line};
 use crate::told::{Sighted, Told};
-use kc_where::ImageMap;
+use kc_sight::ImageMap;
 use kc_word::NoMemory;
 use std::alloc::Global;
 

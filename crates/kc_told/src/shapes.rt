@@ -4,21 +4,20 @@ ghost use Rattle.kc_syms.specs.Answers.{Stands};
 ghost use Rattle.kc_syms.specs.Rows.{RowText, rows};
 ghost use Rattle.kc_syms.specs.Symbols.{symbol};
 ghost use Rattle.kc_view.specs.TaskLists.{IsInside};
-ghost use Rattle.kc_area.specs.Shapes.{area_shape};
-ghost use Rattle.kc_object.specs.Shapes.{object_shape};
+ghost use Rattle.kc_owner.specs.Area.Shapes.{area_shape};
+ghost use Rattle.kc_owner.specs.Object.Shapes.{object_shape};
 ghost use Rattle.kc_told.specs.Objects.{kernel_with, shapes_by};
 ghost use Rattle.kc_told.specs.SeenText.{map_symbols, symbols_by};
 ghost use Rattle.kc_told.specs.Views.{shapes_view};
 
 use crate::told::{Shapes, Words};
-use kc_area::area_shape;
 use kc_btf::Btf;
 use kc_kinds::Known;
 use kc_layout::Names;
 use kc_notes::Info;
-use kc_object::object_shape;
+use kc_owner::{area_shape, object_shape};
+use kc_sight::{ImageMap, know_sights};
 use kc_syms::Symbols;
-use kc_where::{ImageMap, know_sights};
 use kc_word::NoMemory;
 use std::alloc::Global;
 

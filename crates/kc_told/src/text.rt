@@ -1,20 +1,20 @@
 // What is printed.
 ghost use Rattle.std.specs.Prelude.{◌≡◌, ◌++◌, ◌-◌, ◌≤◌, codes, length, option_and_then, option_map, slice_get, Ok, OnOk};
 ghost use Rattle.std.specs.Int.{to_le_bytes, w64};
-ghost use Rattle.kc_where.specs.Entries.{page_bytes};
-ghost use Rattle.kc_where.specs.Meanings.{meaning};
+ghost use Rattle.kc_sight.specs.Entries.{page_bytes};
+ghost use Rattle.kc_sight.specs.Meanings.{meaning};
 ghost use Rattle.kc_text.specs.Compose.{texts};
-ghost use Rattle.kc_where.specs.Views.{image_symbols, sight_view, symbol_view};
+ghost use Rattle.kc_sight.specs.Views.{image_symbols, sight_view, symbol_view};
 ghost use Rattle.kc_told.specs.Text.{alias_line, around_lines, beside_lines, bounds_text, entry_line, head_lines, is_absent, is_mapped, meaning_text, near_line, number_text, seen_line, page_line, pattern_text, size_line, span_line, stopped_text, sight_lines, symbol_line, symbol_text, word_line};
 
 use crate::near::{Lead, NearWord};
 use crate::near_text::push_lead;
 use kc_memory::{Miss, Rule, VWord, place_of};
 use kc_report::{push_origin, push_place, rule_code};
-use kc_text::{push, push_decimal, push_hex, push_name, push_numbered};
-use kc_where::{
+use kc_sight::{
     Entry, ImageMap, Meaning, Seen, Sight, Span, Symbol, is_fill, meaning_of, page_bytes, span_of,
 };
+use kc_text::{push, push_decimal, push_hex, push_name, push_numbered};
 use kc_word::NoMemory;
 
 // A symbol, and how many bytes an address is behind it.

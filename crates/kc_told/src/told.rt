@@ -3,23 +3,24 @@ ghost use Rattle.std.specs.Prelude.{◌≡◌, map, Ok, IfOk, IfSome};
 ghost use Rattle.kc_memory.specs.Stays.{SpaceStays};
 ghost use Rattle.kc_memory.specs.Translation.{vword};
 ghost use Rattle.kc_view.specs.TaskLists.{IsInside};
-ghost use Rattle.kc_area.specs.Areas.{areas};
-ghost use Rattle.kc_where.specs.Aliases.{aliases};
-ghost use Rattle.kc_where.specs.Looks.{CountsLookFaults, FaultsAfter, LooksAs, words};
-ghost use Rattle.kc_where.specs.Sights.{near, page_start, word_start};
-ghost use Rattle.kc_where.specs.Views.{symbol_view, symbols_holding};
+ghost use Rattle.kc_owner.specs.Area.Areas.{areas};
+ghost use Rattle.kc_sight.specs.Aliases.{aliases};
+ghost use Rattle.kc_sight.specs.Looks.{CountsLookFaults, FaultsAfter, LooksAs, words};
+ghost use Rattle.kc_sight.specs.Sights.{near, page_start, word_start};
+ghost use Rattle.kc_sight.specs.Views.{symbol_view, symbols_holding};
 ghost use Rattle.kc_told.specs.Near.{near_of};
 ghost use Rattle.kc_told.specs.Objects.{areas_by, held_by, holders_by, is_slab, shared, shared_in, told_by, told_of};
 ghost use Rattle.kc_told.specs.Views.{shapes_view, told_view};
 
 use crate::near::{NearWord, near_words};
 use crate::object_text::NEGATIVE;
-use kc_area::{AreaShape, Areas, read_areas};
 use kc_btf::Btf;
 use kc_found::{Found, ReadFailed, WalkStop};
 use kc_memory::Space;
-use kc_object::{Cache, Held, ObjectShape, find_object};
-use kc_where::{Entry, ImageMap, Rules, Seen, Sight, Symbol, find_holders, read_sight, read_word, word_start};
+use kc_owner::{AreaShape, Areas, Cache, Held, ObjectShape, find_object, read_areas};
+use kc_sight::{
+    Entry, ImageMap, Rules, Seen, Sight, Symbol, find_holders, read_sight, read_word, word_start,
+};
 use kc_word::Steps;
 use std::alloc::Global;
 use std::sync::ledger::Ledger;

@@ -8,9 +8,9 @@ ghost use Rattle.kc_which.specs.TaskRings.{element_at, in_children, in_group, in
 
 use crate::ends::{asked_of, broken_node, told};
 use kc_btf::Btf;
-use kc_fields::read_field;
 use kc_found::{Found, Space, WalkStop, Walked};
 use kc_list::ring;
+use kc_steps::read_field;
 use kc_view::{TaskShape, View};
 use kc_word::Steps;
 use std::alloc::Global;

@@ -8,13 +8,13 @@ use Rattle.kc_memory.specs.Image.{Image, Physical}
 use Rattle.kc_memory.specs.Translation.{vword}
 use Rattle.kc_mem.specs.Paged.{with_paging}
 use Rattle.kc_phys.specs.Stored.{stored}
-use Rattle.kc_where.specs.declared.aliases.Rules.{Rules}
-use Rattle.kc_where.specs.declared.entries.Entry.{Entry}
+use Rattle.kc_sight.specs.declared.aliases.Rules.{Rules}
+use Rattle.kc_sight.specs.declared.entries.Entry.{Entry}
 use Rattle.kc_found.specs.declared.failed.ReadFailed.{ReadFailed}
-use Rattle.kc_where.specs.Aliases.{aliases}
-use Rattle.kc_where.specs.Entries.{entries}
-use Rattle.kc_where.specs.Looks.{LooksAs, words}
-use Rattle.kc_where.specs.Sights.{near, page_start, word_start}
+use Rattle.kc_sight.specs.Aliases.{aliases}
+use Rattle.kc_sight.specs.Entries.{entries}
+use Rattle.kc_sight.specs.Looks.{LooksAs, words}
+use Rattle.kc_sight.specs.Sights.{near, page_start, word_start}
 use Rattle.kc_told.specs.declared.told.Sighted.{Sighted}
 use Rattle.kc_why.specs.Looking.{LeadsAs, SightsAs, TellsAs}
 use Rattle.kc_why.specs.Memory.{image_of}

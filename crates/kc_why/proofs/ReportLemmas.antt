@@ -1,12 +1,12 @@
 -- What explains a report, as it is shown.
 use Rattle.std.proofs.Common.{◌≡◌, Option, Some, None, Result, Ok, Err, ap}
 use Rattle.kc_outside.specs.Files.{Files as Told}
-use Rattle.kc_input.specs.declared.halt.Halt.{Halt}
-use Rattle.kc_input.specs.declared.halt.Halt.TheVariants.{Refused, Store, Memory}
-use Rattle.kc_input.specs.declared.refusal.Refusal.{Refusal}
-use Rattle.kc_input.specs.Made.{◌>>=◌, Made, gives}
-use Rattle.kc_ends.specs.declared.answer.Answer.{Answer}
-use Rattle.kc_ends.specs.Answers.{Prints, PrintsOf}
+use Rattle.kc_command.specs.declared.halt.Halt.{Halt}
+use Rattle.kc_command.specs.declared.halt.Halt.TheVariants.{Refused, Store, Memory}
+use Rattle.kc_command.specs.declared.refusal.Refusal.{Refusal}
+use Rattle.kc_command.specs.Made.{◌>>=◌, Made, gives}
+use Rattle.kc_command.specs.declared.ends.answer.Answer.{Answer}
+use Rattle.kc_command.specs.Ends.Answers.{Prints, PrintsOf}
 use Rattle.kc_cause.specs.Explained.{Explained, explained_written}
 use Rattle.kc_why.specs.Why.{Tells, why_written}
 

@@ -14,7 +14,7 @@ use Rattle.kc_memory.specs.Image.{Image, Physical}
 use Rattle.kc_phys.specs.Blocks.{reach}
 use Rattle.kc_phys.specs.Stored.{AreInside, IsInside, stored}
 use Rattle.kc_mem.specs.Paged.{with_paging}
-use Rattle.kc_refs.specs.Stops.{Told}
+use Rattle.kc_sight.specs.Refs.Stops.{Told}
 use Rattle.kc_why.specs.Memory.{image_of}
 
 -- segments that reach no further lie inside

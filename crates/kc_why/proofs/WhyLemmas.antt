@@ -6,18 +6,18 @@ use Rattle.kc_notes.specs.declared.info.Info.{Info}
 use Rattle.kc_syms.specs.declared.fault.SymFault.{SymFault}
 use Rattle.kc_syms.specs.Addresses.{common_of}
 use Rattle.kc_syms.specs.Rows.{RowText, addresses, rows}
-use Rattle.kc_input.specs.declared.halt.Halt.{Halt}
-use Rattle.kc_input.specs.declared.halt.Halt.TheVariants as halts
-use Rattle.kc_input.specs.declared.refusal.Refusal.TheVariants.{MapLine}
-use Rattle.kc_input.specs.Inputs.{rows_in}
-use Rattle.kc_input.specs.Made.{Made, checked}
-use Rattle.kc_ends.specs.declared.answer.Answer.{Answer}
-use Rattle.kc_ends.specs.declared.status.Status.TheVariants.{Done}
-use Rattle.kc_ends.specs.Answers.{PrintsOfBytes, written_by}
-use Rattle.kc_ends.specs.Written.{Written}
-use Rattle.kc_where.specs.declared.aliases.Rules.{Rules}
-use Rattle.kc_where.specs.Sights.{Sight, sight}
-use Rattle.kc_where.specs.Views.{sight_view}
+use Rattle.kc_command.specs.declared.halt.Halt.{Halt}
+use Rattle.kc_command.specs.declared.halt.Halt.TheVariants as halts
+use Rattle.kc_command.specs.declared.refusal.Refusal.TheVariants.{MapLine}
+use Rattle.kc_command.specs.Inputs.{rows_in}
+use Rattle.kc_command.specs.Made.{Made, checked}
+use Rattle.kc_command.specs.declared.ends.answer.Answer.{Answer}
+use Rattle.kc_command.specs.declared.ends.status.Status.TheVariants.{Done}
+use Rattle.kc_command.specs.Ends.Answers.{PrintsOfBytes, written_by}
+use Rattle.kc_command.specs.Ends.Written.{Written}
+use Rattle.kc_sight.specs.declared.aliases.Rules.{Rules}
+use Rattle.kc_sight.specs.Sights.{Sight, sight}
+use Rattle.kc_sight.specs.Views.{sight_view}
 use Rattle.kc_told.specs.declared.near.NearWord.{NearWord}
 use Rattle.kc_told.specs.declared.told.Sighted.{Sighted}
 use Rattle.kc_why.specs.Looking.{LeadsAs, SightsAs, TellsAs}

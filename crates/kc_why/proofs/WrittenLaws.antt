@@ -4,11 +4,11 @@ use Rattle.std.specs.List.{AllByRecursion, Contains, filter_map}
 use Rattle.std.proofs.lemmas.List.Elements.{Contains-append_left, Contains-append_right}
 use Rattle.byteorder.specs.Endian.{little_number}
 use Rattle.kc_word.specs.declared.plain.Segment.{Segment}
-use Rattle.kc_refs.specs.declared.place.FoundWord.{FoundWord}
-use Rattle.kc_refs.specs.declared.place.WordPlace.{WordPlace}
-use Rattle.kc_refs.specs.declared.sought.Writing.{Writing}
-use Rattle.kc_refs.specs.Holding.{found_at, in_segment, in_segments, place, places, skipped, word_count}
-use Rattle.kc_refs.specs.Writings.{Sought, writing}
+use Rattle.kc_sight.specs.declared.refs.place.FoundWord.{FoundWord}
+use Rattle.kc_sight.specs.declared.refs.place.WordPlace.{WordPlace}
+use Rattle.kc_sight.specs.declared.refs.sought.Writing.{Writing}
+use Rattle.kc_sight.specs.Refs.Holding.{found_at, in_segment, in_segments, place, places, skipped, word_count}
+use Rattle.kc_sight.specs.Refs.Writings.{Sought, writing}
 use Rattle.kc_why.specs.Laws.{IsWritten, IsWrittenIn}
 
 all_both : {X : Type 0} (P : X → Type 0) (xs ys : List X) → AllByRecursion P xs → AllByRecursion P ys → AllByRecursion P (xs ++ ys)

@@ -3,10 +3,10 @@ use Rattle.std.specs.Prelude.{◌≡◌, ℕ, ◌+◌, ◌-◌, ◌%◌, ◌≤�
 use Rattle.std.specs.List.{AllByRecursion, Contains}
 use Rattle.byteorder.specs.Endian.{little_number}
 use Rattle.kc_memory.specs.Places.{AllStandIn}
-use Rattle.kc_refs.specs.Holding.{in_segments}
-use Rattle.kc_refs.specs.declared.place.FoundWord.{FoundWord}
-use Rattle.kc_refs.specs.Writings.{Sought, writing}
-use Rattle.kc_where.specs.Sights.{places, sight}
+use Rattle.kc_sight.specs.Refs.Holding.{in_segments}
+use Rattle.kc_sight.specs.declared.refs.place.FoundWord.{FoundWord}
+use Rattle.kc_sight.specs.Refs.Writings.{Sought, writing}
+use Rattle.kc_sight.specs.Sights.{places, sight}
 use Rattle.kc_word.specs.declared.plain.Segment.{Segment}
 use Rattle.kc_cause.specs.Laws.{WordsStand}
 use Rattle.kc_why.specs.Searching.{sought_by}

@@ -4,5 +4,5 @@ pub mod Memory
 pub mod Searching
 pub mod Why
 pub mod WordText
-pub use Rattle.kc_ends.specs.Ends
-pub use Rattle.kc_ends.specs.Status
+pub use Rattle.kc_command.specs.Ends.Ends
+pub use Rattle.kc_command.specs.Ends.Status

@@ -1,13 +1,13 @@
 -- What the code's looks at memory are.
 use Rattle.std.specs.Prelude.{◌≡◌, ⊤, ℕ, Option, Some, None, Result, Ok, Err}
-use Rattle.kc_input.specs.declared.halt.Halt.{Halt}
-use Rattle.kc_input.specs.declared.halt.Halt.TheVariants.{Store, Memory}
+use Rattle.kc_command.specs.declared.halt.Halt.{Halt}
+use Rattle.kc_command.specs.declared.halt.Halt.TheVariants.{Store, Memory}
 use Rattle.kc_memory.specs.Image.{Image}
-use Rattle.kc_where.specs.declared.aliases.Rules.{Rules}
+use Rattle.kc_sight.specs.declared.aliases.Rules.{Rules}
 use Rattle.kc_found.specs.declared.failed.ReadFailed.{ReadFailed}
 use Rattle.kc_found.specs.declared.failed.ReadFailed.TheVariants.{Fault, NoMemory}
-use Rattle.kc_where.specs.Sights.{sight}
-use Rattle.kc_where.specs.Views.{sight_view}
+use Rattle.kc_sight.specs.Sights.{sight}
+use Rattle.kc_sight.specs.Views.{sight_view}
 use Rattle.kc_told.specs.declared.told.Sighted.{Sighted}
 use Rattle.kc_told.specs.Near.{near_of}
 use Rattle.kc_told.specs.Objects.{Shapes, told_of}

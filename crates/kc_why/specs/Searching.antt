@@ -1,16 +1,16 @@
 -- What is looked for in a dump, and why a search for it ends without an answer.
 use Rattle.std.specs.Prelude.{ℕ, List, [], map, Option, Some, None, Result, Ok, Err}
-use Rattle.kc_input.specs.declared.halt.Halt.{Halt}
-use Rattle.kc_input.specs.declared.halt.Halt.TheVariants.{Store, Memory}
+use Rattle.kc_command.specs.declared.halt.Halt.{Halt}
+use Rattle.kc_command.specs.declared.halt.Halt.TheVariants.{Store, Memory}
 use Rattle.kc_memory.specs.Image.{Image}
 use Rattle.kc_found.specs.Violations.{Violation}
-use Rattle.kc_object.specs.declared.keys.CacheKey.{CacheKey}
-use Rattle.kc_object.specs.declared.keys.FreeKeys.{FreeKeys}
-use Rattle.kc_object.specs.declared.shape.ObjectShape.{ObjectShape}
-use Rattle.kc_object.specs.Keys.{free_keys}
+use Rattle.kc_owner.specs.declared.object.keys.CacheKey.{CacheKey}
+use Rattle.kc_owner.specs.declared.object.keys.FreeKeys.{FreeKeys}
+use Rattle.kc_owner.specs.declared.object.shape.ObjectShape.{ObjectShape}
+use Rattle.kc_owner.specs.Object.Keys.{free_keys}
 use Rattle.kc_found.specs.declared.failed.ReadFailed.{ReadFailed}
 use Rattle.kc_found.specs.declared.failed.ReadFailed.TheVariants.{Fault, NoMemory}
-use Rattle.kc_refs.specs.Writings.{Sought}
+use Rattle.kc_sight.specs.Refs.Writings.{Sought}
 
 -- what free pointers are encoded with; nothing is told where the kernel lacks what that asks for
 abbrev pub keys_of : Image → Option ObjectShape → Option (Result FreeKeys Violation)

@@ -11,22 +11,22 @@ use Rattle.kc_notes.specs.declared.info.Info.{Info}
 use Rattle.kc_notes.specs.Info.{info}
 use Rattle.kc_syms.specs.Addresses.{common_of}
 use Rattle.kc_syms.specs.Rows.{RowText, addresses}
-use Rattle.kc_input.specs.declared.refusal.Refusal.TheVariants.{Notes}
-use Rattle.kc_input.specs.Inputs.{dump_parts, map_in, rows_in, types_in}
-use Rattle.kc_input.specs.Made.{◌>>=◌, Made, checked, gives}
-use Rattle.kc_input.specs.Paging.{by_info}
-use Rattle.kc_ends.specs.declared.status.Status.TheVariants.{Done}
-use Rattle.kc_ends.specs.Asked.{Asked}
-use Rattle.kc_ends.specs.Output.{written_files}
-use Rattle.kc_ends.specs.Written.{Written}
+use Rattle.kc_command.specs.declared.refusal.Refusal.TheVariants.{Notes}
+use Rattle.kc_command.specs.Inputs.{dump_parts, map_in, rows_in, types_in}
+use Rattle.kc_command.specs.Made.{◌>>=◌, Made, checked, gives}
+use Rattle.kc_command.specs.Paging.{by_info}
+use Rattle.kc_command.specs.declared.ends.status.Status.TheVariants.{Done}
+use Rattle.kc_command.specs.Ends.Asked.{Asked}
+use Rattle.kc_command.specs.Ends.Output.{written_files}
+use Rattle.kc_command.specs.Ends.Written.{Written}
 use Rattle.kc_found.specs.Violations.{Violation}
 use Rattle.kc_cause.specs.Explained.{Explained, explained_text}
 use Rattle.kc_cause.specs.Files.{ReportFiles, cause_asked, report_files}
-use Rattle.kc_object.specs.declared.keys.FreeKeys.{FreeKeys}
-use Rattle.kc_object.specs.Shapes.{object_shape}
-use Rattle.kc_refs.specs.Holding.{in_segments}
-use Rattle.kc_where.specs.declared.aliases.Rules.{Rules}
-use Rattle.kc_where.specs.Sights.{sight}
+use Rattle.kc_owner.specs.declared.object.keys.FreeKeys.{FreeKeys}
+use Rattle.kc_owner.specs.Object.Shapes.{object_shape}
+use Rattle.kc_sight.specs.Refs.Holding.{in_segments}
+use Rattle.kc_sight.specs.declared.aliases.Rules.{Rules}
+use Rattle.kc_sight.specs.Sights.{sight}
 use Rattle.kc_why.specs.declared.files.Asks.{Asks}
 use Rattle.kc_why.specs.declared.files.Form.{Form}
 use Rattle.kc_why.specs.declared.files.Form.TheVariants.{About, Explains}

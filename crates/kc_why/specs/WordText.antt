@@ -4,11 +4,11 @@ use Rattle.std.specs.List.{find}
 use Rattle.kc_memory.specs.declared.words.Origin.TheVariants.{File}
 use Rattle.kc_memory.specs.declared.words.Place.{Place}
 use Rattle.kc_found.specs.Violations.{Violation}
-use Rattle.kc_object.specs.declared.keys.CacheKey.{CacheKey}
-use Rattle.kc_object.specs.declared.keys.FreeKeys.{FreeKeys}
-use Rattle.kc_refs.specs.declared.place.FoundWord.{FoundWord}
-use Rattle.kc_refs.specs.declared.sought.Writing.{Writing}
-use Rattle.kc_refs.specs.declared.sought.Writing.TheVariants.{Plain, Encoded}
+use Rattle.kc_owner.specs.declared.object.keys.CacheKey.{CacheKey}
+use Rattle.kc_owner.specs.declared.object.keys.FreeKeys.{FreeKeys}
+use Rattle.kc_sight.specs.declared.refs.place.FoundWord.{FoundWord}
+use Rattle.kc_sight.specs.declared.refs.sought.Writing.{Writing}
+use Rattle.kc_sight.specs.declared.refs.sought.Writing.TheVariants.{Plain, Encoded}
 use Rattle.kc_report.specs.Lines.{place_line}
 use Rattle.kc_text.specs.Compose.{texts}
 use Rattle.kc_text.specs.Text.{hex, visible}

@@ -1,16 +1,16 @@
 // The text of where a value is written in a dump.
 ghost use Rattle.std.specs.Prelude.{◌≡◌, ◌++◌, nat_eq, Some, IfOk, OnOk};
 ghost use Rattle.std.specs.List.{find};
-ghost use Rattle.kc_object.specs.declared.keys.CacheKey.{CacheKey as Key};
+ghost use Rattle.kc_owner.specs.declared.object.keys.CacheKey.{CacheKey as Key};
 ghost use Rattle.kc_text.specs.Compose.{texts};
 ghost use Rattle.kc_why.specs.Searching.{keys_in};
 ghost use Rattle.kc_why.specs.WordText.{found_lines, key_line, place_in, untold_line, words_text, writing_text};
 
 use crate::searching::ToldKeys;
 use kc_memory::{Origin, Place};
-use kc_object::CacheKey;
-use kc_refs::{FoundWord, Writing};
+use kc_owner::CacheKey;
 use kc_report::push_place;
+use kc_sight::{FoundWord, Writing};
 use kc_text::{push, push_hex, push_name, push_numbered};
 use kc_told::push_unknown;
 use kc_word::NoMemory;

@@ -1,7 +1,7 @@
 //! kfiles: the map and the types of a kernel out of the memory of its dump.
 #![tactic(auto)]
 
-use kc_ends::Status;
+use kc_command::Status;
 use kc_files::kfiles;
 use kc_outside::{ErrSink, FileStore, OutSink};
 use std::env::{self, Env};

@@ -1,7 +1,7 @@
 //! kmatch: whether a map and a file of types are those of the kernel that crashed.
 #![tactic(auto)]
 
-use kc_ends::Status;
+use kc_command::Status;
 use kc_match::kmatch;
 use kc_outside::{ErrSink, FileStore, OutSink};
 use std::env::{self, Env};

@@ -1,9 +1,8 @@
 //! kplain: writes the plain core file that stands for a compressed dump.
 #![tactic(auto)]
 
-use kc_copy::{CopyStop, copy_file};
 use kc_outside::{ErrSink, FileStore, OutSink, Sink};
-use kc_plain_store::{View, ViewFault};
+use kc_plain_store::{CopyStop, View, ViewFault, copy_file};
 use std::alloc::AllocError;
 use std::env::{self, Env};
 use std::process::ExitCode;

@@ -1,7 +1,7 @@
 //! kwhy: what lies at an address of a dump, which words of the dump hold it, or what explains a report.
 #![tactic(auto)]
 
-use kc_ends::Status;
+use kc_command::Status;
 use kc_outside::{ErrSink, FileStore, OutSink};
 use kc_why::kwhy;
 use std::env::{self, Env};

@@ -29,7 +29,9 @@ impl Walks for RootAudits {
         match (first, each) {
             (Ok(first), Ok(each)) => Ok(both_text(alloc, &first, &each)?),
             (Err(ReadFailed::Fault), _) | (_, Err(ReadFailed::Fault)) => bail!("failed"),
-            (Err(ReadFailed::NoMemory), _) | (_, Err(ReadFailed::NoMemory)) => bail!("out of memory"),
+            (Err(ReadFailed::NoMemory), _) | (_, Err(ReadFailed::NoMemory)) => bail!(
+                "out of memory"
+            ),
         }
     }
 }

@@ -9,7 +9,10 @@ ghost use Rattle.kc_rb.specs.Listed.Trees.{is_first, is_tree, listed, turn};
 use crate::node::enter_node;
 use crate::reading::enter_head;
 use crate::spots::{left_of, right_of, root_of};
-use kc_found::{Asked, Claims, RbKey, RbLinks, RbShape, RbSpot, Space, TestStop, VWord, Walked, know_most, test_stop_of};
+use kc_found::{
+    Asked, Claims, RbKey, RbLinks, RbShape, RbSpot, Space, TestStop, VWord, Walked, know_most,
+    test_stop_of,
+};
 use kc_word::{NoMemory, Steps};
 use std::alloc::Global;
 use std::sync::ledger::Ledger;

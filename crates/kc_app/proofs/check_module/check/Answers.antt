@@ -4,7 +4,7 @@ use Rattle.kc_elf.specs.Parts.{Parts}
 use Rattle.kc_btf.specs.Btf.{Types}
 use Rattle.kc_plan.specs.declared.plan.Plan.{Plan}
 use Rattle.kc_plan.specs.Views.{plan_whole}
-use Rattle.kc_ends.specs.declared.answer.Answer.{Answer}
+use Rattle.kc_command.specs.declared.ends.answer.Answer.{Answer}
 use Rattle.kc_app.specs.CheckModule.{five_view}
 use Rattle.kc_app.proofs.CheckedModule.{late_stays, module_prints}
 use Rattle.kc_app.proofs.check_module.check.Goals as goal

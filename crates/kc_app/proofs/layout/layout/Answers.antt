@@ -1,4 +1,4 @@
-use Rattle.kc_input.specs.CallLaws.{reads_on}
+use Rattle.kc_command.specs.CallLaws.{reads_on}
 use Rattle.kc_app.proofs.layout.layout.Goals as goal
 
 pub returns-clause-calls : goal.returns-clause-calls

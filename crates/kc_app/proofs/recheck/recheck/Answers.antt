@@ -1,9 +1,9 @@
 use Rattle.std.proofs.Common.{◌≡◌, List, refl, rules, Err}
 use Rattle.kc_outside.specs.declared.store.Slot.TheVariants.{Dump, Btf, Map, Plan, Report}
 use Rattle.kc_outside.specs.Files.{content}
-use Rattle.kc_cert_text.specs.declared.certificate.CertStep.{CertStep}
+use Rattle.kc_cert.specs.declared.text.certificate.CertStep.{CertStep}
 use Rattle.kc_app.specs.declared.held.Held.{Held}
-use Rattle.kc_ends.specs.declared.answer.Answer.{Answer}
+use Rattle.kc_command.specs.declared.ends.answer.Answer.{Answer}
 use Rattle.kc_app.specs.Check.{audited}
 use Rattle.kc_app.specs.Recheck.{cert_files}
 use Rattle.kc_app.proofs.Certified.{cert_replies, four_stay, last_stays}

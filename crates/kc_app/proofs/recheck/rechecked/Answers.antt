@@ -1,7 +1,7 @@
 use Rattle.std.proofs.Common.{ℕ, List}
 use Rattle.kc_outside.specs.declared.store.Slot.TheVariants.{Dump}
 use Rattle.kc_outside.specs.Files.{content}
-use Rattle.kc_recheck.specs.Certificates.{answer}
+use Rattle.kc_cert.specs.Rechecking.Certificates.{answer}
 use Rattle.kc_app.specs.Held.{audited_of}
 use Rattle.kc_app.proofs.Certified.{found_counts, found_replies}
 use Rattle.kc_app.proofs.recheck.rechecked.Goals as goal

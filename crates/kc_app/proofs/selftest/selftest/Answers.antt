@@ -4,7 +4,7 @@ use Rattle.kc_outside.specs.SureStore.{file_in}
 use Rattle.kc_gen.specs.Header.{dump}
 use Rattle.kc_gen.specs.Texts.{map, plan}
 use Rattle.kc_gen.specs.Types.{btf}
-use Rattle.kc_ends.specs.Answers.{Prints}
+use Rattle.kc_command.specs.Ends.Answers.{Prints}
 use Rattle.kc_app.specs.Check.{check_made}
 use Rattle.kc_app.specs.Shown.{shown_written}
 use Rattle.kc_app.proofs.selftest.selftest.Goals as goal

@@ -3,7 +3,7 @@ use Rattle.kc_outside.specs.declared.store.Slot.TheVariants.{Dump, Plan, Report}
 use Rattle.kc_outside.specs.Files.{content}
 use Rattle.kc_cause.specs.declared.held.Held.{Held}
 use Rattle.kc_cause.specs.declared.held.Planned.{Planned}
-use Rattle.kc_ends.specs.declared.answer.Answer.{Answer}
+use Rattle.kc_command.specs.declared.ends.answer.Answer.{Answer}
 use Rattle.kc_cause.specs.Files.{report_files}
 use Rattle.kc_cause.proofs.FileLemmas.{files_print, last_stays, late_stays, three_stay}
 use Rattle.kc_cause.proofs.files.explain.Goals as goal

@@ -1,6 +1,6 @@
 use Rattle.std.proofs.Common.{ap}
 use Rattle.kc_mem.specs.Paged.{with_paging}
-use Rattle.kc_input.specs.declared.halt.Halt.TheVariants.{Store, Memory}
+use Rattle.kc_command.specs.declared.halt.Halt.TheVariants.{Store, Memory}
 use Rattle.kc_cause.proofs.FileLemmas.{judged_told, stops_told}
 use Rattle.kc_cause.proofs.files.explain_over.Goals as goal
 

@@ -1,6 +1,6 @@
 use Rattle.kc_outside.specs.declared.store.Slot.TheVariants.{Dump}
 use Rattle.kc_outside.specs.Files.{content}
-use Rattle.kc_input.specs.Paging.{by_info}
+use Rattle.kc_command.specs.Paging.{by_info}
 use Rattle.kc_files.specs.Wished.{image_of, wished}
 use Rattle.kc_files.proofs.Answering.{counted, prints, refuses}
 use Rattle.kc_files.proofs.files.make.Goals as goal

@@ -1,7 +1,7 @@
 use Rattle.std.proofs.Common.{rules, arith, ◌∙◌}
 use Rattle.kc_memory.specs.Stays.{stays_on}
-use Rattle.kc_chains.specs.Passing.{left_stop, left_go, left_end}
-use Rattle.kc_chains.specs.PidsBy.{pid_by}
+use Rattle.kc_steps.specs.Passing.{left_stop, left_go, left_end}
+use Rattle.kc_steps.specs.PidsBy.{pid_by}
 use Rattle.kc_pid.proofs.walk.pids_walk_by.Goals as goal
 
 pub returns-in-Err-clause-walk : goal.returns-in-Err-clause-walk

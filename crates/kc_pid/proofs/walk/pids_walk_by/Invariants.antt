@@ -1,9 +1,9 @@
 use Rattle.std.proofs.Common.{◌≡◌, ◌+◌, ◌*◌, ◌-◌, ◌≤◌, drop, length}
 use Rattle.std.specs.Prelude.{IfSome}
 use Rattle.kc_memory.specs.Stays.{SpaceStays}
-use Rattle.kc_chains.specs.Chains.{size}
-use Rattle.kc_chains.specs.PidsBy.{pid_by}
-use Rattle.kc_chains.specs.TasksBy.{passed_by}
+use Rattle.kc_steps.specs.Chains.{size}
+use Rattle.kc_steps.specs.PidsBy.{pid_by}
+use Rattle.kc_steps.specs.TasksBy.{passed_by}
 use Rattle.kc_pid.proofs.walk.pids_walk_by.Given as goal
 
 abbrev pub invariant-loop-i : goal.invariant-loop-i

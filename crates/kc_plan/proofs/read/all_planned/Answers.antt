@@ -3,7 +3,7 @@ use Rattle.std.proofs.lemmas.Grind.{common_steps}
 use Rattle.std.proofs.lemmas.List.Elements.{All-push}
 use Rattle.std.proofs.lemmas.List.{drop_more, length-map, map-append}
 use Rattle.std.specs.Prelude.{Result, Ok}
-use Rattle.kc_keys.specs.declared.fault.PlanFault.{PlanFault}
+use Rattle.kc_expr.specs.declared.keys.fault.PlanFault.{PlanFault}
 use Rattle.kc_plan.specs.declared.item.Link.{Link}
 use Rattle.kc_plan.specs.declared.planned.Audit.{Audit}
 use Rattle.kc_plan.specs.Audits.{AuditText}

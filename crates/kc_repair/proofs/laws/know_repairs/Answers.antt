@@ -1,5 +1,5 @@
-use Rattle.kc_suspect.specs.Laws.{IsSuspect}
-use Rattle.kc_suspect.specs.Suspects.{suspects}
+use Rattle.kc_repair.specs.Suspect.Laws.{IsSuspect}
+use Rattle.kc_repair.specs.Suspect.Suspects.{suspects}
 use Rattle.kc_repair.specs.Repairs.{breach_of, repair_of, verdict_with}
 use Rattle.kc_repair.proofs.Determined.{gives}
 use Rattle.kc_repair.proofs.Told.{all_told}

@@ -1,7 +1,7 @@
 use Rattle.std.specs.Prelude.{codes}
 use Rattle.kc_kinds.specs.Kernels.{kernel}
 use Rattle.kc_kinds.specs.Members.{struct_named}
-use Rattle.kc_object.specs.Shapes.{object_shape}
+use Rattle.kc_owner.specs.Object.Shapes.{object_shape}
 use Rattle.kc_slab_page.specs.Marks.{mark_of}
 use Rattle.kc_slab_page.proofs.PageLemmas.{shape_is}
 use Rattle.kc_slab_page.proofs.kernel.page_shape.Goals as goal

@@ -1,7 +1,7 @@
 use Rattle.std.proofs.Common.{refl, []}
 use Rattle.kc_view.specs.Caches.{cache_slabs}
-use Rattle.kc_chains.specs.CachesBy.{cache_by}
-use Rattle.kc_chains.specs.Chains.{free_walked, ring_walked}
+use Rattle.kc_steps.specs.CachesBy.{cache_by}
+use Rattle.kc_steps.specs.Chains.{free_walked, ring_walked}
 use Rattle.kc_slub.proofs.Steps.{comes_alone}
 use Rattle.kc_slub.proofs.walk.walk_cache.Goals as goal
 

@@ -1,8 +1,8 @@
 use Rattle.std.proofs.Common.{◌≡◌, ◌+◌, ◌*◌, ◌-◌, ◌≤◌, []}
 use Rattle.std.specs.Prelude.{IfSome}
 use Rattle.kc_memory.specs.Stays.{SpaceStays}
-use Rattle.kc_chains.specs.CachesBy.{nodes_by}
-use Rattle.kc_chains.specs.Chains.{size}
+use Rattle.kc_steps.specs.CachesBy.{nodes_by}
+use Rattle.kc_steps.specs.Chains.{size}
 use Rattle.kc_slub.proofs.walk.walk_nodes.Given as goal
 
 abbrev pub invariant-loop-i : goal.invariant-loop-i

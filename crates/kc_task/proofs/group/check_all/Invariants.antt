@@ -1,8 +1,8 @@
 use Rattle.std.proofs.Common.{◌≡◌, ◌+◌, ◌*◌, ◌-◌, ◌≤◌, drop, length}
 use Rattle.std.specs.Prelude.{IfSome}
 use Rattle.kc_memory.specs.Stays.{SpaceStays}
-use Rattle.kc_chains.specs.Chains.{size}
-use Rattle.kc_chains.specs.TasksBy.{passed_by, thread_by}
+use Rattle.kc_steps.specs.Chains.{size}
+use Rattle.kc_steps.specs.TasksBy.{passed_by, thread_by}
 use Rattle.kc_task.proofs.group.check_all.Given as goal
 
 abbrev pub invariant-loop-i : goal.invariant-loop-i

@@ -1,6 +1,6 @@
 use Rattle.std.proofs.Common.{◌<◌, ◌≤◌, List, ℕ, length, rules, arith, ◌∙◌}
 use Rattle.kc_memory.specs.Stays.{stays_on}
-use Rattle.kc_chains.specs.TasksBy.{leader_by}
+use Rattle.kc_steps.specs.TasksBy.{leader_by}
 use Rattle.kc_task.proofs.Passing.{gather_stop, gather_go, gather_end}
 use Rattle.kc_task.proofs.walk.walk_groups.Goals as goal
 

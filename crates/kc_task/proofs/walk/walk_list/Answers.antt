@@ -1,7 +1,7 @@
 use Rattle.std.proofs.Common.{refl, []}
 use Rattle.kc_view.specs.TaskLists.{task_list}
-use Rattle.kc_chains.specs.Chains.{ring_walked}
-use Rattle.kc_chains.specs.TasksBy.{tasks_all_by}
+use Rattle.kc_steps.specs.Chains.{ring_walked}
+use Rattle.kc_steps.specs.TasksBy.{tasks_all_by}
 use Rattle.kc_task.proofs.Passing.{comes_alone}
 use Rattle.kc_task.proofs.walk.walk_list.Goals as goal
 

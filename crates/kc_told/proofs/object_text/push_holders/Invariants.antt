@@ -1,6 +1,6 @@
 use Rattle.std.proofs.Common.{◌≡◌, ◌++◌, drop, map}
 use Rattle.kc_text.specs.Compose.{texts}
-use Rattle.kc_where.specs.Views.{symbol_view}
+use Rattle.kc_sight.specs.Views.{symbol_view}
 use Rattle.kc_told.specs.ObjectText.{holder_text}
 use Rattle.kc_told.proofs.object_text.push_holders.Given as goal
 

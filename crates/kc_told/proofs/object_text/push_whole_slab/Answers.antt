@@ -1,5 +1,5 @@
 use Rattle.std.proofs.Common.{map}
-use Rattle.kc_where.specs.Views.{symbol_view}
+use Rattle.kc_sight.specs.Views.{symbol_view}
 use Rattle.kc_told.proofs.TextLemmas.{three_added}
 use Rattle.kc_told.specs.ObjectText.{cache_line, holder_line, slab_line, spot_line}
 use Rattle.kc_told.proofs.object_text.push_whole_slab.Goals as goal

@@ -2,7 +2,7 @@ use Rattle.std.proofs.Common.{ℕ, List, codes, refl, ap, ◌∙◌}
 use Rattle.std.specs.Result.{result_ok}
 use Rattle.kc_syms.specs.Addresses.{common_of}
 use Rattle.kc_syms.specs.Symbols.{symbol}
-use Rattle.kc_where.specs.declared.symbol.ImageMap.{ImageMap}
+use Rattle.kc_sight.specs.declared.symbol.ImageMap.{ImageMap}
 use Rattle.kc_told.proofs.ShapeLemmas.{shapes_read, symbols_read}
 use Rattle.kc_told.proofs.shapes.shapes_in.Goals as goal
 

@@ -1,6 +1,6 @@
 use Rattle.std.proofs.Common.{◌≡◌, ◌++◌, drop}
 use Rattle.kc_text.specs.Compose.{texts}
-use Rattle.kc_where.specs.Views.{image_symbols}
+use Rattle.kc_sight.specs.Views.{image_symbols}
 use Rattle.kc_told.specs.Text.{near_line}
 use Rattle.kc_told.proofs.text.push_all_near.Given as goal
 

@@ -2,9 +2,9 @@ use Rattle.std.proofs.Common.{rules, List, ℕ, [], ap}
 use Rattle.kc_outside.specs.declared.store.Slot.TheVariants.{Dump}
 use Rattle.kc_outside.specs.Files.{content}
 use Rattle.kc_syms.specs.Symbols.{symbol}
-use Rattle.kc_input.specs.Paging.{by_info}
-use Rattle.kc_ends.specs.declared.answer.Answer.TheVariants as answer
-use Rattle.kc_ends.specs.declared.status.Status.TheVariants.{Done}
+use Rattle.kc_command.specs.Paging.{by_info}
+use Rattle.kc_command.specs.declared.ends.answer.Answer.TheVariants as answer
+use Rattle.kc_command.specs.declared.ends.status.Status.TheVariants.{Done}
 use Rattle.kc_why.specs.Memory.{image_of}
 use Rattle.kc_told.specs.SeenText.{map_symbols}
 use Rattle.kc_told.specs.Views.{shapes_view}

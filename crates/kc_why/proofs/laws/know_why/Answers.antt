@@ -2,7 +2,7 @@ use Rattle.kc_why.specs.Laws.{Stand}
 use Rattle.kc_cause.specs.Laws.{CausesStand}
 use Rattle.kc_why.specs.Searching.{sought_by}
 use Rattle.kc_why.specs.Why.{Shown, Sees, Finds, Tells}
-use Rattle.kc_where.specs.Laws.{SightsStand}
+use Rattle.kc_sight.specs.Laws.{SightsStand}
 use Rattle.kc_why.proofs.WrittenLaws.{found_all, stand_all}
 use Rattle.kc_why.proofs.laws.know_why.Goals as goal
 

@@ -1,5 +1,5 @@
 use Rattle.std.proofs.Common.{◌≡◌, map, take}
-use Rattle.kc_object.specs.declared.keys.CacheKey.{CacheKey}
+use Rattle.kc_owner.specs.declared.object.keys.CacheKey.{CacheKey}
 use Rattle.kc_why.proofs.searching.randoms_of.Given as goal
 
 -- those of the keys so far

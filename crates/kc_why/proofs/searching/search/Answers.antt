@@ -4,7 +4,7 @@ use Rattle.kc_outside.specs.declared.store.Slot.TheVariants.{Dump}
 use Rattle.kc_outside.specs.Files.{content}
 use Rattle.kc_phys.specs.Blocks.{reach}
 use Rattle.kc_phys.specs.Stored.{AreInside}
-use Rattle.kc_refs.specs.Holding.{in_segments}
+use Rattle.kc_sight.specs.Refs.Holding.{in_segments}
 use Rattle.kc_why.specs.Searching.{keys_of, sought_by}
 use Rattle.kc_why.proofs.SearchLemmas.{found_before, inside, told_by}
 use Rattle.kc_why.proofs.searching.search.Goals as goal

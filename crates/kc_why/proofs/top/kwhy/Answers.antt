@@ -1,6 +1,6 @@
 use Rattle.std.proofs.Common.{map}
 use Rattle.std.specs.String.{string_bytes}
-use Rattle.kc_ends.specs.Ending.{fails, parts, tells}
+use Rattle.kc_command.specs.Ends.Ending.{fails, parts, tells}
 use Rattle.kc_why.specs.Why.{why_asks, why_written, usage_text}
 use Rattle.kc_why.proofs.top.kwhy.Goals as goal
 

@@ -1,6 +1,6 @@
 use Rattle.std.proofs.Common.{◌≡◌, drop, nat_eq}
 use Rattle.std.specs.List.{find}
-use Rattle.kc_object.specs.declared.keys.CacheKey.{CacheKey}
+use Rattle.kc_owner.specs.declared.object.keys.CacheKey.{CacheKey}
 use Rattle.kc_why.proofs.written.push_first.Given as goal
 
 -- none of those so far has it, and nothing was added

@@ -1,0 +1,8 @@
+mod FreeTests
+mod CachesTake
+mod TasksTake
+mod CachesKeep
+mod TasksKeep
+mod GivenLaws
+mod Telling
+mod Pids

@@ -1,0 +1,7 @@
+pub mod Apart
+pub mod Ends
+pub mod Keeping
+pub mod Laws
+pub mod Same
+pub mod Tests
+pub mod Pids

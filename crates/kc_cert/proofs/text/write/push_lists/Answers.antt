@@ -1,0 +1,16 @@
+use Rattle.std.proofs.lemmas.List.Elements.{All-nil}
+use Rattle.kc_cert.specs.Text.CertTexts.{IsList, list_text}
+use Rattle.kc_cert.proofs.Text.TimesLoops.{all_item, texts_begin, texts_item}
+use Rattle.kc_cert.proofs.text.write.push_lists.Goals as goal
+
+pub loop-i-init : goal.loop-i-init
+loop-i-init c = (
+  texts_begin list_text c.args.lists.now c.len.result _ _ c.len.ensures c.in_ok-push_count.ensures,
+  All-nil IsList,
+)
+
+pub loop-i-preserved : goal.loop-i-preserved
+loop-i-preserved c = (
+  texts_item list_text c.args.lists.now c.loop-i.i _ _ _ _ c.get.ensures c.in_ok-push_list.ensures.added c.loop-i.invariant.0,
+  all_item IsList c.args.lists.now c.loop-i.i _ c.get.ensures c.loop-i.invariant.1 c.in_ok-push_list.ensures.keeps,
+)

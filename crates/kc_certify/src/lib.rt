@@ -1,8 +1,0 @@
-//! The certificate of a clean dump: the walks of a plan's audits, in their order, with the shapes of what they met.
-#![tactic(auto)]
-
-mod collect;
-mod issue;
-mod pass;
-
-pub use issue::{CertStop, certify};

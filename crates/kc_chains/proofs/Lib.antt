@@ -1,9 +1,0 @@
-mod Agreeing
-mod CachesAgreeing
-mod CachesTaking
-mod Giving
-mod PidsAgreeing
-mod PidsTaking
-mod Taking
-mod TasksAgreeing
-mod TasksTaking

@@ -1,9 +1,0 @@
-//! How walks of slab caches, of tasks and of process ids come by the lists of their chains: the nodes of rings, the objects of free
-//! lists, the nodes of hash chains.
-#![tactic(auto)]
-
-mod chains;
-mod laws;
-
-pub use chains::{Chains, HashChains, Rings};
-pub use laws::{know_chains, know_given, know_hash_chains};

@@ -1,0 +1,11 @@
+pub mod CallLaws
+pub mod Calls
+pub mod Halts
+pub mod Inputs
+pub mod Lines
+pub mod Made
+pub mod Paging
+pub mod Slots
+pub mod Stops
+pub mod Symbols
+pub mod Ends

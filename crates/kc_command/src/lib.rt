@@ -1,0 +1,30 @@
+//! What the files of a command hold, or the first refusal: a dump and its notes, types, symbols, a plan's text, a
+//! certificate's and a report's.
+#![tactic(auto)]
+
+mod cert;
+mod dump;
+mod ends;
+mod file;
+mod find;
+mod halt;
+mod line;
+mod map;
+mod module;
+mod plan;
+mod refusal;
+mod report;
+mod types;
+
+pub use cert::read_cert_file;
+pub use dump::{paging_by, read_dump, read_info};
+pub use ends::{Answer, Status, finish};
+pub use find::{find_field, find_named, find_symbol};
+pub use halt::Halt;
+pub use line::refusal_line;
+pub use map::{read_map, read_symbols};
+pub use module::read_module;
+pub use plan::read_plan_file;
+pub use refusal::{Refusal, ReportFault};
+pub use report::read_report_file;
+pub use types::read_types;

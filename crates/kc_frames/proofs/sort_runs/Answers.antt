@@ -1,8 +1,0 @@
-use Rattle.std.proofs.Common.{rules}
-use Rattle.std.proofs.lemmas.List.Sorted.{IsNonDecreasingBy-from_sort_by_key}
-use Rattle.kc_frames.specs.declared.FrameRun.{FrameRun}
-use Rattle.kc_frames.proofs.sort_runs.Goals as goal
-
-pub returns-clause-rising : goal.returns-clause-rising
-returns-clause-rising c =
-    IsNonDecreasingBy-from_sort_by_key (λ (r : FrameRun). r.first) c.sort_unstable_by_key.new.self c.sort_unstable_by_key.ensures.sorted (λ a r q k. search rules)

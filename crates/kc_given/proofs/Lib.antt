@@ -1,7 +1,0 @@
-mod FreeTests
-mod CachesTake
-mod TasksTake
-mod CachesKeep
-mod TasksKeep
-mod GivenLaws
-mod Telling

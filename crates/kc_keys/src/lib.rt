@@ -1,8 +1,0 @@
-//! The keys of a plan, and what a plan breaks: what those say who name a plan's fault and read none.
-#![tactic(auto)]
-
-mod fault;
-mod key;
-
-pub use fault::{PRule, PlanFault, PlanKey, PlanStop};
-pub use key::spelling;

@@ -1,5 +1,0 @@
-pub mod Kernels
-pub mod Known
-pub mod Looked
-pub mod Texts
-pub mod Unread

@@ -1,4 +1,0 @@
-use Rattle.kc_member.proofs.path.+push_within.Given as goal
-
-abbrev pub decreases-push_within : goal.decreases-push_within
-decreases-push_within l = l.levels

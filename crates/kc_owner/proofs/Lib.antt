@@ -1,0 +1,4 @@
+pub mod KnownLemmas
+pub mod TextLemmas
+pub mod Object
+pub mod Area

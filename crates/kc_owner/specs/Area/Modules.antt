@@ -1,0 +1,39 @@
+-- The module whose memory has an address. Source: the kernel's kernel/module/main.c, `modules` and `__module_address`; include/linux/module.h.
+use Rattle.std.specs.Prelude.{ℕ, ◌*◌, Option, option_map, Result, Ok}
+use Rattle.std.specs.List.{range_with_len}
+use Rattle.kc_memory.specs.Image.{Image}
+use Rattle.kc_view.specs.Fields.{read_field, value_of}
+use Rattle.kc_view.specs.TaskLists.{task_of}
+use Rattle.kc_found.specs.Nodes.{at_offset}
+use Rattle.kc_found.specs.Rings.{ring_walk}
+use Rattle.kc_found.specs.Trials.{and_then}
+use Rattle.kc_found.specs.Violations.{Violation}
+use Rattle.kc_owner.specs.Looked.{looked_at}
+use Rattle.kc_owner.specs.Texts.{text}
+use Rattle.kc_owner.specs.declared.area.modules.InModule.{InModule}
+use Rattle.kc_owner.specs.declared.area.shape.ModuleShape.{ModuleShape}
+use Rattle.kc_owner.specs.declared.area.shape.PartShape.{PartShape}
+use Rattle.kc_owner.specs.Area.Firsts.{byte_of, first_of}
+
+-- the byte in a part of a module's memory, by the part's number
+abbrev pub in_part : Image → PartShape → ℕ → ℕ → ℕ → Result (Option ℕ) Violation
+in_part image shape address owner number =
+    and_then (read_field image (looked_at owner) (at_offset owner (shape.stride * number)) shape.base) (λ base.
+    and_then (read_field image (looked_at owner) (at_offset owner (shape.stride * number)) shape.size) (λ size.
+    Ok (byte_of (value_of base) (value_of size) address)))
+
+-- a module that has the address, with its name
+abbrev pub named : Image → ModuleShape → ℕ → ℕ → InModule
+named image shape owner byte = record { at = owner; name = text image shape.name.count (at_offset owner shape.name.byte); byte = byte }
+
+-- in the first of the module's parts that has it
+abbrev pub in_module : Image → ModuleShape → ℕ → ℕ → Result (Option InModule) Violation
+in_module image shape address owner =
+    and_then (first_of (in_part image shape.parts address owner) (range_with_len 0 shape.parts.count)) (λ byte.
+    Ok (option_map (named image shape owner) byte))
+
+-- in the first of the modules that has it, in the order of their ring
+abbrev pub module_at : Image → ModuleShape → ℕ → Result (Option InModule) Violation
+module_at image shape address =
+    and_then (ring_walk image shape.list 0 shape.head) (λ nodes.
+    first_of (λ node. in_module image shape address (task_of shape.link node)) nodes)

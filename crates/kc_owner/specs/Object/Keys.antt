@@ -1,0 +1,34 @@
+-- The caches that encode the free pointers of their objects. Source: the kernel's mm/slub.c, `freelist_ptr_encode` (CONFIG_SLAB_FREELIST_HARDENED);
+-- include/linux/slub_def.h, `struct kmem_cache`, `random`; mm/slab_common.c, the ring `slab_caches`.
+use Rattle.std.specs.Prelude.{ℕ, ◌+◌, ◌-◌, ◌%◌, ◌^◌, List, Option, option_map, Result, Ok}
+use Rattle.std.specs.List.{filter_map}
+use Rattle.kc_memory.specs.Image.{Image}
+use Rattle.kc_found.specs.Rings.{ring_walk}
+use Rattle.kc_found.specs.Trials.{and_then}
+use Rattle.kc_found.specs.Violations.{Violation}
+use Rattle.kc_owner.specs.Known.{known}
+use Rattle.kc_owner.specs.Looked.{looked_at}
+use Rattle.kc_owner.specs.declared.object.keys.CacheKey.{CacheKey}
+use Rattle.kc_owner.specs.declared.object.keys.FreeKeys.{FreeKeys}
+use Rattle.kc_owner.specs.declared.object.shape.ObjectShape.{ObjectShape}
+use Rattle.kc_owner.specs.Object.Caches.{cache_of}
+use Rattle.kc_owner.specs.Object.Pages.{bases_at}
+
+-- a cache with its random number, where it has one
+abbrev pub key_of : Image → ObjectShape → ℕ → Option CacheKey
+key_of image shape cache = option_map (λ random. record { cache = cache_of image shape cache; random = random }) (known image cache shape.slub.random)
+
+-- the cache that has a node of the ring of all caches
+abbrev pub cache_by : ObjectShape → ℕ → ℕ
+cache_by shape node = (node + (2 ^ 64 - shape.cache_list)) % 2 ^ 64
+
+-- those of the caches of a ring's nodes
+abbrev pub keys_of : Image → ObjectShape → List ℕ → List CacheKey
+keys_of image shape nodes = filter_map (λ node. key_of image shape (cache_by shape node)) nodes
+
+-- those of all caches, in the order of their ring, and where the direct map begins
+abbrev pub free_keys : Image → ObjectShape → Result FreeKeys Violation
+free_keys image shape =
+    and_then (bases_at image (looked_at shape.caches) shape.slub) (λ b.
+    and_then (ring_walk image shape.slub.list 0 shape.caches) (λ nodes.
+    Ok (record { direct = b.direct; keys = keys_of image shape nodes })))

@@ -1,0 +1,174 @@
+// The module whose memory has an address.
+ghost use Rattle.std.specs.Prelude.{◌≡◌, ◌*◌, Ok};
+ghost use Rattle.std.specs.List.{range_with_len};
+ghost use Rattle.kc_memory.specs.Stays.{SpaceStays};
+ghost use Rattle.kc_found.specs.Nodes.{at_offset};
+ghost use Rattle.kc_found.specs.Walks.{CountsWalkFaults, WalksAs};
+ghost use Rattle.kc_view.specs.TaskLists.{task_of};
+ghost use Rattle.kc_owner.specs.Area.Firsts.{byte_of, first_of};
+ghost use Rattle.kc_owner.specs.Area.Modules.{in_module, in_part, module_at, named};
+
+use crate::area::shape::{ModuleShape, PartShape};
+use crate::{looked_at, read_text, view_at};
+use kc_btf::Btf;
+use kc_found::{Name, Space, WalkStop, Walked};
+use kc_list::ring;
+use kc_steps::read_field;
+use kc_word::Steps;
+use std::alloc::Global;
+use std::sync::ledger::Ledger;
+
+/// A module, and a byte of its memory.
+#[derive(Drop)]
+pub struct InModule {
+    /// The virtual address of the module (`struct module`).
+    pub at: u64,
+    /// Its name.
+    pub name: Name,
+    /// The byte, counted from the start of the part of its memory that has the address.
+    pub byte: u64,
+}
+
+// The byte of a range that stands at an address. A range at 0 is none.
+pub(crate) fn byte_of(base: u64, size: u64, address: u64) -> Option<u64>
+    ensures { result ≡ byte_of base size address }
+{
+    if base > 0 && address >= base && address - base < size {
+        Some(address - base)
+    } else {
+        None
+    }
+}
+
+// The module that has a node of the ring of modules.
+fn module_by(link: u64, node: u64) -> u64
+    ensures { result ≡ task_of link node }
+{
+    node.wrapping_sub(link)
+}
+
+// Where the fields of a part of a module's memory are counted from.
+fn part_at(shape: &PartShape, module_va: u64, number: u8) -> u64
+    ensures { result ≡ at_offset module_va (shape.now.stride * number) }
+{
+    let offset = shape.stride.wrapping_mul(u64::from(number));
+    module_va.wrapping_add(offset)
+}
+
+// The byte in a part of a module's memory.
+fn in_part<S: Space, L: Ledger>(
+    alloc: Global,
+    space: &mut S,
+    btf: &Btf,
+    shape: &PartShape,
+    address: u64,
+    module_va: u64,
+    number: u8,
+    steps: &mut Steps<L>,
+) -> Result<Option<u64>, WalkStop>
+    ensures exact { WalksAs (λ byte. byte) (λ i. in_part i shape.now address module_va number) (S.image space.old) result }
+    ensures stays { SpaceStays S.image S.files S.through S.most space.old space.new }
+    ensures cause { CountsWalkFaults result (S.faults space.old) (S.faults space.new) }
+{
+    let asked = looked_at(module_va);
+    let view = view_at(btf, part_at(shape, module_va, number));
+    let base = read_field(alloc, space, &asked, &view, &shape.base, steps)?.value();
+    let size = read_field(alloc, space, &asked, &view, &shape.size, steps)?.value();
+    Ok(byte_of(base, size, address))
+}
+
+// The byte in the first part that has an address.
+fn in_parts<S: Space, L: Ledger>(
+    alloc: Global,
+    space: &mut S,
+    btf: &Btf,
+    shape: &PartShape,
+    address: u64,
+    module_va: u64,
+    steps: &mut Steps<L>,
+) -> Result<Option<u64>, WalkStop>
+    ensures exact { WalksAs (λ byte. byte) (λ i. first_of (in_part i shape.now address module_va) (range_with_len 0 shape.now.count)) (S.image space.old) result }
+    ensures stays { SpaceStays S.image S.files S.through S.most space.old space.new }
+    ensures cause { CountsWalkFaults result (S.faults space.old) (S.faults space.new) }
+{
+    for number in 0..shape.count {
+        match in_part(alloc, space, btf, shape, address, module_va, number, steps) {
+            Ok(None) => {}
+            Ok(Some(found)) => return Ok(Some(found)),
+            Err(stop) => return Err(stop),
+        }
+    }
+    Ok(None)
+}
+
+// A module that has an address in its memory, with its name.
+fn in_module<S: Space, L: Ledger>(
+    alloc: Global,
+    space: &mut S,
+    btf: &Btf,
+    shape: &ModuleShape,
+    address: u64,
+    module_va: u64,
+    steps: &mut Steps<L>,
+) -> Result<Option<InModule>, WalkStop>
+    ensures exact { WalksAs (λ found. found) (λ i. in_module i shape.now address module_va) (S.image space.old) result }
+    ensures stays { SpaceStays S.image S.files S.through S.most space.old space.new }
+    ensures cause { CountsWalkFaults result (S.faults space.old) (S.faults space.new) }
+{
+    let parts = &shape.parts;
+    let Some(byte) = in_parts(alloc, space, btf, parts, address, module_va, steps)? else {
+        return Ok(None);
+    };
+    let at = module_va.wrapping_add(shape.name.byte);
+    let name = read_text(alloc, space, at, shape.name.count, steps)?;
+    Ok(Some(InModule {
+        at: module_va,
+        name,
+        byte,
+    }))
+}
+
+// The first module that has an address, of those that have these nodes.
+fn in_modules<S: Space, L: Ledger>(
+    alloc: Global,
+    space: &mut S,
+    btf: &Btf,
+    shape: &ModuleShape,
+    address: u64,
+    nodes: &Walked,
+    steps: &mut Steps<L>,
+) -> Result<Option<InModule>, WalkStop>
+    ensures exact { WalksAs (λ found. found) (λ i. first_of (λ node. in_module i shape.now address (task_of shape.now.link node)) nodes.now) (S.image space.old) result }
+    ensures stays { SpaceStays S.image S.files S.through S.most space.old space.new }
+    ensures cause { CountsWalkFaults result (S.faults space.old) (S.faults space.new) }
+{
+    let mut i = 0;
+    while i < nodes.len() {
+        let node = *nodes.get(i);
+        let module_va = module_by(shape.link, node);
+        match in_module(alloc, space, btf, shape, address, module_va, steps) {
+            Ok(None) => {}
+            Ok(Some(found)) => return Ok(Some(found)),
+            Err(stop) => return Err(stop),
+        }
+        i += 1;
+    }
+    Ok(None)
+}
+
+// The first module of the ring that has an address.
+pub(crate) fn read_module<S: Space, L: Ledger>(
+    alloc: Global,
+    space: &mut S,
+    btf: &Btf,
+    shape: &ModuleShape,
+    address: u64,
+    steps: &mut Steps<L>,
+) -> Result<Option<InModule>, WalkStop>
+    ensures exact { WalksAs (λ found. found) (λ i. module_at i shape.now address) (S.image space.old) result }
+    ensures stays { SpaceStays S.image S.files S.through S.most space.old space.new }
+    ensures cause { CountsWalkFaults result (S.faults space.old) (S.faults space.new) }
+{
+    let nodes = ring(alloc, space, &shape.list, shape.head, 0, steps)?;
+    in_modules(alloc, space, btf, shape, address, &nodes, steps)
+}

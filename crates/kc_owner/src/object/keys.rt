@@ -1,0 +1,125 @@
+// The caches that encode the free pointers of their objects.
+ghost use Rattle.std.specs.Prelude.{◌≡◌, ◌++◌, option_to_list, Ok, OnOk};
+ghost use Rattle.kc_memory.specs.Stays.{SpaceStays};
+ghost use Rattle.kc_found.specs.Walks.{CountsWalkFaults, OnBroken, OnWalkFault, WalksAs};
+ghost use Rattle.kc_owner.specs.Object.Keys.{cache_by, free_keys, key_of, keys_of};
+
+use crate::object::bases::read_bases;
+use crate::object::cache::{Cache, read_cache};
+use crate::object::shape::ObjectShape;
+use crate::{looked_at, read_known, view_at};
+use kc_btf::Btf;
+use kc_found::{Items, Space, WalkStop, Walked};
+use kc_list::ring;
+use kc_word::{NoMemory, Steps};
+use std::alloc::Global;
+use std::sync::ledger::Ledger;
+
+/// A slab cache that encodes the free pointers of its objects.
+#[derive(Drop)]
+pub struct CacheKey {
+    /// The cache.
+    pub cache: Cache,
+    /// Its random number (`random` of `struct kmem_cache`).
+    pub random: u64,
+}
+
+/// What the free pointers of a kernel are encoded with.
+#[derive(Drop)]
+pub struct FreeKeys {
+    /// The virtual address at which the direct map of physical memory begins.
+    pub direct: u64,
+    /// The caches that encode them, in the order of the ring of all caches.
+    pub keys: Items<CacheKey>,
+}
+
+// The cache that has a node of the ring of all caches.
+fn cache_by(shape: &ObjectShape, node: u64) -> u64
+    ensures { result ≡ cache_by shape.now node }
+{
+    node.wrapping_sub(shape.cache_list)
+}
+
+// A cache with its random number, where it has one.
+fn read_key<S: Space, L: Ledger>(
+    alloc: Global,
+    space: &mut S,
+    btf: &Btf,
+    shape: &ObjectShape,
+    cache: u64,
+    steps: &mut Steps<L>,
+) -> Result<Option<CacheKey>, WalkStop>
+    ensures exact { WalksAs (λ key. key) (λ i. Ok (key_of i shape.now cache)) (S.image space.old) result }
+    ensures stays { SpaceStays S.image S.files S.through S.most space.old space.new }
+    ensures cause { CountsWalkFaults result (S.faults space.old) (S.faults space.new) }
+{
+    let view = view_at(btf, cache);
+    let Some(random) = read_known(alloc, space, &view, &shape.slub.random, steps)? else {
+        return Ok(None);
+    };
+    let cache = read_cache(alloc, space, &view, shape, steps)?;
+    Ok(Some(CacheKey { cache, random }))
+}
+
+// Adds a key, where there is one.
+fn push_key(keys: &mut Items<CacheKey>, key: Option<CacheKey>) -> Result<(), WalkStop>
+    ensures added { OnOk result (keys.new ≡ keys.old ++ option_to_list key) }
+    ensures broken { OnBroken result ⊥ }
+    ensures no_fault { OnWalkFault result ⊥ }
+{
+    let Some(key) = key else {
+        return Ok(());
+    };
+    match keys.push(key) {
+        Ok(()) => Ok(()),
+        Err(NoMemory) => Err(WalkStop::NoMemory),
+    }
+}
+
+// The keys of the caches that have these nodes of the ring of all caches.
+fn read_keys<S: Space, L: Ledger>(
+    alloc: Global,
+    space: &mut S,
+    btf: &Btf,
+    shape: &ObjectShape,
+    nodes: &Walked,
+    steps: &mut Steps<L>,
+) -> Result<Items<CacheKey>, WalkStop>
+    ensures exact { WalksAs (λ keys. keys) (λ i. Ok (keys_of i shape.now nodes.now)) (S.image space.old) result }
+    ensures stays { SpaceStays S.image S.files S.through S.most space.old space.new }
+    ensures cause { CountsWalkFaults result (S.faults space.old) (S.faults space.new) }
+{
+    let mut keys = Items::new(alloc);
+    for i in 0..nodes.len() {
+        let cache = cache_by(shape, *nodes.get(i));
+        let key = read_key(alloc, space, btf, shape, cache, steps)?;
+        push_key(&mut keys, key)?;
+    }
+    Ok(keys)
+}
+
+/// What the free pointers of a kernel are encoded with: the random numbers of the caches of the ring `slab_caches`, of those that have
+/// one and where it can be read.
+///
+/// # Errors
+///
+/// A violation of the ring, or a word that can't be read; a failure of the space, whose count of faults then rose; or out of memory.
+pub fn free_keys<S: Space, L: Ledger>(
+    alloc: Global,
+    space: &mut S,
+    btf: &Btf,
+    shape: &ObjectShape,
+    steps: &mut Steps<L>,
+) -> Result<FreeKeys, WalkStop>
+    ensures exact { WalksAs (λ keys. keys) (λ i. free_keys i shape.now) (S.image space.old) result }
+    ensures stays { SpaceStays S.image S.files S.through S.most space.old space.new }
+    ensures cause { CountsWalkFaults result (S.faults space.old) (S.faults space.new) }
+{
+    let bases = read_bases(alloc, space, &looked_at(shape.caches), &shape.slub, steps)?;
+    let nodes = ring(alloc, space, &shape.slub.list, shape.caches, 0, steps)?;
+    let keys = read_keys(alloc, space, btf, shape, &nodes, steps)?;
+    Ok(FreeKeys {
+        direct: bases.direct,
+        keys,
+    })
+}

@@ -1,0 +1,5 @@
+use Rattle.kc_plain_store.proofs.Unpack.PageLaws.{pages_whole}
+use Rattle.kc_plain_store.proofs.unpacked.laws.know_page.Goals as goal
+
+pub returns : goal.returns
+returns c = pages_whole

@@ -1,7 +1,0 @@
-use Rattle.std.proofs.Common.{◌≡◌, ◌++◌}
-use Rattle.kc_refs.specs.Holding.{in_block}
-use Rattle.kc_refs.proofs.search.add_words.Given as goal
-
--- what is found among the words so far
-abbrev pub invariant-loop-k : goal.invariant-loop-k
-invariant-loop-k l = l.found.items ≡ l.initial.found.items ++ in_block l.sought l.block l.segment l.first l.k

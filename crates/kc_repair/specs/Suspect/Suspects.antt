@@ -1,0 +1,99 @@
+-- What is suspected of a violation, by its rule and the kind of its audit: words of the dump that may hold a wrong number, in the order in which they
+-- are to be tried.
+use Rattle.std.specs.Prelude.{ℕ, List, [], ◌∷◌, ◌++◌, Option, Some, None, option_map, option_to_list}
+use Rattle.std.specs.List.{flat_map}
+use Rattle.std.specs.Option.{option_map_or}
+use Rattle.kc_memory.specs.declared.words.Place.{Place}
+use Rattle.kc_memory.specs.Image.{Image}
+use Rattle.kc_found.specs.Nodes.{at_offset}
+use Rattle.kc_found.specs.Violations.{Violation}
+use Rattle.kc_kinds.specs.declared.kind.Kind.{Kind}
+use Rattle.kc_kinds.specs.declared.kind.Kind.TheVariants.{Ring, Hlist, Rbtree, Slub}
+use Rattle.kc_repair.specs.declared.suspect.change.Change.{Change}
+use Rattle.kc_repair.specs.declared.suspect.suspect.Suspect.{Suspect}
+use Rattle.kc_repair.specs.declared.suspect.way.Way.{Way}
+use Rattle.kc_repair.specs.declared.suspect.way.Way.TheVariants.{Led, Met, Word, Byte, Member, Own, Before, Pointed, Parent, Colour, Balance, Entry, Free, Shown}
+use Rattle.kc_repair.specs.Suspect.Changes.{each, made, to}
+use Rattle.kc_repair.specs.Suspect.Fields.{bit_changes, member_changes, own_changes}
+use Rattle.kc_repair.specs.Suspect.FreePointers.{free_in}
+use Rattle.kc_repair.specs.Suspect.Links.{chain_link, leading_to, node_behind, node_of, tree_links}
+use Rattle.kc_repair.specs.Suspect.Trees.{colours, parent_changes}
+use Rattle.kc_repair.specs.Suspect.Ways.{way_of}
+
+-- the words that show a violation, each with any bit changed
+abbrev pub place_bits : Place → List Change
+place_bits p = option_to_list (option_map each p.va)
+
+abbrev pub shown : List Place → List Change
+shown places = flat_map place_bits places
+
+-- the first place with a virtual address: of a rule on a pointer that can't be followed the word that holds it
+abbrev pub first_address : List Place → Option ℕ
+first_address [] = None
+first_address (p ∷ ps) = option_map_or Some p.va (first_address ps)
+
+-- the link that led to a word which was met before: the second that leads to its node
+abbrev pub second_link : Image → Kind → Violation → Option ℕ
+second_link image (Ring s) v = chain_link image s.next (at_offset v.start s.next) (node_of v.at s.next) 1
+second_link image (Hlist s) v = chain_link image s.next (at_offset v.start s.first) (node_of v.at s.next) 1
+second_link image (Rbtree s) v = leading_to (node_of v.at s.parent_color) 1 (tree_links image s v.start)
+second_link image _ v = None
+
+-- A link that can't be right, of a structure that starts here: in a ring it leads to the node whose `prev` leads to its own, in a chain and in
+-- a tree perhaps nowhere. Of the lists inside slab caches, tasks and process ids no head is told.
+abbrev pub relinked : Image → Kind → Violation → ℕ → List Change
+relinked image (Ring s) v link = option_to_list (option_map (to link) (node_behind image s v.start (node_of link s.next))) ++ each link ∷ []
+relinked image (Hlist s) v link = each link ∷ to link 0 ∷ []
+relinked image (Rbtree s) v link = to link 0 ∷ each link ∷ []
+relinked image _ v link = shown v.places
+
+-- where no link is told, the words that show it
+abbrev pub led_by : Image → Kind → Violation → Option ℕ → List Change
+led_by image kind v link = option_map_or (relinked image kind v) link (shown v.places)
+
+-- the word at the violation's address becomes what is expected there
+abbrev pub word_changes : Violation → List Change
+word_changes v = option_to_list (option_map (to v.at) v.expected)
+
+-- the `next` of the node that a ring's `prev` should lead to, where that one passes by a node by this word alone, or that `prev`
+abbrev pub passed_changes : Image → Kind → Violation → ℕ → List Change
+passed_changes image (Ring s) v node = option_to_list (option_map (to (at_offset node s.next)) (node_behind image s v.start node))
+passed_changes image _ v node = []
+
+abbrev pub before_changes : Image → Kind → Violation → List Change
+before_changes image kind v = option_map_or (passed_changes image kind v) v.expected [] ++ word_changes v
+
+-- the `pprev` of a chain's node, or the link that led there
+abbrev pub pointed_changes : Violation → List Change
+pointed_changes v = word_changes v ++ option_to_list (option_map each v.expected)
+
+-- an entry of an xarray: any bit of it, or nothing stands there
+abbrev pub entry_changes : Violation → List Change
+entry_changes v = each v.at ∷ to v.at 0 ∷ []
+
+abbrev pub free_changes : Image → Kind → Violation → List Change
+free_changes image (Slub s) v = option_map_or (free_in image s v.start) (first_address v.places) []
+free_changes image _ v = []
+
+-- what may have happened
+abbrev pub by_way : Image → Kind → Violation → Way → List Change
+by_way image kind v Led = led_by image kind v (first_address v.places)
+by_way image kind v Met = led_by image kind v (second_link image kind v)
+by_way image kind v Word = word_changes v
+by_way image kind v Byte = bit_changes image v.at 0 8 v.expected
+by_way image kind v Member = member_changes image kind v
+by_way image kind v Own = own_changes image kind v
+by_way image kind v Before = before_changes image kind v
+by_way image kind v Pointed = pointed_changes v
+by_way image kind v Parent = parent_changes image kind v
+by_way image kind v Colour = word_changes v ++ colours image kind v
+by_way image kind v Balance = colours image kind v
+by_way image kind v Entry = entry_changes v
+by_way image kind v Free = free_changes image kind v ++ shown v.places
+by_way image kind v Shown = shown v.places
+
+unfoldable pub changes : Image → Kind → Violation → List Change
+changes image kind v = by_way image kind v (way_of v.rule)
+
+unfoldable pub suspects : Image → Kind → Violation → List Suspect
+suspects image kind v = flat_map (made image) (changes image kind v)

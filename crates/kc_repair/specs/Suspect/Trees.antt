@@ -1,0 +1,50 @@
+-- Nodes of red-black trees whose parent or colour may be wrong.
+use Rattle.std.specs.Prelude.{ℕ, ◌/◌, ◌==◌, if◌then◌else◌, List, [], ◌∷◌, ◌++◌, Option, Some, None}
+use Rattle.std.specs.List.{flat_map}
+use Rattle.std.specs.Option.{option_map_or}
+use Rattle.kc_memory.specs.declared.words.VWord.{VWord}
+use Rattle.kc_memory.specs.Image.{Image}
+use Rattle.kc_memory.specs.Translation.{vword}
+use Rattle.kc_found.specs.declared.shapes.RbShape.{RbShape}
+use Rattle.kc_found.specs.Nodes.{at_offset, readable}
+use Rattle.kc_found.specs.Violations.{Violation}
+use Rattle.kc_kinds.specs.declared.kind.Kind.{Kind}
+use Rattle.kc_kinds.specs.declared.kind.Kind.TheVariants.{Rbtree}
+use Rattle.kc_repair.specs.declared.suspect.change.Change.{Change}
+use Rattle.kc_repair.specs.declared.suspect.change.How.TheVariants.{Lowest}
+use Rattle.kc_repair.specs.Suspect.Changes.{each}
+use Rattle.kc_repair.specs.Suspect.Fields.{bit_changes}
+use Rattle.kc_repair.specs.Suspect.Links.{node_of, tree_links}
+
+-- the links to a node at some addresses, each with any bit changed
+abbrev pub bits_if : ℕ → Option VWord → List Change
+bits_if node None = []
+bits_if node (Some w) = if w.value == node then each w.va ∷ [] else []
+
+abbrev pub link_bits : Image → ℕ → ℕ → List Change
+link_bits image node at = bits_if node (readable (vword image at))
+
+-- of those that can lead to a child of this parent: of the root the one in the tree's head
+abbrev pub upper_bits : Image → RbShape → ℕ → ℕ → ℕ → List Change
+upper_bits image s head node parent =
+    if parent == 0 then link_bits image node (at_offset head s.root)
+    else link_bits image node (at_offset parent s.left) ++ link_bits image node (at_offset parent s.right)
+
+-- the parent word of a node with its lowest two bits kept, or the link that led to the node
+abbrev pub parent_by : Image → RbShape → Violation → ℕ → List Change
+parent_by image s v parent = bit_changes image v.at 2 62 (Some (parent / 4)) ++ upper_bits image s v.start (node_of v.at s.parent_color) parent
+
+abbrev pub parent_changes : Image → Kind → Violation → List Change
+parent_changes image (Rbtree s) v = option_map_or (parent_by image s v) v.expected []
+parent_changes image _ v = []
+
+-- each single colour of a tree's nodes, in preorder
+abbrev pub colour_of : RbShape → VWord → List Change
+colour_of s link = if link.value == 0 then [] else record { at = at_offset link.value s.parent_color; how = Lowest } ∷ []
+
+abbrev pub colours_of : RbShape → List VWord → List Change
+colours_of s links = flat_map (colour_of s) links
+
+abbrev pub colours : Image → Kind → Violation → List Change
+colours image (Rbtree s) v = colours_of s (tree_links image s v.start)
+colours image _ v = []

@@ -1,0 +1,293 @@
+// What may have happened, by the rule that is broken.
+ghost use Rattle.std.specs.Prelude.{◌≡◌, ◌++◌, ◌<◌, ◌≤◌, ◌∷◌, [], option_to_list, OnOk, IfOk, IfSome};
+ghost use Rattle.std.specs.List.{flat_map};
+ghost use Rattle.std.specs.Option.{option_map_or};
+ghost use Rattle.kc_memory.specs.Stays.{SpaceStays};
+ghost use Rattle.kc_repair.specs.Suspect.Answers.{CountsSuspectFaults};
+ghost use Rattle.kc_repair.specs.Suspect.Changes.{each, to};
+ghost use Rattle.kc_repair.specs.Suspect.Suspects.{before_changes, by_way, changes, entry_changes, first_address, led_by, passed_changes, place_bits, pointed_changes, relinked, second_link, shown, word_changes};
+
+use crate::suspect::change::{Change, Changes, How};
+use crate::suspect::fields::{push_bits, push_member, push_own, push_some};
+use crate::suspect::free::push_free;
+use crate::suspect::links::{chain_link, node_behind, node_of, second_to, tree_links};
+use crate::suspect::trees::{push_colours, push_parent};
+use crate::suspect::way::{Way, way_of};
+use kc_found::{Found, Place, ReadFailed, Space};
+use kc_kinds::Kind;
+use kc_word::{NoMemory, Steps};
+use std::alloc::Global;
+use std::sync::ledger::Ledger;
+
+// The word at an address becomes a number.
+pub(crate) fn to(at: u64, number: u64) -> Change
+    ensures { result ≡ to at number }
+{
+    Change {
+        at,
+        how: How::Number(number),
+    }
+}
+
+// Each single bit of it changes.
+pub(crate) fn each(at: u64) -> Change
+    ensures { result ≡ each at }
+{
+    Change { at, how: How::Each }
+}
+
+// The first place with a virtual address.
+pub(crate) fn first_address(places: &[Place]) -> Option<u64>
+    ensures { result ≡ first_address places.now }
+{
+    for place in places {
+        if place.va.is_some() {
+            return place.va;
+        }
+    }
+    None
+}
+
+// Adds the words that show a violation, each with any bit changed.
+fn push_shown(changes: &mut Changes, places: &[Place]) -> Result<(), NoMemory>
+    ensures { OnOk result (changes.new ≡ changes.old ++ shown places.now) }
+{
+    for place in places {
+        push_some(changes, place.va.map(each))?;
+    }
+    Ok(())
+}
+
+// The second link that leads to the node of a word that was met before.
+fn second_link<S: Space, L: Ledger>(
+    alloc: Global,
+    kind: &Kind,
+    found: &Found,
+    space: &mut S,
+    steps: &mut Steps<L>,
+) -> Result<Option<u64>, ReadFailed>
+    ensures link { IfOk result (λ link. IfSome (S.image space.old) (λ image. link ≡ second_link image kind.now found.now)) }
+    ensures stays { SpaceStays S.image S.files S.through S.most space.old space.new }
+    ensures cause { CountsSuspectFaults result (S.faults space.old) (S.faults space.new) }
+{
+    match kind {
+        Kind::Ring(shape) => {
+            let first = found.start.wrapping_add(shape.next);
+            let node = node_of(found.at, shape.next);
+            chain_link(space, shape.next, first, node, 1, steps)
+        }
+        Kind::Hlist(shape) => {
+            let first = found.start.wrapping_add(shape.first);
+            let node = node_of(found.at, shape.next);
+            chain_link(space, shape.next, first, node, 1, steps)
+        }
+        Kind::Rbtree(shape) => {
+            let links = tree_links(alloc, space, shape, found.start, steps)?;
+            Ok(second_to(&links, node_of(found.at, shape.parent_color)))
+        }
+        _ => Ok(None),
+    }
+}
+
+// Adds what a link may have held that can't be right.
+fn push_relinked<S: Space, L: Ledger>(
+    changes: &mut Changes,
+    kind: &Kind,
+    found: &Found,
+    link: u64,
+    space: &mut S,
+    steps: &mut Steps<L>,
+) -> Result<(), ReadFailed>
+    ensures added { OnOk result (IfSome (S.image space.old) (λ image. changes.new ≡ changes.old ++ relinked image kind.now found.now link)) }
+    ensures stays { SpaceStays S.image S.files S.through S.most space.old space.new }
+    ensures cause { CountsSuspectFaults result (S.faults space.old) (S.faults space.new) }
+{
+    match kind {
+        Kind::Ring(shape) => {
+            let node = node_of(link, shape.next);
+            let behind = node_behind(space, shape, found.start, node, steps)?;
+            push_some(changes, behind.map(|node| to(link, node)))?;
+            changes.push(each(link))?;
+        }
+        Kind::Hlist(_) => {
+            changes.push(each(link))?;
+            changes.push(to(link, 0))?;
+        }
+        Kind::Rbtree(_) => {
+            changes.push(to(link, 0))?;
+            changes.push(each(link))?;
+        }
+        _ => push_shown(changes, found.places.as_slice())?,
+    }
+    Ok(())
+}
+
+// Adds the same of a link that may not be told, and then the words that show the violation.
+fn push_led<S: Space, L: Ledger>(
+    changes: &mut Changes,
+    kind: &Kind,
+    found: &Found,
+    link: Option<u64>,
+    space: &mut S,
+    steps: &mut Steps<L>,
+) -> Result<(), ReadFailed>
+    ensures added { OnOk result (IfSome (S.image space.old) (λ image. changes.new ≡ changes.old ++ led_by image kind.now found.now link)) }
+    ensures stays { SpaceStays S.image S.files S.through S.most space.old space.new }
+    ensures cause { CountsSuspectFaults result (S.faults space.old) (S.faults space.new) }
+{
+    match link {
+        Some(link) => push_relinked(changes, kind, found, link, space, steps),
+        None => {
+            push_shown(changes, found.places.as_slice())?;
+            Ok(())
+        }
+    }
+}
+
+// Adds the word at the violation's address, as it is expected.
+fn push_word(changes: &mut Changes, found: &Found) -> Result<(), NoMemory>
+    ensures { OnOk result (changes.new ≡ changes.old ++ word_changes found.now) }
+{
+    push_some(changes, found.expected.map(|number| to(found.at, number)))
+}
+
+// Adds the `next` of a node of a ring, as one that passes by a node by this word alone.
+fn push_passed<S: Space, L: Ledger>(
+    changes: &mut Changes,
+    kind: &Kind,
+    found: &Found,
+    node: u64,
+    space: &mut S,
+    steps: &mut Steps<L>,
+) -> Result<(), ReadFailed>
+    ensures added { OnOk result (IfSome (S.image space.old) (λ image. changes.new ≡ changes.old ++ passed_changes image kind.now found.now node)) }
+    ensures stays { SpaceStays S.image S.files S.through S.most space.old space.new }
+    ensures cause { CountsSuspectFaults result (S.faults space.old) (S.faults space.new) }
+{
+    if let Kind::Ring(shape) = kind {
+        let link = node.wrapping_add(shape.next);
+        let behind = node_behind(space, shape, found.start, node, steps)?;
+        push_some(changes, behind.map(|node| to(link, node)))?;
+    }
+    Ok(())
+}
+
+// Adds the `next` of the node that a ring's `prev` should lead to, where that is told.
+fn push_passed_by<S: Space, L: Ledger>(
+    changes: &mut Changes,
+    kind: &Kind,
+    found: &Found,
+    space: &mut S,
+    steps: &mut Steps<L>,
+) -> Result<(), ReadFailed>
+    ensures added { OnOk result (IfSome (S.image space.old) (λ image. changes.new ≡ changes.old ++ option_map_or (passed_changes image kind.now found.now) found.now.expected [])) }
+    ensures stays { SpaceStays S.image S.files S.through S.most space.old space.new }
+    ensures cause { CountsSuspectFaults result (S.faults space.old) (S.faults space.new) }
+{
+    match found.expected {
+        Some(node) => push_passed(changes, kind, found, node, space, steps),
+        None => Ok(()),
+    }
+}
+
+// Adds it, and the `prev` of the ring's node.
+fn push_before<S: Space, L: Ledger>(
+    changes: &mut Changes,
+    kind: &Kind,
+    found: &Found,
+    space: &mut S,
+    steps: &mut Steps<L>,
+) -> Result<(), ReadFailed>
+    ensures added { OnOk result (IfSome (S.image space.old) (λ image. changes.new ≡ changes.old ++ before_changes image kind.now found.now)) }
+    ensures stays { SpaceStays S.image S.files S.through S.most space.old space.new }
+    ensures cause { CountsSuspectFaults result (S.faults space.old) (S.faults space.new) }
+{
+    push_passed_by(changes, kind, found, space, steps)?;
+    Ok(push_word(changes, found)?)
+}
+
+// Adds the `pprev` of a chain's node, and the link that led there.
+fn push_pointed(changes: &mut Changes, found: &Found) -> Result<(), NoMemory>
+    ensures { OnOk result (changes.new ≡ changes.old ++ pointed_changes found.now) }
+{
+    push_word(changes, found)?;
+    push_some(changes, found.expected.map(each))
+}
+
+// Adds an entry of an xarray, with any bit changed and as nothing.
+fn push_entry(changes: &mut Changes, at: u64) -> Result<(), NoMemory>
+    ensures { OnOk result (changes.new ≡ changes.old ++ each at ∷ to at 0 ∷ []) }
+{
+    changes.push(each(at))?;
+    changes.push(to(at, 0))
+}
+
+// Adds what may have happened in a way.
+fn push_by_way<S: Space, L: Ledger>(
+    alloc: Global,
+    changes: &mut Changes,
+    way: Way,
+    kind: &Kind,
+    found: &Found,
+    space: &mut S,
+    steps: &mut Steps<L>,
+) -> Result<(), ReadFailed>
+    ensures added { OnOk result (IfSome (S.image space.old) (λ image. changes.new ≡ changes.old ++ by_way image kind.now found.now way)) }
+    ensures stays { SpaceStays S.image S.files S.through S.most space.old space.new }
+    ensures cause { CountsSuspectFaults result (S.faults space.old) (S.faults space.new) }
+{
+    match way {
+        Way::Led => {
+            let link = first_address(found.places.as_slice());
+            push_led(changes, kind, found, link, space, steps)
+        }
+        Way::Met => {
+            let link = second_link(alloc, kind, found, space, steps)?;
+            push_led(changes, kind, found, link, space, steps)
+        }
+        Way::Word => Ok(push_word(changes, found)?),
+        Way::Byte => push_bits(changes, found.at, 0, 8, found.expected, space, steps),
+        Way::Member => push_member(changes, kind, found, space, steps),
+        Way::Own => push_own(changes, kind, found, space, steps),
+        Way::Before => push_before(changes, kind, found, space, steps),
+        Way::Pointed => Ok(push_pointed(changes, found)?),
+        Way::Parent => push_parent(changes, kind, found, space, steps),
+        Way::Colour => {
+            push_word(changes, found)?;
+            push_colours(alloc, changes, kind, found, space, steps)
+        }
+        Way::Balance => push_colours(alloc, changes, kind, found, space, steps),
+        Way::Entry => Ok(push_entry(changes, found.at)?),
+        Way::Free => {
+            push_free(changes, kind, found, space, steps)?;
+            Ok(push_shown(changes, found.places.as_slice())?)
+        }
+        Way::Shown => Ok(push_shown(changes, found.places.as_slice())?),
+    }
+}
+
+// What may have happened, in the order in which it is to be tried.
+#[tactic(auto, unfolding(crate::suspect::specs::Suspects::changes))]
+pub(crate) fn changes_of<S: Space, L: Ledger>(
+    alloc: Global,
+    kind: &Kind,
+    found: &Found,
+    space: &mut S,
+    steps: &mut Steps<L>,
+) -> Result<Changes, ReadFailed>
+    ensures changes { IfOk result (λ found_changes. IfSome (S.image space.old) (λ image. found_changes ≡ changes image kind.now found.now)) }
+    ensures stays { SpaceStays S.image S.files S.through S.most space.old space.new }
+    ensures cause { CountsSuspectFaults result (S.faults space.old) (S.faults space.new) }
+{
+    let mut changes = Changes::new(alloc);
+    push_by_way(
+        alloc,
+        &mut changes,
+        way_of(found.rule),
+        kind,
+        found,
+        space,
+        steps,
+    )?;
+    Ok(changes)
+}

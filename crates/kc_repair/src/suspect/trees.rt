@@ -1,0 +1,156 @@
+// Nodes of red-black trees whose parent or colour may be wrong.
+ghost use Rattle.std.specs.Prelude.{◌≡◌, ◌++◌, Some, OnOk, IfOk, IfSome};
+ghost use Rattle.kc_memory.specs.Stays.{SpaceStays};
+ghost use Rattle.kc_repair.specs.Suspect.Answers.{CountsSuspectFaults};
+ghost use Rattle.kc_repair.specs.Suspect.Trees.{bits_if, colour_of, colours, colours_of, link_bits, parent_by, parent_changes, upper_bits};
+
+use crate::suspect::change::{Change, Changes, How};
+use crate::suspect::fields::push_bits;
+use crate::suspect::links::{node_of, tree_links};
+use crate::suspect::rules::each;
+use crate::suspect::words::read_word;
+use kc_found::{Found, Items, RbShape, ReadFailed, Space, VWord};
+use kc_kinds::Kind;
+use kc_word::{NoMemory, Steps};
+use std::alloc::Global;
+use std::sync::ledger::Ledger;
+
+// Adds a link with any bit changed, where it leads to a node.
+fn push_if(changes: &mut Changes, node: u64, link: Option<VWord>) -> Result<(), NoMemory>
+    ensures { OnOk result (changes.new ≡ changes.old ++ bits_if node link) }
+{
+    match link {
+        Some(link) if link.value == node => changes.push(each(link.va)),
+        _ => Ok(()),
+    }
+}
+
+// Adds the link at an address with any bit changed, where it leads to a node.
+fn push_link<S: Space, L: Ledger>(
+    changes: &mut Changes,
+    node: u64,
+    at: u64,
+    space: &mut S,
+    steps: &mut Steps<L>,
+) -> Result<(), ReadFailed>
+    ensures added { OnOk result (IfSome (S.image space.old) (λ image. changes.new ≡ changes.old ++ link_bits image node at)) }
+    ensures stays { SpaceStays S.image S.files S.through S.most space.old space.new }
+    ensures cause { CountsSuspectFaults result (S.faults space.old) (S.faults space.new) }
+{
+    let link = read_word(space, at, steps)?;
+    push_if(changes, node, link)?;
+    Ok(())
+}
+
+// Adds the links to a node from this parent, or from the tree's head.
+fn push_upper<S: Space, L: Ledger>(
+    changes: &mut Changes,
+    shape: &RbShape,
+    head: u64,
+    node: u64,
+    parent: u64,
+    space: &mut S,
+    steps: &mut Steps<L>,
+) -> Result<(), ReadFailed>
+    ensures added { OnOk result (IfSome (S.image space.old) (λ image. changes.new ≡ changes.old ++ upper_bits image shape.now head node parent)) }
+    ensures stays { SpaceStays S.image S.files S.through S.most space.old space.new }
+    ensures cause { CountsSuspectFaults result (S.faults space.old) (S.faults space.new) }
+{
+    if parent == 0 {
+        return push_link(changes, node, head.wrapping_add(shape.root), space, steps);
+    }
+    push_link(changes, node, parent.wrapping_add(shape.left), space, steps)?;
+    push_link(
+        changes,
+        node,
+        parent.wrapping_add(shape.right),
+        space,
+        steps,
+    )
+}
+
+// Adds the parent word of a node, and the link that led to the node.
+fn push_by_parent<S: Space, L: Ledger>(
+    changes: &mut Changes,
+    shape: &RbShape,
+    found: &Found,
+    parent: u64,
+    space: &mut S,
+    steps: &mut Steps<L>,
+) -> Result<(), ReadFailed>
+    ensures added { OnOk result (IfSome (S.image space.old) (λ image. changes.new ≡ changes.old ++ parent_by image shape.now found.now parent)) }
+    ensures stays { SpaceStays S.image S.files S.through S.most space.old space.new }
+    ensures cause { CountsSuspectFaults result (S.faults space.old) (S.faults space.new) }
+{
+    push_bits(changes, found.at, 2, 62, Some(parent / 4), space, steps)?;
+    let node = node_of(found.at, shape.parent_color);
+    push_upper(changes, shape, found.start, node, parent, space, steps)
+}
+
+// The same of a tree's node whose parent may be told.
+pub(crate) fn push_parent<S: Space, L: Ledger>(
+    changes: &mut Changes,
+    kind: &Kind,
+    found: &Found,
+    space: &mut S,
+    steps: &mut Steps<L>,
+) -> Result<(), ReadFailed>
+    ensures added { OnOk result (IfSome (S.image space.old) (λ image. changes.new ≡ changes.old ++ parent_changes image kind.now found.now)) }
+    ensures stays { SpaceStays S.image S.files S.through S.most space.old space.new }
+    ensures cause { CountsSuspectFaults result (S.faults space.old) (S.faults space.new) }
+{
+    let Kind::Rbtree(shape) = kind else {
+        return Ok(());
+    };
+    match found.expected {
+        Some(parent) => push_by_parent(changes, shape, found, parent, space, steps),
+        None => Ok(()),
+    }
+}
+
+// Adds the colour of the node that a link leads to.
+fn push_colour(changes: &mut Changes, shape: &RbShape, link: &VWord) -> Result<(), NoMemory>
+    ensures { OnOk result (changes.new ≡ changes.old ++ colour_of shape.now link.now) }
+{
+    if link.value == 0 {
+        return Ok(());
+    }
+    changes.push(Change {
+        at: link.value.wrapping_add(shape.parent_color),
+        how: How::Lowest,
+    })
+}
+
+// Adds those of all nodes.
+fn push_all_colours(
+    changes: &mut Changes,
+    shape: &RbShape,
+    links: &Items<VWord>,
+) -> Result<(), NoMemory>
+    ensures { OnOk result (changes.new ≡ changes.old ++ colours_of shape.now links.now) }
+{
+    for link in links.as_slice() {
+        push_colour(changes, shape, link)?;
+    }
+    Ok(())
+}
+
+// Adds each single colour of a tree's nodes, in preorder.
+pub(crate) fn push_colours<S: Space, L: Ledger>(
+    alloc: Global,
+    changes: &mut Changes,
+    kind: &Kind,
+    found: &Found,
+    space: &mut S,
+    steps: &mut Steps<L>,
+) -> Result<(), ReadFailed>
+    ensures added { OnOk result (IfSome (S.image space.old) (λ image. changes.new ≡ changes.old ++ colours image kind.now found.now)) }
+    ensures stays { SpaceStays S.image S.files S.through S.most space.old space.new }
+    ensures cause { CountsSuspectFaults result (S.faults space.old) (S.faults space.new) }
+{
+    if let Kind::Rbtree(shape) = kind {
+        let links = tree_links(alloc, space, shape, found.start, steps)?;
+        push_all_colours(changes, shape, &links)?;
+    }
+    Ok(())
+}

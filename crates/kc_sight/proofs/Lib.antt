@@ -1,0 +1,7 @@
+pub mod NearestLemmas
+pub mod ReadLemmas
+pub mod EntryLemmas
+pub mod SightLaws
+pub mod NearestLaws
+pub mod HolderLemmas
+mod Refs

@@ -1,0 +1,12 @@
+pub mod Aliases
+pub mod Entries
+pub mod Holders
+pub mod Laws
+pub mod Lines
+pub mod Looks
+pub mod Meanings
+pub mod Nearest
+pub mod Sights
+pub mod Spans
+pub mod Views
+pub mod Refs

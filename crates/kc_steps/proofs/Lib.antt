@@ -1,0 +1,10 @@
+mod Agreeing
+mod CachesAgreeing
+mod CachesTaking
+mod Giving
+mod PidsAgreeing
+mod PidsTaking
+mod Taking
+mod TasksAgreeing
+mod TasksTaking
+mod Fields

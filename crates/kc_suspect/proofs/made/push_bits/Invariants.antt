@@ -1,7 +1,0 @@
-use Rattle.std.proofs.Common.{◌≡◌, ◌++◌}
-use Rattle.std.specs.List.{flat_map}
-use Rattle.kc_suspect.specs.Changes.{bits_below, suspect_of}
-use Rattle.kc_suspect.proofs.made.push_bits.Given as goal
-
-abbrev pub invariant-loop-bit : goal.invariant-loop-bit
-invariant-loop-bit l = l.suspects ≡ l.fn.suspects ++ flat_map (suspect_of l.word) (bits_below l.word.value l.bit)

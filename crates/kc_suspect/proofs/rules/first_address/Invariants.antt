@@ -1,7 +1,0 @@
-use Rattle.std.proofs.Common.{◌≡◌, drop}
-use Rattle.kc_suspect.specs.Suspects.{first_address}
-use Rattle.kc_suspect.proofs.rules.first_address.Given as goal
-
--- it is among those that are left
-abbrev pub invariant-loop-place : goal.invariant-loop-place
-invariant-loop-place l = first_address (drop l.place-index l.places) ≡ first_address l.places

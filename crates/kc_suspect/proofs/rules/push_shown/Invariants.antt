@@ -1,7 +1,0 @@
-use Rattle.std.proofs.Common.{◌≡◌, ◌++◌, drop}
-use Rattle.kc_suspect.specs.Suspects.{shown}
-use Rattle.kc_suspect.proofs.rules.push_shown.Given as goal
-
--- what was added, and what is still to come, are the whole
-abbrev pub invariant-loop-place : goal.invariant-loop-place
-invariant-loop-place l = l.changes ++ shown (drop l.place-index l.places) ≡ l.fn.changes ++ shown l.places

@@ -1,6 +1,0 @@
-pub mod NearestLemmas
-pub mod ReadLemmas
-pub mod EntryLemmas
-pub mod SightLaws
-pub mod NearestLaws
-pub mod HolderLemmas
