@@ -5,4 +5,4 @@ mod CachesKeep
 mod TasksKeep
 mod GivenLaws
 mod Telling
-mod Pids
+mod PidsLemmas

@@ -1,7 +1,7 @@
 mod Making
 mod OneShape
 mod Single
-mod Text
-pub mod Fits
-pub mod Rechecking
-mod Certifying
+mod TextLemmas
+pub mod FitsLemmas
+pub mod RecheckingLemmas
+mod CertifyingLemmas

@@ -35,9 +35,9 @@ use Rattle.kc_rb.specs.Listed.Laws.{TreesPass}
 use Rattle.kc_cert.specs.Fits.Shapes.{is_shape, nodes_in}
 use Rattle.kc_rb.specs.Listed.Trees.{pre}
 use Rattle.kc_cert.specs.Complete.{AllShaped, HasShape, CleanIsCertified, ShapedKinds}
-use Rattle.kc_cert.proofs.Rechecking.Fitting.{both_true, if_so, step_fits, tally_parts}
-use Rattle.kc_cert.proofs.Rechecking.Right.{checks_none}
-use Rattle.kc_cert.proofs.Fits.Checks.{right_seen}
+use Rattle.kc_cert.proofs.RecheckingLemmas.Fitting.{both_true, if_so, step_fits, tally_parts}
+use Rattle.kc_cert.proofs.RecheckingLemmas.Right.{checks_none}
+use Rattle.kc_cert.proofs.FitsLemmas.Checks.{right_seen}
 
 -- steps that are taken, whatever follows them
 abbrev MadeAt : Judge → List AuditCount → List AuditCount → Type 0

@@ -1,3 +1,3 @@
 mod Joining
 mod Opening
-mod Ends
+mod EndsLemmas

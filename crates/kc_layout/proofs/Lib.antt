@@ -10,4 +10,4 @@ pub mod PathLemmas
 pub mod PlaceLemmas
 pub mod SearchLemmas
 pub mod SpellingLemmas
-mod MemberPath
+mod MemberPathLemmas

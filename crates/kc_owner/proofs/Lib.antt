@@ -1,4 +1,4 @@
 pub mod KnownLemmas
 pub mod TextLemmas
-pub mod Object
-pub mod Area
+pub mod ObjectLemmas
+pub mod AreaLemmas

@@ -1,4 +1,4 @@
 pub mod PageLemmas
 pub mod ViewLemmas
-pub mod Unpack
-pub mod Copying
+pub mod UnpackLemmas
+pub mod CopyingLemmas

@@ -2,7 +2,7 @@ mod Descent
 mod Growth
 mod Judging
 mod Law
-mod Listed
+mod ListedLemmas
 mod Nulls
 mod Opening
 mod Order

@@ -1,4 +1,4 @@
 mod Determined
 mod Told
 mod Trying
-pub mod Suspect
+pub mod SuspectLemmas

@@ -4,4 +4,4 @@ pub mod EntryLemmas
 pub mod SightLaws
 pub mod NearestLaws
 pub mod HolderLemmas
-mod Refs
+mod RefsLemmas

@@ -1,4 +1,4 @@
 pub mod CacheLemmas
 pub mod PageLemmas
 pub mod SlabLaws
-pub mod Frames
+pub mod FramesLemmas

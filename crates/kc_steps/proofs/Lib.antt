@@ -7,4 +7,4 @@ mod PidsTaking
 mod Taking
 mod TasksAgreeing
 mod TasksTaking
-mod Fields
+mod FieldsLemmas

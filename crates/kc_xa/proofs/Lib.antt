@@ -15,4 +15,4 @@ pub mod Spending
 pub mod Standing
 pub mod Staying
 pub mod Whole
-mod Listed
+mod ListedLemmas

@@ -1,5 +1,5 @@
 use Rattle.std.proofs.Common.{arith}
-use Rattle.kc_list.proofs.Listed.Meeting.{last_at}
+use Rattle.kc_list.proofs.ListedLemmas.Meeting.{last_at}
 use Rattle.kc_list.proofs.listed.last_or.Goals as goal
 
 pub returns-else-len-eq0 : goal.returns-else-len-eq0

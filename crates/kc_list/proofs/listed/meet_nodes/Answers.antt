@@ -1,7 +1,7 @@
 use Rattle.std.proofs.Common.{◌∙◌, arith, rules, ◌≡◌, Err}
 use Rattle.kc_memory.specs.Stays.{stays_on}
 use Rattle.kc_list.specs.Listed.{node_wants}
-use Rattle.kc_list.proofs.Listed.Meeting.{both_go, first_halts, second_halts}
+use Rattle.kc_list.proofs.ListedLemmas.Meeting.{both_go, first_halts, second_halts}
 use Rattle.kc_list.proofs.listed.meet_nodes.Goals as goal
 
 pub returns-in_err-meet-clause-met : goal.returns-in_err-meet-clause-met

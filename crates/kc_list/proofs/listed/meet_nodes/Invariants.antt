@@ -1,7 +1,7 @@
 use Rattle.std.proofs.Common.{◌≡◌, ◌≤◌, ◌+◌, ◌*◌, drop}
 use Rattle.kc_memory.specs.Stays.{SpaceStays}
 use Rattle.kc_list.specs.Listed.{node_wants}
-use Rattle.kc_list.proofs.Listed.Meeting.{Left}
+use Rattle.kc_list.proofs.ListedLemmas.Meeting.{Left}
 use Rattle.kc_list.proofs.listed.meet_nodes.Given as goal
 
 abbrev pub invariant-loop-i : goal.invariant-loop-i

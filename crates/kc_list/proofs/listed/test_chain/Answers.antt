@@ -1,7 +1,7 @@
 use Rattle.std.proofs.Common.{[], sym}
 use Rattle.kc_memory.specs.Translation.{vword}
 use Rattle.kc_list.specs.Listed.{all_met, are_nodes, is_hash_chain, hash_wants}
-use Rattle.kc_list.proofs.Listed.Meeting.{tests_go, tests_halt}
+use Rattle.kc_list.proofs.ListedLemmas.Meeting.{tests_go, tests_halt}
 use Rattle.kc_list.proofs.listed.test_chain.Goals as goal
 
 pub returns-then-not-are_nodes-clause-test : goal.returns-then-not-are_nodes-clause-test

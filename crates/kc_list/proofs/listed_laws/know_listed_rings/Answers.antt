@@ -1,4 +1,4 @@
-use Rattle.kc_list.proofs.Listed.Tested.{chains_tested, rings_tested}
+use Rattle.kc_list.proofs.ListedLemmas.Tested.{chains_tested, rings_tested}
 use Rattle.kc_list.proofs.listed_laws.know_listed_rings.Goals as goal
 
 pub returns-clause-rings : goal.returns-clause-rings

@@ -1,6 +1,6 @@
 use Rattle.std.proofs.Common.{rules, ◌≡◌, ◌∙◌, drop, length, arith}
 use Rattle.std.proofs.lemmas.List.{take-append-le, take_all}
-use Rattle.kc_slab_page.proofs.Frames.FrameLemmas.{frames_covered}
+use Rattle.kc_slab_page.proofs.FramesLemmas.FrameLemmas.{frames_covered}
 use Rattle.kc_slab_page.proofs.frames.frame_runs.Goals as goal
 
 pub returns : goal.returns

@@ -1,4 +1,4 @@
-use Rattle.kc_steps.proofs.Fields.Few.{field_few}
+use Rattle.kc_steps.proofs.FieldsLemmas.Few.{field_few}
 use Rattle.kc_steps.proofs.fields.read_field.Goals as goal
 
 pub returns-in-Ok-clause-few : goal.returns-in-Ok-clause-few

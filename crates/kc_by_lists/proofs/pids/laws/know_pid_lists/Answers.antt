@@ -1,4 +1,4 @@
-use Rattle.kc_by_lists.proofs.Pids.ListLaws.{few_pid_nodes, pid_lists_are_kept, pid_lists_are_one, pid_lists_are_used_up, pid_lists_give, pids_have_lists}
+use Rattle.kc_by_lists.proofs.PidsLemmas.ListLaws.{few_pid_nodes, pid_lists_are_kept, pid_lists_are_one, pid_lists_are_used_up, pid_lists_give, pids_have_lists}
 use Rattle.kc_by_lists.proofs.pids.laws.know_pid_lists.Goals as goal
 
 pub returns-clause-used : goal.returns-clause-used

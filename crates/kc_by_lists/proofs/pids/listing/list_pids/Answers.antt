@@ -1,5 +1,5 @@
 use Rattle.std.proofs.Common.{refl}
-use Rattle.kc_by_lists.proofs.Pids.Making.{pids_end}
+use Rattle.kc_by_lists.proofs.PidsLemmas.Making.{pids_end}
 use Rattle.kc_by_lists.proofs.pids.listing.list_pids.Goals as goal
 
 pub returns-clause-lists : goal.returns-clause-lists

@@ -1,6 +1,6 @@
 use Rattle.std.proofs.Common.{arith, sym, ◌∙◌, rules, ◌≡◌, Err}
 use Rattle.std.proofs.lemmas.List.{nil_from_length}
-use Rattle.kc_by_lists.proofs.Pids.Telling.{array_halts, array_pays, no_lists}
+use Rattle.kc_by_lists.proofs.PidsLemmas.Telling.{array_halts, array_pays, no_lists}
 use Rattle.kc_by_lists.proofs.pids.test.test_pids.Goals as goal
 
 pub returns-then-len-eq0-clause-test : goal.returns-then-len-eq0-clause-test

@@ -2,7 +2,7 @@ use Rattle.std.proofs.Common.{◌≡◌, rules, subst, sym}
 use Rattle.kc_kinds.specs.declared.kind.Kind.{Kind}
 use Rattle.kc_kinds.specs.declared.kind.Kind.TheVariants.{Ring, Hlist}
 use Rattle.kc_cert.specs.Certifying.Certified.{ShapesAs}
-use Rattle.kc_cert.proofs.Certifying.Shaping.{chain_shaped, ring_shaped, single_shaped}
+use Rattle.kc_cert.proofs.CertifyingLemmas.Shaping.{chain_shaped, ring_shaped, single_shaped}
 use Rattle.kc_cert.proofs.certifying.collect.collect_shape.Goals as goal
 
 pub returns-in-Ring-clause-shape : goal.returns-in-Ring-clause-shape

@@ -1,4 +1,4 @@
-use Rattle.kc_cert.proofs.Certifying.Shaping.{pids_shaped}
+use Rattle.kc_cert.proofs.CertifyingLemmas.Shaping.{pids_shaped}
 use Rattle.kc_cert.proofs.certifying.collect.pid_lists.Goals as goal
 
 pub returns-clause-shape : goal.returns-clause-shape

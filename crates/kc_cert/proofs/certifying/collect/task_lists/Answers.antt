@@ -1,5 +1,5 @@
 use Rattle.std.proofs.Common.{rules, ◌≡◌, Err}
-use Rattle.kc_cert.proofs.Certifying.Shaping.{tasks_shaped, tasks_stop}
+use Rattle.kc_cert.proofs.CertifyingLemmas.Shaping.{tasks_shaped, tasks_stop}
 use Rattle.kc_cert.proofs.certifying.collect.task_lists.Goals as goal
 
 pub returns-clause-shape : goal.returns-clause-shape

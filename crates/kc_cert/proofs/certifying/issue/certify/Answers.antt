@@ -1,5 +1,5 @@
 use Rattle.kc_plan.specs.Views.{plan_seen}
-use Rattle.kc_cert.proofs.Certifying.Passing.{broken_by, certified_by}
+use Rattle.kc_cert.proofs.CertifyingLemmas.Passing.{broken_by, certified_by}
 use Rattle.kc_cert.proofs.certifying.issue.certify.Goals as goal
 
 pub returns-in-Ok-enter_roots-clause-exact : goal.returns-in-Ok-enter_roots-clause-exact

@@ -5,8 +5,8 @@ use Rattle.kc_plan.specs.Seen.{root_of}
 use Rattle.kc_plan.specs.Views.{plan_seen}
 use Rattle.kc_cert.specs.Rechecking.Certificates.{each_judged}
 use Rattle.kc_cert.specs.Certifying.Certified.{Makes}
-use Rattle.kc_cert.proofs.Rechecking.Judging.{from_root}
-use Rattle.kc_cert.proofs.Certifying.Passing.{makes_none, makes_root}
+use Rattle.kc_cert.proofs.RecheckingLemmas.Judging.{from_root}
+use Rattle.kc_cert.proofs.CertifyingLemmas.Passing.{makes_none, makes_root}
 use Rattle.kc_cert.proofs.certifying.issue.enter_root.Goals as goal
 
 pub returns-in-Root-clause-makes : goal.returns-in-Root-clause-makes

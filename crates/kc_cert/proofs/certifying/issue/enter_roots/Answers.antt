@@ -6,8 +6,8 @@ use Rattle.kc_plan.specs.Planned.{audit_seen}
 use Rattle.kc_plan.specs.Views.{plan_seen}
 use Rattle.kc_cert.specs.RunLaws.Parts as going
 use Rattle.kc_cert.specs.Rechecking.Certificates.{roots_judged}
-use Rattle.kc_cert.proofs.Rechecking.Judging.{from_root}
-use Rattle.kc_cert.proofs.Certifying.Passing.{made_begins, roots_end, roots_made, seen_begins}
+use Rattle.kc_cert.proofs.RecheckingLemmas.Judging.{from_root}
+use Rattle.kc_cert.proofs.CertifyingLemmas.Passing.{made_begins, roots_end, roots_made, seen_begins}
 use Rattle.kc_cert.proofs.certifying.issue.enter_roots.Goals as goal
 
 pub loop-number-init : goal.loop-number-init

@@ -4,8 +4,8 @@ use Rattle.kc_plan.specs.Seen.{all_seen, roots, world}
 use Rattle.kc_plan.specs.Views.{plan_seen}
 use Rattle.kc_cert.specs.RunLaws.Parts as going
 use Rattle.kc_cert.specs.Rechecking.Certificates.{roots_judged}
-use Rattle.kc_cert.proofs.Rechecking.Judging.{from_root}
-use Rattle.kc_cert.proofs.Certifying.Passing.{MadeLeft}
+use Rattle.kc_cert.proofs.RecheckingLemmas.Judging.{from_root}
+use Rattle.kc_cert.proofs.CertifyingLemmas.Passing.{MadeLeft}
 use Rattle.kc_cert.proofs.certifying.issue.enter_roots.Given as goal
 
 abbrev pub invariant-loop-number : goal.invariant-loop-number

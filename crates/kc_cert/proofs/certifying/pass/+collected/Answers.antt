@@ -6,9 +6,9 @@ use Rattle.kc_plan.specs.Views.{plan_seen}
 use Rattle.kc_cert.specs.RunLaws.Parts as going
 use Rattle.kc_run.specs.Tally.{added}
 use Rattle.kc_cert.specs.RunLaws.Runs.{between_goes, between_here}
-use Rattle.kc_cert.proofs.Rechecking.Judging.{elements_judged, node_judged, under}
+use Rattle.kc_cert.proofs.RecheckingLemmas.Judging.{elements_judged, node_judged, under}
 use Rattle.kc_cert.specs.Rechecking.Certificates.{each_judged}
-use Rattle.kc_cert.proofs.Certifying.Passing.{look_makes, look_tallies, made_begins, made_ends, made_goes, makes_entered, makes_skipped, nodes_seen, seen_begins, stopped_by}
+use Rattle.kc_cert.proofs.CertifyingLemmas.Passing.{look_makes, look_tallies, made_begins, made_ends, made_goes, makes_entered, makes_skipped, nodes_seen, seen_begins, stopped_by}
 use Rattle.kc_cert.proofs.certifying.pass.+collected.Goals as goal
 
 pub enter-returns-in-Ok-At-clause-tally : goal.enter-returns-in-Ok-At-clause-tally

@@ -5,8 +5,8 @@ use Rattle.kc_plan.specs.Views.{plan_seen}
 use Rattle.kc_memory.specs.Stays.{SpaceStays}
 use Rattle.kc_cert.specs.RunLaws.Parts as going
 use Rattle.kc_cert.specs.Rechecking.Certificates.{each_judged}
-use Rattle.kc_cert.proofs.Rechecking.Judging.{elements_judged, node_judged, under}
-use Rattle.kc_cert.proofs.Certifying.Passing.{MadeLeft, nodes_seen}
+use Rattle.kc_cert.proofs.RecheckingLemmas.Judging.{elements_judged, node_judged, under}
+use Rattle.kc_cert.proofs.CertifyingLemmas.Passing.{MadeLeft, nodes_seen}
 use Rattle.kc_cert.proofs.certifying.pass.+collected.Given as goal
 
 abbrev pub decreases-enter : goal.decreases-enter

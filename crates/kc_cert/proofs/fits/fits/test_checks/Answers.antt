@@ -1,5 +1,5 @@
 use Rattle.kc_plan.specs.Planned.{audit_seen}
-use Rattle.kc_cert.proofs.Fits.Checks.{checks_fail, checks_pass}
+use Rattle.kc_cert.proofs.FitsLemmas.Checks.{checks_fail, checks_pass}
 use Rattle.kc_cert.proofs.fits.fits.test_checks.Goals as goal
 
 pub returns-in-Ok-clause-test : goal.returns-in-Ok-clause-test

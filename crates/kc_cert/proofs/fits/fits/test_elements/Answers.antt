@@ -1,7 +1,7 @@
 use Rattle.std.proofs.Common.{◌∙◌, arith, rules, ◌≡◌, Err}
 use Rattle.kc_memory.specs.Stays.{stays_on}
 use Rattle.kc_plan.specs.Planned.{audit_seen}
-use Rattle.kc_cert.proofs.Fits.Holding.{hold_goes, hold_halts}
+use Rattle.kc_cert.proofs.FitsLemmas.Holding.{hold_goes, hold_halts}
 use Rattle.kc_cert.proofs.fits.fits.test_elements.Goals as goal
 
 pub returns-in_err-test_checks-clause-test : goal.returns-in_err-test_checks-clause-test

@@ -1,7 +1,7 @@
 use Rattle.std.proofs.Common.{◌≡◌, ◌≤◌, ◌+◌, ◌*◌, drop}
 use Rattle.kc_memory.specs.Stays.{SpaceStays}
 use Rattle.kc_plan.specs.Planned.{audit_seen}
-use Rattle.kc_cert.proofs.Fits.Holding.{HoldLeft}
+use Rattle.kc_cert.proofs.FitsLemmas.Holding.{HoldLeft}
 use Rattle.kc_cert.proofs.fits.fits.test_elements.Given as goal
 
 abbrev pub invariant-loop-i : goal.invariant-loop-i

@@ -1,5 +1,5 @@
-use Rattle.kc_cert.proofs.Fits.Walks.{shape_walked}
-use Rattle.kc_cert.proofs.Fits.Numbers.{nodes_short}
+use Rattle.kc_cert.proofs.FitsLemmas.Walks.{shape_walked}
+use Rattle.kc_cert.proofs.FitsLemmas.Numbers.{nodes_short}
 use Rattle.kc_cert.proofs.fits.laws.know_walked.Goals as goal
 
 pub returns-clause-walked : goal.returns-clause-walked

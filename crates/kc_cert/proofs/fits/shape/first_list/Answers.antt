@@ -1,4 +1,4 @@
-use Rattle.kc_cert.proofs.Fits.Copying.{copy_is}
+use Rattle.kc_cert.proofs.FitsLemmas.Copying.{copy_is}
 use Rattle.kc_cert.proofs.fits.shape.first_list.Goals as goal
 
 pub returns : goal.returns

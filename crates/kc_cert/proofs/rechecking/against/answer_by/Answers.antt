@@ -1,5 +1,5 @@
 use Rattle.std.proofs.Common.{arith}
-use Rattle.kc_cert.proofs.Rechecking.Right.{answer_end, answer_more}
+use Rattle.kc_cert.proofs.RecheckingLemmas.Right.{answer_end, answer_more}
 use Rattle.kc_cert.proofs.rechecking.against.answer_by.Goals as goal
 
 pub returns-then-cursor-len : goal.returns-then-cursor-len

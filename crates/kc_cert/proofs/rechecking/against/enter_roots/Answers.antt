@@ -4,7 +4,7 @@ use Rattle.kc_plan.specs.Planned.{audit_seen}
 use Rattle.kc_plan.specs.Views.{plan_seen}
 use Rattle.kc_cert.specs.Rechecking.Answers.{progress}
 use Rattle.kc_cert.specs.Rechecking.Certificates.{roots_judged}
-use Rattle.kc_cert.proofs.Rechecking.Judging.{roots_go, roots_halt}
+use Rattle.kc_cert.proofs.RecheckingLemmas.Judging.{roots_go, roots_halt}
 use Rattle.kc_cert.proofs.rechecking.against.enter_roots.Goals as goal
 
 pub returns-in_err-enter_root-clause-judged : goal.returns-in_err-enter_root-clause-judged

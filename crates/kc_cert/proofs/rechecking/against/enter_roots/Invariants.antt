@@ -5,7 +5,7 @@ use Rattle.kc_plan.specs.Views.{plan_seen}
 use Rattle.kc_cert.specs.Rechecking.Answers.{cost, progress}
 use Rattle.kc_cert.specs.Rechecking.Certificates.{roots_judged}
 use Rattle.kc_cert.specs.Fits.Size.{size}
-use Rattle.kc_cert.proofs.Rechecking.Judging.{Left, from_root}
+use Rattle.kc_cert.proofs.RecheckingLemmas.Judging.{Left, from_root}
 use Rattle.kc_cert.proofs.rechecking.against.enter_roots.Given as goal
 
 abbrev pub invariant-loop-number : goal.invariant-loop-number

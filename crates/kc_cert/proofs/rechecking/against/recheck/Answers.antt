@@ -1,5 +1,5 @@
 use Rattle.kc_plan.specs.Views.{plan_seen}
-use Rattle.kc_cert.proofs.Rechecking.Right.{answers_ok, answers_unfit, begin_is, ok_right}
+use Rattle.kc_cert.proofs.RecheckingLemmas.Right.{answers_ok, answers_unfit, begin_is, ok_right}
 use Rattle.kc_cert.proofs.rechecking.against.recheck.Goals as goal
 
 pub returns-in-Ok-enter_roots-clause-exact : goal.returns-in-Ok-enter_roots-clause-exact

@@ -1,4 +1,4 @@
-use Rattle.kc_cert.proofs.Rechecking.Right.{answer_right}
+use Rattle.kc_cert.proofs.RecheckingLemmas.Right.{answer_right}
 use Rattle.kc_cert.proofs.rechecking.laws.know_answers.Goals as goal
 
 pub returns : goal.returns

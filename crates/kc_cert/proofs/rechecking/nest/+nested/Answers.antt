@@ -8,9 +8,9 @@ use Rattle.kc_plan.specs.Planned.{audit_seen}
 use Rattle.kc_plan.specs.Views.{plan_seen}
 use Rattle.kc_cert.specs.RunLaws.Runs.{between_goes, between_here}
 use Rattle.kc_cert.specs.Rechecking.Answers.{progress}
-use Rattle.kc_cert.proofs.Rechecking.Few.{each_few}
-use Rattle.kc_cert.proofs.Rechecking.Judging.{elements_judged, enter_breaks, enter_goes, enter_misses, enter_skips, looked, node_judged, step_goes, step_halts, turn_goes, turn_halts, under}
-use Rattle.kc_cert.proofs.Rechecking.Spending.{below_pays, few_nodes, halt_pays, size_at, step_pays}
+use Rattle.kc_cert.proofs.RecheckingLemmas.Few.{each_few}
+use Rattle.kc_cert.proofs.RecheckingLemmas.Judging.{elements_judged, enter_breaks, enter_goes, enter_misses, enter_skips, looked, node_judged, step_goes, step_halts, turn_goes, turn_halts, under}
+use Rattle.kc_cert.proofs.RecheckingLemmas.Spending.{below_pays, few_nodes, halt_pays, size_at, step_pays}
 use Rattle.kc_cert.proofs.rechecking.nest.+nested.Goals as goal
 
 pub enter-returns-in-Ok-At-clause-judged : goal.enter-returns-in-Ok-At-clause-judged

@@ -5,7 +5,7 @@ use Rattle.kc_plan.specs.Views.{plan_seen}
 use Rattle.kc_memory.specs.Stays.{SpaceStays}
 use Rattle.kc_cert.specs.Rechecking.Answers.{cost, progress}
 use Rattle.kc_cert.specs.Fits.Size.{size}
-use Rattle.kc_cert.proofs.Rechecking.Judging.{Left, looked, node_judged, elements_judged, under}
+use Rattle.kc_cert.proofs.RecheckingLemmas.Judging.{Left, looked, node_judged, elements_judged, under}
 use Rattle.kc_cert.proofs.rechecking.nest.+nested.Given as goal
 
 abbrev pub decreases-enter : goal.decreases-enter

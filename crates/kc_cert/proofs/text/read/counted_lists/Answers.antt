@@ -1,5 +1,5 @@
 use Rattle.kc_cert.specs.Text.CertTexts.{list_format}
-use Rattle.kc_cert.proofs.Text.TimesLoops.{counted_go, counted_stop}
+use Rattle.kc_cert.proofs.TextLemmas.TimesLoops.{counted_go, counted_stop}
 use Rattle.kc_cert.proofs.text.read.counted_lists.Goals as goal
 
 pub returns-in-Ok : goal.returns-in-Ok

@@ -1,6 +1,6 @@
 use Rattle.std.proofs.Common.{ap}
 use Rattle.kc_cert.specs.Text.CertTexts.{placed}
-use Rattle.kc_cert.proofs.Text.CertLaws.{all_end, all_more, all_stop, cert_is, none_left, only_one, refused_is, rest_within, some_left}
+use Rattle.kc_cert.proofs.TextLemmas.CertLaws.{all_end, all_more, all_stop, cert_is, none_left, only_one, refused_is, rest_within, some_left}
 use Rattle.kc_cert.proofs.text.read.read_cert.Goals as goal
 
 pub returns-then-is_empty-clause-cert : goal.returns-then-is_empty-clause-cert

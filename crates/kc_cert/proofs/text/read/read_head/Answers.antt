@@ -1,4 +1,4 @@
-use Rattle.kc_cert.proofs.Text.CertLaws.{audit-law}
+use Rattle.kc_cert.proofs.TextLemmas.CertLaws.{audit-law}
 use Rattle.kc_cert.proofs.text.read.read_head.Goals as goal
 use Rattle.std.proofs.Common.{arith}
 

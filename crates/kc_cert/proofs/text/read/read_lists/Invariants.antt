@@ -1,6 +1,6 @@
 use Rattle.std.proofs.Common.{◌-◌}
 use Rattle.kc_cert.specs.Text.CertTexts.{list_format}
-use Rattle.kc_cert.proofs.Text.TimesLoops.{Left}
+use Rattle.kc_cert.proofs.TextLemmas.TimesLoops.{Left}
 use Rattle.kc_cert.proofs.text.read.read_lists.Given as goal
 
 abbrev pub invariant-loop : goal.invariant-loop

@@ -1,6 +1,6 @@
 use Rattle.std.proofs.Common.{rules, ◌≡◌, Err}
 use Rattle.kc_cert.specs.Text.CertTexts.{step_format}
-use Rattle.kc_cert.proofs.Text.TimesLoops.{times_begin, times_end, times_go, times_stop}
+use Rattle.kc_cert.proofs.TextLemmas.TimesLoops.{times_begin, times_end, times_go, times_stop}
 use Rattle.kc_cert.proofs.text.read.read_steps.Goals as goal
 
 pub loop-init : goal.loop-init

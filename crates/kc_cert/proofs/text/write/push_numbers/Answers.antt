@@ -1,7 +1,7 @@
 use Rattle.std.proofs.Common.{ℕ, ◌<◌, ◌^◌}
 use Rattle.std.proofs.lemmas.List.Elements.{All-nil}
 use Rattle.kc_cert.specs.Text.CertTexts.{number_line}
-use Rattle.kc_cert.proofs.Text.TimesLoops.{all_item, texts_begin, texts_item}
+use Rattle.kc_cert.proofs.TextLemmas.TimesLoops.{all_item, texts_begin, texts_item}
 use Rattle.kc_cert.proofs.text.write.push_numbers.Goals as goal
 
 pub loop-i-init : goal.loop-i-init

@@ -1,6 +1,6 @@
 use Rattle.std.proofs.Common.{◌≡◌, ◌∙◌, ap, ◌-◌, length, take, drop, arith}
 use Rattle.std.proofs.lemmas.List.{take_rest, length-drop}
-use Rattle.kc_command.proofs.Ends.Pieces.{piece_more}
+use Rattle.kc_command.proofs.EndsLemmas.Pieces.{piece_more}
 use Rattle.kc_command.proofs.ends.print.put_all.Goals as goal
 
 pub loop-at-preserved : goal.loop-at-preserved

@@ -1,5 +1,5 @@
 use Rattle.std.proofs.Common.{arith, rules}
-use Rattle.kc_layout.proofs.MemberPath.PathLemmas.{on_ok, path_ends, path_last, path_next}
+use Rattle.kc_layout.proofs.MemberPathLemmas.PathLemmas.{on_ok, path_ends, path_last, path_next}
 use Rattle.kc_layout.proofs.member_path.path.+push_within.Goals as goal
 
 pub returns-then-levels-eq0 : goal.returns-then-levels-eq0

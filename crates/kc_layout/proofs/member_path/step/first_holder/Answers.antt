@@ -2,7 +2,7 @@ use Rattle.std.proofs.Common.{◌<◌, ◌≤◌, length, sym, ◌∙◌}
 use Rattle.std.proofs.lemmas.List.Elements.{All-tail}
 use Rattle.kc_btf.specs.declared.types.Member.{Member}
 use Rattle.kc_layout.specs.MemberPath.MemberPaths.{has}
-use Rattle.kc_layout.proofs.MemberPath.PathLemmas.{find_on}
+use Rattle.kc_layout.proofs.MemberPathLemmas.PathLemmas.{find_on}
 use Rattle.kc_layout.proofs.member_path.step.first_holder.Goals as goal
 
 pub loop-member-preserved : goal.loop-member-preserved

@@ -1,7 +1,7 @@
 use Rattle.std.proofs.Common.{◌<◌, ◌≤◌, length, sym, ◌∙◌}
 use Rattle.std.proofs.lemmas.List.Elements.{All-head, All-tail}
 use Rattle.kc_btf.specs.declared.types.Member.{Member}
-use Rattle.kc_layout.proofs.MemberPath.PathLemmas.{last_next, last_none}
+use Rattle.kc_layout.proofs.MemberPathLemmas.PathLemmas.{last_next, last_none}
 use Rattle.kc_layout.proofs.member_path.step.last_member.Goals as goal
 
 pub loop-member-preserved : goal.loop-member-preserved

@@ -3,7 +3,7 @@ use Rattle.std.proofs.Math.ListN.{drop_of_length-le}
 use Rattle.kc_memory.specs.Stays.{stays_on}
 use Rattle.kc_view.specs.TaskLists.{task_of}
 use Rattle.kc_owner.specs.Area.Modules.{in_module}
-use Rattle.kc_owner.proofs.Area.Finding.{done, found, item, next, stopped}
+use Rattle.kc_owner.proofs.AreaLemmas.Finding.{done, found, item, next, stopped}
 use Rattle.kc_owner.proofs.area.modules.in_modules.Goals as goal
 
 pub returns-in-Ok-Some-clause-exact : goal.returns-in-Ok-Some-clause-exact

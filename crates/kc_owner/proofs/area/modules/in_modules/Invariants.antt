@@ -2,7 +2,7 @@ use Rattle.std.proofs.Common.{◌≡◌, ◌-◌, ◌≤◌, drop, length}
 use Rattle.kc_memory.specs.Stays.{SpaceStays}
 use Rattle.kc_view.specs.TaskLists.{task_of}
 use Rattle.kc_owner.specs.Area.Modules.{in_module}
-use Rattle.kc_owner.proofs.Area.Finding.{Left}
+use Rattle.kc_owner.proofs.AreaLemmas.Finding.{Left}
 use Rattle.kc_owner.proofs.area.modules.in_modules.Given as goal
 
 abbrev pub invariant-loop-i : goal.invariant-loop-i

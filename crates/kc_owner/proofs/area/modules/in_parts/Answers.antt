@@ -2,7 +2,7 @@ use Rattle.std.proofs.Common.{◌+◌, ◌-◌, arith, ◌∙◌}
 use Rattle.std.specs.List.{range_with_len}
 use Rattle.kc_memory.specs.Stays.{stays_on}
 use Rattle.kc_owner.specs.Area.Modules.{in_part}
-use Rattle.kc_owner.proofs.Area.Finding.{done, found, next, no_numbers, numbers_on, stopped}
+use Rattle.kc_owner.proofs.AreaLemmas.Finding.{done, found, next, no_numbers, numbers_on, stopped}
 use Rattle.kc_owner.proofs.area.modules.in_parts.Goals as goal
 
 pub returns-in-Ok-Some-clause-exact : goal.returns-in-Ok-Some-clause-exact

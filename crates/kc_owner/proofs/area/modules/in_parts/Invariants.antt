@@ -2,7 +2,7 @@ use Rattle.std.proofs.Common.{◌≡◌, ◌-◌}
 use Rattle.std.specs.List.{range_with_len}
 use Rattle.kc_memory.specs.Stays.{SpaceStays}
 use Rattle.kc_owner.specs.Area.Modules.{in_part}
-use Rattle.kc_owner.proofs.Area.Finding.{Left}
+use Rattle.kc_owner.proofs.AreaLemmas.Finding.{Left}
 use Rattle.kc_owner.proofs.area.modules.in_parts.Given as goal
 
 abbrev pub invariant-loop-number : goal.invariant-loop-number

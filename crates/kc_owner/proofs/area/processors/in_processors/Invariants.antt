@@ -2,7 +2,7 @@ use Rattle.std.proofs.Common.{◌≡◌, ◌-◌}
 use Rattle.std.specs.List.{range_with_len}
 use Rattle.kc_memory.specs.Stays.{SpaceStays}
 use Rattle.kc_owner.specs.Area.Processors.{in_processor}
-use Rattle.kc_owner.proofs.Area.Finding.{Left}
+use Rattle.kc_owner.proofs.AreaLemmas.Finding.{Left}
 use Rattle.kc_owner.proofs.area.processors.in_processors.Given as goal
 
 abbrev pub invariant-loop-number : goal.invariant-loop-number

@@ -2,7 +2,7 @@ use Rattle.std.proofs.Common.{◌+◌, drop, rules, ◌∙◌}
 use Rattle.std.proofs.Math.ListN.{drop_of_length-le}
 use Rattle.kc_memory.specs.Stays.{stays_on}
 use Rattle.kc_owner.specs.Area.Stacks.{in_stack}
-use Rattle.kc_owner.proofs.Area.Finding.{done, found, item, next, stopped}
+use Rattle.kc_owner.proofs.AreaLemmas.Finding.{done, found, item, next, stopped}
 use Rattle.kc_owner.proofs.area.stacks.in_stacks.Goals as goal
 
 pub returns-in-Ok-Some-clause-exact : goal.returns-in-Ok-Some-clause-exact

@@ -1,7 +1,7 @@
 use Rattle.std.proofs.Common.{◌≡◌, ◌-◌, ◌≤◌, drop, length}
 use Rattle.kc_memory.specs.Stays.{SpaceStays}
 use Rattle.kc_owner.specs.Area.Stacks.{in_stack}
-use Rattle.kc_owner.proofs.Area.Finding.{Left}
+use Rattle.kc_owner.proofs.AreaLemmas.Finding.{Left}
 use Rattle.kc_owner.proofs.area.stacks.in_stacks.Given as goal
 
 abbrev pub invariant-loop-i : goal.invariant-loop-i

@@ -1,7 +1,7 @@
 use Rattle.std.proofs.Common.{◌≡◌, sym, arith}
 use Rattle.std.proofs.lemmas.Grind.{common_steps}
 use Rattle.kc_memory.specs.Stays.{stays_on}
-use Rattle.kc_owner.proofs.Object.KeyLemmas.{keys_next}
+use Rattle.kc_owner.proofs.ObjectLemmas.KeyLemmas.{keys_next}
 use Rattle.kc_owner.proofs.object.keys.read_keys.Goals as goal
 
 -- src/keys.rt:93:5

@@ -1,4 +1,4 @@
-use Rattle.kc_owner.proofs.Object.ObjectLaws.{objects_stand}
+use Rattle.kc_owner.proofs.ObjectLemmas.ObjectLaws.{objects_stand}
 use Rattle.kc_owner.proofs.object.laws.know_objects.Goals as goal
 
 pub returns : goal.returns

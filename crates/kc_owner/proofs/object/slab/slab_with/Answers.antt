@@ -1,5 +1,5 @@
 use Rattle.std.proofs.Common.{ap}
-use Rattle.kc_owner.proofs.Object.SlabLemmas.{slab_told}
+use Rattle.kc_owner.proofs.ObjectLemmas.SlabLemmas.{slab_told}
 use Rattle.kc_owner.proofs.object.slab.slab_with.Goals as goal
 
 pub returns-clause-exact : goal.returns-clause-exact

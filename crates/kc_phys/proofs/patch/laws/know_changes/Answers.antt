@@ -1,4 +1,4 @@
-use Rattle.kc_phys.proofs.Patch.Laying.{keeps-length, others-stay, reads-back, same-stays}
+use Rattle.kc_phys.proofs.PatchLemmas.Laying.{keeps-length, others-stay, reads-back, same-stays}
 use Rattle.kc_phys.proofs.patch.laws.know_changes.Goals as goal
 
 pub returns-clause-length : goal.returns-clause-length

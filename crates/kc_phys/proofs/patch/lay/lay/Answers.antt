@@ -1,6 +1,6 @@
 use Rattle.std.proofs.Common.{ap, arith, length, take}
 use Rattle.kc_phys.specs.Patch.Changed.{laid}
-use Rattle.kc_phys.proofs.Patch.Laying.{lays_all, lays_more}
+use Rattle.kc_phys.proofs.PatchLemmas.Laying.{lays_all, lays_more}
 use Rattle.kc_phys.proofs.patch.lay.lay.Goals as goal
 
 pub loop-i-init : goal.loop-i-init

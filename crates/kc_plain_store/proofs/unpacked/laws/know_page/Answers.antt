@@ -1,4 +1,4 @@
-use Rattle.kc_plain_store.proofs.Unpack.PageLaws.{pages_whole}
+use Rattle.kc_plain_store.proofs.UnpackLemmas.PageLaws.{pages_whole}
 use Rattle.kc_plain_store.proofs.unpacked.laws.know_page.Goals as goal
 
 pub returns : goal.returns

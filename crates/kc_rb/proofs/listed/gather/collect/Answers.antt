@@ -1,7 +1,7 @@
 use Rattle.std.proofs.Common.{rules, arith, refl, sym, ap, ◌∙◌, length, ◌≡◌, Err}
 use Rattle.std.proofs.lemmas.List.{nil_from_length}
 use Rattle.kc_memory.specs.Stays.{stays_on}
-use Rattle.kc_rb.proofs.Listed.Collecting.{begins, collected, left_halts, longer, nodes_on, nulls_on, right_halts, too_many}
+use Rattle.kc_rb.proofs.ListedLemmas.Collecting.{begins, collected, left_halts, longer, nodes_on, nulls_on, right_halts, too_many}
 use Rattle.kc_rb.proofs.listed.gather.collect.Goals as goal
 
 pub loop-i-init : goal.loop-i-init

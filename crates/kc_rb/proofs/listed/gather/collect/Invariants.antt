@@ -1,6 +1,6 @@
 use Rattle.std.proofs.Common.{◌≡◌, ◌≤◌, ◌+◌, ◌*◌, length}
 use Rattle.kc_memory.specs.Stays.{SpaceStays}
-use Rattle.kc_rb.proofs.Listed.Collecting.{Collects}
+use Rattle.kc_rb.proofs.ListedLemmas.Collecting.{Collects}
 use Rattle.kc_rb.proofs.listed.gather.collect.Given as goal
 
 abbrev pub invariant-loop-i : goal.invariant-loop-i

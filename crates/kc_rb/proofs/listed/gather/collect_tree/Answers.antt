@@ -1,5 +1,5 @@
 use Rattle.std.proofs.Common.{ap, arith, length, rules, ◌≡◌, Err}
-use Rattle.kc_rb.proofs.Listed.Collecting.{root_missed, tree_collected}
+use Rattle.kc_rb.proofs.ListedLemmas.Collecting.{root_missed, tree_collected}
 use Rattle.kc_rb.proofs.listed.gather.collect_tree.Goals as goal
 
 pub returns-in_err-root-clause-numbers : goal.returns-in_err-root-clause-numbers

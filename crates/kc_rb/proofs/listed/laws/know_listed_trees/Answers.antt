@@ -1,5 +1,5 @@
-use Rattle.kc_rb.proofs.Listed.Planting.{only_trees, trees_pass}
-use Rattle.kc_rb.proofs.Listed.Single.{trees_once}
+use Rattle.kc_rb.proofs.ListedLemmas.Planting.{only_trees, trees_pass}
+use Rattle.kc_rb.proofs.ListedLemmas.Single.{trees_once}
 use Rattle.kc_rb.proofs.listed.laws.know_listed_trees.Goals as goal
 
 pub returns-clause-trees : goal.returns-clause-trees

@@ -1,7 +1,7 @@
 use Rattle.std.proofs.Common.{rules, arith, sym, ◌∙◌, ◌≤◌, ◌<◌}
 use Rattle.std.proofs.lemmas.List.{nil_from_length}
 use Rattle.kc_memory.specs.Stays.{stays_on}
-use Rattle.kc_rb.proofs.Listed.Pacing.{few_pop, few_push, node_goes, node_halts, null_goes, runs_out, strays}
+use Rattle.kc_rb.proofs.ListedLemmas.Pacing.{few_pop, few_push, node_goes, node_halts, null_goes, runs_out, strays}
 use Rattle.kc_rb.proofs.listed.tree.test_numbers.Goals as goal
 
 pub returns-in-None-clause-test : goal.returns-in-None-clause-test

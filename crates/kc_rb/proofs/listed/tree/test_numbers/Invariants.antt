@@ -2,7 +2,7 @@ use Rattle.std.proofs.Common.{◌≡◌, ◌≤◌, ◌+◌, ◌*◌, None, [], 
 use Rattle.kc_memory.specs.Stays.{SpaceStays}
 use Rattle.kc_found.specs.RbTrees.{course_of}
 use Rattle.kc_rb.specs.Listed.Trees.{listed}
-use Rattle.kc_rb.proofs.Listed.Pacing.{AreFew, Paced}
+use Rattle.kc_rb.proofs.ListedLemmas.Pacing.{AreFew, Paced}
 use Rattle.kc_rb.proofs.listed.tree.test_numbers.Given as goal
 
 abbrev pub invariant-loop-i : goal.invariant-loop-i

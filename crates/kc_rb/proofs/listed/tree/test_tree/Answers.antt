@@ -1,5 +1,5 @@
 use Rattle.std.proofs.Common.{rules, ◌≡◌, Err}
-use Rattle.kc_rb.proofs.Listed.Pacing.{first_told, head_goes, head_halts, numbers_halt, told_false, told_true}
+use Rattle.kc_rb.proofs.ListedLemmas.Pacing.{first_told, head_goes, head_halts, numbers_halt, told_false, told_true}
 use Rattle.kc_rb.proofs.listed.tree.test_tree.Goals as goal
 
 pub returns-in-Err-clause-test : goal.returns-in-Err-clause-test

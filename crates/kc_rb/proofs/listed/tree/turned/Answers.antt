@@ -1,6 +1,6 @@
 use Rattle.std.proofs.Common.{rules, sym, ◌∙◌}
 use Rattle.std.proofs.lemmas.List.{nil_from_length}
-use Rattle.kc_rb.proofs.Listed.Pacing.{turns_down, turns_out, turns_up}
+use Rattle.kc_rb.proofs.ListedLemmas.Pacing.{turns_down, turns_out, turns_up}
 use Rattle.kc_rb.proofs.listed.tree.turned.Goals as goal
 
 pub loop-i-preserved-then-number-ne0 : goal.loop-i-preserved-then-number-ne0

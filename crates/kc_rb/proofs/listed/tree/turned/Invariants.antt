@@ -1,5 +1,5 @@
 use Rattle.std.proofs.Common.{drop}
-use Rattle.kc_rb.proofs.Listed.Pacing.{Turns}
+use Rattle.kc_rb.proofs.ListedLemmas.Pacing.{Turns}
 use Rattle.kc_rb.proofs.listed.tree.turned.Given as goal
 
 abbrev pub invariant-loop-i : goal.invariant-loop-i

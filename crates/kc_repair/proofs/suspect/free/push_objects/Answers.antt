@@ -1,6 +1,6 @@
 use Rattle.std.proofs.Common.{[], ◌∷◌, ◌++◌, ap, ◌∙◌}
 use Rattle.kc_repair.specs.Suspect.FreePointers.{free_pointer}
-use Rattle.kc_repair.proofs.Suspect.MadeLemmas.{more_pointers, no_pointers}
+use Rattle.kc_repair.proofs.SuspectLemmas.MadeLemmas.{more_pointers, no_pointers}
 use Rattle.kc_repair.proofs.suspect.free.push_objects.Goals as goal
 
 pub loop-i-init : goal.loop-i-init

@@ -1,4 +1,4 @@
-use Rattle.kc_repair.proofs.Suspect.StandLaws.{suspects_stand}
+use Rattle.kc_repair.proofs.SuspectLemmas.StandLaws.{suspects_stand}
 use Rattle.kc_repair.proofs.suspect.laws.know_suspects.Goals as goal
 
 pub returns : goal.returns

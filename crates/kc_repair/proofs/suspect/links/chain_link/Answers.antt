@@ -1,7 +1,7 @@
 use Rattle.std.proofs.Common.{◌∙◌, arith}
 use Rattle.kc_memory.specs.Stays.{stays_on}
 use Rattle.kc_repair.specs.Suspect.Links.{chain_link}
-use Rattle.kc_repair.proofs.Suspect.LinkLemmas.{ends, ends_there, ends_unread, goes_by, goes_on}
+use Rattle.kc_repair.proofs.SuspectLemmas.LinkLemmas.{ends, ends_there, ends_unread, goes_by, goes_on}
 use Rattle.kc_repair.proofs.suspect.links.chain_link.Goals as goal
 use Rattle.kc_repair.proofs.suspect.links.chain_link.Goals.{then-link-node+else-others-eq0, else-link-node}
 

@@ -2,7 +2,7 @@ use Rattle.std.proofs.Common.{[], ◌∷◌, reverse, sym, ap, ◌∙◌, arith}
 use Rattle.std.proofs.lemmas.List.{nil_from_length, reverse-append}
 use Rattle.kc_memory.specs.Stays.{stays_on}
 use Rattle.kc_repair.specs.Suspect.Links.{tree_links}
-use Rattle.kc_repair.proofs.Suspect.LinkLemmas.{all_found, most_found, one_found}
+use Rattle.kc_repair.proofs.SuspectLemmas.LinkLemmas.{all_found, most_found, one_found}
 use Rattle.kc_repair.proofs.suspect.links.tree_links.Goals as goal
 
 pub returns-in_default-clause-links : goal.returns-in_default-clause-links

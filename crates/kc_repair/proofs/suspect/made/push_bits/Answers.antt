@@ -1,6 +1,6 @@
 use Rattle.std.proofs.Common.{◌∙◌, ◌++◌, ap}
 use Rattle.kc_repair.specs.Suspect.Changes.{suspect_of}
-use Rattle.kc_repair.proofs.Suspect.MadeLemmas.{more_bits, no_bits}
+use Rattle.kc_repair.proofs.SuspectLemmas.MadeLemmas.{more_bits, no_bits}
 use Rattle.kc_repair.proofs.suspect.made.push_bits.Goals as goal
 
 pub loop-bit-init : goal.loop-bit-init

@@ -1,5 +1,5 @@
 use Rattle.std.proofs.Common.{◌+◌, arith, rules}
-use Rattle.kc_repair.proofs.Suspect.BitLemmas.{shifted, with_bits_fit}
+use Rattle.kc_repair.proofs.SuspectLemmas.BitLemmas.{shifted, with_bits_fit}
 use Rattle.kc_repair.proofs.suspect.words.with_bits.Goals as goal
 
 pub overflow_cast-result : goal.overflow_cast-result

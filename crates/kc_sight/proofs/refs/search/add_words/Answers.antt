@@ -1,6 +1,6 @@
 use Rattle.std.proofs.Common.{arith, ◌≡◌, ◌+◌}
 use Rattle.std.proofs.lemmas.Grind.{common_steps}
-use Rattle.kc_sight.proofs.Refs.BlockLemmas.{hit, passed}
+use Rattle.kc_sight.proofs.RefsLemmas.BlockLemmas.{hit, passed}
 use Rattle.kc_sight.proofs.refs.search.add_words.Goals as goal
 use Rattle.kc_sight.proofs.refs.search.add_words.Goals.{in-Some+in_ok-push, in_default}
 

@@ -6,8 +6,8 @@ use Rattle.kc_word.specs.declared.plain.Segment.{Segment}
 use Rattle.kc_outside.specs.declared.store.Slot.{Slot}
 use Rattle.kc_outside.specs.declared.store.Slot.TheVariants.{Dump}
 use Rattle.kc_sight.specs.Refs.Holding.{IsInside, in_segment}
-use Rattle.kc_sight.proofs.Refs.BlockLemmas.{told_all, told_next, told_none}
-use Rattle.kc_sight.proofs.Refs.StoreLemmas.{stays_on, told_before}
+use Rattle.kc_sight.proofs.RefsLemmas.BlockLemmas.{told_all, told_next, told_none}
+use Rattle.kc_sight.proofs.RefsLemmas.StoreLemmas.{stays_on, told_before}
 use Rattle.kc_sight.proofs.refs.search.find_words.Goals as goal
 
 -- a segment that is none, for places beyond the last

@@ -1,8 +1,8 @@
 use Rattle.std.proofs.Common.{◌≡◌, ◌+◌, ◌*◌, ◌≤◌, ◌++◌, ℕ, List, take, drop, refl, arith}
 use Rattle.std.proofs.lemmas.Grind.{common_steps}
 use Rattle.kc_sight.specs.Refs.Holding.{place}
-use Rattle.kc_sight.proofs.Refs.BlockLemmas.{told_more}
-use Rattle.kc_sight.proofs.Refs.StoreLemmas.{stays_on, told_before}
+use Rattle.kc_sight.proofs.RefsLemmas.BlockLemmas.{told_more}
+use Rattle.kc_sight.proofs.RefsLemmas.StoreLemmas.{stays_on, told_before}
 use Rattle.kc_sight.proofs.refs.search.search_segment.Goals as goal
 
 -- src/search.rt:148:5

@@ -1,6 +1,6 @@
 use Rattle.std.proofs.Common.{◌≡◌, ◌%◌, ◌<◌, length, get_or, arith}
 use Rattle.std.proofs.lemmas.Grind.{common_steps}
-use Rattle.kc_sight.proofs.Refs.WritingLemmas.{one_bit_more}
+use Rattle.kc_sight.proofs.RefsLemmas.WritingLemmas.{one_bit_more}
 use Rattle.kc_sight.proofs.refs.sought.set_bits.Goals as goal
 
 -- src/sought.rt:63:5

@@ -1,7 +1,7 @@
-use Rattle.kc_xa.proofs.Listed.Meeting.{items_are_walked}
-use Rattle.kc_xa.proofs.Listed.Pointing.{pointers_few}
-use Rattle.kc_xa.proofs.Listed.Single.{xarrays_once}
-use Rattle.kc_xa.proofs.Listed.Whole.{only_walks, only_xarrays, walks_pass, xarrays_pass}
+use Rattle.kc_xa.proofs.ListedLemmas.Meeting.{items_are_walked}
+use Rattle.kc_xa.proofs.ListedLemmas.Pointing.{pointers_few}
+use Rattle.kc_xa.proofs.ListedLemmas.Single.{xarrays_once}
+use Rattle.kc_xa.proofs.ListedLemmas.Whole.{only_walks, only_xarrays, walks_pass, xarrays_pass}
 use Rattle.kc_xa.proofs.listed.laws.know_entries.Goals as goal
 
 pub returns-clause-xarrays : goal.returns-clause-xarrays

@@ -1,8 +1,8 @@
 use Rattle.std.proofs.Common.{rules, arith, refl, sym, ◌∙◌, ◌≡◌, Err}
 use Rattle.std.proofs.lemmas.List.{nil_from_length}
 use Rattle.kc_memory.specs.Stays.{stays_on}
-use Rattle.kc_xa.proofs.Listed.Lowering.{sound_pop, weights_pop}
-use Rattle.kc_xa.proofs.Listed.Tracing.{memory_out, writes_from, writes_on, writes_out, writes_stop}
+use Rattle.kc_xa.proofs.ListedLemmas.Lowering.{sound_pop, weights_pop}
+use Rattle.kc_xa.proofs.ListedLemmas.Tracing.{memory_out, writes_from, writes_on, writes_out, writes_stop}
 use Rattle.kc_xa.proofs.listed.listing.list_numbers.Goals as goal
 
 pub loop-spot-init : goal.loop-spot-init

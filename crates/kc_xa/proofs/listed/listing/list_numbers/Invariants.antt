@@ -2,7 +2,7 @@ use Rattle.std.proofs.Common.{◌≡◌}
 use Rattle.std.specs.List.{AllByRecursion}
 use Rattle.kc_memory.specs.Stays.{SpaceStays}
 use Rattle.kc_xa.specs.Listed.Falling.{IsSound, weights}
-use Rattle.kc_xa.proofs.Listed.Tracing.{After, Writes}
+use Rattle.kc_xa.proofs.ListedLemmas.Tracing.{After, Writes}
 use Rattle.kc_xa.proofs.listed.listing.list_numbers.Given as goal
 
 abbrev pub invariant-loop-spot : goal.invariant-loop-spot

@@ -1,5 +1,5 @@
 use Rattle.std.proofs.Common.{rules, ◌≡◌, Err}
-use Rattle.kc_xa.proofs.Listed.Tracing.{lists_halt, lists_through}
+use Rattle.kc_xa.proofs.ListedLemmas.Tracing.{lists_halt, lists_through}
 use Rattle.kc_xa.proofs.listed.listing.list_xarray.Goals as goal
 
 pub returns-in_err-enter_head-clause-lists : goal.returns-in_err-enter_head-clause-lists

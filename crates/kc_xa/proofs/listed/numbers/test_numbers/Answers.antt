@@ -1,9 +1,9 @@
 use Rattle.std.proofs.Common.{refl, rules, arith, sym, ◌∙◌, ◌≡◌, Err}
 use Rattle.std.proofs.lemmas.List.{nil_from_length}
 use Rattle.kc_memory.specs.Stays.{stays_on}
-use Rattle.kc_xa.proofs.Listed.Gathering.{Whole, gathers_from, gathers_on, gathers_out, memory_tells}
-use Rattle.kc_xa.proofs.Listed.Lowering.{sound_pop}
-use Rattle.kc_xa.proofs.Listed.Tracing.{Tested, paces_from, paces_on, paces_out, paces_short, paces_stop, runs_out, strays}
+use Rattle.kc_xa.proofs.ListedLemmas.Gathering.{Whole, gathers_from, gathers_on, gathers_out, memory_tells}
+use Rattle.kc_xa.proofs.ListedLemmas.Lowering.{sound_pop}
+use Rattle.kc_xa.proofs.ListedLemmas.Tracing.{Tested, paces_from, paces_on, paces_out, paces_short, paces_stop, runs_out, strays}
 use Rattle.kc_xa.proofs.listed.numbers.test_numbers.Goals as goal
 
 pub loop-i-init : goal.loop-i-init

@@ -2,8 +2,8 @@ use Rattle.std.proofs.Common.{◌≡◌, ◌≤◌, ◌+◌, ◌*◌, drop}
 use Rattle.std.specs.List.{AllByRecursion}
 use Rattle.kc_memory.specs.Stays.{SpaceStays}
 use Rattle.kc_xa.specs.Listed.Falling.{IsSound}
-use Rattle.kc_xa.proofs.Listed.Gathering.{Gathers, Whole}
-use Rattle.kc_xa.proofs.Listed.Tracing.{Paced, Tested}
+use Rattle.kc_xa.proofs.ListedLemmas.Gathering.{Gathers, Whole}
+use Rattle.kc_xa.proofs.ListedLemmas.Tracing.{Paced, Tested}
 use Rattle.kc_xa.proofs.listed.numbers.test_numbers.Given as goal
 
 abbrev pub invariant-loop-i : goal.invariant-loop-i

@@ -1,7 +1,7 @@
 use Rattle.std.proofs.Common.{rules, ◌≡◌, Err}
 use Rattle.kc_xa.specs.Listed.Entries.{items_in}
-use Rattle.kc_xa.proofs.Listed.Gathering.{Whole, gathers_through}
-use Rattle.kc_xa.proofs.Listed.Tracing.{tells_halt, tells_through}
+use Rattle.kc_xa.proofs.ListedLemmas.Gathering.{Whole, gathers_through}
+use Rattle.kc_xa.proofs.ListedLemmas.Tracing.{tells_halt, tells_through}
 use Rattle.kc_xa.proofs.listed.numbers.xarray_items.Goals as goal
 
 pub returns-in_err-enter_head-clause-test : goal.returns-in_err-enter_head-clause-test

@@ -1,5 +1,5 @@
 use Rattle.std.proofs.Common.{ℕ, arith, ◌+◌, ◌-◌, length}
-use Rattle.kc_xa.proofs.Listed.Tracing.{all_slots, no_slots, slot_more}
+use Rattle.kc_xa.proofs.ListedLemmas.Tracing.{all_slots, no_slots, slot_more}
 use Rattle.kc_xa.proofs.listed.spots.push_slots.Goals as goal
 
 pub loop-i-init : goal.loop-i-init

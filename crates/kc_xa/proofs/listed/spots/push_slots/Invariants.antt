@@ -1,5 +1,5 @@
 use Rattle.std.proofs.Common.{◌≡◌, ◌++◌, ◌-◌, length}
-use Rattle.kc_xa.proofs.Listed.Tracing.{turned_slots}
+use Rattle.kc_xa.proofs.ListedLemmas.Tracing.{turned_slots}
 use Rattle.kc_xa.proofs.listed.spots.push_slots.Given as goal
 
 -- the slots from the last one on have been added

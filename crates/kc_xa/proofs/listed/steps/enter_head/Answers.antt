@@ -1,7 +1,7 @@
 use Rattle.std.proofs.Common.{◌≡◌, ◌++◌, ◌∷◌, []}
-use Rattle.kc_xa.proofs.Listed.Gathering.{head_gathers}
-use Rattle.kc_xa.proofs.Listed.Lowering.{head_sound, on_ok}
-use Rattle.kc_xa.proofs.Listed.Tracing.{claim_halts, head_answers, head_halts}
+use Rattle.kc_xa.proofs.ListedLemmas.Gathering.{head_gathers}
+use Rattle.kc_xa.proofs.ListedLemmas.Lowering.{head_sound, on_ok}
+use Rattle.kc_xa.proofs.ListedLemmas.Tracing.{claim_halts, head_answers, head_halts}
 use Rattle.kc_xa.proofs.listed.steps.enter_head.Goals as goal
 
 pub returns-in-Err-clause-passes : goal.returns-in-Err-clause-passes

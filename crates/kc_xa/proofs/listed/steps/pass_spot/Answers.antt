@@ -3,9 +3,9 @@ use Rattle.std.specs.Prelude.{reverse}
 use Rattle.kc_found.specs.declared.xarrays.XaNode.{XaNode}
 use Rattle.kc_xa.specs.Listed.Entries.{is_node, slot_spots}
 use Rattle.kc_xa.specs.Listed.Falling.{level}
-use Rattle.kc_xa.proofs.Listed.Gathering.{leaf_spots, node_spots}
-use Rattle.kc_xa.proofs.Listed.Lowering.{leaf_falls, level_some, node_falls, node_steps_few, on_ok, shift_falls, shift_low, sound_push}
-use Rattle.kc_xa.proofs.Listed.Tracing.{fault_halts, leaf_goes, node_answers, node_halts}
+use Rattle.kc_xa.proofs.ListedLemmas.Gathering.{leaf_spots, node_spots}
+use Rattle.kc_xa.proofs.ListedLemmas.Lowering.{leaf_falls, level_some, node_falls, node_steps_few, on_ok, shift_falls, shift_low, sound_push}
+use Rattle.kc_xa.proofs.ListedLemmas.Tracing.{fault_halts, leaf_goes, node_answers, node_halts}
 use Rattle.kc_xa.proofs.listed.steps.pass_spot.Goals as goal
 
 pub returns-then-is_some-clause-passes : goal.returns-then-is_some-clause-passes

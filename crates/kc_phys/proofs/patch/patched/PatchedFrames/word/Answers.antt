@@ -4,7 +4,7 @@ use Rattle.kc_outside.specs.Files.{content}
 use Rattle.kc_memory.specs.Frames.{ReadsWord}
 use Rattle.kc_memory.specs.Image.{Physical}
 use Rattle.kc_phys.specs.Patch.Changed.{patched}
-use Rattle.kc_phys.proofs.Patch.Words.{past_change}
+use Rattle.kc_phys.proofs.PatchLemmas.Words.{past_change}
 use Rattle.kc_phys.proofs.patch.patched.PatchedFrames.word.Goals as goal
 
 pub returns-in-None-clause-word : goal.returns-in-None-clause-word

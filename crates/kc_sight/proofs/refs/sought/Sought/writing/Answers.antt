@@ -1,6 +1,6 @@
 use Rattle.std.proofs.Common.{◌≡◌, sym, ap, ◌∙◌, arith}
 use Rattle.std.proofs.lemmas.Grind.{common_steps}
-use Rattle.kc_sight.proofs.Refs.WritingLemmas.{filtered, is_no_one, is_one}
+use Rattle.kc_sight.proofs.RefsLemmas.WritingLemmas.{filtered, is_no_one, is_one}
 use Rattle.kc_sight.proofs.refs.sought.Sought.writing.Goals as goal
 use Rattle.kc_sight.proofs.refs.sought.Sought.writing.Goals.{else-index-via-then-index+else-is_among, else-index-via-else-index}
 

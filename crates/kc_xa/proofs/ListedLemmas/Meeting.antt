@@ -21,8 +21,8 @@ use Rattle.kc_xa.specs.Nodes.{NodesAreGood}
 use Rattle.kc_xa.specs.declared.listed.spots.XaSpot.{XaSpot}
 use Rattle.kc_xa.specs.Listed.Entries.{entries, head_spot, headed_items, is_node, item_at, items_at, items_in, slot_spot, slot_spots, spots_behind, spots_below, spots_next, top_entries}
 use Rattle.kc_xa.specs.Listed.Laws.{ItemsAreWalked, OnlyXarraysPass}
-use Rattle.kc_xa.proofs.Listed.Leading.{leaf_not}
-use Rattle.kc_xa.proofs.Listed.Standing.{fits, index_is}
+use Rattle.kc_xa.proofs.ListedLemmas.Leading.{leaf_not}
+use Rattle.kc_xa.proofs.ListedLemmas.Standing.{fits, index_is}
 
 -- what follows an entry that leads to no node, and one that leads to one
 leaf_next : (c : XaCourse) (s : XaSpot) → is_node (kind c.shape.chunk s.word.value) ≡ false → spots_next c s ≡ []

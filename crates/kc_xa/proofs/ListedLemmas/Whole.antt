@@ -15,11 +15,11 @@ use Rattle.kc_xa.specs.Nodes.{EntriesAreGood, HeadsAreGood, NodesAreGood}
 use Rattle.kc_laws.specs.Claiming.{Takes, distinct_takes, takes_distinct, takes_first, takes_more}
 use Rattle.kc_xa.specs.Listed.Entries.{head_spot, headed, is_xarray, is_xarray_of, listed, pointers, top_entries}
 use Rattle.kc_xa.specs.Listed.Laws.{OnlyWalksPass, OnlyXarraysPass, WalksPass, XarraysPass, met_pointers}
-use Rattle.kc_xa.proofs.Listed.Growing.{grove}
-use Rattle.kc_xa.proofs.Listed.Planting.{planted}
-use Rattle.kc_xa.proofs.Listed.Pointing.{top_pointers}
+use Rattle.kc_xa.proofs.ListedLemmas.Growing.{grove}
+use Rattle.kc_xa.proofs.ListedLemmas.Planting.{planted}
+use Rattle.kc_xa.proofs.ListedLemmas.Pointing.{top_pointers}
 use Rattle.kc_found.specs.AnyAudit.{course, same_xarray}
-use Rattle.kc_xa.proofs.Listed.Standing.{Stand, StandsAt, all_words, numbers}
+use Rattle.kc_xa.proofs.ListedLemmas.Standing.{Stand, StandsAt, all_words, numbers}
 
 found_ok : {A : Type 0} (stop : Stopped → Violation) (r : Result A Stopped) (x : A) → found_by stop r ≡ Ok x → r ≡ Ok x
 found_ok stop (Ok y) x e = let same : y ≡ x = cc in ap Ok same

@@ -23,7 +23,7 @@ use Rattle.kc_found.specs.Tests.{TellsAs}
 use Rattle.kc_xa.specs.Steps.{IsOpened}
 use Rattle.kc_xa.specs.declared.listed.spots.XaSpot.{XaSpot}
 use Rattle.kc_xa.specs.Listed.Entries.{head_spot, headed_items, is_node, item_at, items_at, items_in, slot_spots, spots_behind, spots_below, spots_next}
-use Rattle.kc_xa.proofs.Listed.Tracing.{asked_at, drop_at, last_first, slots_first}
+use Rattle.kc_xa.proofs.ListedLemmas.Tracing.{asked_at, drop_at, last_first, slots_first}
 
 -- the positions after one
 pub leaf_spots : (image : Option Image) (shape : XaLayout) (asked : Asked) (s : XaSpot) (pending : List XaSpot) → is_node (kind shape.chunk s.word.value) ≡ false →

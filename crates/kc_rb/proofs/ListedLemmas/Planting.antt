@@ -21,7 +21,7 @@ use Rattle.kc_rb.specs.Faults.{or_else}
 use Rattle.kc_rb.specs.Listed.Laws.{OnlyTreesPass, TreesPass}
 use Rattle.kc_rb.specs.Listed.Trees.{entered, headed, is_first, is_tree, is_tree_of, listed, popped, pre, turn}
 use Rattle.kc_rb.specs.Nodes.{Good, NodesAreGood}
-use Rattle.kc_rb.proofs.Listed.Growing.{Agrees, Grove, Stand, agreed, all_words, claimed_head, claimed_site, entered_by, grove, pres, sum_down, unbroken_head, words_of_node}
+use Rattle.kc_rb.proofs.ListedLemmas.Growing.{Agrees, Grove, Stand, agreed, all_words, claimed_head, claimed_site, entered_by, grove, pres, sum_down, unbroken_head, words_of_node}
 
 -- the numbers of trees that stand there pass
 both_true : (a b : Bool) → a ≡ true → b ≡ true → (a && b) ≡ true

@@ -19,7 +19,7 @@ use Rattle.kc_xa.specs.Listed.Entries.{is_xarray, items_in}
 use Rattle.kc_by_lists.specs.Same.{false_by, no_err, ok_is}
 use Rattle.kc_by_lists.specs.Pids.Laws.{PidListsAreUsedUp}
 use Rattle.kc_by_lists.specs.Pids.Tests.{are_pid_lists}
-use Rattle.kc_by_lists.proofs.Pids.ListLaws.{by_test, table_of}
+use Rattle.kc_by_lists.proofs.PidsLemmas.ListLaws.{by_test, table_of}
 
 abbrev pub Test : PidShape → Asked → Lists → Image → Bool
 Test shape asked lists i = are_pid_lists i shape asked lists

@@ -19,7 +19,7 @@ use Rattle.kc_found.specs.XaSites.{index_of}
 use Rattle.kc_xa.specs.declared.listed.spots.XaSpot.{XaSpot}
 use Rattle.kc_xa.specs.Listed.Entries.{head_spot, is_node, slot_spots}
 use Rattle.kc_xa.specs.Listed.Falling.{IsSound, level, weight, weights}
-use Rattle.kc_xa.proofs.Listed.Leading.{node_is, none_is}
+use Rattle.kc_xa.proofs.ListedLemmas.Leading.{node_is, none_is}
 
 -- soundness
 some_shift : (index : Option ℕ) (s : ℕ) (b : Bool) → nat_eq s 0 ≡ b → within index (if b then Some X9 else None) ≡ None → 1 ≤ s

@@ -33,9 +33,9 @@ use Rattle.kc_cert.specs.Rechecking.Certificates.{Judge, Progress, after_walk, a
 use Rattle.kc_cert.specs.Certifying.Certified.{CertifiesAs, Makes, ShapesAs}
 use Rattle.kc_cert.specs.Fits.Walked.{ShapesAreWalked}
 use Rattle.kc_cert.specs.Fits.Shapes.{nodes_in}
-use Rattle.kc_cert.proofs.Rechecking.Judging.{Left, enter_goes, enter_skips, from_root, looked, node_judged, one_root, roots_go, turn_begins, turn_ends, turn_goes, under}
-use Rattle.kc_cert.proofs.Rechecking.Fitting.{both_true, if_so, step_fits, tally_parts}
-use Rattle.kc_cert.proofs.Fits.Checks.{right_seen}
+use Rattle.kc_cert.proofs.RecheckingLemmas.Judging.{Left, enter_goes, enter_skips, from_root, looked, node_judged, one_root, roots_go, turn_begins, turn_ends, turn_goes, under}
+use Rattle.kc_cert.proofs.RecheckingLemmas.Fitting.{both_true, if_so, step_fits, tally_parts}
+use Rattle.kc_cert.proofs.FitsLemmas.Checks.{right_seen}
 
 -- steps were added behind those that were made; whatever follows them, the judgement of all is that of what is left
 abbrev pub MadeLeft : {X : Type 0} → Option Image → Draft → (Image → Judge) → Draft → (Image → X → Judge) → List X → Type 0

@@ -14,7 +14,7 @@ use Rattle.kc_phys.specs.Blocks.{reach}
 use Rattle.kc_phys.specs.Stored.{stored}
 use Rattle.kc_phys.specs.declared.patch.change.Change.{Change}
 use Rattle.kc_phys.specs.Patch.Changed.{changed_at, patched, share}
-use Rattle.kc_phys.proofs.Patch.Laying.{lt_or_le, word-other}
+use Rattle.kc_phys.proofs.PatchLemmas.Laying.{lt_or_le, word-other}
 
 -- the segment that holds a word ends before the greatest end
 found_reach : (segments : List Segment) (pa : ℕ) (s : Segment) → holder pa segments ≡ Some s → offset_in pa s + 8 ≤ reach segments

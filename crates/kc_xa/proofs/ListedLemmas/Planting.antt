@@ -14,9 +14,9 @@ use Rattle.kc_xa.specs.Nodes.{EntriesAreGood, NodesAreGood}
 use Rattle.kc_laws.specs.Claiming.{Takes, claims, from_claims, takes_parts}
 use Rattle.kc_xa.specs.declared.listed.spots.XaSpot.{XaSpot}
 use Rattle.kc_xa.specs.Listed.Entries.{entered, entries, is_node, listed, spot_site, spots_below}
-use Rattle.kc_xa.proofs.Listed.Growing.{site_is}
-use Rattle.kc_xa.proofs.Listed.Leading.{leaf_not}
-use Rattle.kc_xa.proofs.Listed.Standing.{Stand, all_words, numbers, slots_listed, slots_stand, slots_words, tops_of}
+use Rattle.kc_xa.proofs.ListedLemmas.Growing.{site_is}
+use Rattle.kc_xa.proofs.ListedLemmas.Leading.{leaf_not}
+use Rattle.kc_xa.proofs.ListedLemmas.Standing.{Stand, all_words, numbers, slots_listed, slots_stand, slots_words, tops_of}
 
 entered_by : (p : Result (List ℕ) Violation) (there : Result XaWords Violation) (go : List ℕ → XaWords → Bool) (more : List ℕ) (w : XaWords) → p ≡ Ok more → there ≡ Ok w → go more w ≡ true → entered p there go ≡ true
 entered_by (Ok m) (Ok v) go more w a b e = let x : m ≡ more = cc in let y : v ≡ w = cc in rw (x, y) e

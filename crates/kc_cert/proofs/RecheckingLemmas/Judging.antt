@@ -32,7 +32,7 @@ use Rattle.kc_cert.specs.Rechecking.Answers.{JudgesAs, progress}
 use Rattle.kc_cert.specs.Fits.Fits.{fits}
 use Rattle.kc_cert.specs.Rechecking.Certificates.{Progress, Judged, Judge, below_judged, each_judged, entry_judged, judged, nodes_judged, after_walk, walk_judged}
 use Rattle.kc_cert.specs.Fits.Shapes.{nodes_in}
-use Rattle.kc_cert.proofs.Rechecking.Unrolling.{end_at, unrolled}
+use Rattle.kc_cert.proofs.RecheckingLemmas.Unrolling.{end_at, unrolled}
 
 -- the audits of a plan, from a base
 abbrev pub under : Image → List AuditAt → ℕ → ℕ → Judge

@@ -21,7 +21,7 @@ use Rattle.kc_xa.specs.Listed.Entries.{is_xarray}
 use Rattle.kc_xa.specs.Listed.Laws.{WalksPass}
 use Rattle.kc_by_lists.specs.Pids.Laws.{PidListsAreKept}
 use Rattle.kc_by_lists.specs.Pids.Tests.{ListsNumbers, ListsPids}
-use Rattle.kc_by_lists.proofs.Pids.ListLaws.{table_of}
+use Rattle.kc_by_lists.proofs.PidsLemmas.ListLaws.{table_of}
 
 abbrev pub Ids : PidShape → Asked → Image → Result (List XaItem) Violation
 Ids shape asked i = ids_in i asked shape

@@ -16,8 +16,8 @@ use Rattle.kc_xa.specs.Nodes.{EntriesAreGood, NodesAreGood}
 use Rattle.kc_laws.specs.Claiming.{Takes, claims, only_claims, takes_on}
 use Rattle.kc_xa.specs.declared.listed.spots.XaSpot.{XaSpot}
 use Rattle.kc_xa.specs.Listed.Entries.{entered, is_node, listed, spot_site, spots_below}
-use Rattle.kc_xa.proofs.Listed.Leading.{leaf_is, node_is, none_is}
-use Rattle.kc_xa.proofs.Listed.Standing.{Stand, all_words, numbers, slots_are}
+use Rattle.kc_xa.proofs.ListedLemmas.Leading.{leaf_is, node_is, none_is}
+use Rattle.kc_xa.proofs.ListedLemmas.Standing.{Stand, all_words, numbers, slots_are}
 
 -- numbers that pass are those of trees that stand there
 pub record Grove (c : XaCourse) (taken : List ℕ) (ss : List XaSpot) (ns : List ℕ) : Type 0 where
