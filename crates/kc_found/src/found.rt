@@ -1,5 +1,5 @@
 // Violations, and why a walk ends early.
-ghost use Rattle.std.specs.Prelude.{◌≡◌, ◌<◌, ◌^◌, ◌++◌, ◌∷◌, [], None, false, length, map, option_to_list, ⊥, IfErr, IfOk, OnOk};
+ghost use Rattle.std.specs.Prelude.{◌≡◌, ◌<◌, ◌^◌, ◌++◌, ◌∷◌, [], None, false, length, map, option_to_list, IfErr, IfOk, OnOk};
 ghost use Rattle.kc_memory.specs.Places.{place_of, entry_places};
 ghost use Rattle.kc_found.specs.Violations.{breaks, breaks_field, missed, missed_behind, places_by, is_of_reading};
 ghost use Rattle.kc_found.specs.Walks.{IsBroken, IsStopped, IsStoppedBehind, OnBroken, OnWalkFault};
