@@ -12,7 +12,6 @@ use Rattle.kc_cert.specs.declared.certifying.issue.CertStop.{CertStop}
 use Rattle.kc_cert.specs.declared.certifying.issue.CertStop.TheVariants.{Broken, Fault, NoMemory}
 use Rattle.kc_found.specs.declared.failed.ReadFailed.{ReadFailed}
 use Rattle.kc_found.specs.declared.failed.ReadFailed.TheVariants as stops
-use Rattle.kc_cert.specs.Rechecking.Answers.{CountsRecheckFaults}
 use Rattle.kc_cert.specs.Rechecking.Certificates.{answer}
 use Rattle.kc_cert.specs.Certifying.Certified.{Certifies, CertifiesAs, CountsCertifyFaults}
 use Rattle.kc_command.specs.declared.halt.Halt.{Halt}
@@ -34,6 +33,7 @@ use Rattle.kc_app.specs.Held.{Holds, audited_of}
 use Rattle.kc_app.specs.Recheck.{CertFiles, cert_file, recheck_asked}
 use Rattle.kc_app.specs.Reply.{CertificateOf, Rechecks, Shows, answer_line, answer_status}
 use Rattle.kc_app.specs.Shown.{said_status, seen_text}
+use Rattle.kc_found.specs.Failures.{CountsFailures}
 
 -- of a certificate
 spelled_one : (all : Audited) (cert : List CertStep) (r : Result Answer Halt) → Certifies all.image all.audits cert → IsSpelled cert r → Replies (gives (certified all)) r
@@ -131,7 +131,7 @@ made_counts names (Err (Broken v)) r before after text counts =
 made_counts names (Err Fault) r before after text counts = record { later = counts.0; quiet = rw text tt; cause = rw text counts.1 }
 made_counts names (Err NoMemory) r before after text counts = quiet_counts r before after counts (rw text tt)
 
-pub found_counts : (found : Result CertAnswer ReadFailed) (r : Result Answer Halt) (before after : ℕ) → IsFound found r → CountsRecheckFaults found before after → CountsAs r before after
+pub found_counts : (found : Result CertAnswer ReadFailed) (r : Result Answer Halt) (before after : ℕ) → IsFound found r → CountsFailures found before after → CountsAs r before after
 found_counts (Ok found) r before after text counts = quiet_counts r before after counts (written_sure (answer_line found) (answer_status found) r before after text)
 found_counts (Err stops.Fault) r before after text counts = record { later = counts.0; quiet = rw text tt; cause = rw text counts.1 }
 found_counts (Err stops.NoMemory) r before after text counts = quiet_counts r before after counts (rw text tt)

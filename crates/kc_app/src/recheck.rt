@@ -7,7 +7,6 @@ ghost use Rattle.kc_outside.specs.Files.{OthersStay, content};
 ghost use Rattle.kc_phys.specs.Stored.{AreInside};
 ghost use Rattle.kc_plan.specs.Inside.{AreInside as TypesAreInside};
 ghost use Rattle.kc_plan.specs.Views.{plan_seen};
-ghost use Rattle.kc_cert.specs.Rechecking.Answers.{CountsRecheckFaults};
 ghost use Rattle.kc_cert.specs.Rechecking.Certificates.{answer};
 ghost use Rattle.kc_cert.specs.Text.CertTexts.{cert_in};
 ghost use Rattle.kc_command.specs.declared.refusal.Refusal.TheVariants.{Certificate as cert_refused};
@@ -22,6 +21,7 @@ ghost use Rattle.kc_app.specs.Fitted.{RepliesOf, RepliesOfBytes};
 ghost use Rattle.kc_app.specs.Held.{audited_of};
 ghost use Rattle.kc_app.specs.Recheck.{cert_file, cert_files, recheck_asked, recheck_made};
 ghost use Rattle.kc_app.specs.Reply.{Rechecks, answer_line, answer_status};
+ghost use Rattle.kc_found.specs.Failures.{CountsFailures};
 
 use crate::asking::{Question, ask_core};
 use crate::check::{Asks as FourAsks, PlanOf};
@@ -189,7 +189,7 @@ impl<'p> Question for Rechecking<'p> {
 
     ghost says = { λ of image found. IfOk found (λ a. answer image (plan_seen of.over.plan.now) of.cert.now ≡ a) };
 
-    ghost leaves = { λ of found before after. CountsRecheckFaults found before after };
+    ghost leaves = { λ of found before after. CountsFailures found before after };
 
     fn ask<M: Space, L: Ledger>(
         &self,

@@ -1,5 +1,5 @@
 // Chains whose lists are given.
-ghost use Rattle.std.specs.Prelude.{◌≡◌, drop, false, ⊤, ⊥, IfOk};
+ghost use Rattle.std.specs.Prelude.{◌≡◌, drop, false, ⊤, IfOk};
 ghost use Rattle.kc_memory.specs.Translation.{vword};
 ghost use Rattle.kc_found.specs.Violations.{is_of_reading};
 ghost use Rattle.kc_found.specs.Walks.{OnBroken, OnWalkFault};

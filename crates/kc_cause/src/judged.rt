@@ -7,8 +7,8 @@ ghost use Rattle.kc_plan.specs.Inside.{AreInside as TypesAreInside};
 ghost use Rattle.kc_plan.specs.Verdicts.{FitsPlan};
 ghost use Rattle.kc_plan.specs.Views.{plan_seen};
 ghost use Rattle.kc_report.specs.IsReport.{report_text};
-ghost use Rattle.kc_run.specs.Answers.{CountsRunFaults};
 ghost use Rattle.kc_cause.specs.Judged.{AreOfPlan, FitsJudged, FitsTogether, JudgesAs, report_of_judged, whole_verdict};
+ghost use Rattle.kc_found.specs.Failures.{CountsFailures};
 
 use crate::returned::Returned;
 use kc_btf::Btf;
@@ -62,7 +62,7 @@ fn judge_whole<M: Space, L: Ledger>(
     ensures says { IfSome (M.image memory.old) (λ image. IfOk result (λ found. whole_verdict image over.now.plan.now ≡ found)) }
     ensures fits { IfOk result (λ found. IfSome found (FitsPlan (length over.now.plan.now.audits))) }
     ensures stays { SpaceStays M.image M.files M.through M.most memory.old memory.new }
-    ensures cause { CountsRunFaults result (M.faults memory.old) (M.faults memory.new) }
+    ensures cause { CountsFailures result (M.faults memory.old) (M.faults memory.new) }
 {
     if over.plan.version == 2 {
         return Ok(None);
@@ -83,7 +83,7 @@ fn judge<M: Space, L: Ledger>(
     ensures says { IfSome (M.image memory.old) (λ image. IfOk result (JudgesAs image over.now.plan.now)) }
     ensures fits { IfOk result (FitsJudged (length over.now.plan.now.audits) (plan_seen over.now.plan.now)) }
     ensures stays { SpaceStays M.image M.files M.through M.most memory.old memory.new }
-    ensures cause { CountsRunFaults result (M.faults memory.old) (M.faults memory.new) }
+    ensures cause { CountsFailures result (M.faults memory.old) (M.faults memory.new) }
 {
     let whole = judge_whole(over, memory, steps)?;
     let roots = run_each(over.alloc, over.plan, over.types, memory, steps)?;
@@ -107,7 +107,7 @@ fn judge_counted<F: Frames, L: Ledger>(
         (λ image. IfOk result.answer (JudgesAs image over.now.plan.now)) }
     ensures fits { IfOk result.answer (FitsJudged (length over.now.plan.now.audits) (plan_seen over.now.plan.now)) }
     ensures stays { FramesStay F.image F.files F.through memory result.memory }
-    ensures cause { CountsRunFaults result.answer (F.faults memory) (F.faults result.memory) }
+    ensures cause { CountsFailures result.answer (F.faults memory) (F.faults result.memory) }
 {
     let mut steps = Steps::<L>::new(blank);
     let mut space = Memory::over(memory, tlb);
@@ -133,7 +133,7 @@ pub(crate) fn judge_over<F: Frames>(
         (λ image. IfOk result.answer (JudgesAs image over.now.plan.now)) }
     ensures fits { IfOk result.answer (FitsJudged (length over.now.plan.now.audits) (plan_seen over.now.plan.now)) }
     ensures stays { FramesStay F.image F.files F.through memory result.memory }
-    ensures cause { CountsRunFaults result.answer (F.faults memory) (F.faults result.memory) }
+    ensures cause { CountsFailures result.answer (F.faults memory) (F.faults result.memory) }
 {
     match Tlb::new(over.alloc, over.paging, KEPT) {
         Ok(tlb) => judge_counted::<F, Brand>(memory, tlb, over, Blank::new(1)),

@@ -4,12 +4,12 @@ ghost use Rattle.kc_memory.specs.Stays.{FramesStay, SpaceStays};
 ghost use Rattle.kc_tlb.specs.Entries.{AreEmpty};
 ghost use Rattle.kc_mem.specs.Paged.{with_paging};
 ghost use Rattle.kc_text.specs.Compose.{texts};
-ghost use Rattle.kc_run.specs.Answers.{CountsRunFaults};
 ghost use Rattle.kc_plan.specs.Inside.{AreInside};
 ghost use Rattle.kc_cause.specs.Explained.{place_told, shown_lines};
 ghost use Rattle.kc_cause.specs.Judged.{FitsTogether, TasksAreInside, over_plan};
 ghost use Rattle.kc_told.specs.Objects.{told_of};
 ghost use Rattle.kc_told.specs.Views.{shapes_view, told_view};
+ghost use Rattle.kc_found.specs.Failures.{CountsFailures};
 
 use crate::judged::PlanOf;
 use crate::returned::Returned;
@@ -37,7 +37,7 @@ fn told_of<'p, M: Space, L: Ledger>(
     requires { TasksAreInside over.now }
     ensures told { IfSome (M.image memory.old) (λ image. IfOk result (λ told. told_view told ≡ told_of image (shapes_view over.now.shapes) address)) }
     ensures stays { SpaceStays M.image M.files M.through M.most memory.old memory.new }
-    ensures cause { CountsRunFaults result (M.faults memory.old) (M.faults memory.new) }
+    ensures cause { CountsFailures result (M.faults memory.old) (M.faults memory.new) }
 {
     match read_told(over.alloc, memory, over.types, &over.shapes, address, steps) {
         Ok(told) => Ok(told),
@@ -57,7 +57,7 @@ fn push_place_told<M: Space, L: Ledger>(
     requires { TasksAreInside over.now }
     ensures added { OnOk result (IfSome (M.image memory.old) (λ image. text.new.items ≡ text.old.items ++ place_told (over_plan over.now image) place.now)) }
     ensures stays { SpaceStays M.image M.files M.through M.most memory.old memory.new }
-    ensures cause { CountsRunFaults result (M.faults memory.old) (M.faults memory.new) }
+    ensures cause { CountsFailures result (M.faults memory.old) (M.faults memory.new) }
 {
     if let Err(NoMemory) = push_place(text, *place) {
         return Err(ReadFailed::NoMemory);
@@ -83,7 +83,7 @@ fn push_places_told<M: Space, L: Ledger>(
     requires { TasksAreInside over.now }
     ensures added { OnOk result (IfSome (M.image memory.old) (λ image. text.new.items ≡ text.old.items ++ texts (place_told (over_plan over.now image)) places.now)) }
     ensures stays { SpaceStays M.image M.files M.through M.most memory.old memory.new }
-    ensures cause { CountsRunFaults result (M.faults memory.old) (M.faults memory.new) }
+    ensures cause { CountsFailures result (M.faults memory.old) (M.faults memory.new) }
 {
     for i in 0..places.len() {
         push_place_told(text, over, memory, places.get(i), steps)?;
@@ -104,7 +104,7 @@ fn push_shown<M: Space, L: Ledger>(
     requires found { found.now.audit < length over.now.plan.now.audits }
     ensures added { OnOk result (IfSome (M.image memory.old) (λ image. text.new.items ≡ text.old.items ++ shown_lines (over_plan over.now image) found.now)) }
     ensures stays { SpaceStays M.image M.files M.through M.most memory.old memory.new }
-    ensures cause { CountsRunFaults result (M.faults memory.old) (M.faults memory.new) }
+    ensures cause { CountsFailures result (M.faults memory.old) (M.faults memory.new) }
 {
     let audit = over.plan.audit(found.audit);
     push_ring(text, over, memory, &audit.kind, found, steps)?;
@@ -131,7 +131,7 @@ fn push_counted<F: Frames, L: Ledger>(
     ensures added { OnOk result.answer (IfSome (with_paging tlb.paging (F.image memory)) (λ image.
         text.new.items ≡ text.old.items ++ shown_lines (over_plan over.now image) found.now)) }
     ensures stays { FramesStay F.image F.files F.through memory result.memory }
-    ensures cause { CountsRunFaults result.answer (F.faults memory) (F.faults result.memory) }
+    ensures cause { CountsFailures result.answer (F.faults memory) (F.faults result.memory) }
 {
     let mut steps = Steps::<L>::new(blank);
     let mut space = Memory::over(memory, tlb);
@@ -155,7 +155,7 @@ pub(crate) fn push_shown_over<F: Frames>(
     ensures added { OnOk result.answer (IfSome (with_paging over.now.paging (F.image memory)) (λ image.
         text.new.items ≡ text.old.items ++ shown_lines (over_plan over.now image) found.now)) }
     ensures stays { FramesStay F.image F.files F.through memory result.memory }
-    ensures cause { CountsRunFaults result.answer (F.faults memory) (F.faults result.memory) }
+    ensures cause { CountsFailures result.answer (F.faults memory) (F.faults result.memory) }
 {
     match Tlb::new(over.alloc, over.paging, KEPT) {
         Ok(tlb) => push_counted::<F, Brand>(memory, tlb, text, over, found, Blank::new(1)),

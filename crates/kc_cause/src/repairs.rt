@@ -4,12 +4,12 @@ ghost use Rattle.kc_memory.specs.Stays.{FramesStay};
 ghost use Rattle.kc_mem.specs.Paged.{with_paging};
 ghost use Rattle.kc_plan.specs.Inside.{AreInside as TypesAreInside};
 ghost use Rattle.kc_plan.specs.Views.{plan_seen};
-ghost use Rattle.kc_run.specs.Answers.{CountsRunFaults};
 ghost use Rattle.kc_repair.specs.Repairs.{repair_of};
 ghost use Rattle.kc_command.specs.Paging.{IsTable};
 ghost use Rattle.kc_cause.specs.Explained.{repairs_as, repairs_found};
 ghost use Rattle.kc_cause.specs.Judged.{FitsTogether, over_plan};
 ghost use Rattle.kc_cause.specs.Lines.{next_line, next_lines, repair_lines, suspect_part, tried_part};
+ghost use Rattle.kc_found.specs.Failures.{CountsFailures};
 
 use crate::judged::PlanOf;
 use crate::returned::Returned;
@@ -113,7 +113,7 @@ pub(crate) trait Repairable: Frames {
         ensures exact { IfOk result.answer (λ repair. IfSome (with_paging paging (Self.image self))
             (λ image. repair ≡ repair_of image (plan_seen audit.now.plan.now) (audit.now.root.audit, audit.now.root.start) kind.now found.now)) }
         ensures stays { FramesStay Self.image Self.files Self.through self result.memory }
-        ensures cause { CountsRunFaults result.answer (Self.faults self) (Self.faults result.memory) };
+        ensures cause { CountsFailures result.answer (Self.faults self) (Self.faults result.memory) };
 }
 
 impl<'s, S: Store> Repairable for Phys<'s, S> {
@@ -147,7 +147,7 @@ fn push_repairs_as<F: Repairable>(
     ensures added { OnOk result.answer (IfSome (with_paging over.now.paging (F.image memory)) (λ image.
         text.new.items ≡ text.old.items ++ repairs_as (over_plan over.now image) root kind.now found.now)) }
     ensures stays { FramesStay F.image F.files F.through memory result.memory }
-    ensures cause { CountsRunFaults result.answer (F.faults memory) (F.faults result.memory) }
+    ensures cause { CountsFailures result.answer (F.faults memory) (F.faults result.memory) }
 {
     let PlanOf { plan, types, .. } = *over;
     let Some(root) = root_at(plan, root) else {
@@ -182,7 +182,7 @@ pub(crate) fn push_repairs<F: Repairable>(
     ensures added { OnOk result.answer (IfSome (with_paging over.now.paging (F.image memory)) (λ image.
         text.new.items ≡ text.old.items ++ repairs_found (over_plan over.now image) root found.now)) }
     ensures stays { FramesStay F.image F.files F.through memory result.memory }
-    ensures cause { CountsRunFaults result.answer (F.faults memory) (F.faults result.memory) }
+    ensures cause { CountsFailures result.answer (F.faults memory) (F.faults result.memory) }
 {
     let kind = &over.plan.audit(found.audit).kind;
     let Returned { memory, answer } = as_ring_over(memory, over, kind, found);

@@ -3,12 +3,12 @@ ghost use Rattle.std.specs.Prelude.{◌≡◌, ◌≤◌, ◌++◌, [], codes, l
 ghost use Rattle.std.specs.Option.{option_map_or};
 ghost use Rattle.kc_memory.specs.Stays.{SpaceStays};
 ghost use Rattle.kc_text.specs.Text.{hex};
-ghost use Rattle.kc_run.specs.Answers.{CountsRunFaults};
 ghost use Rattle.kc_kinds.specs.Inside.{KindInside};
 ghost use Rattle.kc_view.specs.TaskLists.{IsInside};
 ghost use Rattle.kc_which.specs.CacheRings.{cache_ring, slab_in};
 ghost use Rattle.kc_which.specs.TaskRings.{task_in, task_ring};
 ghost use Rattle.kc_cause.specs.Rings.{cache_lines, ring_lines, task_lines, task_list_line, typed_slab, typed_task};
+ghost use Rattle.kc_found.specs.Failures.{CountsFailures};
 
 use crate::judged::PlanOf;
 use crate::lines::push_element;
@@ -37,7 +37,7 @@ pub(crate) fn task_ring<M: Space, L: Ledger>(
     requires { IsInside shape.now over.now.types.now }
     ensures exact { IfSome (M.image memory.old) (λ image. IfOk result (λ r. r ≡ task_ring image shape.now found.now)) }
     ensures stays { SpaceStays M.image M.files M.through M.most memory.old memory.new }
-    ensures cause { CountsRunFaults result (M.faults memory.old) (M.faults memory.new) }
+    ensures cause { CountsFailures result (M.faults memory.old) (M.faults memory.new) }
 {
     match find_task_ring(over.alloc, memory, over.types, shape, found, steps) {
         Ok(ring) => Ok(ring),
@@ -56,7 +56,7 @@ pub(crate) fn cache_ring<M: Space, L: Ledger>(
 ) -> Result<Option<CacheRing>, ReadFailed>
     ensures exact { IfSome (M.image memory.old) (λ image. IfOk result (λ r. r ≡ cache_ring image shape.now found.now)) }
     ensures stays { SpaceStays M.image M.files M.through M.most memory.old memory.new }
-    ensures cause { CountsRunFaults result (M.faults memory.old) (M.faults memory.new) }
+    ensures cause { CountsFailures result (M.faults memory.old) (M.faults memory.new) }
 {
     match find_cache_ring(over.alloc, memory, shape, found, steps) {
         Ok(list) => Ok(list),
@@ -135,7 +135,7 @@ fn push_task_ring<M: Space, L: Ledger>(
     requires { shape.now.task ≤ length over.now.types.now.records }
     ensures added { OnOk result (IfSome (M.image memory.old) (λ image. text.new.items ≡ text.old.items ++ option_map_or (task_lines over.now.types.now shape.now found.now) (task_ring image shape.now found.now) [])) }
     ensures stays { SpaceStays M.image M.files M.through M.most memory.old memory.new }
-    ensures cause { CountsRunFaults result (M.faults memory.old) (M.faults memory.new) }
+    ensures cause { CountsFailures result (M.faults memory.old) (M.faults memory.new) }
 {
     let Some(ring) = task_ring(over, memory, shape, found, steps)? else {
         return Ok(());
@@ -197,7 +197,7 @@ fn push_cache_ring<M: Space, L: Ledger>(
     requires knode { shape.now.knode ≤ length over.now.types.now.records }
     ensures added { OnOk result (IfSome (M.image memory.old) (λ image. text.new.items ≡ text.old.items ++ option_map_or (cache_lines over.now.types.now shape.now found.now) (cache_ring image shape.now found.now) [])) }
     ensures stays { SpaceStays M.image M.files M.through M.most memory.old memory.new }
-    ensures cause { CountsRunFaults result (M.faults memory.old) (M.faults memory.new) }
+    ensures cause { CountsFailures result (M.faults memory.old) (M.faults memory.new) }
 {
     let Some(list) = cache_ring(over, memory, shape, found, steps)? else {
         return Ok(());
@@ -224,7 +224,7 @@ pub(crate) fn push_ring<M: Space, L: Ledger>(
     requires { KindInside (length over.now.types.now.records) kind.now }
     ensures added { OnOk result (IfSome (M.image memory.old) (λ image. text.new.items ≡ text.old.items ++ ring_lines over.now.types.now image found.now kind.now)) }
     ensures stays { SpaceStays M.image M.files M.through M.most memory.old memory.new }
-    ensures cause { CountsRunFaults result (M.faults memory.old) (M.faults memory.new) }
+    ensures cause { CountsFailures result (M.faults memory.old) (M.faults memory.new) }
 {
     match kind {
         Kind::Tasks(shape) => push_task_ring(text, over, memory, shape, found, steps),

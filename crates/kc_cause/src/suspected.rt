@@ -3,12 +3,12 @@ ghost use Rattle.std.specs.Prelude.{◌≡◌, ◌<◌, length, IfOk, IfSome};
 ghost use Rattle.kc_memory.specs.Stays.{FramesStay, SpaceStays};
 ghost use Rattle.kc_tlb.specs.Entries.{AreEmpty};
 ghost use Rattle.kc_mem.specs.Paged.{with_paging};
-ghost use Rattle.kc_run.specs.Answers.{CountsRunFaults};
 ghost use Rattle.kc_kinds.specs.declared.kind.Kind.TheVariants.{Slub, Tasks};
 ghost use Rattle.kc_kinds.specs.Inside.{KindInside};
 ghost use Rattle.kc_view.specs.TaskLists.{IsInside};
 ghost use Rattle.kc_cause.specs.Judged.{FitsTogether};
 ghost use Rattle.kc_cause.specs.Suspected.{in_ring, suspected, suspected_view};
+ghost use Rattle.kc_found.specs.Failures.{CountsFailures};
 
 use crate::judged::PlanOf;
 use crate::returned::Returned;
@@ -49,7 +49,7 @@ fn walk_ring<M: Space, L: Ledger>(
 ) -> Result<Option<AsRing>, ReadFailed>
     ensures exact { IfSome (M.image memory.old) (λ image. IfOk result (λ r. suspected_view kind.now found.now r ≡ in_ring image kind.now found.now list head)) }
     ensures stays { SpaceStays M.image M.files M.through M.most memory.old memory.new }
-    ensures cause { CountsRunFaults result (M.faults memory.old) (M.faults memory.new) }
+    ensures cause { CountsFailures result (M.faults memory.old) (M.faults memory.new) }
 {
     match ring(over.alloc, memory, &list, head, found.audit, steps) {
         Ok(_) => Ok(None),
@@ -75,7 +75,7 @@ fn in_tasks<M: Space, L: Ledger>(
     requires inside { IsInside shape.now over.now.types.now }
     ensures exact { IfSome (M.image memory.old) (λ image. IfOk result (λ r. suspected_view kind.now found.now r ≡ suspected image found.now kind.now)) }
     ensures stays { SpaceStays M.image M.files M.through M.most memory.old memory.new }
-    ensures cause { CountsRunFaults result (M.faults memory.old) (M.faults memory.new) }
+    ensures cause { CountsFailures result (M.faults memory.old) (M.faults memory.new) }
 {
     let Some(ring) = task_ring(over, memory, shape, found, steps)? else {
         return Ok(None);
@@ -96,7 +96,7 @@ fn in_cache<M: Space, L: Ledger>(
     requires kind { kind.now ≡ Slub shape.now }
     ensures exact { IfSome (M.image memory.old) (λ image. IfOk result (λ r. suspected_view kind.now found.now r ≡ suspected image found.now kind.now)) }
     ensures stays { SpaceStays M.image M.files M.through M.most memory.old memory.new }
-    ensures cause { CountsRunFaults result (M.faults memory.old) (M.faults memory.new) }
+    ensures cause { CountsFailures result (M.faults memory.old) (M.faults memory.new) }
 {
     let Some(list) = cache_ring(over, memory, shape, found, steps)? else {
         return Ok(None);
@@ -116,7 +116,7 @@ fn as_ring<M: Space, L: Ledger>(
     requires { KindInside (length over.now.types.now.records) kind.now }
     ensures exact { IfSome (M.image memory.old) (λ image. IfOk result (λ r. suspected_view kind.now found.now r ≡ suspected image found.now kind.now)) }
     ensures stays { SpaceStays M.image M.files M.through M.most memory.old memory.new }
-    ensures cause { CountsRunFaults result (M.faults memory.old) (M.faults memory.new) }
+    ensures cause { CountsFailures result (M.faults memory.old) (M.faults memory.new) }
 {
     match kind {
         Kind::Tasks(shape) => in_tasks(over, memory, kind, shape, found, steps),
@@ -145,7 +145,7 @@ fn as_ring_counted<F: Frames, L: Ledger>(
     ensures exact { IfSome (with_paging tlb.paging (F.image memory))
         (λ image. IfOk result.answer (λ r. suspected_view kind.now found.now r ≡ suspected image found.now kind.now)) }
     ensures stays { FramesStay F.image F.files F.through memory result.memory }
-    ensures cause { CountsRunFaults result.answer (F.faults memory) (F.faults result.memory) }
+    ensures cause { CountsFailures result.answer (F.faults memory) (F.faults result.memory) }
 {
     let mut steps = Steps::<L>::new(blank);
     let mut space = Memory::over(memory, tlb);
@@ -173,7 +173,7 @@ pub(crate) fn as_ring_over<F: Frames>(
     ensures exact { IfSome (with_paging over.now.paging (F.image memory))
         (λ image. IfOk result.answer (λ r. suspected_view kind.now found.now r ≡ suspected image found.now kind.now)) }
     ensures stays { FramesStay F.image F.files F.through memory result.memory }
-    ensures cause { CountsRunFaults result.answer (F.faults memory) (F.faults result.memory) }
+    ensures cause { CountsFailures result.answer (F.faults memory) (F.faults result.memory) }
 {
     match Tlb::new(over.alloc, over.paging, KEPT) {
         Ok(tlb) => as_ring_counted::<F, Brand>(memory, tlb, over, kind, found, Blank::new(1)),

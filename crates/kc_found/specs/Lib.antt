@@ -1,6 +1,7 @@
 pub mod AnyAudit
 pub mod Chains
 pub mod Counts
+pub mod Failures
 pub mod FiniteLists
 pub mod FiniteXarrays
 pub mod FreeLists

@@ -20,7 +20,6 @@ use Rattle.kc_plan.specs.Verdicts.{IsClean}
 use Rattle.kc_plan.specs.Stands.{RootStands}
 use Rattle.kc_found.specs.declared.failed.ReadFailed.{ReadFailed}
 use Rattle.kc_found.specs.declared.failed.ReadFailed.TheVariants.{Fault, NoMemory}
-use Rattle.kc_run.specs.Answers.{CountsRunFaults}
 use Rattle.kc_run.specs.Laws.{CleanRootsStand}
 use Rattle.kc_repair.specs.declared.suspect.suspect.Suspect.{Suspect}
 use Rattle.kc_repair.specs.declared.outcome.Breach.{Breach}
@@ -28,6 +27,7 @@ use Rattle.kc_repair.specs.declared.outcome.Next.{Next}
 use Rattle.kc_repair.specs.declared.outcome.Repair.{Repair}
 use Rattle.kc_repair.specs.declared.outcome.Repair.TheVariants.{Stands, Nothing}
 use Rattle.kc_repair.specs.Repairs.{GoesOn, IsElsewhere, IsFirstNext, IsNext, IsRepair, Judges, StandsAs, image_of, most, repairs, verdict_with, with_suspect}
+use Rattle.kc_found.specs.Failures.{CountsFailures}
 
 -- none of these repairs, and this is what the first leads to that leads elsewhere
 pub record SoFar (judge : Suspect → Verdict) (found : Breach) (tried : List Suspect) (next : Option Next) : Type 0 where
@@ -89,16 +89,16 @@ take_front (suc i) (suc n) [] le = refl
 take_front (suc i) (suc n) (x ∷ xs) le = ap (λ (l : List Suspect). x ∷ l) (take_front i n xs (omega arith))
 
 -- and the count of failures then
-pub quiet : (found : Breach) (s : Suspect) (r : Result Verdict ReadFailed) (before after : Option Next) (answer : Option (Result Repair ReadFailed)) (old new : ℕ) → Judges found s r before after answer → answer ≡ None → CountsRunFaults r old new → new ≡ old
+pub quiet : (found : Breach) (s : Suspect) (r : Result Verdict ReadFailed) (before after : Option Next) (answer : Option (Result Repair ReadFailed)) (old new : ℕ) → Judges found s r before after answer → answer ≡ None → CountsFailures r old new → new ≡ old
 quiet found s (Ok verdict) before after answer old new on goes cause = cause
 quiet found s (Err stop) before after answer old new on goes cause = let none : ⊥ = cc in absurd none
 
-pub stopped : (found : Breach) (s : Suspect) (r : Result Verdict ReadFailed) (before after : Option Next) (answer : Result Repair ReadFailed) (old new : ℕ) → Judges found s r before after (Some answer) → CountsRunFaults r old new → CountsRunFaults answer old new
+pub stopped : (found : Breach) (s : Suspect) (r : Result Verdict ReadFailed) (before after : Option Next) (answer : Result Repair ReadFailed) (old new : ℕ) → Judges found s r before after (Some answer) → CountsFailures r old new → CountsFailures answer old new
 stopped found s (Ok (Clean counts)) before after answer old new on cause = let is : answer ≡ Ok (Stands s) = cc in rw is cause
 stopped found s (Ok (Broken v)) before after answer old new on cause = let none : ⊥ = let no = on.0 in cc in absurd none
 stopped found s (Err stop) before after answer old new on cause = let is : answer ≡ Err stop = cc in rw is (same_cause stop cause)
   where
-    same_cause : (stop : ReadFailed) → CountsRunFaults {A = Verdict} (Err stop) old new → CountsRunFaults {A = Repair} (Err stop) old new
+    same_cause : (stop : ReadFailed) → CountsFailures {A = Verdict} (Err stop) old new → CountsFailures {A = Repair} (Err stop) old new
     same_cause Fault cause = cause
     same_cause NoMemory cause = cause
 

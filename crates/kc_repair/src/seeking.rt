@@ -8,10 +8,9 @@ ghost use Rattle.kc_tlb.specs.Entries.{AreEmpty};
 ghost use Rattle.kc_mem.specs.Paged.{with_paging};
 ghost use Rattle.kc_plan.specs.Inside.{AreInside as TypesAreInside};
 ghost use Rattle.kc_plan.specs.Views.{plan_seen};
-ghost use Rattle.kc_run.specs.Answers.{CountsRunFaults};
-ghost use Rattle.kc_repair.specs.Suspect.Answers.{CountsSuspectFaults};
 ghost use Rattle.kc_repair.specs.Suspect.Suspects.{suspects};
 ghost use Rattle.kc_repair.specs.Repairs.{IsRepair, breach_of, repair_of, verdict_with};
+ghost use Rattle.kc_found.specs.Failures.{CountsFailures};
 
 use crate::outcome::Breach;
 use crate::trial::{KEPT, RootAudit};
@@ -52,7 +51,7 @@ fn suspects_in<'s, S: Store, L: Ledger>(
     ensures exact { IfOk result.suspects (λ suspected. IfSome (with_paging tlb.paging (stored memory.entry.segments.items memory.entry.tail (content (S.files memory.entry.store.now) Dump (S.opened memory.entry.store.now Dump))))
         (λ image. suspected ≡ suspects image kind.now found.now)) }
     ensures stays { FramesStay (λ p. stored p.segments.items p.tail (content (S.files p.store.now) Dump (S.opened p.store.now Dump))) (λ p. S.files p.store.now) (λ p. p.store.ghost_name ∷ []) memory.entry result.memory }
-    ensures cause { CountsSuspectFaults result.suspects (S.faults memory.entry.store.now) (S.faults result.memory.store.now) }
+    ensures cause { CountsFailures result.suspects (S.faults memory.entry.store.now) (S.faults result.memory.store.now) }
 {
     let mut steps = Steps::<L>::new(blank);
     let mut space = Memory::over(memory, tlb);
@@ -77,7 +76,7 @@ fn suspects_over<'s, S: Store>(
     ensures exact { IfOk result.suspects (λ suspected. IfSome (with_paging paging (stored memory.entry.segments.items memory.entry.tail (content (S.files memory.entry.store.now) Dump (S.opened memory.entry.store.now Dump))))
         (λ image. suspected ≡ suspects image kind.now found.now)) }
     ensures stays { FramesStay (λ p. stored p.segments.items p.tail (content (S.files p.store.now) Dump (S.opened p.store.now Dump))) (λ p. S.files p.store.now) (λ p. p.store.ghost_name ∷ []) memory.entry result.memory }
-    ensures cause { CountsSuspectFaults result.suspects (S.faults memory.entry.store.now) (S.faults result.memory.store.now) }
+    ensures cause { CountsFailures result.suspects (S.faults memory.entry.store.now) (S.faults result.memory.store.now) }
 {
     match Tlb::new(alloc, paging, KEPT) {
         Ok(tlb) => suspects_in::<S, Brand>(alloc, memory, tlb, kind, found, Blank::new(1)),
@@ -105,7 +104,7 @@ fn try_found<'s, S: Store>(
     ensures exact { IfOk result.repair (λ repair. IfSome (with_paging paging (stored memory.entry.segments.items memory.entry.tail (content (S.files memory.entry.store.now) Dump (S.opened memory.entry.store.now Dump))))
         (λ image. IsRepair (verdict_with image (plan_seen audit.now.plan.now) (audit.now.root.audit, audit.now.root.start)) (breach_of found.now) suspects.now repair)) }
     ensures stays { FramesStay (λ p. stored p.segments.items p.tail (content (S.files p.store.now) Dump (S.opened p.store.now Dump))) (λ p. S.files p.store.now) (λ p. p.store.ghost_name ∷ []) memory.entry result.memory }
-    ensures cause { CountsRunFaults result.repair (S.faults memory.entry.store.now) (S.faults result.memory.store.now) }
+    ensures cause { CountsFailures result.repair (S.faults memory.entry.store.now) (S.faults result.memory.store.now) }
 {
     let breach = Breach {
         rule: found.rule,
@@ -134,7 +133,7 @@ pub fn repair_over<'s, S: Store>(
     ensures exact { IfOk result.repair (λ repair. IfSome (with_paging paging (stored memory.entry.segments.items memory.entry.tail (content (S.files memory.entry.store.now) Dump (S.opened memory.entry.store.now Dump))))
         (λ image. repair ≡ repair_of image (plan_seen audit.now.plan.now) (audit.now.root.audit, audit.now.root.start) kind.now found.now)) }
     ensures stays { FramesStay (λ p. stored p.segments.items p.tail (content (S.files p.store.now) Dump (S.opened p.store.now Dump))) (λ p. S.files p.store.now) (λ p. p.store.ghost_name ∷ []) memory.entry result.memory }
-    ensures cause { CountsRunFaults result.repair (S.faults memory.entry.store.now) (S.faults result.memory.store.now) }
+    ensures cause { CountsFailures result.repair (S.faults memory.entry.store.now) (S.faults result.memory.store.now) }
 {
     let Suspected { memory, suspects } = suspects_over(alloc, memory, paging, kind, found);
     match suspects {

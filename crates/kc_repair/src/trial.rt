@@ -10,8 +10,8 @@ ghost use Rattle.kc_mem.specs.Paged.{with_paging};
 ghost use Rattle.kc_plan.specs.Inside.{AreInside as TypesAreInside};
 ghost use Rattle.kc_plan.specs.Roots.{root_verdict};
 ghost use Rattle.kc_plan.specs.Views.{plan_seen};
-ghost use Rattle.kc_run.specs.Answers.{CountsRunFaults};
 ghost use Rattle.kc_repair.specs.Repairs.{change_of, verdict_with};
+ghost use Rattle.kc_found.specs.Failures.{CountsFailures};
 
 use crate::Suspect;
 use kc_btf::Btf;
@@ -67,7 +67,7 @@ pub fn try_suspect<'s, S: Store>(
     ensures exact { IfOk result.found (λ found. IfSome (with_paging paging (stored memory.entry.segments.items memory.entry.tail (content (S.files memory.entry.store.now) Dump (S.opened memory.entry.store.now Dump))))
         (λ image. verdict_with image (plan_seen audit.now.plan.now) (audit.now.root.audit, audit.now.root.start) suspect ≡ found)) }
     ensures stays { FramesStay (λ p. stored p.segments.items p.tail (content (S.files p.store.now) Dump (S.opened p.store.now Dump))) (λ p. S.files p.store.now) (λ p. p.store.ghost_name ∷ []) memory.entry result.memory }
-    ensures cause { CountsRunFaults result.found (S.faults memory.entry.store.now) (S.faults result.memory.store.now) }
+    ensures cause { CountsFailures result.found (S.faults memory.entry.store.now) (S.faults result.memory.store.now) }
 {
     let change = Change {
         off: suspect.off,
@@ -104,7 +104,7 @@ fn try_change<'s, S: Store, K: Lent, L: Ledger>(
     ensures exact { IfOk result.found (λ found. IfSome (with_paging tlb.paging (option_map (patched change) (stored memory.entry.segments.items memory.entry.tail (content (S.files memory.entry.store.now) Dump (S.opened memory.entry.store.now Dump)))))
         (λ image. (root_verdict image (plan_seen audit.now.plan.now) (audit.now.root.audit, audit.now.root.start)).verdict ≡ found)) }
     ensures stays { FramesStay (λ p. stored p.segments.items p.tail (content (S.files p.store.now) Dump (S.opened p.store.now Dump))) (λ p. S.files p.store.now) (λ p. p.store.ghost_name ∷ []) memory.entry result.memory }
-    ensures cause { CountsRunFaults result.found (S.faults memory.entry.store.now) (S.faults result.memory.store.now) }
+    ensures cause { CountsFailures result.found (S.faults memory.entry.store.now) (S.faults result.memory.store.now) }
 {
     let mut steps = Steps::<L>::new(blank);
     let mut space = Memory::over(Patched::<S, K>::over(memory, change), tlb);

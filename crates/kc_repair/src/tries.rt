@@ -7,8 +7,8 @@ ghost use Rattle.kc_phys.specs.Stored.{AreInside, stored};
 ghost use Rattle.kc_mem.specs.Paged.{with_paging};
 ghost use Rattle.kc_plan.specs.Inside.{AreInside as TypesAreInside};
 ghost use Rattle.kc_plan.specs.Views.{plan_seen};
-ghost use Rattle.kc_run.specs.Answers.{CountsRunFaults};
 ghost use Rattle.kc_repair.specs.Repairs.{GoesOn, IsRepair, Judges, StandsAs, image_of, verdict_with};
+ghost use Rattle.kc_found.specs.Failures.{CountsFailures};
 
 use crate::Suspect;
 use crate::outcome::{Breach, Next, Repair};
@@ -52,7 +52,7 @@ pub fn repair<S: Store>(
         (λ bytes. StandsAs (image_of bytes segments.now audit.now.plan.now.tail paging) (plan_seen audit.now.plan.now) (audit.now.root.audit, audit.now.root.start) suspects.now repair)) }
 
     ensures files { S.files store.new ≡ S.files store.old }
-    ensures cause { CountsRunFaults result (S.faults store.old) (S.faults store.new) }
+    ensures cause { CountsFailures result (S.faults store.old) (S.faults store.new) }
 {
     know_verdicts();
     let room = match Room::new(alloc, segments, audit.plan.tail) {
@@ -91,7 +91,7 @@ pub(crate) fn try_all<'s, S: Store>(
     ensures exact { IfOk result.repair (λ repair. IfSome (with_paging paging (stored memory.entry.segments.items memory.entry.tail (content (S.files memory.entry.store.now) Dump (S.opened memory.entry.store.now Dump))))
         (λ image. IsRepair (verdict_with image (plan_seen audit.now.plan.now) (audit.now.root.audit, audit.now.root.start)) found suspects.now repair)) }
     ensures stays { FramesStay (λ p. stored p.segments.items p.tail (content (S.files p.store.now) Dump (S.opened p.store.now Dump))) (λ p. S.files p.store.now) (λ p. p.store.ghost_name ∷ []) memory.entry result.memory }
-    ensures cause { CountsRunFaults result.repair (S.faults memory.entry.store.now) (S.faults result.memory.store.now) }
+    ensures cause { CountsFailures result.repair (S.faults memory.entry.store.now) (S.faults result.memory.store.now) }
 {
     let mut memory = memory;
     let tried = suspects.len().min(MOST);

@@ -1,4 +1,3 @@
-pub mod Answers
 pub mod Each
 pub mod Laws
 pub mod Tally

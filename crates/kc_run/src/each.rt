@@ -10,9 +10,9 @@ ghost use Rattle.kc_plan.specs.Seen.{root_of, roots};
 ghost use Rattle.kc_plan.specs.Stands.{RootStands};
 ghost use Rattle.kc_plan.specs.Verdicts.{IsClean};
 ghost use Rattle.kc_plan.specs.Views.{plan_seen};
-ghost use Rattle.kc_run.specs.Answers.{CountsRunFaults};
 ghost use Rattle.kc_run.specs.Each.{AddsRoots, asked_root, root_at};
 ghost use Rattle.kc_run.specs.Tally.{counts_at};
+ghost use Rattle.kc_found.specs.Failures.{CountsFailures};
 
 use crate::counts::no_walks;
 use crate::laws::know_verdicts;
@@ -90,7 +90,7 @@ fn judged<S: Space, L: Ledger>(
     ensures fits { IfOk result (FitsAmong (length known.now.plan.now.audits) audits.now) }
 
     ensures stays { SpaceStays S.image S.files S.through S.most space.old space.new }
-    ensures cause { CountsRunFaults result (S.faults space.old) (S.faults space.new) }
+    ensures cause { CountsFailures result (S.faults space.old) (S.faults space.new) }
 {
     let mut counts = match no_walks(alloc, known.plan) {
         Ok(counts) => counts,
@@ -124,7 +124,7 @@ fn root_verdict<S: Space, L: Ledger>(
     ensures fits { IfOk result (FitsRoot (length known.now.plan.now.audits) (plan_seen known.now.plan.now)) }
 
     ensures stays { SpaceStays S.image S.files S.through S.most space.old space.new }
-    ensures cause { CountsRunFaults result (S.faults space.old) (S.faults space.new) }
+    ensures cause { CountsFailures result (S.faults space.old) (S.faults space.new) }
 {
     let audits = match reached_from(alloc, known.plan, root.audit) {
         Ok(audits) => audits,
@@ -183,7 +183,7 @@ pub fn run_root<S: Space, L: Ledger>(
     ensures fits { IfOk result (FitsRoot (length plan.now.audits) (plan_seen plan.now)) }
 
     ensures stays { SpaceStays S.image S.files S.through S.most space.old space.new }
-    ensures cause { CountsRunFaults result (S.faults space.old) (S.faults space.new) }
+    ensures cause { CountsFailures result (S.faults space.old) (S.faults space.new) }
 {
     know_verdicts();
     root_verdict(alloc, &Known { plan, btf }, space, root, steps)
@@ -207,7 +207,7 @@ fn add_root<S: Space, L: Ledger>(
         (root_of number (start_seen start.now)) verdicts.old verdicts.new) }
 
     ensures stays { SpaceStays S.image S.files S.through S.most space.old space.new }
-    ensures cause { CountsRunFaults result (S.faults space.old) (S.faults space.new) }
+    ensures cause { CountsFailures result (S.faults space.old) (S.faults space.new) }
 {
     let Start::Root { symbol, .. } = start else {
         return Ok(());
@@ -251,7 +251,7 @@ pub fn run_each<S: Space, L: Ledger>(
     ensures fits { IfOk result (FitEach (length plan.now.audits) (plan_seen plan.now)) }
 
     ensures stays { SpaceStays S.image S.files S.through S.most space.old space.new }
-    ensures cause { CountsRunFaults result (S.faults space.old) (S.faults space.new) }
+    ensures cause { CountsFailures result (S.faults space.old) (S.faults space.new) }
 {
     know_verdicts();
     let known = Known { plan, btf };

@@ -8,8 +8,8 @@ ghost use Rattle.kc_plan.specs.Stands.{PlanStands};
 ghost use Rattle.kc_plan.specs.Verdicts.{FitsPlan, IsClean, verdict};
 ghost use Rattle.kc_plan.specs.Planned.{start_seen};
 ghost use Rattle.kc_plan.specs.Views.{plan_seen};
-ghost use Rattle.kc_run.specs.Answers.{CountsRunFaults};
 ghost use Rattle.kc_run.specs.Tally.{NamesBelow, TalliesAs};
+ghost use Rattle.kc_found.specs.Failures.{CountsFailures};
 
 use crate::counts::no_walks;
 use crate::laws::know_verdicts;
@@ -111,7 +111,7 @@ pub fn run<S: Space, L: Ledger>(
     ensures fits { IfOk result (FitsPlan (length plan.now.audits)) }
 
     ensures stays { SpaceStays S.image S.files S.through S.most space.old space.new }
-    ensures cause { CountsRunFaults result (S.faults space.old) (S.faults space.new) }
+    ensures cause { CountsFailures result (S.faults space.old) (S.faults space.new) }
 {
     know_verdicts();
     let known = Known { plan, btf };

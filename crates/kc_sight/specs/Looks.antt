@@ -11,6 +11,7 @@ use Rattle.kc_memory.specs.Stopped.{Stopped}
 use Rattle.kc_memory.specs.Translation.{vword}
 use Rattle.kc_found.specs.declared.failed.ReadFailed.{ReadFailed}
 use Rattle.kc_found.specs.declared.failed.ReadFailed.TheVariants.{Fault, NoMemory}
+use Rattle.kc_found.specs.Failures.{CountsFailures}
 
 -- the words at so many addresses from one on, eight bytes apart, each as it reads; addresses wrap at 2^64
 unfoldable pub words : Image → ℕ → ℕ → List (Result VWord Stopped)
@@ -31,13 +32,7 @@ abbrev pub IsMissing : Stop → Result (Result VWord Stopped) ReadFailed → Typ
 IsMissing (Miss s) r = r ≡ Ok (Err s)
 IsMissing stops.Fault r = r ≡ Err Fault
 
--- the count of failures rose where reading failed, and else it is as it was
-abbrev pub CountsLookFaults : {A : Type 0} → Result A ReadFailed → ℕ → ℕ → Type 0
-CountsLookFaults (Ok a) before after = after ≡ before
-CountsLookFaults (Err Fault) before after = (before ≤ after) × Rose before after
-CountsLookFaults (Err NoMemory) before after = after ≡ before
-
 -- the same of a call after another one, which it doesn't make up for: where that one failed, nothing is counted again
 abbrev pub FaultsAfter : {A B : Type 0} → Result B ReadFailed → Result A ReadFailed → ℕ → ℕ → Type 0
-FaultsAfter (Ok b) r before after = CountsLookFaults r before after
+FaultsAfter (Ok b) r before after = CountsFailures r before after
 FaultsAfter (Err stop) r before after = (r ≡ Err stop) × (after ≡ before)

@@ -3,7 +3,8 @@ ghost use Rattle.std.specs.Prelude.{◌≡◌, Ok, option_map};
 ghost use Rattle.std.specs.Result.{result_ok};
 ghost use Rattle.kc_memory.specs.Stays.{SpaceStays};
 ghost use Rattle.kc_sight.specs.Aliases.{alias_at, aliases, by_direct, by_image, direct_base, fixed_base, same_word};
-ghost use Rattle.kc_sight.specs.Looks.{CountsLookFaults, LooksAs};
+ghost use Rattle.kc_sight.specs.Looks.{LooksAs};
+ghost use Rattle.kc_found.specs.Failures.{CountsFailures};
 
 use crate::symbol::IMAGE_START;
 use crate::words::{Seen, read_word};
@@ -63,7 +64,7 @@ fn read_base<S: Space, L: Ledger>(
 ) -> Result<Option<u64>, ReadFailed>
     ensures base { LooksAs (λ b. b) (λ image. direct_base image rules.now.five rules.now.direct) (S.image space.old) result }
     ensures stays { SpaceStays S.image S.files S.through S.most space.old space.new }
-    ensures cause { CountsLookFaults result (S.faults space.old) (S.faults space.new) }
+    ensures cause { CountsFailures result (S.faults space.old) (S.faults space.new) }
 {
     match rules.direct {
         Ok(at) => Ok(value_in(read_word(space, at, steps)?)),
@@ -91,7 +92,7 @@ fn read_alias<S: Space, L: Ledger>(
 ) -> Result<Option<VWord>, ReadFailed>
     ensures alias { LooksAs (λ w. w) (λ image. alias_at image word.now at) (S.image space.old) result }
     ensures stays { SpaceStays S.image S.files S.through S.most space.old space.new }
-    ensures cause { CountsLookFaults result (S.faults space.old) (S.faults space.new) }
+    ensures cause { CountsFailures result (S.faults space.old) (S.faults space.new) }
 {
     if at == word.va {
         return Ok(None);
@@ -108,7 +109,7 @@ fn read_direct<S: Space, L: Ledger>(
 ) -> Result<Option<VWord>, ReadFailed>
     ensures alias { LooksAs (λ w. w) (λ image. by_direct image word.now base) (S.image space.old) result }
     ensures stays { SpaceStays S.image S.files S.through S.most space.old space.new }
-    ensures cause { CountsLookFaults result (S.faults space.old) (S.faults space.new) }
+    ensures cause { CountsFailures result (S.faults space.old) (S.faults space.new) }
 {
     match base {
         Some(base) => read_alias(space, word, base.wrapping_add(word.pa), steps),
@@ -125,7 +126,7 @@ fn read_image<S: Space, L: Ledger>(
 ) -> Result<Option<VWord>, ReadFailed>
     ensures alias { LooksAs (λ w. w) (λ image. by_image image word.now base) (S.image space.old) result }
     ensures stays { SpaceStays S.image S.files S.through S.most space.old space.new }
-    ensures cause { CountsLookFaults result (S.faults space.old) (S.faults space.new) }
+    ensures cause { CountsFailures result (S.faults space.old) (S.faults space.new) }
 {
     let at = IMAGE_START.wrapping_add(word.pa).wrapping_sub(base);
     read_alias(space, word, at, steps)
@@ -140,7 +141,7 @@ fn read_both<S: Space, L: Ledger>(
 ) -> Result<Aliases, ReadFailed>
     ensures aliases { LooksAs (λ a. a) (λ image. aliases image rules.now (Ok word.now)) (S.image space.old) result }
     ensures stays { SpaceStays S.image S.files S.through S.most space.old space.new }
-    ensures cause { CountsLookFaults result (S.faults space.old) (S.faults space.new) }
+    ensures cause { CountsFailures result (S.faults space.old) (S.faults space.new) }
 {
     let base = read_base(space, rules, steps)?;
     let direct = read_direct(space, word, base, steps)?;
@@ -162,7 +163,7 @@ pub fn read_aliases<S: Space, L: Ledger>(
 ) -> Result<Aliases, ReadFailed>
     ensures aliases { LooksAs (λ a. a) (λ image. aliases image rules.now word.now) (S.image space.old) result }
     ensures stays { SpaceStays S.image S.files S.through S.most space.old space.new }
-    ensures cause { CountsLookFaults result (S.faults space.old) (S.faults space.new) }
+    ensures cause { CountsFailures result (S.faults space.old) (S.faults space.new) }
 {
     match word {
         Ok(word) => read_both(space, word, rules, steps),

@@ -4,7 +4,8 @@ ghost use Rattle.kc_memory.specs.declared.words.PWord.{PWord as Word};
 ghost use Rattle.kc_memory.specs.Stays.{FramesStay};
 ghost use Rattle.kc_memory.specs.Translation.{index_at, is_canonical, is_set, judged, levels, refusal};
 ghost use Rattle.kc_sight.specs.Entries.{entries, entries_from, page_bytes, table_in};
-ghost use Rattle.kc_sight.specs.Looks.{CountsLookFaults, LooksAs};
+ghost use Rattle.kc_sight.specs.Looks.{LooksAs};
+ghost use Rattle.kc_found.specs.Failures.{CountsFailures};
 
 use kc_found::ReadFailed;
 use kc_memory::{FrameStop, Frames, PWord};
@@ -87,7 +88,7 @@ fn push_entries<F: Frames, L: Ledger>(
         (λ physical. entries.new.items ≡ entries.old.items ++ entries_from physical sme va level table)) }
     ensures steps { steps.new ≤ steps.old + level }
     ensures stays { FramesStay F.image F.files F.through frames.old frames.new }
-    ensures cause { CountsLookFaults result (F.faults frames.old) (F.faults frames.new) }
+    ensures cause { CountsFailures result (F.faults frames.old) (F.faults frames.new) }
 {
     if level == 0 {
         return Ok(());
@@ -132,7 +133,7 @@ pub fn read_entries<F: Frames, L: Ledger>(
     ensures entries { LooksAs (λ found. found.items) (λ physical. entries (record { physical = physical; paging = paging.now }) va) (F.image frames.old) result }
     ensures steps { steps.new ≤ steps.old + levels paging.now }
     ensures stays { FramesStay F.image F.files F.through frames.old frames.new }
-    ensures cause { CountsLookFaults result (F.faults frames.old) (F.faults frames.new) }
+    ensures cause { CountsFailures result (F.faults frames.old) (F.faults frames.new) }
 {
     let mut entries = Vec::new(alloc);
     if is_canonical(paging, va) {

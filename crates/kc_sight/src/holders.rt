@@ -3,8 +3,9 @@ ghost use Rattle.std.specs.Prelude.{◌≡◌, map, option_map};
 ghost use Rattle.kc_memory.specs.Stays.{SpaceStays};
 ghost use Rattle.kc_sight.specs.Holders.{has_value, holder_by, is_holder};
 ghost use Rattle.kc_sight.specs.Lines.{row_in};
-ghost use Rattle.kc_sight.specs.Looks.{CountsLookFaults, LooksAs};
+ghost use Rattle.kc_sight.specs.Looks.{LooksAs};
 ghost use Rattle.kc_sight.specs.Views.{row_view, symbol_view, symbols_holding};
+ghost use Rattle.kc_found.specs.Failures.{CountsFailures};
 
 use crate::symbol::{ImageMap, Row, Symbol, at_run, row_in};
 use crate::words::{Seen, read_word};
@@ -35,7 +36,7 @@ fn is_holder<S: Space, L: Ledger>(
 ) -> Result<bool, ReadFailed>
     ensures holder { LooksAs (λ b. b) (λ i. is_holder i image.now.text_end image.now.end value at) (S.image space.old) result }
     ensures stays { SpaceStays S.image S.files S.through S.most space.old space.new }
-    ensures cause { CountsLookFaults result (S.faults space.old) (S.faults space.new) }
+    ensures cause { CountsFailures result (S.faults space.old) (S.faults space.new) }
 {
     if at % 8 != 0 || !image.has_data(at) {
         return Ok(false);
@@ -53,7 +54,7 @@ fn holder_by<'m, S: Space, L: Ledger>(
 ) -> Result<Option<Symbol<'m>>, ReadFailed>
     ensures holder { LooksAs (λ s. option_map symbol_view s) (λ i. holder_by i image.now.text_end image.now.end image.now.kaslr value (option_map row_view row.entry)) (S.image space.old) result }
     ensures stays { SpaceStays S.image S.files S.through S.most space.old space.new }
-    ensures cause { CountsLookFaults result (S.faults space.old) (S.faults space.new) }
+    ensures cause { CountsFailures result (S.faults space.old) (S.faults space.new) }
 {
     let Some(row) = row else {
         return Ok(None);
@@ -83,7 +84,7 @@ pub fn find_holders<'m, S: Space, L: Ledger>(
 ) -> Result<Vec<Symbol<'m>>, ReadFailed>
     ensures holders { LooksAs (λ found. map symbol_view found.items) (λ i. symbols_holding i image.now value) (S.image space.old) result }
     ensures stays { SpaceStays S.image S.files S.through S.most space.old space.new }
-    ensures cause { CountsLookFaults result (S.faults space.old) (S.faults space.new) }
+    ensures cause { CountsFailures result (S.faults space.old) (S.faults space.new) }
 {
     let mut found = Vec::new(alloc);
     for line in image.map.lines() {

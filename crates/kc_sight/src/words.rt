@@ -2,7 +2,8 @@
 ghost use Rattle.std.specs.Prelude.{◌≡◌, ◌+◌, ◌*◌, ◌≤◌};
 ghost use Rattle.kc_memory.specs.Stays.{SpaceStays};
 ghost use Rattle.kc_memory.specs.Translation.{vword};
-ghost use Rattle.kc_sight.specs.Looks.{CountsLookFaults, IsMissing, LooksAs, words};
+ghost use Rattle.kc_sight.specs.Looks.{IsMissing, LooksAs, words};
+ghost use Rattle.kc_found.specs.Failures.{CountsFailures};
 
 use kc_found::ReadFailed;
 use kc_memory::{Miss, Space, Stop, VWord};
@@ -26,7 +27,7 @@ pub fn read_word<S: Space, L: Ledger>(
     ensures word { LooksAs (λ w. w) (λ image. vword image va) (S.image space.old) result }
     ensures steps { steps.new ≤ steps.old + S.most space.old }
     ensures stays { SpaceStays S.image S.files S.through S.most space.old space.new }
-    ensures cause { CountsLookFaults result (S.faults space.old) (S.faults space.new) }
+    ensures cause { CountsFailures result (S.faults space.old) (S.faults space.new) }
 {
     match space.word(va, steps) {
         Ok(word) => Ok(Ok(word)),
@@ -60,7 +61,7 @@ pub fn read_words<S: Space, L: Ledger>(
     ensures words { LooksAs (λ seen. seen.items) (λ image. words image first count) (S.image space.old) result }
     ensures steps { steps.new ≤ steps.old + S.most space.old * count }
     ensures stays { SpaceStays S.image S.files S.through S.most space.old space.new }
-    ensures cause { CountsLookFaults result (S.faults space.old) (S.faults space.new) }
+    ensures cause { CountsFailures result (S.faults space.old) (S.faults space.new) }
 {
     let mut words = Vec::new(alloc);
     for i in 0..count {

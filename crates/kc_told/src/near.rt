@@ -1,8 +1,9 @@
 // What the words beside an address lead to.
 ghost use Rattle.std.specs.Prelude.{◌≡◌};
 ghost use Rattle.kc_memory.specs.Stays.{SpaceStays};
-ghost use Rattle.kc_sight.specs.Looks.{CountsLookFaults, LooksAs};
+ghost use Rattle.kc_sight.specs.Looks.{LooksAs};
 ghost use Rattle.kc_told.specs.Near.{described_by, lead_at, lead_of, near_word, near_words, nothing};
+ghost use Rattle.kc_found.specs.Failures.{CountsFailures};
 
 use crate::told::tell_held;
 use kc_btf::Btf;
@@ -53,7 +54,7 @@ fn tell_described<S: Space, L: Ledger>(
 ) -> Result<Option<Described>, ReadFailed>
     ensures told { LooksAs (λ d. d) (λ image. described_by image shape.now address word.now) (S.image space.old) result }
     ensures stays { SpaceStays S.image S.files S.through S.most space.old space.new }
-    ensures cause { CountsLookFaults result (S.faults space.old) (S.faults space.new) }
+    ensures cause { CountsFailures result (S.faults space.old) (S.faults space.new) }
 {
     let Some(shape) = shape else {
         return Ok(None);
@@ -80,7 +81,7 @@ fn lead_at<S: Space, L: Ledger>(
 ) -> Result<Lead, ReadFailed>
     ensures told { LooksAs (λ l. l) (λ image. lead_at image shape.now address) (S.image space.old) result }
     ensures stays { SpaceStays S.image S.files S.through S.most space.old space.new }
-    ensures cause { CountsLookFaults result (S.faults space.old) (S.faults space.new) }
+    ensures cause { CountsFailures result (S.faults space.old) (S.faults space.new) }
 {
     if shape.is_none() {
         return Ok(nothing());
@@ -102,7 +103,7 @@ fn lead_of<S: Space, L: Ledger>(
 ) -> Result<Lead, ReadFailed>
     ensures told { LooksAs (λ l. l) (λ image. lead_of image shape.now word.now) (S.image space.old) result }
     ensures stays { SpaceStays S.image S.files S.through S.most space.old space.new }
-    ensures cause { CountsLookFaults result (S.faults space.old) (S.faults space.new) }
+    ensures cause { CountsFailures result (S.faults space.old) (S.faults space.new) }
 {
     match meaning_of(word.va, word.value) {
         Meaning::Number => lead_at(alloc, space, types, shape, word.value, steps),
@@ -121,7 +122,7 @@ fn near_word<S: Space, L: Ledger>(
 ) -> Result<NearWord, ReadFailed>
     ensures told { LooksAs (λ w. w) (λ image. near_word image shape.now seen.now) (S.image space.old) result }
     ensures stays { SpaceStays S.image S.files S.through S.most space.old space.new }
-    ensures cause { CountsLookFaults result (S.faults space.old) (S.faults space.new) }
+    ensures cause { CountsFailures result (S.faults space.old) (S.faults space.new) }
 {
     let lead = match seen {
         Ok(word) => lead_of(alloc, space, types, shape, word, steps)?,
@@ -141,7 +142,7 @@ pub(crate) fn near_words<S: Space, L: Ledger>(
 ) -> Result<Vec<NearWord>, ReadFailed>
     ensures told { LooksAs (λ words. words.items) (λ image. near_words image shape.now near.now) (S.image space.old) result }
     ensures stays { SpaceStays S.image S.files S.through S.most space.old space.new }
-    ensures cause { CountsLookFaults result (S.faults space.old) (S.faults space.new) }
+    ensures cause { CountsFailures result (S.faults space.old) (S.faults space.new) }
 {
     let mut words = Vec::new(alloc);
     for seen in near {

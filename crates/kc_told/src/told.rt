@@ -5,12 +5,13 @@ ghost use Rattle.kc_memory.specs.Translation.{vword};
 ghost use Rattle.kc_view.specs.TaskLists.{IsInside};
 ghost use Rattle.kc_owner.specs.Area.Areas.{areas};
 ghost use Rattle.kc_sight.specs.Aliases.{aliases};
-ghost use Rattle.kc_sight.specs.Looks.{CountsLookFaults, FaultsAfter, LooksAs, words};
+ghost use Rattle.kc_sight.specs.Looks.{FaultsAfter, LooksAs, words};
 ghost use Rattle.kc_sight.specs.Sights.{near, page_start, word_start};
 ghost use Rattle.kc_sight.specs.Views.{symbol_view, symbols_holding};
 ghost use Rattle.kc_told.specs.Near.{near_of};
 ghost use Rattle.kc_told.specs.Objects.{areas_by, held_by, holders_by, is_slab, shared, shared_in, told_by, told_of};
 ghost use Rattle.kc_told.specs.Views.{shapes_view, told_view};
+ghost use Rattle.kc_found.specs.Failures.{CountsFailures};
 
 use crate::near::{NearWord, near_words};
 use crate::object_text::NEGATIVE;
@@ -77,7 +78,7 @@ pub(crate) fn tell_held<S: Space, L: Ledger>(
 ) -> Result<Option<Result<Held, Found>>, ReadFailed>
     ensures told { LooksAs (λ t. t) (λ image. held_by image shape.now address word.now) (S.image space.old) result }
     ensures stays { SpaceStays S.image S.files S.through S.most space.old space.new }
-    ensures cause { CountsLookFaults result (S.faults space.old) (S.faults space.new) }
+    ensures cause { CountsFailures result (S.faults space.old) (S.faults space.new) }
 {
     let Some(shape) = shape else {
         return Ok(None);
@@ -140,7 +141,7 @@ fn tell_areas<S: Space, L: Ledger>(
     requires { IfSome shape.now.stacks (λ shape. IsInside shape.tasks types.now) }
     ensures told { LooksAs (λ a. a) (λ image. areas image shape.now stacks address) (S.image space.old) result }
     ensures stays { SpaceStays S.image S.files S.through S.most space.old space.new }
-    ensures cause { CountsLookFaults result (S.faults space.old) (S.faults space.new) }
+    ensures cause { CountsFailures result (S.faults space.old) (S.faults space.new) }
 {
     match read_areas(alloc, space, types, shape, stacks, address, steps) {
         Ok(areas) => Ok(areas),
@@ -162,7 +163,7 @@ fn tell_outside<S: Space, L: Ledger>(
     requires { IfSome shapes.now.words.areas.stacks (λ shape. IsInside shape.tasks types.now) }
     ensures told { LooksAs (λ a. a) (λ image. areas_by image (shapes_view shapes.now) address held.now) (S.image space.old) result }
     ensures stays { SpaceStays S.image S.files S.through S.most space.old space.new }
-    ensures cause { CountsLookFaults result (S.faults space.old) (S.faults space.new) }
+    ensures cause { CountsFailures result (S.faults space.old) (S.faults space.new) }
 {
     if shapes.map.holds(address) {
         return Ok(Areas {
@@ -193,7 +194,7 @@ fn tell_holders<'m, S: Space, L: Ledger>(
 ) -> Result<Vec<Symbol<'m>>, ReadFailed>
     ensures told { LooksAs (λ found. map symbol_view found.items) (λ image. holders_by (λ cache. symbols_holding image symbols.now cache) cache) (S.image space.old) result }
     ensures stays { SpaceStays S.image S.files S.through S.most space.old space.new }
-    ensures cause { CountsLookFaults result (S.faults space.old) (S.faults space.new) }
+    ensures cause { CountsFailures result (S.faults space.old) (S.faults space.new) }
 {
     match cache {
         Some(cache) => find_holders(alloc, space, symbols, cache, steps),
@@ -214,7 +215,7 @@ fn tell<'m, S: Space, L: Ledger>(
     requires { IfSome shapes.now.words.areas.stacks (λ shape. IsInside shape.tasks types.now) }
     ensures told { LooksAs told_view (λ image. told_by image (shapes_view shapes.now) address word.now) (S.image space.old) result }
     ensures stays { SpaceStays S.image S.files S.through S.most space.old space.new }
-    ensures cause { CountsLookFaults result (S.faults space.old) (S.faults space.new) }
+    ensures cause { CountsFailures result (S.faults space.old) (S.faults space.new) }
 {
     let held = tell_held(
         alloc,
@@ -250,7 +251,7 @@ pub fn read_told<'m, S: Space, L: Ledger>(
     requires { IfSome shapes.now.words.areas.stacks (λ shape. IsInside shape.tasks types.now) }
     ensures told { LooksAs told_view (λ image. told_of image (shapes_view shapes.now) address) (S.image space.old) result }
     ensures stays { SpaceStays S.image S.files S.through S.most space.old space.new }
-    ensures cause { CountsLookFaults result (S.faults space.old) (S.faults space.new) }
+    ensures cause { CountsFailures result (S.faults space.old) (S.faults space.new) }
 {
     let word = read_word(space, word_start(address), steps)?;
     tell(alloc, space, types, shapes, address, &word, steps)

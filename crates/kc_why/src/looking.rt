@@ -8,11 +8,11 @@ ghost use Rattle.kc_phys.specs.Stored.{AreInside};
 ghost use Rattle.kc_tlb.specs.Entries.{AreEmpty};
 ghost use Rattle.kc_command.specs.Halts.{NotRefused, OnStore, UnlessStore};
 ghost use Rattle.kc_command.specs.Paging.{IsTable, by_info};
-ghost use Rattle.kc_sight.specs.Looks.{CountsLookFaults};
 ghost use Rattle.kc_why.specs.Looking.{LeadsAs, SightsAs, TellsAs, halted};
 ghost use Rattle.kc_why.specs.Memory.{image_of};
 ghost use Rattle.kc_told.specs.Views.{shapes_view};
 ghost use Rattle.kc_view.specs.TaskLists.{IsInside};
+ghost use Rattle.kc_found.specs.Failures.{CountsFailures};
 
 use kc_btf::Btf;
 use kc_command::{Halt, paging_by};
@@ -125,7 +125,7 @@ fn look<'m, S: Store, L: Ledger>(
     ensures leads { LeadsAs (option_map (λ bytes. image_of bytes room.segments.items paging) (content (S.files store.old) Dump (S.opened store.old Dump)))
         (shapes_view shapes.now) address result }
     ensures files { S.files store.new ≡ S.files store.old }
-    ensures cause { CountsLookFaults result (S.faults store.old) (S.faults store.new) }
+    ensures cause { CountsFailures result (S.faults store.old) (S.faults store.new) }
 {
     let mut steps = Steps::<L>::new(blank);
     let mut frames = Phys::over(store, room);

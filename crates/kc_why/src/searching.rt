@@ -13,10 +13,11 @@ ghost use Rattle.kc_command.specs.Halts.{NotRefused, OnStore, UnlessStore};
 ghost use Rattle.kc_command.specs.Paging.{IsTable, by_info};
 ghost use Rattle.kc_owner.specs.declared.object.keys.CacheKey.{CacheKey as Key};
 ghost use Rattle.kc_sight.specs.Refs.Holding.{in_segments};
-ghost use Rattle.kc_sight.specs.Refs.Stops.{CountsFaults, Told};
+ghost use Rattle.kc_sight.specs.Refs.Stops.{Told};
 ghost use Rattle.kc_why.specs.Memory.{image_of};
 ghost use Rattle.kc_why.specs.Searching.{direct_in, keys_of, search_halted, sought_by};
 ghost use Rattle.kc_why.specs.WordText.{words_text};
+ghost use Rattle.kc_found.specs.Failures.{CountsFailures};
 
 use crate::written::{keys_in, words_text};
 use kc_btf::Btf;
@@ -61,7 +62,7 @@ fn read_told<S: Space, L: Ledger>(
 ) -> Result<ToldKeys, ReadFailed>
     ensures told { IfOk result (λ told. IfSome (S.image space.old) (λ i. told ≡ keys_of i shape.now)) }
     ensures stays { SpaceStays S.image S.files S.through S.most space.old space.new }
-    ensures cause { CountsFaults result (S.faults space.old) (S.faults space.new) }
+    ensures cause { CountsFailures result (S.faults space.old) (S.faults space.new) }
 {
     let Some(shape) = shape else {
         return Ok(None);
@@ -124,7 +125,7 @@ fn find_if<S: Store>(
     ensures found { OnTrue same (IfOk result (λ found. Told (content (S.files store.old) Dump (S.opened store.old Dump)) (λ bytes.
         found.items ≡ in_segments sought.now bytes segments.now))) }
     ensures files { S.files store.new ≡ S.files store.old }
-    ensures cause { CountsFaults result (S.faults store.old) (S.faults store.new) }
+    ensures cause { CountsFailures result (S.faults store.old) (S.faults store.new) }
 {
     if same {
         find_words(alloc, store, segments, sought)
@@ -159,7 +160,7 @@ fn search<S: Store, L: Ledger>(
     ensures found { IfOk result (λ r. Told (content (S.files store.old) Dump (S.opened store.old Dump)) (λ bytes.
         r.found.items ≡ in_segments (sought_by value r.told) bytes segments.now)) }
     ensures files { S.files store.new ≡ S.files store.old }
-    ensures cause { CountsFaults result (S.faults store.old) (S.faults store.new) }
+    ensures cause { CountsFailures result (S.faults store.old) (S.faults store.new) }
 {
     let mut steps = Steps::<L>::new(blank);
     let frames = Phys::over(store, room);

@@ -28,12 +28,6 @@ JudgesAs judge before after (Some i) (Err Unfit) = judge i before ≡ Err after.
 JudgesAs judge before after (Some i) (Err Fault) = ⊤
 JudgesAs judge before after (Some i) (Err NoMemory) = ⊤
 
--- the count of failures rose where reading failed, and else it is as it was
-abbrev pub CountsRecheckFaults : {A : Type 0} → Result A ReadFailed → ℕ → ℕ → Type 0
-CountsRecheckFaults (Ok x) before after = after ≡ before
-CountsRecheckFaults (Err stops.Fault) before after = (before ≤ after) × Rose before after
-CountsRecheckFaults (Err stops.NoMemory) before after = after ≡ before
-
 -- How many steps each step, list and number of a certificate may cost.
 abbrev pub cost : ℕ
 cost = 1200000

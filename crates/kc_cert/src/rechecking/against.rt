@@ -6,9 +6,10 @@ ghost use Rattle.kc_plan.specs.Planned.{start_seen};
 ghost use Rattle.kc_plan.specs.Seen.{root_of};
 ghost use Rattle.kc_plan.specs.Views.{plan_seen};
 ghost use Rattle.kc_found.specs.Tests.{CountsTestFaults};
-ghost use Rattle.kc_cert.specs.Rechecking.Answers.{CountsRecheckFaults, IsRight, JudgesAs, Spends, progress};
+ghost use Rattle.kc_cert.specs.Rechecking.Answers.{IsRight, JudgesAs, Spends, progress};
 ghost use Rattle.kc_cert.specs.Rechecking.Certificates.{answer, answer_by, each_judged, judged, number_of, roots_judged};
 ghost use Rattle.kc_cert.specs.Fits.Size.{size};
+ghost use Rattle.kc_found.specs.Failures.{CountsFailures};
 
 use crate::rechecking::nest::{Cursor, Known, enter};
 use crate::{Certificate, know_walked};
@@ -140,7 +141,7 @@ pub fn recheck<S: Space, L: Ledger>(
     ensures bound { steps.new ≤ steps.old + 1200000 * (size cert.now + 1) }
 
     ensures stays { SpaceStays S.image S.files S.through S.most space.old space.new }
-    ensures cause { CountsRecheckFaults result (S.faults space.old) (S.faults space.new) }
+    ensures cause { CountsFailures result (S.faults space.old) (S.faults space.new) }
 {
     know_walked();
     know_verdicts();

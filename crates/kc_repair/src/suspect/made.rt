@@ -2,8 +2,8 @@
 ghost use Rattle.std.specs.Prelude.{◌≡◌, ◌<◌, ◌++◌, Some, OnOk, IfOk, IfSome};
 ghost use Rattle.std.specs.List.{flat_map};
 ghost use Rattle.kc_memory.specs.Stays.{SpaceStays};
-ghost use Rattle.kc_repair.specs.Suspect.Answers.{CountsSuspectFaults};
 ghost use Rattle.kc_repair.specs.Suspect.Changes.{bits_below, flipped, made, made_of, suspect_of};
+ghost use Rattle.kc_found.specs.Failures.{CountsFailures};
 
 use crate::suspect::change::{Change, Changes, How};
 use crate::suspect::suspect::{Suspect, Suspects};
@@ -70,7 +70,7 @@ fn push_made<S: Space, L: Ledger>(
 ) -> Result<(), ReadFailed>
     ensures made { OnOk result (IfSome (S.image space.old) (λ image. suspects.new ≡ suspects.old ++ made image change)) }
     ensures stays { SpaceStays S.image S.files S.through S.most space.old space.new }
-    ensures cause { CountsSuspectFaults result (S.faults space.old) (S.faults space.new) }
+    ensures cause { CountsFailures result (S.faults space.old) (S.faults space.new) }
 {
     if let Some(word) = read_word(space, change.at, steps)? {
         push_word(suspects, &word, change.how)?;
@@ -87,7 +87,7 @@ pub(crate) fn make_all<S: Space, L: Ledger>(
 ) -> Result<Suspects, ReadFailed>
     ensures made { IfOk result (λ found. IfSome (S.image space.old) (λ image. found ≡ flat_map (made image) changes.now)) }
     ensures stays { SpaceStays S.image S.files S.through S.most space.old space.new }
-    ensures cause { CountsSuspectFaults result (S.faults space.old) (S.faults space.new) }
+    ensures cause { CountsFailures result (S.faults space.old) (S.faults space.new) }
 {
     let mut suspects = Suspects::new(alloc);
     for change in changes.as_slice() {

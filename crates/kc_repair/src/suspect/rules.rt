@@ -3,9 +3,9 @@ ghost use Rattle.std.specs.Prelude.{◌≡◌, ◌++◌, ◌<◌, ◌≤◌, ◌
 ghost use Rattle.std.specs.List.{flat_map};
 ghost use Rattle.std.specs.Option.{option_map_or};
 ghost use Rattle.kc_memory.specs.Stays.{SpaceStays};
-ghost use Rattle.kc_repair.specs.Suspect.Answers.{CountsSuspectFaults};
 ghost use Rattle.kc_repair.specs.Suspect.Changes.{each, to};
 ghost use Rattle.kc_repair.specs.Suspect.Suspects.{before_changes, by_way, changes, entry_changes, first_address, led_by, passed_changes, place_bits, pointed_changes, relinked, second_link, shown, word_changes};
+ghost use Rattle.kc_found.specs.Failures.{CountsFailures};
 
 use crate::suspect::change::{Change, Changes, How};
 use crate::suspect::fields::{push_bits, push_member, push_own, push_some};
@@ -68,7 +68,7 @@ fn second_link<S: Space, L: Ledger>(
 ) -> Result<Option<u64>, ReadFailed>
     ensures link { IfOk result (λ link. IfSome (S.image space.old) (λ image. link ≡ second_link image kind.now found.now)) }
     ensures stays { SpaceStays S.image S.files S.through S.most space.old space.new }
-    ensures cause { CountsSuspectFaults result (S.faults space.old) (S.faults space.new) }
+    ensures cause { CountsFailures result (S.faults space.old) (S.faults space.new) }
 {
     match kind {
         Kind::Ring(shape) => {
@@ -100,7 +100,7 @@ fn push_relinked<S: Space, L: Ledger>(
 ) -> Result<(), ReadFailed>
     ensures added { OnOk result (IfSome (S.image space.old) (λ image. changes.new ≡ changes.old ++ relinked image kind.now found.now link)) }
     ensures stays { SpaceStays S.image S.files S.through S.most space.old space.new }
-    ensures cause { CountsSuspectFaults result (S.faults space.old) (S.faults space.new) }
+    ensures cause { CountsFailures result (S.faults space.old) (S.faults space.new) }
 {
     match kind {
         Kind::Ring(shape) => {
@@ -133,7 +133,7 @@ fn push_led<S: Space, L: Ledger>(
 ) -> Result<(), ReadFailed>
     ensures added { OnOk result (IfSome (S.image space.old) (λ image. changes.new ≡ changes.old ++ led_by image kind.now found.now link)) }
     ensures stays { SpaceStays S.image S.files S.through S.most space.old space.new }
-    ensures cause { CountsSuspectFaults result (S.faults space.old) (S.faults space.new) }
+    ensures cause { CountsFailures result (S.faults space.old) (S.faults space.new) }
 {
     match link {
         Some(link) => push_relinked(changes, kind, found, link, space, steps),
@@ -162,7 +162,7 @@ fn push_passed<S: Space, L: Ledger>(
 ) -> Result<(), ReadFailed>
     ensures added { OnOk result (IfSome (S.image space.old) (λ image. changes.new ≡ changes.old ++ passed_changes image kind.now found.now node)) }
     ensures stays { SpaceStays S.image S.files S.through S.most space.old space.new }
-    ensures cause { CountsSuspectFaults result (S.faults space.old) (S.faults space.new) }
+    ensures cause { CountsFailures result (S.faults space.old) (S.faults space.new) }
 {
     if let Kind::Ring(shape) = kind {
         let link = node.wrapping_add(shape.next);
@@ -182,7 +182,7 @@ fn push_passed_by<S: Space, L: Ledger>(
 ) -> Result<(), ReadFailed>
     ensures added { OnOk result (IfSome (S.image space.old) (λ image. changes.new ≡ changes.old ++ option_map_or (passed_changes image kind.now found.now) found.now.expected [])) }
     ensures stays { SpaceStays S.image S.files S.through S.most space.old space.new }
-    ensures cause { CountsSuspectFaults result (S.faults space.old) (S.faults space.new) }
+    ensures cause { CountsFailures result (S.faults space.old) (S.faults space.new) }
 {
     match found.expected {
         Some(node) => push_passed(changes, kind, found, node, space, steps),
@@ -200,7 +200,7 @@ fn push_before<S: Space, L: Ledger>(
 ) -> Result<(), ReadFailed>
     ensures added { OnOk result (IfSome (S.image space.old) (λ image. changes.new ≡ changes.old ++ before_changes image kind.now found.now)) }
     ensures stays { SpaceStays S.image S.files S.through S.most space.old space.new }
-    ensures cause { CountsSuspectFaults result (S.faults space.old) (S.faults space.new) }
+    ensures cause { CountsFailures result (S.faults space.old) (S.faults space.new) }
 {
     push_passed_by(changes, kind, found, space, steps)?;
     Ok(push_word(changes, found)?)
@@ -234,7 +234,7 @@ fn push_by_way<S: Space, L: Ledger>(
 ) -> Result<(), ReadFailed>
     ensures added { OnOk result (IfSome (S.image space.old) (λ image. changes.new ≡ changes.old ++ by_way image kind.now found.now way)) }
     ensures stays { SpaceStays S.image S.files S.through S.most space.old space.new }
-    ensures cause { CountsSuspectFaults result (S.faults space.old) (S.faults space.new) }
+    ensures cause { CountsFailures result (S.faults space.old) (S.faults space.new) }
 {
     match way {
         Way::Led => {
@@ -277,7 +277,7 @@ pub(crate) fn changes_of<S: Space, L: Ledger>(
 ) -> Result<Changes, ReadFailed>
     ensures changes { IfOk result (λ found_changes. IfSome (S.image space.old) (λ image. found_changes ≡ changes image kind.now found.now)) }
     ensures stays { SpaceStays S.image S.files S.through S.most space.old space.new }
-    ensures cause { CountsSuspectFaults result (S.faults space.old) (S.faults space.new) }
+    ensures cause { CountsFailures result (S.faults space.old) (S.faults space.new) }
 {
     let mut changes = Changes::new(alloc);
     push_by_way(

@@ -1,8 +1,8 @@
 // What is suspected of a violation.
 ghost use Rattle.std.specs.Prelude.{◌≡◌, IfOk, IfSome};
 ghost use Rattle.kc_memory.specs.Stays.{SpaceStays};
-ghost use Rattle.kc_repair.specs.Suspect.Answers.{CountsSuspectFaults};
 ghost use Rattle.kc_repair.specs.Suspect.Suspects.{suspects};
+ghost use Rattle.kc_found.specs.Failures.{CountsFailures};
 
 use crate::suspect::made::make_all;
 use crate::suspect::rules::changes_of;
@@ -29,7 +29,7 @@ pub fn suspects<S: Space, L: Ledger>(
 ) -> Result<Suspects, ReadFailed>
     ensures exact { IfOk result (λ suspected. IfSome (S.image space.old) (λ image. suspected ≡ suspects image kind.now found.now)) }
     ensures stays { SpaceStays S.image S.files S.through S.most space.old space.new }
-    ensures cause { CountsSuspectFaults result (S.faults space.old) (S.faults space.new) }
+    ensures cause { CountsFailures result (S.faults space.old) (S.faults space.new) }
 {
     let changes = changes_of(alloc, kind, found, space, steps)?;
     make_all(alloc, &changes, space, steps)

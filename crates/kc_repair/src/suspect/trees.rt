@@ -1,8 +1,8 @@
 // Nodes of red-black trees whose parent or colour may be wrong.
 ghost use Rattle.std.specs.Prelude.{◌≡◌, ◌++◌, Some, OnOk, IfOk, IfSome};
 ghost use Rattle.kc_memory.specs.Stays.{SpaceStays};
-ghost use Rattle.kc_repair.specs.Suspect.Answers.{CountsSuspectFaults};
 ghost use Rattle.kc_repair.specs.Suspect.Trees.{bits_if, colour_of, colours, colours_of, link_bits, parent_by, parent_changes, upper_bits};
+ghost use Rattle.kc_found.specs.Failures.{CountsFailures};
 
 use crate::suspect::change::{Change, Changes, How};
 use crate::suspect::fields::push_bits;
@@ -35,7 +35,7 @@ fn push_link<S: Space, L: Ledger>(
 ) -> Result<(), ReadFailed>
     ensures added { OnOk result (IfSome (S.image space.old) (λ image. changes.new ≡ changes.old ++ link_bits image node at)) }
     ensures stays { SpaceStays S.image S.files S.through S.most space.old space.new }
-    ensures cause { CountsSuspectFaults result (S.faults space.old) (S.faults space.new) }
+    ensures cause { CountsFailures result (S.faults space.old) (S.faults space.new) }
 {
     let link = read_word(space, at, steps)?;
     push_if(changes, node, link)?;
@@ -54,7 +54,7 @@ fn push_upper<S: Space, L: Ledger>(
 ) -> Result<(), ReadFailed>
     ensures added { OnOk result (IfSome (S.image space.old) (λ image. changes.new ≡ changes.old ++ upper_bits image shape.now head node parent)) }
     ensures stays { SpaceStays S.image S.files S.through S.most space.old space.new }
-    ensures cause { CountsSuspectFaults result (S.faults space.old) (S.faults space.new) }
+    ensures cause { CountsFailures result (S.faults space.old) (S.faults space.new) }
 {
     if parent == 0 {
         return push_link(changes, node, head.wrapping_add(shape.root), space, steps);
@@ -80,7 +80,7 @@ fn push_by_parent<S: Space, L: Ledger>(
 ) -> Result<(), ReadFailed>
     ensures added { OnOk result (IfSome (S.image space.old) (λ image. changes.new ≡ changes.old ++ parent_by image shape.now found.now parent)) }
     ensures stays { SpaceStays S.image S.files S.through S.most space.old space.new }
-    ensures cause { CountsSuspectFaults result (S.faults space.old) (S.faults space.new) }
+    ensures cause { CountsFailures result (S.faults space.old) (S.faults space.new) }
 {
     push_bits(changes, found.at, 2, 62, Some(parent / 4), space, steps)?;
     let node = node_of(found.at, shape.parent_color);
@@ -97,7 +97,7 @@ pub(crate) fn push_parent<S: Space, L: Ledger>(
 ) -> Result<(), ReadFailed>
     ensures added { OnOk result (IfSome (S.image space.old) (λ image. changes.new ≡ changes.old ++ parent_changes image kind.now found.now)) }
     ensures stays { SpaceStays S.image S.files S.through S.most space.old space.new }
-    ensures cause { CountsSuspectFaults result (S.faults space.old) (S.faults space.new) }
+    ensures cause { CountsFailures result (S.faults space.old) (S.faults space.new) }
 {
     let Kind::Rbtree(shape) = kind else {
         return Ok(());
@@ -146,7 +146,7 @@ pub(crate) fn push_colours<S: Space, L: Ledger>(
 ) -> Result<(), ReadFailed>
     ensures added { OnOk result (IfSome (S.image space.old) (λ image. changes.new ≡ changes.old ++ colours image kind.now found.now)) }
     ensures stays { SpaceStays S.image S.files S.through S.most space.old space.new }
-    ensures cause { CountsSuspectFaults result (S.faults space.old) (S.faults space.new) }
+    ensures cause { CountsFailures result (S.faults space.old) (S.faults space.new) }
 {
     if let Kind::Rbtree(shape) = kind {
         let links = tree_links(alloc, space, shape, found.start, steps)?;

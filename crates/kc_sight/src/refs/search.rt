@@ -7,7 +7,8 @@ ghost use Rattle.kc_outside.specs.Counts.{Rose};
 ghost use Rattle.kc_outside.specs.Files.{HasPart, content};
 ghost use Rattle.kc_elf.specs.Stays.{StoreStays};
 ghost use Rattle.kc_sight.specs.Refs.Holding.{IsAddressed, IsInside, in_block, in_segment, in_segments, place, skipped, word_count};
-ghost use Rattle.kc_sight.specs.Refs.Stops.{CountsFaults, Told};
+ghost use Rattle.kc_sight.specs.Refs.Stops.{Told};
+ghost use Rattle.kc_found.specs.Failures.{CountsFailures};
 
 use crate::refs::place::{FoundWord, WordPlace};
 use crate::refs::sought::Sought;
@@ -101,7 +102,7 @@ fn read_words<S: Store>(
         take (8 * count) block.new ≡ take (8 * count) (drop (place segment.now first).off bytes))) }
     ensures length { length block.new ≡ length block.old }
     ensures stays { StoreStays S.opened S.sizes S.files S.may S.asked store.old store.new }
-    ensures cause { CountsFaults result (S.faults store.old) (S.faults store.new) }
+    ensures cause { CountsFailures result (S.faults store.old) (S.faults store.new) }
 {
     let from = place(segment, first).off;
     let len = (WORD_BYTES * count) as usize;
@@ -133,7 +134,7 @@ fn search_segment<S: Store>(
         found.new.items ≡ found.old.items ++ in_segment sought.now bytes segment.now)) }
     ensures length { length block.new ≡ length block.old }
     ensures stays { StoreStays S.opened S.sizes S.files S.may S.asked store.old store.new }
-    ensures cause { CountsFaults result (S.faults store.old) (S.faults store.new) }
+    ensures cause { CountsFailures result (S.faults store.old) (S.faults store.new) }
 {
     let words = word_count(segment);
     let mut first = 0;
@@ -165,7 +166,7 @@ pub fn find_words<S: Store>(
     ensures found { IfOk result (λ found. Told (content (S.files store.old) Dump (S.opened store.old Dump)) (λ bytes.
         found.items ≡ in_segments sought.now bytes segments.now)) }
     ensures stays { StoreStays S.opened S.sizes S.files S.may S.asked store.old store.new }
-    ensures cause { CountsFaults result (S.faults store.old) (S.faults store.new) }
+    ensures cause { CountsFailures result (S.faults store.old) (S.faults store.new) }
 {
     let mut block = new_block(alloc)?;
     let mut found = Vec::new(alloc);
