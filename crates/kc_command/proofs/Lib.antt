@@ -1,3 +1,4 @@
-mod Joining
-mod Opening
 mod EndsLemmas
+mod Joining
+mod KernelLemmas
+mod Opening

@@ -1,11 +1,12 @@
 pub mod CallLaws
 pub mod Calls
+pub mod Ends
 pub mod Halts
 pub mod Inputs
+pub mod Kernels
 pub mod Lines
 pub mod Made
 pub mod Paging
 pub mod Slots
 pub mod Stops
 pub mod Symbols
-pub mod Ends

@@ -1,5 +1,5 @@
-//! What the files of a command hold, or the first refusal: a dump and its notes, types, symbols, a plan's text, a
-//! certificate's and a report's.
+//! The files of a command and its end: what a kernel's files hold, a plan's text, a certificate's and a report's, or the first
+//! refusal; and the text and status that a command ends with.
 #![tactic(auto)]
 
 mod cert;
@@ -8,6 +8,7 @@ mod ends;
 mod file;
 mod find;
 mod halt;
+mod kernel;
 mod line;
 mod map;
 mod module;
@@ -21,6 +22,7 @@ pub use dump::{paging_by, read_dump, read_info};
 pub use ends::{Answer, Status, finish};
 pub use find::{find_field, find_named, find_symbol};
 pub use halt::Halt;
+pub use kernel::{Kernel, KernelFiles, Noted, read_kernel, read_noted};
 pub use line::refusal_line;
 pub use map::{read_map, read_symbols};
 pub use module::read_module;
