@@ -1,0 +1,8 @@
+//! A plan over the files of a kernel, the names of its audits, and its verdicts as questions to the memory of a dump.
+#![tactic(auto)]
+
+mod plans;
+mod verdicts;
+
+pub use plans::{names_of, read_audits};
+pub use verdicts::{EachRoot, PlanOf, WholePlan, is_broken};
