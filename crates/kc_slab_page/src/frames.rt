@@ -56,7 +56,7 @@ fn sort_runs(runs: &mut [FrameRun])
 }
 
 // What runs have that those before them don't, where they come in the order of their first frames.
-#[tactic(auto, unfolding(crate::frames::specs::Frames::parted))]
+#[tactic(auto, unfolding(crate::specs::Frames::Frames::parted))]
 fn parted(alloc: Global, runs: &[FrameRun]) -> Result<Vec<FrameRun>, NoMemory>
     ensures { IfOk result (λ parts. parts.items ≡ parted 0 runs.now) }
 {

@@ -71,7 +71,7 @@ fn test_elements<S: Space, L: Ledger>(
 /// # Errors
 ///
 /// `Unfit` exactly where it doesn't, a failure of the space, or out of memory.
-#[tactic(auto, unfolding(crate::fits::specs::Fits::fits))]
+#[tactic(auto, unfolding(crate::specs::Fits::Fits::fits))]
 pub fn test_step<S: Space, L: Ledger>(
     alloc: Global,
     btf: &Btf,

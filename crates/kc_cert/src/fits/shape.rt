@@ -19,7 +19,7 @@ use std::alloc::Global;
 use std::sync::ledger::Ledger;
 
 // Tests whether lists are the shape of the structure of a kind that an audit walks from a start.
-#[tactic(auto, unfolding(crate::fits::specs::Shapes::is_shape))]
+#[tactic(auto, unfolding(crate::specs::Fits::Shapes::is_shape))]
 pub(crate) fn test_shape<S: Space, L: Ledger>(
     alloc: Global,
     space: &mut S,

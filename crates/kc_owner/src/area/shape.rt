@@ -80,7 +80,7 @@ pub struct AreaShape {
 }
 
 // How many bytes after `core_layout` a module's `init_layout` stands, which is the same struct.
-#[tactic(auto, unfolding(crate::area::specs::Shapes::init_stride))]
+#[tactic(auto, unfolding(crate::specs::Area::Shapes::init_stride))]
 fn init_stride(btf: &Btf, layout: Option<u32>, module_id: Option<u32>) -> Option<u64>
     requires { IfSome module_id (λ id. id ≤ length btf.now.records) }
     ensures { result ≡ init_stride btf.now layout module_id }
@@ -103,7 +103,7 @@ fn parts_apart(base: Field, size: Field, stride: Option<u64>) -> PartShape
 }
 
 // A module's memory in parts that have a member each.
-#[tactic(auto, unfolding(crate::area::specs::Shapes::layout_parts))]
+#[tactic(auto, unfolding(crate::specs::Area::Shapes::layout_parts))]
 fn layout_parts(known: &Known<'_>, module_id: Option<u32>) -> Option<PartShape>
     requires { IfSome module_id (λ id. id ≤ length known.now.btf.now.records) }
     ensures { result ≡ layout_parts known.now.btf.now module_id }
@@ -116,7 +116,7 @@ fn layout_parts(known: &Known<'_>, module_id: Option<u32>) -> Option<PartShape>
 }
 
 // A module's memory in an array of parts.
-#[tactic(auto, unfolding(crate::area::specs::Shapes::array_parts))]
+#[tactic(auto, unfolding(crate::specs::Area::Shapes::array_parts))]
 fn array_parts(btf: &Btf, module_id: Option<u32>) -> Option<PartShape>
     requires { IfSome module_id (λ id. id ≤ length btf.now.records) }
     ensures { result ≡ array_parts btf.now module_id }
@@ -144,7 +144,7 @@ fn parts_of(known: &Known<'_>, module_id: Option<u32>) -> Option<PartShape>
 }
 
 // Where the words of modules stand.
-#[tactic(auto, unfolding(crate::area::specs::Shapes::module_shape))]
+#[tactic(auto, unfolding(crate::specs::Area::Shapes::module_shape))]
 fn module_shape(known: &Known<'_>) -> Option<ModuleShape>
     ensures { result ≡ module_shape (kernel known.now) }
 {
@@ -165,7 +165,7 @@ fn module_shape(known: &Known<'_>) -> Option<ModuleShape>
 }
 
 // Where the areas of processors are told.
-#[tactic(auto, unfolding(crate::area::specs::Shapes::processor_shape))]
+#[tactic(auto, unfolding(crate::specs::Area::Shapes::processor_shape))]
 fn processor_shape(known: &Known<'_>) -> Option<ProcessorShape>
     ensures { result ≡ processor_shape (kernel known.now) }
 {
@@ -210,7 +210,7 @@ fn stack_end(known: &Known<'_>) -> Option<u64>
 }
 
 // The size of a stack, which is that of the first task's.
-#[tactic(auto, unfolding(crate::area::specs::Shapes::stack_bytes))]
+#[tactic(auto, unfolding(crate::specs::Area::Shapes::stack_bytes))]
 fn stack_bytes(known: &Known<'_>) -> Option<u64>
     ensures { result ≡ stack_bytes (kernel known.now) }
 {
@@ -224,7 +224,7 @@ fn stack_bytes(known: &Known<'_>) -> Option<u64>
 }
 
 // Where the stacks of tasks are told.
-#[tactic(auto, unfolding(crate::area::specs::Shapes::stack_shape))]
+#[tactic(auto, unfolding(crate::specs::Area::Shapes::stack_shape))]
 fn stack_shape(known: &Known<'_>) -> Option<StackShape>
     ensures exact { result ≡ stack_shape (kernel known.now) }
     ensures there { IfSome result (λ shape. IsInside shape.tasks known.now.btf.now) }

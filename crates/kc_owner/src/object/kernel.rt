@@ -36,7 +36,7 @@ fn pages_of(five: bool) -> u64
 }
 
 // Where these words stand, by the structs that slab caches need.
-#[tactic(auto, unfolding(crate::object::specs::Shapes::shape_with))]
+#[tactic(auto, unfolding(crate::specs::Object::Shapes::shape_with))]
 fn shape_with(known: &Known<'_>, row: &Row) -> Option<ObjectShape>
     requires { IsRow (length known.now.btf.now.records) row.now }
     ensures { result ≡ shape_with (kernel known.now) row.now }

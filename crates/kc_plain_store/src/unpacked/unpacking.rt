@@ -21,7 +21,7 @@ const ZLIB: u32 = 1;
 const LZO: u32 = 2;
 
 /// What is wrong with a descriptor, in a file of this size, in bytes.
-#[tactic(auto, unfolding(crate::unpacked::specs::Unpacked::descriptor_fault))]
+#[tactic(auto, unfolding(crate::specs::Unpack::Unpacked::descriptor_fault))]
 pub fn descriptor_fault(descriptor: Descriptor, size: u64) -> Option<PageFault>
     ensures value { result ≡ descriptor_fault size descriptor }
     ensures inside { IfNone result (descriptor.offset + descriptor.size ≤ size) }
@@ -78,7 +78,7 @@ fn copy_lzo(bytes: &[u8], page: &mut [u8]) -> Result<(), PageFault>
 /// # Errors
 ///
 /// What the bytes are not. The buffer then holds any bytes.
-#[tactic(auto, unfolding(crate::unpacked::specs::Unpacked::unpacked))]
+#[tactic(auto, unfolding(crate::specs::Unpack::Unpacked::unpacked))]
 pub fn unpack(
     tables: &mut Tables,
     flags: u32,

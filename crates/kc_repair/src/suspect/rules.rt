@@ -267,7 +267,7 @@ fn push_by_way<S: Space, L: Ledger>(
 }
 
 // What may have happened, in the order in which it is to be tried.
-#[tactic(auto, unfolding(crate::suspect::specs::Suspects::changes))]
+#[tactic(auto, unfolding(crate::specs::Suspect::Suspects::changes))]
 pub(crate) fn changes_of<S: Space, L: Ledger>(
     alloc: Global,
     kind: &Kind,

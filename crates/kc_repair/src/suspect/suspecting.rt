@@ -19,7 +19,7 @@ use std::sync::ledger::Ledger;
 /// # Errors
 ///
 /// A failure of the space, whose count of faults then rose, or out of memory.
-#[tactic(auto, unfolding(crate::suspect::specs::Suspects::suspects))]
+#[tactic(auto, unfolding(crate::specs::Suspect::Suspects::suspects))]
 pub fn suspects<S: Space, L: Ledger>(
     alloc: Global,
     kind: &Kind,

@@ -18,7 +18,7 @@ use std::alloc::Global;
 use std::sync::ledger::Ledger;
 
 // Reads the head and takes it. Its position is then all that is to be looked at.
-#[tactic(auto, unfolding(crate::listed::specs::Entries::is_xarray))]
+#[tactic(auto, unfolding(crate::specs::Listed::Entries::is_xarray))]
 pub(crate) fn enter_head<S: Space, L: Ledger>(
     alloc: Global,
     space: &mut S,
