@@ -1,0 +1,4 @@
+pub mod CpuLaws
+pub mod CpuLemmas
+pub mod ScanLaws
+pub mod ScanLemmas

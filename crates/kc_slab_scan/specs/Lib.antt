@@ -1,0 +1,7 @@
+pub mod CpuLaws
+pub mod CpuLists
+pub mod CpuScans
+pub mod CpuShapes
+pub mod Cpus
+pub mod Laws
+pub mod Scans

@@ -1,0 +1,22 @@
+use Rattle.std.proofs.Common.{rules}
+use Rattle.std.specs.Option.{option_copied}
+use Rattle.kc_outside.specs.declared.store.Slot.TheVariants.{Dump}
+use Rattle.kc_outside.specs.Files.{content}
+use Rattle.kc_syms.specs.Symbols.{symbol}
+use Rattle.kc_slabs.specs.Looking.{told_view}
+use Rattle.kc_slabs.proofs.SlabsLemmas.{prints_halt, prints_seen}
+use Rattle.kc_slabs.proofs.files.look_with.Goals as goal
+
+pub returns-clause-output : goal.returns-clause-output
+returns-clause-output g c =
+    let files = c.args.files.now in
+    let read = c.in_ok-symbols.ensures.made in
+    prints_seen (content (g.S.Store.files c.args.store.now) Dump (g.S.Store.opened c.args.store.now Dump)) (option_copied c.args.cache) files.core.now.segments files.info files.note.now files.types.now files.map.now
+    (symbol c.in_ok-symbols.symbols) read.0 c.in_ok-shape.shape (told_view c.in_ok-seen.seen) _ read.1 read.2 c.in_ok-shape.ensures.made c.in_ok-seen.ensures.told c.in_ok-answer_of.ensures
+
+pub returns-in_err-shape-clause-output : goal.returns-in_err-shape-clause-output
+returns-in_err-shape-clause-output g c =
+    let files = c.args.files.now in
+    let read = c.in_ok-symbols.ensures.made in
+    prints_halt (content (g.S.Store.files c.args.store.now) Dump (g.S.Store.opened c.args.store.now Dump)) (option_copied c.args.cache) files.core.now.segments files.info files.note.now files.types.now files.map.now
+    (symbol c.in_ok-symbols.symbols) read.0 _ read.1 read.2 c.in_err-shape.ensures.made
