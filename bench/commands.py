@@ -116,7 +116,7 @@ def environment(programs, work):
     """The variables of a session: PATH begins with a folder that has the programs."""
     tools = os.path.join(work, "tools")
     os.makedirs(tools)
-    for name in ("kaudit", "kmatch", "kwhy", "kfiles", "kplain"):
+    for name in ("kaudit", "kmatch", "kwhy", "kfiles", "kplain", "kslab"):
         os.symlink(files.program(programs, name), os.path.join(tools, name))
     kept = {name: value for name, value in os.environ.items() if not name.startswith("LC_")}
     return kept | {"PATH": f"{tools}:{os.path.join(files.TOP, 'tools')}:{os.environ['PATH']}", "LC_ALL": "C", "COLUMNS": "80", "PYTHONDONTWRITEBYTECODE": "1"}

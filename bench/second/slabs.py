@@ -1,10 +1,10 @@
-"""kslab against a second reader, which shares no code with it: what it prints of a dump, and of the dump with damages.
+"""Compares kslab with a second reader, which shares no code with it: on a dump, and on the dump with damages.
 
-    slabs.py KSLAB FOLDER [COUNT [SEED]]    (FOLDER has vmcore, btf and System.map; the dump is copied beside them, damaged word by word and mended)
+usage: slabs PROGRAMS FOLDER [COUNT [SEED]]
 
-Each damage is one word: a free pointer, a slab's `freelist`, its counts, its `slab_cache`, at a slab that is taken at random, or what a processor has
-of a cache. The texts and the
-statuses have to be the same, also where a damage does no harm.
+The dump is copied, damaged word by word and mended. Each damage is one word: a free pointer, a slab's `freelist`, its counts, its `slab_cache`, at a
+slab that is taken at random, or what a processor has of a cache. The texts and the statuses have to be the same, also where a damage does no harm.
+It ends with 1 where one differs.
 """
 import collections
 import mmap
@@ -12,13 +12,13 @@ import os
 import random
 import shutil
 import subprocess
-import sys
+import tempfile
 import time
 
-sys.path.insert(0, os.environ.get("BENCH", os.path.dirname(os.path.abspath(__file__))))
-from second import Broken, Core, Info, Kernel, Memory, Types, address, dec_of, free_list, place_line, symbols, vmcoreinfo
-
-TOP = 1 << 64
+import files
+from plans.reader import TOP, Broken, Core, Info, Memory, Refused, Types, address, dec_of, symbols, vmcoreinfo
+from second.areas import shown
+from second.verdict import Kernel, free_list, place_line
 
 
 class Cached(Memory):
@@ -26,9 +26,13 @@ class Cached(Memory):
 
     def walk(self, va):
         page = va >> 12
-        if page not in self.pages:
-            self.pages[page] = super().walk(va) & ~4095
-        return self.pages[page] + va % 4096
+        if page not in self.kept:
+            self.kept[page] = super().walk(va) & ~4095
+        return self.kept[page] + va % 4096
+
+    def __init__(self, *words):
+        super().__init__(*words)
+        self.kept = {}
 
 
 def mark_of(kernel, note):
@@ -48,13 +52,7 @@ def frames(core):
     return sorted(found)
 
 
-def shown(name):
-    return "".join(chr(c) if 0x21 <= c <= 0x7E else "?" for c in name) or "-"
-
-
 class Slabs:
-    with_processors = True
-
     def __init__(self, kernel, note, wanted=None):
         self.kernel, memory, info = kernel, kernel.memory, kernel.info
         self.bases = []
@@ -76,9 +74,7 @@ class Slabs:
     def value(self, at, struct, path, usual=None):
         try:
             return self.kernel.field(at, struct, path)[0]
-        except Exception as fault:
-            if type(fault).__name__ not in ("Broken", "Refused"):
-                raise
+        except (Broken, Refused):
             return usual
 
     def text(self, at):
@@ -179,7 +175,7 @@ class Slabs:
                 if broken:
                     seen["broken"] += 1
                     wanted = "" if broken.expected is None else " expected %016x" % broken.expected
-                    lines.append("processor %d slab %016x cache %016x %s broken %s at %016x%s\n" % (number, slab, cache, shown(name), broken.rule, broken.at, wanted))
+                    lines.append("processor %d slab %016x cache %016x %s broken %s at %016x%s\n" % (number, slab, cache, (shown(name) or "-"), broken.rule, broken.at, wanted))
                     lines += [place_line(place) for place in broken.places]
                 elif slab is not None:
                     self.lists.append((at, found, laid[1]))
@@ -214,10 +210,10 @@ class Slabs:
             except Broken as broken:
                 seen["broken"] += 1
                 wanted = "" if broken.expected is None else " expected %016x" % broken.expected
-                lines.append("slab %016x cache %016x %s broken %s at %016x%s\n" % (slab, cache, shown(name), broken.rule, broken.at, wanted))
+                lines.append("slab %016x cache %016x %s broken %s at %016x%s\n" % (slab, cache, (shown(name) or "-"), broken.rule, broken.at, wanted))
                 lines += [place_line(place) for place in broken.places]
         self.lists = []
-        owned = self.look_at_processors(lines) if self.with_processors else 0
+        owned = self.look_at_processors(lines)
         lines.append("caches %d\nframes %d absent %d unmarked %d\n" % (len(self.caches), *(seen[k] for k in ("frames", "absent", "unmarked"))))
         lines.append("slabs %d frozen %d untold %d broken %d\n" % tuple(seen[k] for k in ("slabs", "frozen", "untold", "broken")))
         lines.append("objects %d free %d\n" % (seen["objects"], seen["free"]))
@@ -225,8 +221,8 @@ class Slabs:
         return "".join(lines), 0 if sound else 1, slabs
 
 
-def run(kslab, folder, dump, *words):
-    done = subprocess.run([kslab, dump, folder + "/btf", folder + "/System.map", *words], capture_output=True)
+def run(kslab, folder, dump):
+    done = subprocess.run([kslab, dump, f"{folder}/btf", f"{folder}/System.map"], capture_output=True)
     return done.returncode, done.stdout.decode(), done.stderr.decode()
 
 
@@ -234,7 +230,7 @@ def harm(slabs, picked, chance):
     """The virtual address of a word, and what it is overwritten with."""
     slab, free, offset = picked
     kernel = slabs.kernel
-    if slabs.with_processors and chance.randrange(3) == 0:
+    if chance.randrange(3) == 0:
         at, found, offset = chance.choice(slabs.lists)
         kind = chance.choice(["processor's slab", "processor's freelist"] + ["processor's pointer"] * bool(found))
         if kind == "processor's pointer":
@@ -255,29 +251,29 @@ def harm(slabs, picked, chance):
     return kind, at, new % TOP
 
 
-def main():
-    kslab, folder = sys.argv[1:3]
-    count, seed = (int(word) for word in (sys.argv[3:5] + ["300", "1"][len(sys.argv) - 3 :])[:2])
-    dump = folder + "/damaged.core"
-    shutil.copyfile(folder + "/vmcore", dump)
-    handle = open(dump, "r+b")
-    data = mmap.mmap(handle.fileno(), 0)
+def second(data, btf, rows):
+    """The second reader of a dump's slabs, by the bytes of three files."""
     core = Core(data)
-    note = vmcoreinfo(core)
     info = Info(core)
-    types, rows = Types(open(folder + "/btf", "rb").read()), symbols(open(folder + "/System.map", "rb").read())
+    memory = Cached(core, info.table, info.levels, info.mask)
+    return Slabs(Kernel(memory, Types(btf), symbols(rows), info), vmcoreinfo(core))
 
-    def second():
-        memory = Cached(core, info.table, info.levels, info.mask)
-        return Slabs(Kernel(memory, types, rows, info), note)
 
+def again(slabs, data):
+    """The same of the dump as it is now."""
+    kernel, core = slabs.kernel, Core(data)
+    info = kernel.info
+    memory = Cached(core, info.table, info.levels, info.mask)
+    return Slabs(Kernel(memory, kernel.types, kernel.rows, info), vmcoreinfo(core))
+
+
+def compare(kslab, folder, dump, data, count, seed):
     began = time.time()
-    Slabs.with_processors = "processors " in run(kslab, folder, dump)[1]
-    kept = second()
+    kept = second(data, files.read(folder, "btf"), files.read(folder, "System.map"))
     text, status, sound = kept.look()
-    print("second reader %.1f s" % (time.time() - began), text.replace("\n", " "))
-    wrong = run(kslab, folder, dump) != (status, text, "")
-    print("healthy", "differs" if wrong else "same")
+    print(f"second reader {time.time() - began:.1f} s:", text.replace("\n", " "))
+    wrong = int(run(kslab, folder, dump) != (status, text, ""))
+    print("the dump as it is:", "differs" if wrong else "same")
     chance, kinds, noticed = random.Random(seed), collections.Counter(), collections.Counter()
     for _ in range(count):
         kind, at, new = harm(kept, chance.choice(sound), chance)
@@ -285,18 +281,24 @@ def main():
         old = data[where : where + 8]
         data[where : where + 8] = new.to_bytes(8, "little")
         data.flush()
-        text, status, _ = second().look()
+        text, status, _ = again(kept, data).look()
         told = run(kslab, folder, dump)
         kinds[kind] += 1
         noticed[kind] += status
         if told != (status, text, ""):
             wrong += 1
-            print("differs", kind, "%016x %016x" % (at, new), (status, text), told)
+            print("differs", kind, f"{at:016x} {new:016x}", (status, text), told)
         data[where : where + 8] = old
-    print("damages", dict(kinds), "noticed", dict(noticed), "differ", int(wrong))
-    os.remove(dump)
-    return 1 if wrong else 0
+    print("damages", dict(kinds), "noticed", dict(noticed), "differ", wrong)
+    return wrong
 
 
-if __name__ == "__main__":
-    sys.exit(main())
+def main(words):
+    programs, folder = words[:2]
+    count, seed = (int(word) for word in (words[2:] + ["300", "1"][len(words) - 2 :])[:2])
+    kslab, folder = files.program(programs, "kslab"), os.path.abspath(folder)
+    with tempfile.TemporaryDirectory() as changed:
+        dump = f"{changed}/vmcore"
+        shutil.copyfile(f"{folder}/vmcore", dump)
+        with open(dump, "r+b") as handle, mmap.mmap(handle.fileno(), 0) as data:
+            return 1 if compare(kslab, folder, dump, data, count, seed) else 0
