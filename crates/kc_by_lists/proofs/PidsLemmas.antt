@@ -1,3 +1,3 @@
-mod ListLaws
-mod Making
-mod Telling
+pub mod ListLaws
+pub mod Making
+pub mod Telling

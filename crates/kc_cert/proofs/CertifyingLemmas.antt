@@ -1,2 +1,2 @@
-mod Passing
-mod Shaping
+pub mod Passing
+pub mod Shaping

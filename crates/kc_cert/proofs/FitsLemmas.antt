@@ -1,5 +1,5 @@
 pub mod Checks
-mod Copying
-mod Holding
-mod Numbers
-mod Walks
+pub mod Copying
+pub mod Holding
+pub mod Numbers
+pub mod Walks

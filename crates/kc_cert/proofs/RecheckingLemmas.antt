@@ -1,6 +1,6 @@
-mod Few
+pub mod Few
 pub mod Fitting
 pub mod Judging
 pub mod Right
-mod Spending
-mod Unrolling
+pub mod Spending
+pub mod Unrolling

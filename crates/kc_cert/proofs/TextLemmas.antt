@@ -1,2 +1,2 @@
-mod CertLaws
-mod TimesLoops
+pub mod CertLaws
+pub mod TimesLoops

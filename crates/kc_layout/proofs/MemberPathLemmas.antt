@@ -1,1 +1,1 @@
-mod PathLemmas
+pub mod PathLemmas

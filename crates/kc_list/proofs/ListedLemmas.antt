@@ -1,2 +1,2 @@
-mod Meeting
-mod Tested
+pub mod Meeting
+pub mod Tested

@@ -1,3 +1,3 @@
 pub mod SlabLemmas
 pub mod ObjectLaws
-mod KeyLemmas
+pub mod KeyLemmas

@@ -1,5 +1,5 @@
-mod Collecting
-mod Growing
-mod Pacing
-mod Planting
-mod Single
+pub mod Collecting
+pub mod Growing
+pub mod Pacing
+pub mod Planting
+pub mod Single

@@ -1,3 +1,3 @@
-mod BlockLemmas
-mod StoreLemmas
-mod WritingLemmas
+pub mod BlockLemmas
+pub mod StoreLemmas
+pub mod WritingLemmas

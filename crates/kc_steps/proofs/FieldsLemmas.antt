@@ -1,1 +1,1 @@
-mod Few
+pub mod Few

@@ -1,11 +1,11 @@
-mod Gathering
-mod Growing
-mod Leading
-mod Lowering
-mod Meeting
-mod Planting
-mod Pointing
-mod Single
-mod Standing
-mod Tracing
-mod Whole
+pub mod Gathering
+pub mod Growing
+pub mod Leading
+pub mod Lowering
+pub mod Meeting
+pub mod Planting
+pub mod Pointing
+pub mod Single
+pub mod Standing
+pub mod Tracing
+pub mod Whole
