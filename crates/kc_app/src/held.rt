@@ -102,13 +102,7 @@ pub fn ask_held<S: Store, Q: Question>(
     ensures leaves { IfOk result (λ answer. Q.leaves question.now answer (S.faults store.old) (S.faults store.new)) }
     ensures unasked { IfErr result (λ _. S.faults store.new ≡ S.faults store.old) }
 {
+    let segments = held.core.segments();
     let paging = paging_by(held.info);
-    ask_dump(
-        alloc,
-        store,
-        held.core.segments(),
-        held.plan.tail,
-        paging,
-        question,
-    )
+    ask_dump(alloc, store, segments, held.plan.tail, paging, question)
 }
