@@ -9,4 +9,4 @@ use Rattle.kc_app.proofs.verdict.judge_each.Goals as goal
 pub returns-in-Ok-clause-output : goal.returns-in-Ok-clause-output
 returns-in-Ok-clause-output g c =
     each_prints (content (g.S.Store.files c.args.store.now) Dump (g.S.Store.opened c.args.store.now Dump)) (λ (bytes : List ℕ). (audited_of c.args.held.now bytes).image) (plan_seen c.args.held.now.plan)
-    c.args.names.now c.in-Ok.verdicts c.answer_each.result c.requires.names c.in-Ok.ensures.says c.answer_each.ensures.output
+    c.args.names.now c.in-Ok.verdicts c.answer_each.result c.requires.names (rw c.in-Ok.is at c.in_ok-found.ensures.says) c.answer_each.ensures.output
