@@ -1,7 +1,7 @@
 use Rattle.std.proofs.Common.{◌∙◌, true, false, sym, ap}
 use Rattle.kc_report.specs.IsReport.{report_text}
 use Rattle.kc_app.proofs.Rooted.{each_written}
-use Rattle.kc_app.proofs.check.answer_each.Goals as goal
+use Rattle.kc_app.proofs.verdict.answer_each.Goals as goal
 
 pub returns-then-is_broken-clause-output : goal.returns-then-is_broken-clause-output
 returns-then-is_broken-clause-output c =
