@@ -33,10 +33,10 @@ NOT_CLEAN = {"audited_shown", "refusal_line", "ShownStand", "word_form", "layout
 NOT_CLEAN |= {"certify_form", "recheck_form", "CertifyEnds", "RecheckEnds", "Proves", "cert_text", "TextsTold", "AnswersAreRight"}
 
 # The crates that make counters of steps.
-MAKE_BLANKS = {"kc_app", "kc_cause", "kc_files", "kc_repair", "kc_why", "kc_tests", "try_walks", "try_files"}
+MAKE_BLANKS = {"kc_question", "kc_app", "kc_cause", "kc_files", "kc_repair", "kc_why", "kc_tests", "try_walks", "try_files"}
 
-# The crates whose purpose is to state the laws of others: they alone cite another's lemmas.
-STATE_LAWS = {"kc_laws", "kc_run_laws", "kc_recheck_laws"}
+# The crate whose purpose is to state the laws of others: it alone should cite another's lemmas.
+STATE_LAWS = {"kc_laws"}
 
 # Another crate's lemmas, imported in definitions and proofs, or named in the code by `using`.
 BORROWED = re.compile(r"\b(kc_\w+)(?:\.|::)proofs(?:\.|::)")

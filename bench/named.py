@@ -4,9 +4,10 @@ usage: named [FOLDER]
 
 FOLDER is the top of a repository, else of this one. Of README.md and docs/*.md: each relative link leads to a file and its heading; each `bench
 NAME` and each path of bench/, crates/, plans/ and planted/ is there. Of docs/PROVED.md: each `kc_x/y.rt` is a file of crates/kc_x/src, and the
-names after it are clauses, ghost members or functions there; each `kc_x/specs/Y.antt` is a file. Of the documents about the code (not guide.md and
-reference.md, which name what kernels have): each word between backquotes stands somewhere in the sources. Each crate of crates.txt is named in
-README.md, docs/ARCHITECTURE.md or docs/PROVED.md.
+names after it are clauses, ghost members or functions there; each `kc_x/specs/Y.antt` is a file. Of the check lists of docs/CONTRIBUTING.md: each
+file is one of the crate that is named before it. Of the documents about the code (not guide.md and reference.md, which name what kernels have): each
+word between backquotes stands somewhere in the sources, and each word kc_.. is a crate. Each crate of crates.txt is named in README.md,
+docs/ARCHITECTURE.md or docs/PROVED.md.
 """
 import glob
 import os
@@ -20,6 +21,7 @@ USERS = {"docs/guide.md", "docs/reference.md"}
 ANY = {"kc_x", "know_x"}
 LINK = re.compile(r"\[[^\]]*\]\(([^)\s]+)\)")
 CLAUSES = re.compile(r"`(kc_\w+)/([\w/]+\.rt)`((?:: |, )(?:(?:one clause[^;|`]*|`\w+`)(?:, |; (?=`\w+`)| and (?=`))?)+)?")
+LISTED = re.compile(r"\b(kc_\w+|try_\w+)\b|`((?:\w+/)*\w+\.(?:rt|antt))`")
 SPEC = re.compile(r"`(kc_\w+)/(specs/[\w/]+\.antt)`")
 PATH = re.compile(r"`((?:bench|crates|plans|planted)/[\w./-]*[\w/])`")
 SCRIPT = re.compile(r"(?:`(?:python3 )?bench |^ +python3 bench )([a-z_]+)", re.M)
@@ -82,6 +84,21 @@ def clauses(path, text):
             yield f"{path}: no file crates/{crate}/{file}"
 
 
+def listed(path, text):
+    """The files of check lists, each by the crate that is named before it. NAME stands for any."""
+    crate = ""
+    for name, file in LISTED.findall(text.partition("## How to add")[2].partition("\n## ")[0]):
+        crate = name or crate
+        if file and not re.search(r"NAME|Name", file) and not glob.glob(f"crates/{crate}/{'' if '/' in file else '**/'}{file}", recursive=True):
+            yield f"{path}: {crate} has no {file}"
+
+
+def crates(path, text):
+    for name in re.findall(r"\bkc_\w+", text):
+        if name not in ANY and not os.path.isdir(f"crates/{name}"):
+            yield f"{path}: no crate {name}"
+
+
 def words_of_sources():
     found = set()
     for path in glob.glob("**/*", recursive=True):
@@ -112,7 +129,9 @@ def main(words):
         text = read(path)
         wrong += [*links(path, text), *paths(path, text), *clauses(path, text)]
         if path.startswith("docs/") and path not in USERS:
-            wrong += named(path, text, known)
+            wrong += [*named(path, text, known), *crates(path, text)]
+        if path == "docs/CONTRIBUTING.md":
+            wrong += listed(path, text)
     wrong += unnamed()
     print("\n".join(dict.fromkeys(wrong)) or f"{len(documents)} documents name what is there")
     return bool(wrong)

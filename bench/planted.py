@@ -3,7 +3,7 @@
 usage: planted cut CRATE FOLDER     writes each wrong body of the crate into FOLDER, as NAME.edit
        planted add CRATE FOLDER     puts each NAME.edit of FOLDER into planted/CRATE.edits
        planted count                prints how many each crate has in must-fail/ and in planted/, and the sums
-       planted check                prints those that can't be applied to the code as it stands
+       planted check                prints those of both that can't be applied to the code as it stands, and ends with 1 where there are some
 
 planted/CRATE.edits has the crate's wrong bodies in the order of their names. Each begins with a line `edit: NAME`, after which come the lines of
 NAME.edit as must-fail/ would have them; an empty line stands between two. `add` puts all in or, where one is refused, none. It refuses a name that
@@ -58,6 +58,13 @@ def write(path, text):
 def kept(crate):
     """The edits that planted/ has of a crate."""
     return apart(read(place(crate))) if os.path.exists(place(crate)) else {}
+
+
+def gated(crate):
+    """The edits that must-fail/ has of a crate."""
+    folder = os.path.join(TOP, "crates", crate, "must-fail")
+    names = sorted(os.listdir(folder)) if os.path.isdir(folder) else []
+    return {name.removesuffix(".edit"): read(os.path.join(folder, name)) for name in names if name.endswith(".edit")}
 
 
 def changes(text):
@@ -132,25 +139,33 @@ def cut(crate, folder):
 def counts():
     """The numbers of wrong bodies of each crate that has one: in must-fail/, in planted/."""
     for crate in sorted(os.listdir(os.path.join(TOP, "crates"))):
-        folder = os.path.join(TOP, "crates", crate, "must-fail")
-        gate = [name for name in os.listdir(folder) if name.endswith(".edit")] if os.path.isdir(folder) else []
-        planted = kept(crate)
+        gate, planted = gated(crate), kept(crate)
         if gate or planted:
             yield crate, len(gate), len(planted)
 
 
-def check_all():
-    """Whether an edit of planted/ can't be applied."""
-    wrong = 0
+def faults():
+    """What is wrong with the edits of planted/ and of all crates' must-fail/: those that can't be applied, and names that stand in both."""
+    for name in sorted(os.listdir(os.path.join(TOP, "planted"))):
+        if not os.path.isdir(os.path.join(TOP, "crates", name.removesuffix(".edits"))):
+            yield f"planted/{name}: there is no such crate"
     for crate, _, _ in counts():
-        for name, text in kept(crate).items():
+        gate, planted = gated(crate), kept(crate)
+        yield from (f"{crate}/{name}: must-fail/ has one of this name" for name in planted if name in gate)
+        for name, text in [*gate.items(), *planted.items()]:
             try:
                 check(crate, name, text)
             except BadEdit as bad:
-                print(f"{crate}/{bad}")
-                wrong += 1
-    print(f"{wrong} can't be applied")
-    return wrong != 0
+                yield f"{crate}/{bad}"
+
+
+def check_all():
+    """Whether an edit can't be applied."""
+    wrong = list(faults())
+    for row in wrong:
+        print(row)
+    print(f"{sum(gate + planted for _, gate, planted in counts())} wrong bodies, of which {len(wrong)} can't be applied")
+    return bool(wrong)
 
 
 def main(words):

@@ -152,7 +152,7 @@ def main(words):
     table = [
         ("crates; longest chain", f"{len(house.deps)}; {chain(house)}"),
         ("product crates below 150 lines of src", f"{len(small(house))}: {' '.join(small(house))}"),
-        ("files that open a dump", len(calls(house, r"\bread_dump\(", ("kc_input",)))),
+        ("files that open a dump", len(calls(house, r"\bread_dump\(", ("kc_command",)))),
         ("files that build a memory", len(calls(house, r"\bMemory::over\(", ("kc_mem",)))),
         ("constants KEPT; definitions image_of", f"{sum(len(re.findall(r'const KEPT', text)) for text in house.texts('src').values())}; "
                                                  f"{sum(len(re.findall(r'^(?:abbrev |unfoldable )?pub image_of :', text, re.M)) for text in house.texts('specs').values())}"),

@@ -1,7 +1,7 @@
 """Is a second reader of what explains a report, and compares kwhy with it.
 
 It finds the words that a violation makes suspect, in their order, and the first of them with which the root audit that found it stands. It is
-written from the guide and from the definitions of kc_suspect, kc_repair, kc_element and kc_cause, over `verdict.py`, and shares no code with kwhy.
+written from the guide and from the definitions of kc_repair, kc_element and kc_cause, over `verdict.py`, and shares no code with kwhy.
 
 usage: suspects PROGRAMS FOLDER [NAME ..]
        suspects PROGRAMS --made COUNT [SEED]

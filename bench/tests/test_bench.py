@@ -29,6 +29,9 @@ class Planted(unittest.TestCase):
             for edit in edits:
                 self.assertTrue(list(planted.changes(edits[edit])), f"{name}: {edit}")
 
+    def test_each_edit_fits_the_code(self):
+        self.assertEqual(list(planted.faults()), [])
+
     def test_cut_edits_are_as_they_were(self):
         edits = {"a": "file: x\nold: one\nnew: two\n", "b": "Some words.\nfile: x\nold:  p: q\nnew: \nfile: y\nold: r\nnew: s\n"}
         self.assertEqual(planted.apart(planted.together(edits)), edits)
@@ -53,6 +56,12 @@ class Planted(unittest.TestCase):
         self.assertEqual(list(planted.counts()), [("x", 0, 1)])
         with self.assertRaises(planted.BadEdit):
             planted.add("x", given)
+        self.assertEqual(list(planted.faults()), [])
+        os.makedirs(os.path.join(planted.TOP, "crates", "x", "must-fail"))
+        planted.write(os.path.join(planted.TOP, "crates", "x", "must-fail", "b.edit"), "file: src/a.rt\nold: four\nnew: x\n")
+        planted.write(os.path.join(planted.TOP, "planted", "y.edits"), "")
+        wrong = ["planted/y.edits: there is no such crate", "x/b: must-fail/ has one of this name", "x/b: src/a.rt has this 0 times: four"]
+        self.assertEqual(list(planted.faults()), wrong)
         for odd in ("file: src/a.rt\nold: two\nnew: x\n", "file: src/a.rt\nold: four\nnew: x\n", "file: src/b.rt\nold: one\nnew: x\n", "words\n"):
             with self.assertRaises(planted.BadEdit, msg=odd):
                 planted.check("x", "odd", odd)
