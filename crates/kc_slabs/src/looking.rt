@@ -186,7 +186,9 @@ pub(crate) fn look_at<S: Store>(
     ensures quiet { UnlessStore result (S.faults store.new ≡ S.faults store.old) }
     ensures cause { OnStore result (Rose (S.faults store.old) (S.faults store.new)) }
 {
-    let runs = frame_runs(alloc, core.segments())?;
+    let segments = core.segments();
+    let paging = paging_by(info);
+    let runs = frame_runs(alloc, segments)?;
     let asks = EachSlab {
         alloc,
         btf,
@@ -194,14 +196,8 @@ pub(crate) fn look_at<S: Store>(
         wanted,
         runs: &runs,
     };
-    match ask_dump(
-        alloc,
-        store,
-        core.segments(),
-        Tail::Absent,
-        paging_by(info),
-        &asks,
-    )? {
+    let answer = ask_dump(alloc, store, segments, Tail::Absent, paging, &asks)?;
+    match answer {
         Ok(seen) => Ok(seen),
         Err(ReadFailed::Fault) => Err(Halt::Store),
         Err(ReadFailed::NoMemory) => Err(Halt::Memory),
