@@ -1,7 +1,7 @@
 -- What is seen of the frames so far, and of the next ones.
-use Rattle.std.proofs.Common.{◌≡◌, ℕ, zero, suc, ◌+◌, ◌-◌, ◌<◌, ◌≤◌, ◌∷◌, ◌++◌, [], List, drop, length, slice_get, Option, Some, None, refl, sym, ap, ◌∙◌, add-one, arith, append_assoc}
+use Rattle.std.proofs.Common.{◌≡◌, ℕ, zero, suc, ◌+◌, ◌-◌, ◌<◌, ◌≤◌, ◌∷◌, ◌++◌, [], List, drop, length, get_or, Option, Some, None, refl, sym, ap, ◌∙◌, add-one, arith}
 use Rattle.std.specs.Prelude.{IfSome, Ok}
-use Rattle.std.specs.List.{flat_map, range_with_len}
+use Rattle.std.specs.List.{range_with_len}
 use Rattle.kc_memory.specs.Image.{Image}
 use Rattle.kc_found.specs.Walks.{WalksAs}
 use Rattle.kc_slab_page.specs.declared.frames.FrameRun.{FrameRun}
@@ -66,10 +66,10 @@ frames_begin None shape caches start all = tt
 frames_begin (Some i) shape caches start all = refl
 
 -- the same, run by run
-drop_next : {X : Type 0} (xs : List X) (n : ℕ) (x : X) → slice_get xs n ≡ Some x → drop n xs ≡ x ∷ drop (suc n) xs
-drop_next [] n x is = absurd (let none : ⊥ = cc in none)
-drop_next (y ∷ ys) zero x is = let same : y ≡ x = cc in ap (λ z. z ∷ ys) same
-drop_next (y ∷ ys) (suc n) x is = drop_next ys n x is
+drop_next : {X : Type 0} (xs : List X) (n : ℕ) (d : X) → n < length xs → drop n xs ≡ get_or xs n d ∷ drop (suc n) xs
+drop_next [] n d lt = absurd (omega (arith, lt))
+drop_next (y ∷ ys) zero d lt = refl
+drop_next (y ∷ ys) (suc n) d lt = drop_next ys n d (omega (arith, lt))
 
 dropped : {X : Type 0} (xs : List X) (n : ℕ) → length xs ≤ n → drop n xs ≡ []
 dropped [] zero all = refl
@@ -77,16 +77,16 @@ dropped [] (suc n) all = refl
 dropped (x ∷ xs) zero all = absurd (omega (arith, all))
 dropped (x ∷ xs) (suc n) all = dropped xs n (omega (arith, all))
 
-pub run_next : (image : Option Image) (shape : PageShape) (caches : Caches) (start : Scan) (all : List ℕ) (old new : Scan) (runs : List FrameRun) (n : ℕ) (run : FrameRun) → slice_get runs n ≡ Some run
-    → WalksAs {A = Unit {0}} {B = Scan} (λ _. new) (λ i. Ok (scan_from i shape caches old (frames_in run))) image (Ok tt)
+pub run_next : (image : Option Image) (shape : PageShape) (caches : Caches) (start : Scan) (all : List ℕ) (old new : Scan) (runs : List FrameRun) (n : ℕ) (d : FrameRun) → n < length runs
+    → WalksAs {A = Unit {0}} {B = Scan} (λ _. new) (λ i. Ok (scan_from i shape caches old (frames_in (get_or runs n d)))) image (Ok tt)
     → Far image shape caches start all old (frames_of (drop n runs)) → Far image shape caches start all new (frames_of (drop (n + 1) runs))
-run_next None shape caches start all old new runs n run at added far = tt
-run_next (Some i) shape caches start all old new runs n run at added far =
-    let same : scan_from i shape caches old (frames_in run) ≡ new = cc in
+run_next None shape caches start all old new runs n d more added far = tt
+run_next (Some i) shape caches start all old new runs n d more added far =
+    let same : scan_from i shape caches old (frames_in (get_or runs n d)) ≡ new = cc in
     ap (λ (k : ℕ). scan_from i shape caches new (frames_of (drop k runs))) (add-one n)
     ∙ ap (λ (s : Scan). scan_from i shape caches s (frames_of (drop (suc n) runs))) (sym same)
-    ∙ sym (from_more i shape caches old (frames_in run) (frames_of (drop (suc n) runs)))
-    ∙ ap (λ (rs : List FrameRun). scan_from i shape caches old (frames_of rs)) (sym (drop_next runs n run at)) ∙ far
+    ∙ sym (from_more i shape caches old (frames_in (get_or runs n d)) (frames_of (drop (suc n) runs)))
+    ∙ ap (λ (rs : List FrameRun). scan_from i shape caches old (frames_of rs)) (sym (drop_next runs n d more)) ∙ far
 
 pub runs_done : (image : Option Image) (shape : PageShape) (caches : Caches) (start : Scan) (all : List ℕ) (s : Scan) (runs : List FrameRun) (n : ℕ) → length runs ≤ n
     → Far image shape caches start all s (frames_of (drop n runs)) → WalksAs {A = Scan} {B = Scan} (λ t. t) (λ i. Ok (scan_from i shape caches start all)) image (Ok s)

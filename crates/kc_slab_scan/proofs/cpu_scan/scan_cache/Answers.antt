@@ -12,8 +12,8 @@ loop-i-init g c = record {
 
 pub loop-i-preserved : goal.loop-i-preserved
 loop-i-preserved g c = record {
-  far = cpus_next c.args.processors.now.shape.now c.args.cache.now.shape.now c.args.cache.now.bases.now c.args.cache.now.objects.now c.args.cache.now.at (g.S.Space.image c.args.space.now) c.args.scan.now c.args.processors.now.all.now c.loop-i.i c.get.result.now c.loop-i.scan _
-      c.get.ensures (rw c.loop-i.invariant.stays.same_image at c.in-Ok.ensures.exact) c.loop-i.invariant.far;
+  far = cpus_next c.args.processors.now.shape.now c.args.cache.now.shape.now c.args.cache.now.bases.now c.args.cache.now.objects.now c.args.cache.now.at (g.S.Space.image c.args.space.now) c.args.scan.now c.args.processors.now.all.now c.loop-i.i c.get-cpu.result.now c.loop-i.scan _
+      c.get-cpu.ensures (rw c.loop-i.invariant.stays.same_image at c.in-Ok.ensures.exact) c.loop-i.invariant.far;
   stays = stays_on g.S.Space.image g.S.Space.files g.S.Space.through g.S.Space.most _ _ _ c.loop-i.invariant.stays c.in-Ok.ensures.stays;
   quiet = c.in-Ok.ensures.cause ∙ c.loop-i.invariant.quiet;
 }

@@ -7,8 +7,8 @@ use Rattle.kc_slab_scan.proofs.cpu_scan.scan_nodes.Goals as goal
 
 pub loop-i-preserved : goal.loop-i-preserved
 loop-i-preserved g c = record {
-  far = nodes_next c.args.processors.now.shape.now c.args.pages.now.shape.now.objects (caches_view c.args.pages.now.caches.now) c.args.processors.now.all.now (g.S.Space.image c.args.space.now) none_seen c.args.nodes.now c.loop-i.i c.get.result.now c.loop-i.scan _
-      c.get.ensures (rw c.loop-i.invariant.stays.same_image at c.in-Ok.ensures.exact) c.loop-i.invariant.far;
+  far = nodes_next c.args.processors.now.shape.now c.args.pages.now.shape.now.objects (caches_view c.args.pages.now.caches.now) c.args.processors.now.all.now (g.S.Space.image c.args.space.now) none_seen c.args.nodes.now c.loop-i.i c.get-node.result.now c.loop-i.scan _
+      c.get-node.ensures (rw c.loop-i.invariant.stays.same_image at c.in-Ok.ensures.exact) c.loop-i.invariant.far;
   stays = stays_on g.S.Space.image g.S.Space.files g.S.Space.through g.S.Space.most _ _ _ c.loop-i.invariant.stays c.in-Ok.ensures.stays;
   quiet = c.in-Ok.ensures.cause ∙ c.loop-i.invariant.quiet;
 }
