@@ -42,7 +42,7 @@ use Rattle.kc_slab_scan.specs.declared.cpu_list.CpuSeen.{CpuSeen}
 use Rattle.kc_slab_scan.specs.declared.cpu_list.CpuSeen.TheVariants.{Unread, Empty, Whole, Broken}
 use Rattle.kc_slab_scan.specs.declared.cpu_scan.BrokenCpu.{BrokenCpu}
 use Rattle.kc_slab_scan.specs.declared.cpu_scan.CpuScan.{CpuScan}
-use Rattle.kc_slab_scan.specs.declared.cpu_shape.CpuShape.{CpuShape}
+use Rattle.kc_slab_scan.specs.declared.cpu_words.CpuShape.{CpuShape}
 use Rattle.kc_slab_scan.specs.CpuLaws.{AllStand, CpusStand, NumbersShow, Stands, seen_places}
 use Rattle.kc_slab_scan.specs.CpuLists.{again, apart, apart_or, cpu_list, cpu_seen, lists_apart, own_or_none, seen_at, seen_by, seen_first, seen_of, seen_slab, seen_with, taken_all}
 use Rattle.kc_slab_scan.specs.Cpus.{count_of, cpu_at, cpus_from, is_possible, with_cpu, word_in}

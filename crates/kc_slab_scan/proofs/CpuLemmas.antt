@@ -15,7 +15,7 @@ use Rattle.kc_view.specs.declared.slub.SlubShape.{SlubShape}
 use Rattle.kc_slab_page.specs.Caches.{Caches}
 use Rattle.kc_slab_scan.specs.declared.cpus.Cpu.{Cpu}
 use Rattle.kc_slab_scan.specs.declared.cpu_scan.CpuScan.{CpuScan}
-use Rattle.kc_slab_scan.specs.declared.cpu_shape.CpuShape.{CpuShape}
+use Rattle.kc_slab_scan.specs.declared.cpu_words.CpuShape.{CpuShape}
 use Rattle.kc_slab_scan.specs.Cpus.{cpus_from, with_cpu}
 use Rattle.kc_slab_scan.specs.CpuLists.{again, cpu_seen, taken_all, taken_with}
 use Rattle.kc_slab_scan.specs.CpuScans.{cache_from, nodes_from, none_seen, with_node, with_seen}

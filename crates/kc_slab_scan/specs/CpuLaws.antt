@@ -13,7 +13,7 @@ use Rattle.kc_slab_scan.specs.declared.cpu_list.CpuSeen.{CpuSeen}
 use Rattle.kc_slab_scan.specs.declared.cpu_list.CpuSeen.TheVariants.{Unread, Empty, Whole, Broken}
 use Rattle.kc_slab_scan.specs.declared.cpu_scan.BrokenCpu.{BrokenCpu}
 use Rattle.kc_slab_scan.specs.declared.cpu_scan.CpuScan.{CpuScan}
-use Rattle.kc_slab_scan.specs.declared.cpu_shape.CpuShape.{CpuShape}
+use Rattle.kc_slab_scan.specs.declared.cpu_words.CpuShape.{CpuShape}
 use Rattle.kc_slab_scan.specs.CpuScans.{cpus_scanned}
 use Rattle.kc_slab_scan.specs.Cpus.{cpus_in}
 

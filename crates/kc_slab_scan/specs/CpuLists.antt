@@ -25,7 +25,7 @@ use Rattle.kc_slab_page.specs.Slabs.{counted, own_list}
 use Rattle.kc_slab_scan.specs.declared.cpus.Cpu.{Cpu}
 use Rattle.kc_slab_scan.specs.declared.cpu_list.CpuSeen.{CpuSeen}
 use Rattle.kc_slab_scan.specs.declared.cpu_list.CpuSeen.TheVariants.{Unread, Empty, Whole, Broken}
-use Rattle.kc_slab_scan.specs.declared.cpu_shape.CpuShape.{CpuShape}
+use Rattle.kc_slab_scan.specs.declared.cpu_words.CpuShape.{CpuShape}
 
 -- addresses taken, and more of them
 abbrev pub taken_with : List ℕ → ℕ → List ℕ

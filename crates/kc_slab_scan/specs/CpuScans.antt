@@ -20,7 +20,7 @@ use Rattle.kc_slab_scan.specs.declared.cpu_list.CpuSeen.{CpuSeen}
 use Rattle.kc_slab_scan.specs.declared.cpu_list.CpuSeen.TheVariants.{Unread, Empty, Whole, Broken}
 use Rattle.kc_slab_scan.specs.declared.cpu_scan.BrokenCpu.{BrokenCpu}
 use Rattle.kc_slab_scan.specs.declared.cpu_scan.CpuScan.{CpuScan}
-use Rattle.kc_slab_scan.specs.declared.cpu_shape.CpuShape.{CpuShape}
+use Rattle.kc_slab_scan.specs.declared.cpu_words.CpuShape.{CpuShape}
 use Rattle.kc_slab_scan.specs.CpuLists.{cpu_seen}
 use Rattle.kc_slab_scan.specs.Scans.{added}
 

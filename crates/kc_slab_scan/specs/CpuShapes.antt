@@ -4,7 +4,7 @@ use Rattle.std.specs.Prelude.{codes, Option, Some}
 use Rattle.kc_kinds.specs.Kernels.{Kernel, address_in}
 use Rattle.kc_kinds.specs.Members.{◌>>=◌, scalar_in, struct_named}
 use Rattle.kc_owner.specs.Kernels.{single}
-use Rattle.kc_slab_scan.specs.declared.cpu_shape.CpuShape.{CpuShape}
+use Rattle.kc_slab_scan.specs.declared.cpu_words.CpuShape.{CpuShape}
 
 -- in a kernel that has them
 unfoldable pub cpu_shape : Kernel → Option CpuShape

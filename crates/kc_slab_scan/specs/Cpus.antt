@@ -12,7 +12,7 @@ use Rattle.kc_found.specs.Trials.{and_then}
 use Rattle.kc_found.specs.Violations.{Violation}
 use Rattle.kc_owner.specs.Looked.{looked_at}
 use Rattle.kc_slab_scan.specs.declared.cpus.Cpu.{Cpu}
-use Rattle.kc_slab_scan.specs.declared.cpu_shape.CpuShape.{CpuShape}
+use Rattle.kc_slab_scan.specs.declared.cpu_words.CpuShape.{CpuShape}
 
 -- how many processors there are, of 8192 at most
 abbrev pub count_of : Image → CpuShape → Result ℕ Violation

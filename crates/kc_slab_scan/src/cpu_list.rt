@@ -8,7 +8,7 @@ ghost use Rattle.kc_view.specs.Fields.{field_of};
 ghost use Rattle.kc_slab_page.specs.Slabs.{is_laid};
 ghost use Rattle.kc_slab_scan.specs.CpuLists.{IsRead, again, apart, cpu_list, cpu_seen, lists_apart, own_or_none, seen_by, seen_of, taken_all};
 
-use crate::cpu_shape::CpuShape;
+use crate::cpu_words::CpuShape;
 use crate::cpus::Cpu;
 use kc_btf::Btf;
 use kc_found::{Asked, Claims, Found, Grid, Rule, Space, Stop, WalkStop, Walked, broken_field};

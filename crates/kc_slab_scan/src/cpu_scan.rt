@@ -8,7 +8,7 @@ ghost use Rattle.kc_slab_scan.specs.CpuLists.{cpu_seen};
 ghost use Rattle.kc_slab_scan.specs.CpuScans.{cache_from, cpus_scanned, none_seen, nodes_from, with_node, with_seen};
 
 use crate::cpu_list::{CpuBroken, CpuSeen, LaidCache, look_at_cpu};
-use crate::cpu_shape::CpuShape;
+use crate::cpu_words::CpuShape;
 use crate::cpus::{Cpu, Cpus};
 use crate::scan::Pages;
 use crate::totals::{added, push_item};

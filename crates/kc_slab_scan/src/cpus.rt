@@ -4,7 +4,7 @@ ghost use Rattle.kc_memory.specs.Stays.{SpaceStays};
 ghost use Rattle.kc_found.specs.Walks.{CountsWalkFaults, OnBroken, OnWalkFault, WalksAs};
 ghost use Rattle.kc_slab_scan.specs.Cpus.{count_of, cpu_at, cpus_from, cpus_in, is_possible, with_cpu, word_in};
 
-use crate::cpu_shape::CpuShape;
+use crate::cpu_words::CpuShape;
 use crate::totals::push_item;
 use kc_found::{Items, Space, WalkStop, low_word, read_bits, stopped};
 use kc_owner::looked_at;

@@ -4,7 +4,7 @@
 
 mod cpu_list;
 mod cpu_scan;
-mod cpu_shape;
+mod cpu_words;
 mod cpus;
 mod laws;
 mod scan;
@@ -12,7 +12,7 @@ mod totals;
 
 pub use cpu_list::{CpuBroken, CpuFree, CpuSeen, LaidCache, look_at_cpu};
 pub use cpu_scan::{BrokenCpu, CpuScan, Processors, scan_cpus};
-pub use cpu_shape::{CpuShape, cpu_shape};
+pub use cpu_words::{CpuShape, cpu_shape};
 pub use cpus::{Cpu, Cpus, read_cpus};
 pub use laws::{know_cpus, know_scans};
 pub use scan::{Pages, scan_frames};

@@ -24,7 +24,7 @@ use Rattle.kc_slab_page.specs.declared.shape.PageShape.{PageShape}
 use Rattle.kc_slab_page.specs.Caches.{Caches, caches_in}
 use Rattle.kc_slab_page.specs.Pages.{page_seen}
 use Rattle.kc_slab_scan.specs.declared.cpu_scan.CpuScan.{CpuScan}
-use Rattle.kc_slab_scan.specs.declared.cpu_shape.CpuShape.{CpuShape}
+use Rattle.kc_slab_scan.specs.declared.cpu_words.CpuShape.{CpuShape}
 use Rattle.kc_slab_scan.specs.declared.cpus.Cpu.{Cpu}
 use Rattle.kc_slab_scan.specs.declared.totals.BrokenSlab.{BrokenSlab}
 use Rattle.kc_slab_scan.specs.CpuLaws.{AllStand, CpusStand, NumbersShow}

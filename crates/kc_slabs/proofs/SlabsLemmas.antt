@@ -1,23 +1,32 @@
 -- What is printed, by what is made of the files.
-use Rattle.std.proofs.Common.{◌≡◌, ℕ, List, Option, Some, None, option_map, refl, sym, ap, ◌∙◌, subst}
-use Rattle.std.specs.Prelude.{IfSome, Result, Ok, Err}
+use Rattle.std.proofs.Common.{◌≡◌, ℕ, List, Option, Some, None, option_map, sym, ap, ◌∙◌, subst}
+use Rattle.std.specs.Prelude.{IfOk, IfSome, Result, Ok, Err}
+use Rattle.std.specs.Global.{Vec}
 use Rattle.kc_word.specs.declared.plain.Segment.{Segment}
+use Rattle.kc_outside.specs.declared.store.Slot.TheVariants as slot
+use Rattle.kc_outside.specs.Files.{Files, named}
 use Rattle.kc_btf.specs.Btf.{Types}
 use Rattle.kc_notes.specs.declared.info.Info.{Info}
+use Rattle.kc_notes.specs.Notes.{text_in}
 use Rattle.kc_syms.specs.Rows.{RowText, addresses}
+use Rattle.kc_memory.specs.Image.{Image}
+use Rattle.kc_found.specs.declared.failed.ReadFailed.{ReadFailed}
 use Rattle.kc_found.specs.Violations.{Violation}
 use Rattle.kc_command.specs.declared.halt.Halt.{Halt}
 use Rattle.kc_command.specs.declared.halt.Halt.TheVariants.{Refused, Store, Memory}
-use Rattle.kc_command.specs.declared.refusal.Refusal.{Refusal}
-use Rattle.kc_command.specs.Inputs.{rows_in}
-use Rattle.kc_command.specs.Made.{◌>>=◌, Halts, Made, gives}
+use Rattle.kc_command.specs.declared.kernel.Noted.{Noted}
+use Rattle.kc_command.specs.declared.refusal.Refusal.TheVariants.{Notes}
+use Rattle.kc_command.specs.Inputs.{map_in, rows_in, types_in}
+use Rattle.kc_command.specs.Kernels.{NotedAt, noted_in, noted_view}
+use Rattle.kc_command.specs.Made.{◌>>=◌, Halts, IsOf, Made, checked, gives}
 use Rattle.kc_command.specs.declared.ends.answer.Answer.{Answer}
-use Rattle.kc_command.specs.Ends.Answers.{PrintsOfBytes, written_by}
+use Rattle.kc_command.specs.Ends.Answers.{Prints, PrintsOf, PrintsOfBytes, written_by}
 use Rattle.kc_command.specs.Ends.Output.{ended}
 use Rattle.kc_command.specs.Ends.Written.{Written}
 use Rattle.kc_slabs.specs.declared.looking.SlabShapes.{SlabShapes}
-use Rattle.kc_slabs.specs.Looking.{Seen}
-use Rattle.kc_slabs.specs.Slabs.{kernel_by, kernel_with, seen_by, seen_made, shape_made, slabs_written}
+use Rattle.kc_slabs.specs.declared.looking.SlabsSeen.{SlabsSeen}
+use Rattle.kc_slabs.specs.Looking.{Seen, seen_in, told_view}
+use Rattle.kc_slabs.specs.Slabs.{kernel_by, kernel_with, seen_by, seen_made, shape_made, slabs_made, slabs_written}
 
 -- the rows of a map that was read are those that its symbols list
 abbrev Rest : Option (List ℕ) → List ℕ → List Segment → Info → SlabShapes → Made (Result Seen Violation)
@@ -57,3 +66,30 @@ prints_halt None cache segments told note types map symbols rows halt read same 
 prints_halt (Some bytes) cache segments told note types map symbols rows halt read same halts =
     subst (λ (m : Made (Result Seen Violation)). Halts m halt) (sym (by_rows cache bytes segments told note types map symbols rows read same))
     (halts_by (shape_made (kernel_with types symbols told) note) halt (λ shape. gives (seen_by cache bytes segments told shape)) halts)
+
+-- what is answered is seen of the memory of the dump
+pub told_of : (content : Option (List ℕ)) (image : List ℕ → Image) (shapes : SlabShapes) (cache : Option (List ℕ)) (runs all : List ℕ) (r : Result (Result SlabsSeen Violation) ReadFailed)
+    → runs ≡ all → IfSome content (λ bytes. IfOk r (λ told. seen_in (image bytes) shapes cache runs ≡ told_view told))
+    → IfOk r (λ told. IfSome content (λ bytes. told_view told ≡ seen_in (image bytes) shapes cache all))
+told_of None image shapes cache runs all (Ok told) same says = tt
+told_of None image shapes cache runs all (Err stop) same says = tt
+told_of (Some bytes) image shapes cache runs all (Ok told) same says = sym says ∙ ap (λ (ns : List ℕ). seen_in (image bytes) shapes cache ns) same
+told_of (Some bytes) image shapes cache runs all (Err stop) same says = tt
+
+-- what is printed of files that were read is made of them
+made_of : (cache dump btf map : Option (List ℕ)) (noted : NotedAt) (note : List ℕ) (types : Types) (listed : List ℕ) (r : Result Answer Halt)
+    → noted_in dump ≡ Some (Ok noted) → checked Notes (text_in noted.parts.notes) ≡ Some (Ok note) → types_in btf ≡ Some (Ok types) → map_in map ≡ Some (Ok listed)
+    → PrintsOfBytes slabs_written (λ bytes. seen_made cache bytes noted.parts.segments noted.told note types listed) dump r → Prints slabs_written (slabs_made cache dump btf map) r
+made_of cache None btf map noted note types listed r is told typed mapped prints = absurd (let none : ⊥ = cc in none)
+made_of cache (Some bytes) btf map noted note types listed r is told typed mapped prints = rw (is, told, typed, mapped) prints
+
+pub prints_made : (cache : Option (List ℕ)) (files : Option Files) (dump btf map : List ℕ) (noted : Noted) (note : List ℕ) (types : Types) (listed : Vec ℕ) (content : Option (List ℕ)) (r : Result Answer Halt)
+    → IsOf noted_view (λ told. noted_in (told slot.Dump dump)) files (Ok noted) → checked Notes (text_in noted.core.notes) ≡ Some (Ok note)
+    → IsOf {X = Types} (λ x. x) (λ told. types_in (told slot.Btf btf)) files (Ok types)
+    → IsOf {X = Vec ℕ} (λ m. m.items) (λ told. map_in (told slot.Map map)) files (Ok listed) → content ≡ named files slot.Dump dump
+    → PrintsOfBytes slabs_written (λ bytes. seen_made cache bytes noted.core.segments noted.info note types listed.items) content r
+    → PrintsOf slabs_written (λ told. slabs_made cache (told slot.Dump dump) (told slot.Btf btf) (told slot.Map map)) files r
+prints_made cache None dump btf map noted note types listed content r is told typed mapped same prints = tt
+prints_made cache (Some files) dump btf map noted note types listed content r is told typed mapped same prints =
+    made_of cache (files slot.Dump dump) (files slot.Btf btf) (files slot.Map map) (noted_view noted) note types listed.items r is told typed mapped
+    (subst (λ (c : Option (List ℕ)). PrintsOfBytes slabs_written (λ bytes. seen_made cache bytes noted.core.segments noted.info note types listed.items) c r) same prints)

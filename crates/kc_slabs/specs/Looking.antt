@@ -5,7 +5,7 @@ use Rattle.kc_found.specs.Trials.{and_then}
 use Rattle.kc_found.specs.Violations.{Violation}
 use Rattle.kc_slab_page.specs.declared.shape.PageShape.{PageShape}
 use Rattle.kc_slab_page.specs.Caches.{Caches, caches_in, caches_view}
-use Rattle.kc_slab_scan.specs.declared.cpu_shape.CpuShape.{CpuShape}
+use Rattle.kc_slab_scan.specs.declared.cpu_words.CpuShape.{CpuShape}
 use Rattle.kc_slab_scan.specs.Cpus.{cpus_in}
 use Rattle.kc_slab_scan.specs.CpuScans.{cpus_scanned}
 use Rattle.kc_slab_scan.specs.declared.totals.Scan.{Scan}

@@ -160,7 +160,39 @@ impl<'q> Question for EachSlab<'q> {
     }
 }
 
-/// What the slabs of the dump in slot Dump are, whose segments and notes were read, or why its caches can't be told.
+// What the slabs of the dump in slot Dump are, whose segments and notes were read, or why its caches can't be told.
+fn ask_slabs<S: Store>(
+    alloc: Global,
+    store: &mut S,
+    core: &Core,
+    info: Info,
+    btf: &Btf,
+    shapes: &SlabShapes,
+    wanted: Option<&[u8]>,
+) -> Result<Result<SlabsSeen, Found>, ReadFailed>
+    requires table { IsTable info.table }
+    requires inside { AreInside (S.sizes store.old Dump) core.now.segments }
+    requires memory { All in_memory core.now.segments }
+
+    ensures told { IfOk result (λ seen. IfSome (content (S.files store.old) Dump (S.opened store.old Dump)) (λ bytes.
+        told_view seen ≡ seen_in (bare_image bytes core.now.segments (by_info info)) shapes.now (option_copied wanted.entry) (frames core.now.segments))) }
+    ensures files { S.files store.new ≡ S.files store.old }
+    ensures cause { CountsFailures result (S.faults store.old) (S.faults store.new) }
+{
+    let segments = core.segments();
+    let paging = paging_by(info);
+    let runs = frame_runs(alloc, segments)?;
+    let asks = EachSlab {
+        alloc,
+        btf,
+        shapes,
+        wanted,
+        runs: &runs,
+    };
+    ask_dump(alloc, store, segments, Tail::Absent, paging, &asks)?
+}
+
+/// The same, with a failure as what halts a command.
 ///
 /// # Errors
 ///
@@ -186,18 +218,7 @@ pub(crate) fn look_at<S: Store>(
     ensures quiet { UnlessStore result (S.faults store.new ≡ S.faults store.old) }
     ensures cause { OnStore result (Rose (S.faults store.old) (S.faults store.new)) }
 {
-    let segments = core.segments();
-    let paging = paging_by(info);
-    let runs = frame_runs(alloc, segments)?;
-    let asks = EachSlab {
-        alloc,
-        btf,
-        shapes,
-        wanted,
-        runs: &runs,
-    };
-    let answer = ask_dump(alloc, store, segments, Tail::Absent, paging, &asks)?;
-    match answer {
+    match ask_slabs(alloc, store, core, info, btf, shapes, wanted) {
         Ok(seen) => Ok(seen),
         Err(ReadFailed::Fault) => Err(Halt::Store),
         Err(ReadFailed::NoMemory) => Err(Halt::Memory),
