@@ -115,7 +115,7 @@ fn look_over<S: Store>(alloc: Global, store: &mut S, asks: &Asks<'_>) -> Result<
         types: &types,
         map: &map,
     };
-    look_with(alloc, store, &files, asks.cache)
+    look_with(alloc, store, &files, asks)
 }
 
 // The text of a dump's VMCOREINFO.
@@ -168,16 +168,16 @@ fn look_with<S: Store>(
     alloc: Global,
     store: &mut S,
     files: &Kernel<'_>,
-    cache: Option<&[u8]>,
+    asks: &Asks<'_>,
 ) -> Result<Answer, Halt>
     requires table { IsTable files.now.info.table }
     requires inside { AreInside (S.sizes store.old Dump) files.now.core.now.segments }
     requires below { All (λ s. s.paddr + max s.filesz s.memsz ≤ 2 ^ 64) files.now.core.now.segments }
 
     ensures output { PrintsOfBytes slabs_written
-        (λ bytes. seen_made (option_copied cache.entry) bytes files.now.core.now.segments files.now.info files.now.note.now files.now.types.now files.now.map.now)
+        (λ bytes. seen_made (option_copied asks.now.cache) bytes files.now.core.now.segments files.now.info files.now.note.now files.now.types.now files.now.map.now)
         (content (S.files store.old) Dump (S.opened store.old Dump)) result }
-    ensures last { RefusesLast (slabs_asked (record { dump = []; btf = []; map = []; cache = None })).named result }
+    ensures last { RefusesLast (slabs_asked (asking asks.now)).named result }
     ensures files { S.files store.new ≡ S.files store.old }
     ensures later { S.faults store.old ≤ S.faults store.new }
     ensures quiet { UnlessStore result (S.faults store.new ≡ S.faults store.old) }
@@ -192,7 +192,7 @@ fn look_with<S: Store>(
         files.info,
         files.types,
         &shape,
-        cache,
+        asks.cache,
     )?;
     Ok(answer_of(alloc, &seen)?)
 }
