@@ -123,17 +123,17 @@ was_taken false is = absurd (let none : ⊥ = cc in none)
 
 pub seeking_next : (start objects : List ℕ) (n x : ℕ) (old new : List ℕ) (fresh : Bool) → slice_get objects n ≡ Some x → fresh ≡ true → fresh ≡ not (is_taken old x)
     → new ≡ (if fresh then with_word old x else old) → Seeking start objects n old → Seeking start objects (n + 1) new
-seeking_next start objects n x old new fresh at yes is taken far =
+seeking_next start objects n x old new fresh at first is taken far =
     ap (λ (k : ℕ). again new (drop k objects)) (add-one n)
-    ∙ ap (λ (c : List ℕ). again c (drop (suc n) objects)) (taken ∙ ap (λ (b : Bool). if b then with_word old x else old) yes)
-    ∙ sym (again_next old x (drop (suc n) objects) ∙ ap (λ (b : Bool). if b then Some x else again (with_word old x) (drop (suc n) objects)) (not_taken (is_taken old x) (sym yes ∙ is)))
+    ∙ ap (λ (c : List ℕ). again c (drop (suc n) objects)) (taken ∙ ap (λ (b : Bool). if b then with_word old x else old) first)
+    ∙ sym (again_next old x (drop (suc n) objects) ∙ ap (λ (b : Bool). if b then Some x else again (with_word old x) (drop (suc n) objects)) (not_taken (is_taken old x) (sym first ∙ is)))
     ∙ ap (again old) (sym (drop_next objects n x at)) ∙ far
 
 pub seeking_found : (start objects : List ℕ) (n x : ℕ) (old : List ℕ) (fresh : Bool) → slice_get objects n ≡ Some x → fresh ≡ false → fresh ≡ not (is_taken old x)
     → Seeking start objects n old → Some x ≡ again start objects
-seeking_found start objects n x old fresh at no is far =
+seeking_found start objects n x old fresh at second is far =
     sym (ap (again old) (drop_next objects n x at) ∙ again_next old x (drop (suc n) objects)
-    ∙ ap (λ (b : Bool). if b then Some x else again (with_word old x) (drop (suc n) objects)) (was_taken (is_taken old x) (sym no ∙ is)))
+    ∙ ap (λ (b : Bool). if b then Some x else again (with_word old x) (drop (suc n) objects)) (was_taken (is_taken old x) (sym second ∙ is)))
     ∙ far
 
 pub seeking_done : (start objects : List ℕ) (n : ℕ) (claims : List ℕ) → length objects ≤ n → Seeking start objects n claims → None ≡ again start objects
