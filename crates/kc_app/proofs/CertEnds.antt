@@ -30,7 +30,8 @@ use Rattle.kc_command.specs.Ends.Output.{Output, Ends}
 use Rattle.kc_command.specs.Ends.Status.{is_answer}
 use Rattle.kc_app.specs.CertHeadline.{CertifyBy, CertifyEnds, RecheckBy, RecheckEnds, TellsCert, TellsProof}
 use Rattle.kc_app.specs.Certify.{certified, certified_by}
-use Rattle.kc_app.specs.Check.{Audited, ChecksStand, Files, TellsStanding, audited, names_of, verdict_said, verdict_shown}
+use Rattle.kc_audit.specs.Audits.{names_of}
+use Rattle.kc_app.specs.Check.{Audited, ChecksStand, Files, TellsStanding, audited, verdict_said, verdict_shown}
 use Rattle.kc_app.specs.Output.{FitsFiles, FitsOutput, IsToldBy, output_written, written_of}
 use Rattle.kc_app.specs.Recheck.{CertFiles, cert_file}
 use Rattle.kc_app.specs.Reply.{Fits, Reply, Rechecks, answer_line, answer_status, reply_status, reply_text}

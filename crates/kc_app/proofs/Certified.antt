@@ -27,7 +27,8 @@ use Rattle.kc_app.specs.declared.held.Held.{Held}
 use Rattle.kc_app.specs.Answer.{WritesText}
 use Rattle.kc_app.specs.Certified.{IsFound, IsMade, IsSpelled, IsUnclean}
 use Rattle.kc_app.specs.Certify.{certified}
-use Rattle.kc_app.specs.Check.{Audited, Files, check_asked, names_of, verdict_said, verdict_shown}
+use Rattle.kc_audit.specs.Audits.{names_of}
+use Rattle.kc_app.specs.Check.{Audited, Files, check_asked, verdict_said, verdict_shown}
 use Rattle.kc_app.specs.Fitted.{Replies, RepliesOf, RepliesOfBytes}
 use Rattle.kc_app.specs.Held.{Holds, audited_of}
 use Rattle.kc_app.specs.Recheck.{CertFiles, cert_file, recheck_asked}

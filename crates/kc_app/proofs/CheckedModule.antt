@@ -1,25 +1,23 @@
--- The answer of `check` with a module, step by step.
-use Rattle.std.proofs.Common.{◌≡◌, ℕ, List, Option, Some, None, Result, Ok, Err, inl, inr}
+-- What the five files of a check with a module hold, step by step.
+use Rattle.std.proofs.Common.{◌≡◌, ℕ, List, Option, Some, None, Result, Ok, Err, inl, inr, refl}
 use Rattle.kc_outside.specs.declared.store.Slot.{Slot}
 use Rattle.kc_outside.specs.declared.store.Slot.TheVariants as slot
 use Rattle.kc_outside.specs.Files.{Files as Told, named}
-use Rattle.kc_elf.specs.Parts.{Parts}
 use Rattle.kc_btf.specs.Btf.{Types}
-use Rattle.kc_notes.specs.declared.info.Info.{Info}
-use Rattle.kc_notes.specs.Info.{info}
+use Rattle.kc_plan.specs.declared.plan.Plan.{Plan}
 use Rattle.kc_plan.specs.Planned.{PlanAt}
+use Rattle.kc_plan.specs.Views.{plan_whole}
 use Rattle.kc_command.specs.declared.halt.Halt.{Halt}
 use Rattle.kc_command.specs.declared.halt.Halt.TheVariants.{Refused, Store, Memory}
-use Rattle.kc_command.specs.declared.refusal.Refusal.TheVariants.{Notes}
-use Rattle.kc_command.specs.Inputs.{dump_parts, module_in, types_in}
-use Rattle.kc_command.specs.Made.{IsOf, checked, gives}
+use Rattle.kc_command.specs.declared.kernel.Noted.{Noted}
+use Rattle.kc_command.specs.Inputs.{map_in, module_in, types_in}
+use Rattle.kc_command.specs.Kernels.{NotedAt, noted_in, noted_view}
+use Rattle.kc_command.specs.Made.{IsOf, gives}
 use Rattle.kc_command.specs.Paging.{by_info}
-use Rattle.kc_command.specs.declared.ends.answer.Answer.{Answer}
-use Rattle.kc_command.specs.Ends.Answers.{Prints, PrintsOf, PrintsOfBytes, StayBehind}
-use Rattle.kc_app.specs.Check.{RefusesLate, planned_in}
-use Rattle.kc_app.specs.CheckModule.{FiveFiles, module_asked, module_made}
-use Rattle.kc_app.specs.Shown.{shown_written}
-use Rattle.kc_app.proofs.Checked.{shown_on}
+use Rattle.kc_command.specs.Ends.Answers.{StayBehind}
+use Rattle.kc_app.specs.Check.{RefusesLate, audited_by, planned_in}
+use Rattle.kc_app.specs.CheckModule.{FiveFiles, audited_with, module_asked}
+use Rattle.kc_app.specs.Held.{Holds}
 
 -- a late refusal leaves the files after it unopened
 pub late_stays : (A B : Type 0) (f : FiveFiles) (halt : Halt) (r : Result B Halt) (old before new : Slot → Option (List ℕ)) → r ≡ Err halt → before slot.Plan ≡ old slot.Plan
@@ -29,22 +27,24 @@ late_stays A B f (Refused refusal) r old before new is kept (inr late) = rw (is,
 late_stays A B f Store r old before new is kept late = rw is tt
 late_stays A B f Memory r old before new is kept late = rw is tt
 
--- the steps on a file that is there
-prints_made : (file btf split map plan : Option (List ℕ)) (parts : Parts) (told : Info) (base types : Types) (planned : PlanAt) (r : Result Answer Halt)
-    → dump_parts file ≡ gives parts → checked Notes (info parts.notes) ≡ gives told → types_in btf ≡ gives base → module_in base split ≡ gives types → planned_in types told map plan ≡ gives planned
-    → PrintsOfBytes shown_written (λ bytes. gives (shown_on parts.segments (by_info told) planned bytes)) file r
-    → Prints shown_written (module_made file btf split map plan) r
-prints_made None btf split map plan parts told base types planned r is noted typed joined found prints = absurd (let none : ⊥ = cc in none)
-prints_made (Some bytes) btf split map plan parts told base types planned r is noted typed joined found prints = rw (is, noted, typed, joined, found) prints
+-- what is made of a dump that is there
+made_held : (file btf split map plan content : Option (List ℕ)) (noted : NotedAt) (base types : Types) (listed : List ℕ) (planned : PlanAt)
+    → noted_in file ≡ gives noted → types_in btf ≡ gives base → module_in base split ≡ gives types → map_in map ≡ gives listed → planned_in types noted.told listed plan ≡ gives planned → content ≡ file
+    → (bytes : List ℕ) × (content ≡ Some bytes) × (audited_with file btf split map plan ≡ gives (audited_by noted.parts.segments (by_info noted.told) planned bytes))
+made_held None btf split map plan content noted base types listed planned is typed joined mapped found same = absurd (let none : ⊥ = cc in none)
+made_held (Some bytes) btf split map plan content noted base types listed planned is typed joined mapped found same = (bytes, same, rw (is, typed, joined, mapped, found) refl)
 
 -- and where the files are told
-pub module_prints : {X Y Z : Type 0} (files : Option Told) (f : FiveFiles) (core : X → Parts) (types : Y → Types) (plan : Z → PlanAt) (x : X) (told : Info) (y w : Y) (z : Z) (r : Result Answer Halt)
-    → IsOf core (λ files. dump_parts (files slot.Dump f.files.dump)) files (Ok x) → checked Notes (info (core x).notes) ≡ gives told
-    → IsOf types (λ files. types_in (files slot.Btf f.files.btf)) files (Ok y)
-    → IsOf types (λ files. module_in (types y) (files slot.Module f.split)) files (Ok w)
-    → IsOf plan (λ files. planned_in (types w) told (files slot.Map f.files.map) (files slot.Plan f.files.plan)) files (Ok z)
-    → PrintsOfBytes shown_written (λ bytes. gives (shown_on (core x).segments (by_info told) (plan z) bytes)) (named files slot.Dump f.files.dump) r
-    → PrintsOf shown_written (λ files. module_made (files slot.Dump f.files.dump) (files slot.Btf f.files.btf) (files slot.Module f.split) (files slot.Map f.files.map) (files slot.Plan f.files.plan)) files r
-module_prints None f core types plan x told y w z r is noted typed joined planned prints = tt
-module_prints (Some files) f core types plan x told y w z r is noted typed joined planned prints =
-    prints_made (files slot.Dump f.files.dump) (files slot.Btf f.files.btf) (files slot.Module f.split) (files slot.Map f.files.map) (files slot.Plan f.files.plan) (core x) told (types y) (types w) (plan z) r is noted typed joined planned prints
+pub module_holds : {X : Type 0} (files : Option Told) (f : FiveFiles) (noted : Noted) (base types : Types) (bytes : X → List ℕ) (listed : X) (plan : Plan) (content : Option (List ℕ))
+    → IsOf noted_view (λ files. noted_in (files slot.Dump f.files.dump)) files (Ok noted)
+    → IsOf {X = Types} (λ x. x) (λ files. types_in (files slot.Btf f.files.btf)) files (Ok base)
+    → IsOf {X = Types} (λ x. x) (λ files. module_in base (files slot.Module f.split)) files (Ok types)
+    → IsOf bytes (λ files. map_in (files slot.Map f.files.map)) files (Ok listed)
+    → IsOf plan_whole (λ files. planned_in types noted.info (bytes listed) (files slot.Plan f.files.plan)) files (Ok plan)
+    → content ≡ named files slot.Dump f.files.dump
+    → Holds (λ files. audited_with (files slot.Dump f.files.dump) (files slot.Btf f.files.btf) (files slot.Module f.split) (files slot.Map f.files.map) (files slot.Plan f.files.plan)) files content
+    (Ok (record { core = noted.core; info = noted.info; types = types; plan = plan }))
+module_holds None f noted base types bytes listed plan content is typed joined mapped planned same = tt
+module_holds (Some files) f noted base types bytes listed plan content is typed joined mapped planned same =
+    made_held (files slot.Dump f.files.dump) (files slot.Btf f.files.btf) (files slot.Module f.split) (files slot.Map f.files.map) (files slot.Plan f.files.plan) content
+    (noted_view noted) base types (bytes listed) (plan_whole plan) is typed joined mapped planned same

@@ -23,7 +23,8 @@ use Rattle.kc_command.specs.declared.ends.status.Status.TheVariants.{Done, Broke
 use Rattle.kc_command.specs.Ends.Ends.{IsTold, IsWritten}
 use Rattle.kc_command.specs.Ends.Output.{Output, Ends, word_files}
 use Rattle.kc_command.specs.Ends.Status.{is_answer}
-use Rattle.kc_app.specs.Check.{Audited, ChecksStand, ReportsShown, RootsTold, TellsRoots, TellsStanding, audited, audited_shown, names_of, roots_shown, verdict_said, verdict_shown}
+use Rattle.kc_audit.specs.Audits.{names_of}
+use Rattle.kc_app.specs.Check.{Audited, ChecksStand, ReportsShown, RootsTold, TellsRoots, TellsStanding, audited, audited_shown, roots_shown, verdict_said, verdict_shown}
 use Rattle.kc_app.specs.Headline.{CheckEnds, CheckPrints, ChecksEnd, EndsBy, PrintsBy, check_words}
 use Rattle.kc_app.specs.Output.{FitsFiles, FitsOutput, IsToldBy, ShownStand, StandsIn, TookTrue, out_of, output_written, written_of}
 use Rattle.kc_app.specs.Program.{program}

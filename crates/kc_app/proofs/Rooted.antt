@@ -24,7 +24,8 @@ use Rattle.kc_report.specs.Roots.{root_text as report_text}
 use Rattle.kc_command.specs.declared.ends.status.Status.{Status}
 use Rattle.kc_command.specs.declared.ends.status.Status.TheVariants as status
 use Rattle.kc_command.specs.Ends.Written.{Written}
-use Rattle.kc_app.specs.Check.{Audited, TellsRoot, names_of, root_said, root_seen}
+use Rattle.kc_audit.specs.Audits.{names_of}
+use Rattle.kc_app.specs.Check.{Audited, TellsRoot, root_said, root_seen}
 use Rattle.kc_app.specs.Shown.{RootSeen, root_text, rooted_text, roots_status, said_status, seen_text}
 
 -- the text of a root audit in a report is that of what is shown

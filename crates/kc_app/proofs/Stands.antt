@@ -31,7 +31,8 @@ use Rattle.kc_command.specs.Inputs.{types_in}
 use Rattle.kc_command.specs.Made.{◌>>=◌, Made, gives, wanted}
 use Rattle.kc_command.specs.Ends.Asked.{Asked}
 use Rattle.kc_command.specs.Ends.Output.{Output, Usage, Ends, output_of}
-use Rattle.kc_app.specs.Check.{Audited, audited, audited_shown, check_asks, check_made, names_of, roots_shown, verdict_shown}
+use Rattle.kc_audit.specs.Audits.{names_of}
+use Rattle.kc_app.specs.Check.{Audited, audited, audited_shown, check_asks, check_made, roots_shown, verdict_shown}
 use Rattle.kc_app.specs.CheckModule.{audited_with, check_form, checks_asks, module_made}
 use Rattle.kc_app.specs.Commands.{command, forms}
 use Rattle.kc_app.specs.Form.{Form}

@@ -13,7 +13,8 @@ use Rattle.kc_command.specs.Lines.{refusal_line}
 use Rattle.kc_command.specs.Made.{Made}
 use Rattle.kc_command.specs.declared.ends.status.Status.{Status}
 use Rattle.kc_command.specs.declared.ends.status.Status.TheVariants as status
-use Rattle.kc_app.specs.Check.{Audited, Files, TellsStanding, audited, names_of, verdict_shown}
+use Rattle.kc_audit.specs.Audits.{names_of}
+use Rattle.kc_app.specs.Check.{Audited, Files, TellsStanding, audited, verdict_shown}
 use Rattle.kc_app.specs.Recheck.{CertFiles}
 use Rattle.kc_app.specs.Reply.{Proves, answer_line, answer_status}
 use Rattle.kc_app.specs.Shown.{shown_text}

@@ -6,7 +6,8 @@ use Rattle.kc_found.specs.declared.verdict.Verdict.TheVariants.{Clean, Broken}
 use Rattle.kc_plan.specs.Verdicts.{verdict}
 use Rattle.kc_command.specs.Made.{◌>>=◌, Made, gives}
 use Rattle.kc_command.specs.Ends.Asked.{Asked}
-use Rattle.kc_app.specs.Check.{Audited, Files, audited, check_asked, names_of, verdict_shown}
+use Rattle.kc_audit.specs.Audits.{names_of}
+use Rattle.kc_app.specs.Check.{Audited, Files, audited, check_asked, verdict_shown}
 use Rattle.kc_app.specs.Form.{Form}
 use Rattle.kc_app.specs.Reply.{Reply, CertificateOf, Shows}
 

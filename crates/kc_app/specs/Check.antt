@@ -8,7 +8,6 @@ use Rattle.kc_outside.specs.declared.store.Slot.TheVariants as slot
 use Rattle.kc_memory.specs.Image.{Image}
 use Rattle.kc_btf.specs.Btf.{Types}
 use Rattle.kc_notes.specs.declared.info.Info.{Info}
-use Rattle.kc_notes.specs.Info.{info}
 use Rattle.kc_found.specs.declared.verdict.RootVerdict.{RootVerdict}
 use Rattle.kc_found.specs.declared.verdict.Verdict.{Verdict}
 use Rattle.kc_found.specs.declared.verdict.Verdict.TheVariants.{Clean, Broken}
@@ -23,18 +22,18 @@ use Rattle.kc_report.specs.Copies.{names_of as reached_names}
 use Rattle.kc_report.specs.IsReport.{report_text}
 use Rattle.kc_command.specs.declared.halt.Halt.{Halt}
 use Rattle.kc_command.specs.declared.halt.Halt.TheVariants.{Refused, Store, Memory}
-use Rattle.kc_command.specs.declared.refusal.Refusal.TheVariants.{Notes}
-use Rattle.kc_command.specs.Inputs.{dump_parts, map_in, plan_in, rows_in, types_in}
-use Rattle.kc_command.specs.Made.{◌>>=◌, Made, checked, gives}
+use Rattle.kc_command.specs.Inputs.{plan_in, rows_in}
+use Rattle.kc_command.specs.Kernels.{kernel_in}
+use Rattle.kc_command.specs.Made.{◌>>=◌, Made, gives}
 use Rattle.kc_command.specs.Paging.{by_info}
 use Rattle.kc_command.specs.Slots.{refused_slot}
 use Rattle.kc_command.specs.Ends.Asked.{Asked}
-use Rattle.kc_app.specs.Audits.{plan_over}
-use Rattle.kc_app.specs.declared.check.Asks.{Asks}
+use Rattle.kc_audit.specs.Audits.{names_of, plan_over}
+use Rattle.kc_question.specs.Memory.{bytes_of, image_of}
+use Rattle.kc_app.specs.declared.plan_files.PlanFiles.{PlanFiles}
 use Rattle.kc_command.specs.declared.ends.status.Status.{Status}
 use Rattle.kc_command.specs.declared.ends.status.Status.TheVariants as status
 use Rattle.kc_app.specs.Shown.{Said, Sound, Unsound, RootSeen, Shown, Seen, Rooted, Listed, said_status, shown_status, shown_text}
-use Rattle.kc_app.specs.Word.{bytes_of, image_of}
 
 -- what `check` asks: four files by their names
 pub record Files : Type 0 where
@@ -43,11 +42,10 @@ pub record Files : Type 0 where
   pub map : List ℕ
   pub plan : List ℕ
 
--- a plan over the rows of a map: the map's faults come first
-abbrev pub planned_in : Types → Info → Option (List ℕ) → Option (List ℕ) → Made PlanAt
+-- a plan over the rows of a map with these bytes: the map's fault comes first
+abbrev pub planned_in : Types → Info → List ℕ → Option (List ℕ) → Made PlanAt
 planned_in types told map plan = do
-  listed ← map_in map
-  rows ← rows_in listed
+  rows ← rows_in map
   bytes ← plan_in plan
   plan_over types rows told bytes
 
@@ -64,15 +62,9 @@ audited_by segments paging plan bytes = record { image = image_of bytes segments
 -- the faults come in the order dump, types, map and plan
 abbrev pub audited : Option (List ℕ) → Option (List ℕ) → Option (List ℕ) → Option (List ℕ) → Made Audited
 audited dump btf map plan = do
-  parts ← dump_parts dump
-  told ← checked Notes (info parts.notes)
-  types ← types_in btf
-  planned ← planned_in types told map plan
-  gives (audited_by parts.segments (by_info told) planned (bytes_of dump))
-
--- the audits' names
-abbrev pub names_of : List AuditAt → List (List ℕ)
-names_of audits = map (λ (audit : AuditAt). audit.name) audits
+  kernel ← kernel_in dump btf map
+  planned ← planned_in kernel.types kernel.told kernel.map plan
+  gives (audited_by kernel.segments (by_info kernel.told) planned (bytes_of dump))
 
 -- what is said of a verdict beside the words that show it
 abbrev pub verdict_said : List (List ℕ) → Verdict → Said
@@ -126,10 +118,10 @@ check_asks (dump ∷ btf ∷ map ∷ plan ∷ []) = Some (check_asked (record { 
 check_asks _ = None
 
 -- as the code keeps them
-abbrev pub files_view : Asks → Files
-files_view a = record { dump = a.dump.now; btf = a.btf.now; map = a.map.now; plan = a.plan.now }
+abbrev pub files_view : PlanFiles → Files
+files_view a = record { dump = a.kernel.dump.now; btf = a.kernel.btf.now; map = a.kernel.map.now; plan = a.plan.now }
 
-abbrev pub check_view : Asks → Asked Shown
+abbrev pub check_view : PlanFiles → Asked Shown
 check_view a = check_asked (files_view a)
 
 -- a status is 0 exactly where every structure that a plan reaches stands in the memory, and 1 exactly where one doesn't

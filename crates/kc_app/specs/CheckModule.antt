@@ -2,17 +2,16 @@
 use Rattle.std.specs.Prelude.{ℕ, List, [], ◌∷◌, codes, Option, Some, None}
 use Rattle.std.specs.Option.{option_or}
 use Rattle.kc_outside.specs.declared.store.Slot.TheVariants as slot
-use Rattle.kc_notes.specs.Info.{info}
-use Rattle.kc_command.specs.declared.refusal.Refusal.TheVariants.{Notes}
-use Rattle.kc_command.specs.Inputs.{dump_parts, module_in, types_in}
-use Rattle.kc_command.specs.Made.{◌>>=◌, Made, checked, gives}
+use Rattle.kc_command.specs.Inputs.{map_in, module_in, types_in}
+use Rattle.kc_command.specs.Kernels.{noted_in}
+use Rattle.kc_command.specs.Made.{◌>>=◌, Made, gives}
 use Rattle.kc_command.specs.Paging.{by_info}
 use Rattle.kc_command.specs.Ends.Asked.{Asked}
+use Rattle.kc_question.specs.Memory.{bytes_of}
 use Rattle.kc_app.specs.declared.check_module.Asks.{Asks}
 use Rattle.kc_app.specs.Check.{Audited, Files, audited_by, audited_shown, check_asks, files_view, planned_in}
 use Rattle.kc_app.specs.Form.{Form}
 use Rattle.kc_app.specs.Shown.{Shown}
-use Rattle.kc_app.specs.Word.{bytes_of}
 
 -- what it asks: four files and the module's by their names
 pub record FiveFiles : Type 0 where
@@ -22,12 +21,12 @@ pub record FiveFiles : Type 0 where
 -- the faults come in the order dump, types, module, map and plan
 abbrev pub audited_with : Option (List ℕ) → Option (List ℕ) → Option (List ℕ) → Option (List ℕ) → Option (List ℕ) → Made Audited
 audited_with dump btf split map plan = do
-  parts ← dump_parts dump
-  told ← checked Notes (info parts.notes)
+  noted ← noted_in dump
   base ← types_in btf
   types ← module_in base split
-  planned ← planned_in types told map plan
-  gives (audited_by parts.segments (by_info told) planned (bytes_of dump))
+  listed ← map_in map
+  planned ← planned_in types noted.told listed plan
+  gives (audited_by noted.parts.segments (by_info noted.told) planned (bytes_of dump))
 
 -- what it makes of its files
 abbrev pub module_made : Option (List ℕ) → Option (List ℕ) → Option (List ℕ) → Option (List ℕ) → Option (List ℕ) → Made Shown

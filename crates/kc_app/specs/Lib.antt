@@ -1,5 +1,4 @@
 pub mod Answer
-pub mod Audits
 pub mod Calls
 pub mod CertHeadline
 pub mod Certified

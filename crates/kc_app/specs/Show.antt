@@ -1,6 +1,5 @@
 -- `show`: a number in memory, by symbol, type and path.
 use Rattle.std.specs.Prelude.{ℕ, List, [], ◌∷◌, codes, Option, Some, None, Result, Ok, Err}
-use Rattle.kc_word.specs.declared.plain.Tail.TheVariants.{Absent}
 use Rattle.kc_outside.specs.declared.store.Slot.TheVariants.{Dump, Btf, Map}
 use Rattle.kc_memory.specs.Bits.{Number, number_places}
 use Rattle.kc_memory.specs.Image.{Image}
@@ -8,19 +7,18 @@ use Rattle.kc_memory.specs.Stopped.{Stopped}
 use Rattle.kc_btf.specs.Btf.{Types}
 use Rattle.kc_layout.specs.Ends.{NumberAt}
 use Rattle.kc_layout.specs.Views.{number_view}
-use Rattle.kc_notes.specs.Info.{info}
 use Rattle.kc_syms.specs.Rows.{addresses}
 use Rattle.kc_view.specs.Pointers.{value_at}
-use Rattle.kc_command.specs.declared.refusal.Refusal.TheVariants.{Notes}
-use Rattle.kc_command.specs.Inputs.{dump_parts, map_in, number_at, rows_in, symbol_at, type_named, types_in}
-use Rattle.kc_command.specs.Made.{◌>>=◌, Made, checked, gives}
+use Rattle.kc_command.specs.Inputs.{number_at, rows_in, symbol_at, type_named}
+use Rattle.kc_command.specs.Kernels.{kernel_in}
+use Rattle.kc_command.specs.Made.{◌>>=◌, Made, gives}
 use Rattle.kc_command.specs.Paging.{by_info}
 use Rattle.kc_command.specs.Ends.Asked.{Asked}
+use Rattle.kc_question.specs.Memory.{bare_image, bytes_of}
 use Rattle.kc_app.specs.declared.show.Asks.{Asks}
 use Rattle.kc_app.specs.declared.show.Target.{Target as CodeTarget}
 use Rattle.kc_app.specs.Form.{Form}
 use Rattle.kc_app.specs.Shown.{Shown, Seen, Value, broken}
-use Rattle.kc_app.specs.Word.{bytes_of, image_of}
 
 -- what `show` asks: three files by their names, a symbol, a type by its name, and a path from it
 pub record Question : Type 0 where
@@ -48,10 +46,9 @@ number_in types name path = do
   id ← type_named types name
   number_at types id path
 
--- where to look: the map's faults come first, then the symbol's, then the type's and the path's
-abbrev pub target_in : Question → Types → ℕ → Option (List ℕ) → Made Target
-target_in question types kaslr file = do
-  map ← map_in file
+-- where to look, by the bytes of a map: its fault comes first, then the symbol's, then the type's and the path's
+abbrev pub target_in : Question → Types → ℕ → List ℕ → Made Target
+target_in question types kaslr map = do
   at ← symbol_in question.symbol kaslr map
   number ← number_in types question.name question.path
   gives (record { at = at; number = number })
@@ -64,11 +61,9 @@ pub record Sought : Type 0 where
 -- the faults come in the order dump, types, map, symbol, type and path
 abbrev pub show_sought : Question → Option (List ℕ) → Option (List ℕ) → Option (List ℕ) → Made Sought
 show_sought question dump btf map = do
-  parts ← dump_parts dump
-  told ← checked Notes (info parts.notes)
-  types ← types_in btf
-  target ← target_in question types told.kaslr map
-  gives (record { image = image_of (bytes_of dump) parts.segments Absent (by_info told); target = target })
+  kernel ← kernel_in dump btf map
+  target ← target_in question kernel.types kernel.told.kaslr kernel.map
+  gives (record { image = bare_image (bytes_of dump) kernel.segments (by_info kernel.told); target = target })
 
 -- the number in memory
 abbrev pub number_read : Image → Target → Result Number Stopped
@@ -100,7 +95,7 @@ show_form = record { name = codes "show"; words = codes "DUMP BTF MAP SYMBOL TYP
 
 -- as the code keeps them
 abbrev pub worded : Asks → Question
-worded a = record { dump = a.dump.now; btf = a.btf.now; map = a.map.now; symbol = a.symbol.now; name = a.name.now; path = a.path.now }
+worded a = record { dump = a.files.dump.now; btf = a.files.btf.now; map = a.files.map.now; symbol = a.symbol.now; name = a.name.now; path = a.path.now }
 
 abbrev pub show_view : Asks → Asked Shown
 show_view a = show_asked (worded a)

@@ -1,10 +1,7 @@
 -- `word`: one word of a dump.
 use Rattle.std.specs.Prelude.{ℕ, ◌%◌, ◌^◌, ◌&&◌, false, if◌then◌else◌, nat_eq, nat_lt, List, [], ◌∷◌, codes, Option, Some, None, option_and_then, option_map, Result, Ok, Err}
 use Rattle.std.specs.Str.{bytes_eq}
-use Rattle.kc_word.specs.declared.plain.Segment.{Segment}
 use Rattle.kc_word.specs.declared.plain.PageCfg.{PageCfg}
-use Rattle.kc_word.specs.declared.plain.Tail.{Tail}
-use Rattle.kc_word.specs.declared.plain.Tail.TheVariants.{Absent}
 use Rattle.kc_word.specs.Hex.{hex_number}
 use Rattle.kc_outside.specs.declared.store.Slot.TheVariants.{Dump}
 use Rattle.kc_memory.specs.declared.words.VWord.{VWord}
@@ -18,6 +15,7 @@ use Rattle.kc_command.specs.Inputs.{dump_parts}
 use Rattle.kc_command.specs.Made.{◌>>=◌, Made, checked, gives}
 use Rattle.kc_command.specs.Paging.{by_info}
 use Rattle.kc_command.specs.Ends.Asked.{Asked}
+use Rattle.kc_question.specs.Memory.{bare_image, bytes_of}
 use Rattle.kc_app.specs.declared.word.Asks.{Asks}
 use Rattle.kc_app.specs.Form.{Form}
 use Rattle.kc_app.specs.Shown.{Shown, Seen, Bare, broken}
@@ -31,15 +29,6 @@ abbrev pub table_word : List ℕ → Option (Option ℕ)
 table_word text =
     if bytes_eq text (codes "-") then Some None
     else option_map (λ (t : ℕ). Some t) (option_and_then as_table (hex_number text))
-
--- the memory of a dump with these bytes and segments, whose tails read so
-abbrev pub image_of : List ℕ → List Segment → Tail → PageCfg → Image
-image_of bytes segments tail paging = record { physical = record { bytes = bytes; segments = segments; tail = tail }; paging = paging }
-
--- the bytes of a file, where it is there
-abbrev pub bytes_of : Option (List ℕ) → List ℕ
-bytes_of None = []
-bytes_of (Some bytes) = bytes
 
 -- four levels below a table, with no mask
 abbrev pub by_table : ℕ → PageCfg
@@ -57,7 +46,7 @@ abbrev pub word_image : Option ℕ → Option (List ℕ) → Made Image
 word_image table dump = do
   parts ← dump_parts dump
   paging ← paging_of table parts.notes
-  gives (image_of (bytes_of dump) parts.segments Absent paging)
+  gives (bare_image (bytes_of dump) parts.segments paging)
 
 -- the answer on a word
 abbrev pub word_shown : Image → Result VWord Stopped → Shown

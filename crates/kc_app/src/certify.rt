@@ -17,13 +17,15 @@ ghost use Rattle.kc_app.specs.Fitted.{RepliesOf, RepliesOfBytes};
 ghost use Rattle.kc_app.specs.Held.{audited_of};
 ghost use Rattle.kc_app.specs.Certified.{IsMade, IsSpelled, IsUnclean, NamesIn};
 
-use crate::asking::{Question, ask_core};
-use crate::check::{Asks, PlanOf, answer, names_of};
-use crate::held::{Held, read_held};
+use crate::held::{Held, ask_held, read_held};
+use crate::plan_files::PlanFiles;
+use crate::verdict::answer;
+use kc_audit::{PlanOf, names_of};
 use kc_cert::{CertStop, Certificate, cert_text, certify as certify_plan};
 use kc_command::{Answer, Halt};
 use kc_found::{Space, Verdict};
 use kc_outside::Store;
+use kc_question::Question;
 use kc_report::PlanNames;
 use kc_word::Steps;
 use std::alloc::Global;
@@ -34,16 +36,16 @@ use std::sync::ledger::Ledger;
 pub(crate) fn certify<S: Store>(
     alloc: Global,
     store: &mut S,
-    asks: &Asks<'_>,
+    asks: &PlanFiles<'_>,
 ) -> Result<Answer, Halt>
-    requires dump { S.may store.old Dump asks.now.dump.now }
-    requires btf { S.may store.old Slot.Btf asks.now.btf.now }
-    requires map { S.may store.old Map asks.now.map.now }
+    requires dump { S.may store.old Dump asks.now.kernel.dump.now }
+    requires btf { S.may store.old Slot.Btf asks.now.kernel.btf.now }
+    requires map { S.may store.old Map asks.now.kernel.map.now }
     requires plan { S.may store.old Slot.Plan asks.now.plan.now }
 
     ensures output { RepliesOf
-        (λ files. certify_made (files Dump asks.now.dump.now) (files Slot.Btf asks.now.btf.now)
-        (files Map asks.now.map.now) (files Slot.Plan asks.now.plan.now)) (S.files store.old) result }
+        (λ files. certify_made (files Dump asks.now.kernel.dump.now) (files Slot.Btf asks.now.kernel.btf.now)
+        (files Map asks.now.kernel.map.now) (files Slot.Plan asks.now.plan.now)) (S.files store.old) result }
     ensures unopened { StayBehind (certify_asked (files_view asks.now)).named result (S.opened store.old)
         (S.opened store.new) }
     ensures files { S.files store.new ≡ S.files store.old }
@@ -77,7 +79,7 @@ fn certified<S: Store>(alloc: Global, store: &mut S, held: &Held) -> Result<Answ
         types: &held.types,
     };
     let question = Certifying(over);
-    let made = ask_core(alloc, store, &held.core, held.info, plan.tail, &question)?;
+    let made = ask_held(alloc, store, held, &question)?;
     answer_of(alloc, &names, made)
 }
 

@@ -11,9 +11,9 @@ ghost use Rattle.kc_app.specs.Certify.{certify_asks};
 ghost use Rattle.kc_app.specs.Program.{certs_asks, certs_view};
 ghost use Rattle.kc_app.specs.Recheck.{recheck_asks};
 
-use crate::check::Asks;
+use crate::plan_files::PlanFiles;
 use crate::recheck::Asks as CertFiles;
-use kc_command::{Answer, Halt};
+use kc_command::{Answer, Halt, KernelFiles};
 use kc_outside::Store;
 use std::alloc::Global;
 
@@ -21,7 +21,7 @@ use std::alloc::Global;
 #[derive(Clone, Copy)]
 pub enum CertAsks<'w> {
     /// A certificate of a dump.
-    Certify(Asks<'w>),
+    Certify(PlanFiles<'w>),
     /// Whether one fits a dump.
     Recheck(CertFiles<'w>),
 }
@@ -33,10 +33,13 @@ fn read_five(words: &[String]) -> Option<CertAsks<'_>>
     let [dump, btf, map, plan, cert] = words else {
         return None;
     };
-    let files = Asks {
+    let kernel = KernelFiles {
         dump: dump.as_str(),
         btf: btf.as_str(),
         map: map.as_str(),
+    };
+    let files = PlanFiles {
+        kernel,
         plan: plan.as_str(),
     };
     Some(CertAsks::Recheck(CertFiles {
@@ -52,10 +55,13 @@ fn read_four(words: &[String]) -> Option<CertAsks<'_>>
     let [dump, btf, map, plan] = words else {
         return None;
     };
-    Some(CertAsks::Certify(Asks {
+    let kernel = KernelFiles {
         dump: dump.as_str(),
         btf: btf.as_str(),
         map: map.as_str(),
+    };
+    Some(CertAsks::Certify(PlanFiles {
+        kernel,
         plan: plan.as_str(),
     }))
 }

@@ -1,18 +1,25 @@
 // The command `check` over the types of a kernel with those of a module of it.
-ghost use Rattle.std.specs.Prelude.{◌≡◌, ◌≤◌, map, option_map};
+ghost use Rattle.std.specs.Prelude.{◌≡◌, ◌≤◌, length, map, option_map, IfOk};
 ghost use Rattle.std.specs.Option.{ForSome};
 ghost use Rattle.std.specs.String.{string_bytes};
 ghost use Rattle.kc_outside.specs.declared.store.Slot.{Slot};
 ghost use Rattle.kc_outside.specs.declared.store.Slot.TheVariants.{Dump, Map};
 ghost use Rattle.kc_outside.specs.Counts.{Rose};
+ghost use Rattle.kc_outside.specs.Files.{content};
+ghost use Rattle.kc_phys.specs.Stored.{AreInside};
+ghost use Rattle.kc_plan.specs.Inside.{AreInside as TypesAreInside};
 ghost use Rattle.kc_command.specs.Halts.{OnStore, UnlessStore};
+ghost use Rattle.kc_command.specs.Paging.{IsTable};
 ghost use Rattle.kc_command.specs.Ends.Answers.{OnNone, OnStoreIn, PrintsOf, Runs, StayBehind, UnlessStoreIn};
 ghost use Rattle.kc_command.specs.Ends.Asked.{word_in};
-ghost use Rattle.kc_app.specs.CheckModule.{checks_asks, five_view, module_asked, module_asks, module_made, module_view};
+ghost use Rattle.kc_app.specs.CheckModule.{audited_with, checks_asks, five_view, module_asked, module_asks, module_made, module_view};
+ghost use Rattle.kc_app.specs.Held.{Holds};
 ghost use Rattle.kc_app.specs.Shown.{shown_written};
 
-use crate::check::{Asks as FourAsks, find_plan, judge};
-use kc_command::{Answer, Halt, read_dump, read_info, read_module, read_types};
+use crate::held::Held;
+use crate::plan_files::{PlanFiles, find_plan};
+use crate::verdict::judge;
+use kc_command::{Answer, Halt, KernelFiles, read_map, read_module, read_noted, read_types};
 use kc_outside::Store;
 use std::alloc::Global;
 
@@ -20,7 +27,7 @@ use std::alloc::Global;
 #[derive(Clone, Copy)]
 pub struct Asks<'w> {
     /// The names of the dump, of the file of types, of the map and of the plan.
-    pub files: FourAsks<'w>,
+    pub files: PlanFiles<'w>,
     /// The name of the file of the module's types.
     pub split: &'w str,
 }
@@ -32,10 +39,13 @@ fn read(words: &[String]) -> Option<Asks<'_>>
     let [dump, btf, map, plan, split] = words else {
         return None;
     };
-    let files = FourAsks {
+    let kernel = KernelFiles {
         dump: dump.as_str(),
         btf: btf.as_str(),
         map: map.as_str(),
+    };
+    let files = PlanFiles {
+        kernel,
         plan: plan.as_str(),
     };
     Some(Asks {
@@ -65,15 +75,15 @@ pub fn run<S: Store>(alloc: Global, store: &mut S, words: &[String]) -> Option<R
 
 // The answer to what the longer form asks.
 fn check<S: Store>(alloc: Global, store: &mut S, asks: &Asks<'_>) -> Result<Answer, Halt>
-    requires dump { S.may store.old Dump asks.now.files.dump.now }
-    requires btf { S.may store.old Slot.Btf asks.now.files.btf.now }
+    requires dump { S.may store.old Dump asks.now.files.kernel.dump.now }
+    requires btf { S.may store.old Slot.Btf asks.now.files.kernel.btf.now }
     requires split { S.may store.old Slot.Module asks.now.split.now }
-    requires map { S.may store.old Map asks.now.files.map.now }
+    requires map { S.may store.old Map asks.now.files.kernel.map.now }
     requires plan { S.may store.old Slot.Plan asks.now.files.plan.now }
 
     ensures output { PrintsOf shown_written
-        (λ files. module_made (files Dump asks.now.files.dump.now) (files Slot.Btf asks.now.files.btf.now)
-        (files Slot.Module asks.now.split.now) (files Map asks.now.files.map.now)
+        (λ files. module_made (files Dump asks.now.files.kernel.dump.now) (files Slot.Btf asks.now.files.kernel.btf.now)
+        (files Slot.Module asks.now.split.now) (files Map asks.now.files.kernel.map.now)
         (files Slot.Plan asks.now.files.plan.now)) (S.files store.old) result }
     ensures unopened { StayBehind (module_asked (five_view asks.now)).named result (S.opened store.old)
         (S.opened store.new) }
@@ -82,10 +92,43 @@ fn check<S: Store>(alloc: Global, store: &mut S, asks: &Asks<'_>) -> Result<Answ
     ensures quiet { UnlessStore result (S.faults store.new ≡ S.faults store.old) }
     ensures cause { OnStore result (Rose (S.faults store.old) (S.faults store.new)) }
 {
-    let core = read_dump(alloc, store, asks.files.dump)?;
-    let info = read_info(&core)?;
-    let base = read_types(alloc, store, asks.files.btf)?;
+    let held = read_joined(alloc, store, asks)?;
+    judge(alloc, store, &held)
+}
+
+// What the files hold, or their first fault.
+fn read_joined<S: Store>(alloc: Global, store: &mut S, asks: &Asks<'_>) -> Result<Held, Halt>
+    requires dump { S.may store.old Dump asks.now.files.kernel.dump.now }
+    requires btf { S.may store.old Slot.Btf asks.now.files.kernel.btf.now }
+    requires split { S.may store.old Slot.Module asks.now.split.now }
+    requires map { S.may store.old Map asks.now.files.kernel.map.now }
+    requires plan { S.may store.old Slot.Plan asks.now.files.plan.now }
+
+    ensures told { Holds
+        (λ files. audited_with (files Dump asks.now.files.kernel.dump.now) (files Slot.Btf asks.now.files.kernel.btf.now)
+        (files Slot.Module asks.now.split.now) (files Map asks.now.files.kernel.map.now)
+        (files Slot.Plan asks.now.files.plan.now)) (S.files store.old)
+        (content (S.files store.new) Dump (S.opened store.new Dump)) result }
+    ensures unopened { StayBehind (module_asked (five_view asks.now)).named result (S.opened store.old)
+        (S.opened store.new) }
+    ensures table { IfOk result (λ held. IsTable held.info.table) }
+    ensures types { IfOk result (λ held. TypesAreInside (length held.types.records) held.plan.audits) }
+    ensures inside { IfOk result (λ held. AreInside (S.sizes store.new Dump) held.core.segments) }
+
+    ensures files { S.files store.new ≡ S.files store.old }
+    ensures later { S.faults store.old ≤ S.faults store.new }
+    ensures quiet { UnlessStore result (S.faults store.new ≡ S.faults store.old) }
+    ensures cause { OnStore result (Rose (S.faults store.old) (S.faults store.new)) }
+{
+    let noted = read_noted(alloc, store, asks.files.kernel.dump)?;
+    let base = read_types(alloc, store, asks.files.kernel.btf)?;
     let types = read_module(alloc, store, asks.split, &base)?;
-    let plan = find_plan(alloc, store, &asks.files, &types, &info)?;
-    judge(alloc, store, &core, info, &types, &plan)
+    let map = read_map(alloc, store, asks.files.kernel.map)?;
+    let plan = find_plan(alloc, store, &map, asks.files.plan, &types, &noted.info)?;
+    Ok(Held {
+        core: noted.core,
+        info: noted.info,
+        types,
+        plan,
+    })
 }

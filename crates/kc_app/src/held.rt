@@ -1,5 +1,5 @@
 // What the four files of an audit hold.
-ghost use Rattle.std.specs.Prelude.{◌≡◌, ◌≤◌, ℕ, List, length, IfOk};
+ghost use Rattle.std.specs.Prelude.{◌≡◌, ◌≤◌, ℕ, List, length, IfErr, IfOk, IfSome};
 ghost use Rattle.kc_outside.specs.declared.store.Slot.{Slot};
 ghost use Rattle.kc_outside.specs.declared.store.Slot.TheVariants.{Dump, Map};
 ghost use Rattle.kc_outside.specs.Counts.{Rose};
@@ -10,15 +10,17 @@ ghost use Rattle.kc_command.specs.Halts.{OnStore, UnlessStore};
 ghost use Rattle.kc_command.specs.Paging.{IsTable};
 ghost use Rattle.kc_command.specs.Ends.Answers.{StayBehind};
 ghost use Rattle.kc_app.specs.Check.{audited, check_asked, files_view};
-ghost use Rattle.kc_app.specs.Held.{Holds};
+ghost use Rattle.kc_app.specs.Held.{Holds, audited_of};
 
-use crate::check::{Asks, find_plan};
+use crate::plan_files::{PlanFiles, find_plan};
 use kc_btf::Btf;
-use kc_command::{Halt, read_dump, read_info, read_types};
+use kc_command::{Halt, paging_by, read_kernel};
 use kc_elf::Core;
 use kc_notes::Info;
 use kc_outside::Store;
 use kc_plan::Plan;
+use kc_question::{Question, ask_dump};
+use kc_word::NoMemory;
 use std::alloc::Global;
 
 /// What the four files of an audit hold. The dump stays in slot Dump.
@@ -39,15 +41,15 @@ pub struct Held {
 /// # Errors
 ///
 /// The first fault of these files, in their order; a failed call of the store; no memory was left.
-pub fn read_held<S: Store>(alloc: Global, store: &mut S, asks: &Asks<'_>) -> Result<Held, Halt>
-    requires dump { S.may store.old Dump asks.now.dump.now }
-    requires btf { S.may store.old Slot.Btf asks.now.btf.now }
-    requires map { S.may store.old Map asks.now.map.now }
+pub fn read_held<S: Store>(alloc: Global, store: &mut S, asks: &PlanFiles<'_>) -> Result<Held, Halt>
+    requires dump { S.may store.old Dump asks.now.kernel.dump.now }
+    requires btf { S.may store.old Slot.Btf asks.now.kernel.btf.now }
+    requires map { S.may store.old Map asks.now.kernel.map.now }
     requires plan { S.may store.old Slot.Plan asks.now.plan.now }
 
     ensures told { Holds
-        (λ files. audited (files Dump asks.now.dump.now) (files Slot.Btf asks.now.btf.now)
-        (files Map asks.now.map.now) (files Slot.Plan asks.now.plan.now)) (S.files store.old)
+        (λ files. audited (files Dump asks.now.kernel.dump.now) (files Slot.Btf asks.now.kernel.btf.now)
+        (files Map asks.now.kernel.map.now) (files Slot.Plan asks.now.plan.now)) (S.files store.old)
         (content (S.files store.new) Dump (S.opened store.new Dump)) result }
     ensures unopened { StayBehind (check_asked (files_view asks.now)).named result (S.opened store.old)
         (S.opened store.new) }
@@ -62,14 +64,45 @@ pub fn read_held<S: Store>(alloc: Global, store: &mut S, asks: &Asks<'_>) -> Res
     ensures quiet { UnlessStore result (S.faults store.new ≡ S.faults store.old) }
     ensures cause { OnStore result (Rose (S.faults store.old) (S.faults store.new)) }
 {
-    let core = read_dump(alloc, store, asks.dump)?;
-    let info = read_info(&core)?;
-    let types = read_types(alloc, store, asks.btf)?;
-    let plan = find_plan(alloc, store, asks, &types, &info)?;
+    let kernel = read_kernel(alloc, store, &asks.kernel)?;
+    let plan = find_plan(
+        alloc,
+        store,
+        &kernel.map,
+        asks.plan,
+        &kernel.types,
+        &kernel.info,
+    )?;
     Ok(Held {
-        core,
-        info,
-        types,
+        core: kernel.core,
+        info: kernel.info,
+        types: kernel.types,
         plan,
     })
+}
+
+/// Asks the memory that is audited. The bytes that a segment has and the file leaves out read as the plan says.
+///
+/// # Errors
+///
+/// No memory was left; the memory isn't asked then.
+pub fn ask_held<S: Store, Q: Question>(
+    alloc: Global,
+    store: &mut S,
+    held: &Held,
+    question: &Q,
+) -> Result<Q::Answer, NoMemory>
+    requires may { Q.may question.now }
+    requires table { IsTable held.now.info.table }
+    requires inside { AreInside (S.sizes store.old Dump) held.now.core.segments }
+
+    ensures says { IfOk result (λ answer. IfSome (content (S.files store.old) Dump (S.opened store.old Dump))
+        (λ bytes. Q.says question.now (audited_of held.now bytes).image answer)) }
+    ensures files { S.files store.new ≡ S.files store.old }
+    ensures leaves { IfOk result (λ answer. Q.leaves question.now answer (S.faults store.old) (S.faults store.new)) }
+    ensures unasked { IfErr result (λ _. S.faults store.new ≡ S.faults store.old) }
+{
+    let segments = held.core.segments();
+    let paging = paging_by(held.info);
+    ask_dump(alloc, store, segments, held.plan.tail, paging, question)
 }

@@ -2,8 +2,6 @@
 #![tactic(auto)]
 
 mod answer;
-mod asking;
-mod audits;
 mod certify;
 mod certs;
 mod check;
@@ -12,11 +10,13 @@ mod command;
 mod held;
 mod laws;
 mod layout;
+mod plan_files;
 mod program;
 mod recheck;
 mod selftest;
 mod show;
 mod top;
+mod verdict;
 mod word;
 
 pub use kc_command::Status;

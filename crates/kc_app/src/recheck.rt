@@ -23,13 +23,14 @@ ghost use Rattle.kc_app.specs.Recheck.{cert_file, cert_files, recheck_asked, rec
 ghost use Rattle.kc_app.specs.Reply.{Rechecks, answer_line, answer_status};
 ghost use Rattle.kc_found.specs.Failures.{CountsFailures};
 
-use crate::asking::{Question, ask_core};
-use crate::check::{Asks as FourAsks, PlanOf};
-use crate::held::{Held, read_held};
+use crate::held::{Held, ask_held, read_held};
+use crate::plan_files::PlanFiles;
+use kc_audit::PlanOf;
 use kc_cert::{CertAnswer, CertRead, Certificate, read_cert, recheck as recheck_plan};
 use kc_command::{Answer, Halt, Refusal, read_cert_file};
 use kc_found::{ReadFailed, Space};
 use kc_outside::Store;
+use kc_question::Question;
 use kc_text::{push, push_numbered};
 use kc_word::{NoMemory, Steps};
 use std::alloc::Global;
@@ -39,7 +40,7 @@ use std::sync::ledger::Ledger;
 #[derive(Clone, Copy)]
 pub struct Asks<'w> {
     /// The names of the dump, of the file of types, of the map and of the plan.
-    pub files: FourAsks<'w>,
+    pub files: PlanFiles<'w>,
     /// The name of the certificate.
     pub cert: &'w str,
 }
@@ -51,15 +52,15 @@ pub(crate) fn recheck<S: Store>(
     store: &mut S,
     asks: &Asks<'_>,
 ) -> Result<Answer, Halt>
-    requires dump { S.may store.old Dump asks.now.files.dump.now }
-    requires btf { S.may store.old Slot.Btf asks.now.files.btf.now }
-    requires map { S.may store.old Map asks.now.files.map.now }
+    requires dump { S.may store.old Dump asks.now.files.kernel.dump.now }
+    requires btf { S.may store.old Slot.Btf asks.now.files.kernel.btf.now }
+    requires map { S.may store.old Map asks.now.files.kernel.map.now }
     requires plan { S.may store.old Slot.Plan asks.now.files.plan.now }
     requires cert { S.may store.old Slot.Report asks.now.cert.now }
 
     ensures output { RepliesOf
-        (λ files. recheck_made (files Dump asks.now.files.dump.now) (files Slot.Btf asks.now.files.btf.now)
-        (files Map asks.now.files.map.now) (files Slot.Plan asks.now.files.plan.now)
+        (λ files. recheck_made (files Dump asks.now.files.kernel.dump.now) (files Slot.Btf asks.now.files.kernel.btf.now)
+        (files Map asks.now.files.kernel.map.now) (files Slot.Plan asks.now.files.plan.now)
         (files Slot.Report asks.now.cert.now)) (S.files store.old) result }
     ensures unopened { StayBehind (recheck_asked (cert_files asks.now)).named result (S.opened store.old)
         (S.opened store.new) }
@@ -124,14 +125,13 @@ fn rechecked<S: Store>(
     ensures quiet { UnlessStore result (S.faults store.new ≡ S.faults store.old) }
     ensures cause { OnStore result (Rose (S.faults store.old) (S.faults store.new)) }
 {
-    let plan = &held.plan;
     let over = PlanOf {
         alloc,
-        plan,
+        plan: &held.plan,
         types: &held.types,
     };
     let question = Rechecking { over, cert };
-    let found = ask_core(alloc, store, &held.core, held.info, plan.tail, &question)?;
+    let found = ask_held(alloc, store, held, &question)?;
     answer_of(alloc, found)
 }
 

@@ -10,8 +10,9 @@ ghost use Rattle.kc_command.specs.Ends.Asked.{word_in};
 ghost use Rattle.kc_app.specs.Selftest.{count_in, count_of, selftest_asked, selftest_asks, selftest_made};
 ghost use Rattle.kc_app.specs.Shown.{shown_written};
 
-use crate::check::{Asks, check};
-use kc_command::{Answer, Halt};
+use crate::check::check;
+use crate::plan_files::PlanFiles;
+use kc_command::{Answer, Halt, KernelFiles};
 use kc_gen::make;
 use kc_outside::{Store, SureStore};
 use kc_word::read_dec;
@@ -85,10 +86,13 @@ fn selftest(alloc: Global, count: u32) -> Result<Answer, Halt>
 {
     let files = make(alloc, count, None)?;
     let mut store = SureStore::new(files);
-    let asks = Asks {
+    let kernel = KernelFiles {
         dump: "dump",
         btf: "btf",
         map: "map",
+    };
+    let asks = PlanFiles {
+        kernel,
         plan: "plan",
     };
     check(alloc, &mut store, &asks)

@@ -30,12 +30,15 @@ use Rattle.kc_command.specs.declared.ends.answer.Answer.{Answer}
 use Rattle.kc_command.specs.declared.ends.answer.Answer.TheVariants.{Done, Broken}
 use Rattle.kc_command.specs.Ends.Answers.{Prints, PrintsOf, PrintsOfBytes, StayBehind}
 use Rattle.kc_command.specs.Ends.Asked.{AllStay, behind}
-use Rattle.kc_cause.specs.declared.held.Held.{Held}
-use Rattle.kc_cause.specs.declared.held.Planned.{Planned}
+use Rattle.kc_command.specs.declared.kernel.Kernel.{Kernel}
+use Rattle.kc_command.specs.Kernels.{kernel_files, kernel_in, kernel_view}
+use Rattle.kc_audit.specs.Audits.{names_of}
+use Rattle.kc_cause.specs.declared.files.Asks.{Asks}
+use Rattle.kc_cause.specs.declared.planned.Planned.{Planned}
 use Rattle.kc_cause.specs.declared.judged.PlanOf.{PlanOf}
 use Rattle.kc_cause.specs.declared.judged.Judged.{Judged}
-use Rattle.kc_cause.specs.Explained.{Explained, cause_made, causes_text, compared, explained_text, explained_written, kernel_in, names_of, or_clean, planned_in, report_file, report_now, report_passed}
-use Rattle.kc_cause.specs.Files.{RefusesLate, ReportFiles, cause_asked, explained_of, held_view, kernel_files, planned_view}
+use Rattle.kc_cause.specs.Explained.{Explained, cause_made, causes_text, compared, explained_text, explained_written, or_clean, planned_in, report_file, report_now, report_passed}
+use Rattle.kc_cause.specs.Files.{RefusesLate, cause_asked, explained_of, planned_view, report_files}
 use Rattle.kc_cause.specs.Judged.{Compares, JudgesAs, Tells, is_reported, over_plan, report_by}
 
 -- the report of the verdicts is that of what is audited
@@ -102,22 +105,22 @@ stops_told o (Some i) report Store sure = tt
 stops_told o (Some i) report Memory sure = tt
 
 -- over the dump
-abbrev over_held : Held → Planned → Image → Explained
-over_held held planned image = record {
+abbrev over_kernel : Kernel → Planned → Image → Explained
+over_kernel kernel planned image = record {
   image = image;
-  types = held.types;
+  types = kernel.types;
   version = planned.plan.version;
   audits = plan_seen planned.plan;
   shapes = shapes_view planned.shapes;
   symbols = map_symbols planned.shapes.map;
 }
 
-pub held_prints : (content now : Option (List ℕ)) (held : Held) (planned : Planned) (segments : List Segment) (tail : Tail) (report : List ℕ) (r : Result Answer Halt)
-    → now ≡ content → segments ≡ held.core.segments → tail ≡ planned.plan.tail
-    → IfSome (with_paging (by_info held.info) (stored segments tail now)) (λ i. Prints explained_written (compared (over_held held planned i) report) r)
-    → PrintsOfBytes explained_written (λ bytes. compared (explained_of held planned bytes) report) content r
-held_prints None now held planned segments tail report r same within ends prints = tt
-held_prints (Some bytes) now held planned segments tail report r same within ends prints = rw (same, within, ends) at prints
+pub kernel_prints : (content now : Option (List ℕ)) (kernel : Kernel) (planned : Planned) (segments : List Segment) (tail : Tail) (report : List ℕ) (r : Result Answer Halt)
+    → now ≡ content → segments ≡ kernel.core.segments → tail ≡ planned.plan.tail
+    → IfSome (with_paging (by_info kernel.info) (stored segments tail now)) (λ i. Prints explained_written (compared (over_kernel kernel planned i) report) r)
+    → PrintsOfBytes explained_written (λ bytes. compared (explained_of kernel planned bytes) report) content r
+kernel_prints None now kernel planned segments tail report r same within ends prints = tt
+kernel_prints (Some bytes) now kernel planned segments tail report r same within ends prints = rw (same, within, ends) at prints
 
 pub halted_prints : (content : Option (List ℕ)) (made : List ℕ → Made Explained) (halt : Halt) → NotRefused {A = Answer} (Err halt) → PrintsOfBytes explained_written made content (Err halt)
 halted_prints None made halt sure = tt
@@ -126,55 +129,55 @@ halted_prints (Some bytes) made Store sure = tt
 halted_prints (Some bytes) made Memory sure = tt
 
 -- of files that are there
-made_prints : (dump btf map plan file content : Option (List ℕ)) (held : Held) (planned : Planned) (report : List ℕ) (r : Result Answer Halt)
-    → kernel_in dump btf map ≡ gives (held_view held) → planned_in (held_view held) plan ≡ gives (planned_view planned) → report_file file ≡ gives report → content ≡ dump
-    → PrintsOfBytes explained_written (λ bytes. compared (explained_of held planned bytes) report) content r
+made_prints : (dump btf map plan file content : Option (List ℕ)) (kernel : Kernel) (planned : Planned) (report : List ℕ) (r : Result Answer Halt)
+    → kernel_in dump btf map ≡ gives (kernel_view kernel) → planned_in (kernel_view kernel) plan ≡ gives (planned_view planned) → report_file file ≡ gives report → content ≡ dump
+    → PrintsOfBytes explained_written (λ bytes. compared (explained_of kernel planned bytes) report) content r
     → Prints explained_written (cause_made dump btf map plan file) r
-made_prints None btf map plan file content held planned report r is found read same prints = absurd (let none : ⊥ = cc in none)
-made_prints (Some bytes) btf map plan file content held planned report r is found read same prints = rw (is, found, read) (rw same at prints)
+made_prints None btf map plan file content kernel planned report r is found read same prints = absurd (let none : ⊥ = cc in none)
+made_prints (Some bytes) btf map plan file content kernel planned report r is found read same prints = rw (is, found, read) (rw same at prints)
 
-pub files_print : {X : Type 0} (f : ReportFiles) (files : Option Told) (content : Option (List ℕ)) (held : Held) (planned : Planned) (kept : X → List ℕ) (report : X) (r : Result Answer Halt)
-    → IsOf held_view (λ files. kernel_in (files slot.Dump f.files.dump) (files slot.Btf f.files.btf) (files slot.Map f.files.map)) files (Ok held)
-    → IsOf planned_view (λ files. planned_in (held_view held) (files slot.Plan f.files.plan)) files (Ok planned)
-    → content ≡ named files slot.Dump f.files.dump → IsOf kept (λ files. report_file (files slot.Report f.report)) files (Ok report)
-    → PrintsOfBytes explained_written (λ bytes. compared (explained_of held planned bytes) (kept report)) content r
-    → PrintsOf explained_written (λ files. cause_made (files slot.Dump f.files.dump) (files slot.Btf f.files.btf) (files slot.Map f.files.map) (files slot.Plan f.files.plan) (files slot.Report f.report)) files r
-files_print f None content held planned kept report r is found same read prints = tt
-files_print f (Some files) content held planned kept report r is found same read prints =
-    made_prints (files slot.Dump f.files.dump) (files slot.Btf f.files.btf) (files slot.Map f.files.map) (files slot.Plan f.files.plan) (files slot.Report f.report)
-    content held planned (kept report) r is found read same prints
+pub files_print : {X : Type 0} (a : Asks) (files : Option Told) (content : Option (List ℕ)) (kernel : Kernel) (planned : Planned) (kept : X → List ℕ) (report : X) (r : Result Answer Halt)
+    → IsOf kernel_view (λ files. kernel_in (files slot.Dump a.files.dump.now) (files slot.Btf a.files.btf.now) (files slot.Map a.files.map.now)) files (Ok kernel)
+    → IsOf planned_view (λ files. planned_in (kernel_view kernel) (files slot.Plan a.plan.now)) files (Ok planned)
+    → content ≡ named files slot.Dump a.files.dump.now → IsOf kept (λ files. report_file (files slot.Report a.report.now)) files (Ok report)
+    → PrintsOfBytes explained_written (λ bytes. compared (explained_of kernel planned bytes) (kept report)) content r
+    → PrintsOf explained_written (λ files. cause_made (files slot.Dump a.files.dump.now) (files slot.Btf a.files.btf.now) (files slot.Map a.files.map.now) (files slot.Plan a.plan.now) (files slot.Report a.report.now)) files r
+files_print a None content kernel planned kept report r is found same read prints = tt
+files_print a (Some files) content kernel planned kept report r is found same read prints =
+    made_prints (files slot.Dump a.files.dump.now) (files slot.Btf a.files.btf.now) (files slot.Map a.files.map.now) (files slot.Plan a.plan.now) (files slot.Report a.report.now)
+    content kernel planned (kept report) r is found read same prints
 
 -- a refusal of the kernel's files leaves those of the plan and of the report unopened too
-stays_more : (f : ReportFiles) (one : Option Slot) (old new : Slot → Option (List ℕ)) → new slot.Plan ≡ old slot.Plan → new slot.Report ≡ old slot.Report
-    → AllStay (behind one (kernel_files f.files)) old new → AllStay (behind one (cause_asked f).named) old new
-stays_more f None old new plan report stay = tt
-stays_more f (Some slot.Dump) old new plan report stay = (stay.0, (stay.1.0, (plan, (report, tt))))
-stays_more f (Some slot.Btf) old new plan report stay = (stay.0, (plan, (report, tt)))
-stays_more f (Some slot.Map) old new plan report stay = (plan, (report, tt))
-stays_more f (Some slot.Plan) old new plan report stay = (report, tt)
-stays_more f (Some slot.Report) old new plan report stay = tt
-stays_more f (Some slot.Module) old new plan report stay = tt
+stays_more : (a : Asks) (one : Option Slot) (old new : Slot → Option (List ℕ)) → new slot.Plan ≡ old slot.Plan → new slot.Report ≡ old slot.Report
+    → AllStay (behind one (kernel_files a.files)) old new → AllStay (behind one (cause_asked (report_files a)).named) old new
+stays_more a None old new plan report stay = tt
+stays_more a (Some slot.Dump) old new plan report stay = (stay.0, (stay.1.0, (plan, (report, tt))))
+stays_more a (Some slot.Btf) old new plan report stay = (stay.0, (plan, (report, tt)))
+stays_more a (Some slot.Map) old new plan report stay = (plan, (report, tt))
+stays_more a (Some slot.Plan) old new plan report stay = (report, tt)
+stays_more a (Some slot.Report) old new plan report stay = tt
+stays_more a (Some slot.Module) old new plan report stay = tt
 
-pub three_stay : (A B : Type 0) (f : ReportFiles) (halt : Halt) (r : Result B Halt) (old new : Slot → Option (List ℕ)) → r ≡ Err halt → new slot.Plan ≡ old slot.Plan → new slot.Report ≡ old slot.Report
-    → StayBehind {A = A} (kernel_files f.files) (Err halt) old new → StayBehind (cause_asked f).named r old new
-three_stay A B f (Refused refusal) r old new is plan report stay = rw is (stays_more f (refused_slot refusal) old new plan report stay)
-three_stay A B f Store r old new is plan report stay = rw is tt
-three_stay A B f Memory r old new is plan report stay = rw is tt
+pub three_stay : (A B : Type 0) (a : Asks) (halt : Halt) (r : Result B Halt) (old new : Slot → Option (List ℕ)) → r ≡ Err halt → new slot.Plan ≡ old slot.Plan → new slot.Report ≡ old slot.Report
+    → StayBehind {A = A} (kernel_files a.files) (Err halt) old new → StayBehind (cause_asked (report_files a)).named r old new
+three_stay A B a (Refused refusal) r old new is plan report stay = rw is (stays_more a (refused_slot refusal) old new plan report stay)
+three_stay A B a Store r old new is plan report stay = rw is tt
+three_stay A B a Memory r old new is plan report stay = rw is tt
 
 -- so does one of the map's rows, and one of the plan that of the report
-pub late_stays : (A B : Type 0) (f : ReportFiles) (halt : Halt) (r : Result B Halt) (old before new : Slot → Option (List ℕ)) → r ≡ Err halt → before slot.Plan ≡ old slot.Plan
-    → new slot.Report ≡ old slot.Report → RefusesLate {A = A} (Err halt) before new → StayBehind (cause_asked f).named r old new
-late_stays A B f (Refused refusal) r old before new is kept report (inl late) = rw (is, late.0) (rw kept at late.1, (report, tt))
-late_stays A B f (Refused refusal) r old before new is kept report (inr late) = rw (is, late) (report, tt)
-late_stays A B f Store r old before new is kept report late = rw is tt
-late_stays A B f Memory r old before new is kept report late = rw is tt
+pub late_stays : (A B : Type 0) (a : Asks) (halt : Halt) (r : Result B Halt) (old before new : Slot → Option (List ℕ)) → r ≡ Err halt → before slot.Plan ≡ old slot.Plan
+    → new slot.Report ≡ old slot.Report → RefusesLate {A = A} (Err halt) before new → StayBehind (cause_asked (report_files a)).named r old new
+late_stays A B a (Refused refusal) r old before new is kept report (inl late) = rw (is, late.0) (rw kept at late.1, (report, tt))
+late_stays A B a (Refused refusal) r old before new is kept report (inr late) = rw (is, late) (report, tt)
+late_stays A B a Store r old before new is kept report late = rw is tt
+late_stays A B a Memory r old before new is kept report late = rw is tt
 
 -- and that of the report leaves none
-pub last_stays : (B : Type 0) (f : ReportFiles) (r : Result B Halt) (old new : Slot → Option (List ℕ)) → RefusesIn slot.Report r → StayBehind (cause_asked f).named r old new
-last_stays B f (Ok b) old new late = tt
-last_stays B f (Err (Refused refusal)) old new late = rw late tt
-last_stays B f (Err Store) old new late = tt
-last_stays B f (Err Memory) old new late = tt
+pub last_stays : (B : Type 0) (a : Asks) (r : Result B Halt) (old new : Slot → Option (List ℕ)) → RefusesIn slot.Report r → StayBehind (cause_asked (report_files a)).named r old new
+last_stays B a (Ok b) old new late = tt
+last_stays B a (Err (Refused refusal)) old new late = rw late tt
+last_stays B a (Err Store) old new late = tt
+last_stays B a (Err Memory) old new late = tt
 
 -- bytes that were read and passed
 pub report_told : {X Y : Type 0} (told : Option Told) (name : List ℕ) (seen : X → List ℕ) (kept : Y → List ℕ) (bytes : X) (r : Result Y Halt)

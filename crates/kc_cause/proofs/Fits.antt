@@ -9,7 +9,7 @@ use Rattle.kc_plan.specs.Planned.{AuditAt}
 use Rattle.kc_plan.specs.Roots.{FitsAmong, FitsRoot}
 use Rattle.kc_plan.specs.Verdicts.{FitsPlan}
 use Rattle.kc_report.specs.Copies.{IsOfAudits, IsOfPlan, IsOfRoot}
-use Rattle.kc_cause.specs.Explained.{names_of}
+use Rattle.kc_audit.specs.Audits.{names_of}
 use Rattle.kc_cause.specs.declared.judged.Judged.{Judged}
 use Rattle.kc_cause.specs.Judged.{AreOfPlan, FitsJudged}
 

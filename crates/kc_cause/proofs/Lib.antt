@@ -1,5 +1,5 @@
 mod FileLemmas
 mod Fits
-mod HeldLemmas
 mod ItemLemmas
+mod PlannedLemmas
 mod RepairLemmas

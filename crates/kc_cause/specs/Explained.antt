@@ -1,19 +1,13 @@
 -- What the report of a dump is explained by: the verdict on each root audit, the words that show it, and the word that repairs it.
-use Rattle.std.specs.Prelude.{ℕ, nat_eq, if◌then◌else◌, Bool, List, [], ◌∷◌, ◌++◌, codes, bytes_eq, find, is_some, map, slice_get, Option, Some, None}
+use Rattle.std.specs.Prelude.{ℕ, nat_eq, if◌then◌else◌, Bool, List, [], ◌∷◌, ◌++◌, codes, bytes_eq, find, is_some, slice_get, Option, Some, None}
 use Rattle.std.specs.Option.{option_map_or}
-use Rattle.kc_word.specs.declared.plain.PageCfg.{PageCfg}
-use Rattle.kc_word.specs.declared.plain.Segment.{Segment}
-use Rattle.kc_word.specs.declared.plain.Tail.{Tail}
 use Rattle.kc_btf.specs.Btf.{Types}
 use Rattle.kc_memory.specs.declared.words.Place.{Place}
 use Rattle.kc_memory.specs.Image.{Image}
-use Rattle.kc_notes.specs.declared.info.Info.{Info}
-use Rattle.kc_notes.specs.Info.{info}
 use Rattle.kc_syms.specs.Rows.{RowText}
 use Rattle.kc_found.specs.declared.verdict.RootVerdict.{RootVerdict}
 use Rattle.kc_found.specs.Violations.{Violation}
 use Rattle.kc_plan.specs.Planned.{AuditAt, PlanAt}
-use Rattle.kc_plan.specs.Plans.{plan}
 use Rattle.kc_plan.specs.Roots.{Root, broken_in, root_verdicts}
 use Rattle.kc_plan.specs.Verdicts.{verdict}
 use Rattle.kc_run.specs.Each.{root_at}
@@ -24,17 +18,19 @@ use Rattle.kc_report.specs.IsReport.{report_text}
 use Rattle.kc_report.specs.Reads.{report_in}
 use Rattle.kc_text.specs.Compose.{texts}
 use Rattle.kc_command.specs.declared.refusal.Refusal.TheVariants as refusal
-use Rattle.kc_command.specs.declared.refusal.Refusal.TheVariants.{Notes}
 use Rattle.kc_command.specs.declared.refusal.ReportFault.TheVariants.{Y1, Y2}
-use Rattle.kc_command.specs.Inputs.{dump_parts, map_in, plan_in, report_bytes_in, rows_in, types_in}
+use Rattle.kc_command.specs.Inputs.{plan_in, report_bytes_in, rows_in}
+use Rattle.kc_command.specs.Kernels.{KernelAt, kernel_in}
 use Rattle.kc_command.specs.Made.{◌>>=◌, Made, checked, gives, refuses}
 use Rattle.kc_command.specs.Paging.{by_info}
 use Rattle.kc_command.specs.declared.ends.status.Status.TheVariants.{Done}
 use Rattle.kc_command.specs.Ends.Written.{Written}
 use Rattle.kc_report.specs.Lines.{place_line}
-use Rattle.kc_told.specs.Objects.{Shapes, kernel_by, shapes_by, told_of}
+use Rattle.kc_told.specs.Objects.{Shapes, shapes_by, told_of}
 use Rattle.kc_told.specs.SeenText.{MapSymbols, symbols_by, told_lines}
 use Rattle.kc_kinds.specs.declared.kind.Kind.{Kind}
+use Rattle.kc_question.specs.Memory.{bytes_of, image_of}
+use Rattle.kc_audit.specs.Audits.{names_of, plan_over}
 use Rattle.kc_cause.specs.Rings.{ring_lines}
 use Rattle.kc_cause.specs.Suspected.{Suspected, suspected}
 use Rattle.kc_cause.specs.Lines.{bytes_line, named_lines, number_lines, repair_lines}
@@ -48,10 +44,6 @@ pub record Explained : Type 0 where
   pub audits : List AuditAt
   pub shapes : Shapes
   pub symbols : MapSymbols
-
--- the audits' names
-abbrev pub names_of : List AuditAt → List (List ℕ)
-names_of audits = map (λ (audit : AuditAt). audit.name) audits
 
 -- the report that `check` prints of it
 abbrev pub report_now : Explained → Report
@@ -146,22 +138,6 @@ report_file file = do
 abbrev pub compared : Explained → List ℕ → Made Explained
 compared e bytes = if bytes_eq bytes (report_text (report_now e)) then gives e else refuses (refusal.Report Y2)
 
--- what the dump, the types and the map hold: the dump's segments, what its notes tell, the kernel's types, and the map's bytes
-pub record KernelFiles : Type 0 where
-  pub segments : List Segment
-  pub told : Info
-  pub types : Types
-  pub map : List ℕ
-
--- the faults come in this order
-abbrev pub kernel_in : Option (List ℕ) → Option (List ℕ) → Option (List ℕ) → Made KernelFiles
-kernel_in dump btf map = do
-  parts ← dump_parts dump
-  told ← checked Notes (info parts.notes)
-  types ← types_in btf
-  listed ← map_in map
-  gives (record { segments = parts.segments; told = told; types = types; map = listed })
-
 -- a plan, where the kernel has what tells of an address, and the map's symbols
 pub record PlanOver : Type 0 where
   pub plan : PlanAt
@@ -169,24 +145,20 @@ pub record PlanOver : Type 0 where
   pub symbols : MapSymbols
 
 -- a plan over the rows of the map, or its first fault
-abbrev pub plan_over : KernelFiles → List RowText → List ℕ → Made PlanOver
-plan_over k rows bytes = do
-  planned ← checked refusal.Plan (plan (kernel_by k.types rows k.told) bytes)
+abbrev pub planned_over : KernelAt → List RowText → List ℕ → Made PlanOver
+planned_over k rows bytes = do
+  planned ← plan_over k.types rows k.told bytes
   gives (record { plan = planned; shapes = shapes_by k.types rows k.told; symbols = symbols_by k.told.kaslr rows })
 
 -- the map's faults come first
-abbrev pub planned_in : KernelFiles → Option (List ℕ) → Made PlanOver
+abbrev pub planned_in : KernelAt → Option (List ℕ) → Made PlanOver
 planned_in k file = do
   rows ← rows_in k.map
   bytes ← plan_in file
-  plan_over k rows bytes
-
--- the memory of a dump with these bytes and segments, whose tails read so
-abbrev pub image_of : List ℕ → List Segment → Tail → PageCfg → Image
-image_of bytes segments tail paging = record { physical = record { bytes = bytes; segments = segments; tail = tail }; paging = paging }
+  planned_over k rows bytes
 
 -- what a plan audits of it, where the dump has these bytes
-abbrev pub explained_by : KernelFiles → PlanOver → List ℕ → Explained
+abbrev pub explained_by : KernelAt → PlanOver → List ℕ → Explained
 explained_by k p bytes = record {
   image = image_of bytes k.segments p.plan.tail (by_info k.told);
   types = k.types;
@@ -195,11 +167,6 @@ explained_by k p bytes = record {
   shapes = p.shapes;
   symbols = p.symbols;
 }
-
--- the bytes of a file, where it is there
-abbrev pub bytes_of : Option (List ℕ) → List ℕ
-bytes_of None = []
-bytes_of (Some bytes) = bytes
 
 -- the faults come in the order dump, types, map and plan
 abbrev pub audited : Option (List ℕ) → Option (List ℕ) → Option (List ℕ) → Option (List ℕ) → Made Explained

@@ -1,19 +1,19 @@
 -- The files of a report: those of its audit, and its own.
-use Rattle.std.specs.Prelude.{◌≡◌, ◌⊎◌, ⊤, ℕ, List, [], ◌∷◌, ◌++◌, Option, Some, None, Result, Ok, Err}
+use Rattle.std.specs.Prelude.{◌≡◌, ◌⊎◌, ⊤, ℕ, List, [], ◌∷◌, Option, Some, None, Result, Ok, Err}
 use Rattle.kc_outside.specs.declared.store.Slot.{Slot}
 use Rattle.kc_outside.specs.declared.store.Slot.TheVariants as slot
 use Rattle.kc_plan.specs.Views.{plan_whole}
 use Rattle.kc_command.specs.declared.halt.Halt.{Halt}
 use Rattle.kc_command.specs.declared.halt.Halt.TheVariants.{Refused, Store, Memory}
+use Rattle.kc_command.specs.declared.kernel.Kernel.{Kernel}
+use Rattle.kc_command.specs.Kernels.{kernel_view}
 use Rattle.kc_command.specs.Slots.{refused_slot}
-use Rattle.kc_command.specs.Ends.Asked.{Asked, Named}
+use Rattle.kc_command.specs.Ends.Asked.{Asked}
 use Rattle.kc_cause.specs.declared.files.Asks.{Asks}
-use Rattle.kc_cause.specs.declared.held.Held.{Held}
-use Rattle.kc_cause.specs.declared.held.PlanFiles.{PlanFiles}
-use Rattle.kc_cause.specs.declared.held.Planned.{Planned}
+use Rattle.kc_cause.specs.declared.planned.Planned.{Planned}
 use Rattle.kc_told.specs.SeenText.{map_symbols}
 use Rattle.kc_told.specs.Views.{shapes_view}
-use Rattle.kc_cause.specs.Explained.{Explained, KernelFiles, PlanOver, cause_made, explained_by}
+use Rattle.kc_cause.specs.Explained.{Explained, PlanOver, cause_made, explained_by}
 
 -- the files of an audit by their names
 pub record AuditFiles : Type 0 where
@@ -27,33 +27,28 @@ pub record ReportFiles : Type 0 where
   pub files : AuditFiles
   pub report : List ℕ
 
--- those of the kernel, in the order in which they are read
-abbrev pub kernel_files : AuditFiles → List Named
-kernel_files f = record { slot = slot.Dump; name = f.dump } ∷ record { slot = slot.Btf; name = f.btf } ∷ record { slot = slot.Map; name = f.map } ∷ []
-
+-- in the order in which they are read
 abbrev pub cause_asked : ReportFiles → Asked Explained
 cause_asked f = record {
-  named = kernel_files f.files ++ record { slot = slot.Plan; name = f.files.plan } ∷ record { slot = slot.Report; name = f.report } ∷ [];
+  named = record { slot = slot.Dump; name = f.files.dump } ∷ record { slot = slot.Btf; name = f.files.btf } ∷ record { slot = slot.Map; name = f.files.map }
+      ∷ record { slot = slot.Plan; name = f.files.plan } ∷ record { slot = slot.Report; name = f.report } ∷ [];
   made = λ files. cause_made (files slot.Dump) (files slot.Btf) (files slot.Map) (files slot.Plan) (files slot.Report);
 }
 
 -- as the code keeps them
-abbrev pub audit_files : PlanFiles → AuditFiles
-audit_files f = record { dump = f.dump.now; btf = f.btf.now; map = f.map.now; plan = f.plan.now }
-
 abbrev pub report_files : Asks → ReportFiles
-report_files a = record { files = audit_files a.files; report = a.report.now }
+report_files a = record {
+  files = record { dump = a.files.dump.now; btf = a.files.btf.now; map = a.files.map.now; plan = a.plan.now };
+  report = a.report.now;
+}
 
--- what the files hold, and a plan over them
-abbrev pub held_view : Held → KernelFiles
-held_view h = record { segments = h.core.segments; told = h.info; types = h.types; map = h.map.items }
-
+-- a plan, as the code keeps it
 abbrev pub planned_view : Planned → PlanOver
 planned_view p = record { plan = plan_whole p.plan; shapes = shapes_view p.shapes; symbols = map_symbols p.shapes.map }
 
 -- what is explained by these, where the dump has these bytes
-abbrev pub explained_of : Held → Planned → List ℕ → Explained
-explained_of held planned bytes = explained_by (held_view held) (planned_view planned) bytes
+abbrev pub explained_of : Kernel → Planned → List ℕ → Explained
+explained_of kernel planned bytes = explained_by (kernel_view kernel) (planned_view planned) bytes
 
 -- a refusal is about the map, and the plan's slot is then as before, or it is about the plan
 abbrev pub RefusesLate : {A : Type 0} → Result A Halt → (Slot → Option (List ℕ)) → (Slot → Option (List ℕ)) → Type 0

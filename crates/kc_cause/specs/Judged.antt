@@ -25,7 +25,8 @@ use Rattle.kc_told.specs.SeenText.{map_symbols}
 use Rattle.kc_told.specs.Views.{shapes_view}
 use Rattle.kc_cause.specs.declared.judged.Judged.{Judged}
 use Rattle.kc_cause.specs.declared.judged.PlanOf.{PlanOf}
-use Rattle.kc_cause.specs.Explained.{Explained, names_of}
+use Rattle.kc_audit.specs.Audits.{names_of}
+use Rattle.kc_cause.specs.Explained.{Explained}
 
 -- with version 2 there is no verdict on all audits
 abbrev pub whole_verdict : Image → Plan → Option Verdict

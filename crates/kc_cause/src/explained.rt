@@ -13,8 +13,8 @@ use crate::judged::PlanOf;
 use crate::lines::{push_line, push_named, push_number};
 use crate::places::push_shown_over;
 use crate::repairs::{Repairable, push_repairs};
-use crate::returned::Returned;
 use kc_found::{Found, ReadFailed, RootVerdict, Verdict, Verdicts};
+use kc_question::Returned;
 use kc_text::push;
 use kc_word::NoMemory;
 

@@ -20,22 +20,28 @@ ghost use Rattle.kc_cause.specs.Files.{cause_asked, explained_of, report_files};
 ghost use Rattle.kc_cause.specs.Judged.{Compares, FitsJudged, FitsTogether, JudgesAs, Tells, is_reported, over_plan};
 
 use crate::explained::explained_text;
-use crate::held::{Held, PlanFiles, Planned, find_plan, names_of, read_held};
 use crate::judged::{Judged, PlanOf, judge_over, report_text};
+use crate::planned::{Planned, find_plan};
 use crate::repairs::Repairable;
-use crate::returned::Returned;
-use kc_command::{Answer, Halt, Refusal, ReportFault, paging_by, read_report_file};
+use kc_audit::names_of;
+use kc_command::{
+    Answer, Halt, Kernel, KernelFiles, Refusal, ReportFault, paging_by, read_kernel,
+    read_report_file,
+};
 use kc_found::ReadFailed;
 use kc_outside::Store;
 use kc_phys::{Phys, Room};
+use kc_question::Returned;
 use kc_report::{ReportStop, read_report};
 use std::alloc::Global;
 
 /// A report, with the files of its audit.
 #[derive(Clone, Copy)]
 pub struct Asks<'w> {
-    /// The names of the dump, of the file of types, of the map and of the plan.
-    pub files: PlanFiles<'w>,
+    /// The names of the dump, of the file of types and of the map.
+    pub files: KernelFiles<'w>,
+    /// The name of the plan.
+    pub plan: &'w str,
     /// The name of the report.
     pub report: &'w str,
 }
@@ -49,12 +55,12 @@ pub fn explain<S: Store>(alloc: Global, store: &mut S, asks: &Asks<'_>) -> Resul
     requires dump { S.may store.old Dump asks.now.files.dump.now }
     requires btf { S.may store.old Slot.Btf asks.now.files.btf.now }
     requires map { S.may store.old Map asks.now.files.map.now }
-    requires plan { S.may store.old Slot.Plan asks.now.files.plan.now }
+    requires plan { S.may store.old Slot.Plan asks.now.plan.now }
     requires report { S.may store.old Slot.Report asks.now.report.now }
 
     ensures output { PrintsOf explained_written
         (λ files. cause_made (files Dump asks.now.files.dump.now) (files Slot.Btf asks.now.files.btf.now)
-        (files Map asks.now.files.map.now) (files Slot.Plan asks.now.files.plan.now)
+        (files Map asks.now.files.map.now) (files Slot.Plan asks.now.plan.now)
         (files Slot.Report asks.now.report.now)) (S.files store.old) result }
     ensures unopened { StayBehind (cause_asked (report_files asks.now)).named result (S.opened store.old)
         (S.opened store.new) }
@@ -63,10 +69,10 @@ pub fn explain<S: Store>(alloc: Global, store: &mut S, asks: &Asks<'_>) -> Resul
     ensures quiet { UnlessStore result (S.faults store.new ≡ S.faults store.old) }
     ensures cause { OnStore result (Rose (S.faults store.old) (S.faults store.new)) }
 {
-    let held = read_held(alloc, store, &asks.files)?;
-    let planned = find_plan(alloc, store, asks.files.plan, &held)?;
+    let kernel = read_kernel(alloc, store, &asks.files)?;
+    let planned = find_plan(alloc, store, asks.plan, &kernel)?;
     let report = find_report(alloc, store, asks.report)?;
-    explain_held(alloc, store, &held, &planned, &report)
+    explain_read(alloc, store, &kernel, &planned, &report)
 }
 
 // The bytes of a file that is a report.
@@ -101,19 +107,19 @@ fn pass_report(alloc: Global, bytes: Vec<u8>) -> Result<Vec<u8>, Halt>
 }
 
 // What explains the report of what the files hold, with these bytes, which are a report's.
-fn explain_held<S: Store>(
+fn explain_read<S: Store>(
     alloc: Global,
     store: &mut S,
-    held: &Held,
+    kernel: &Kernel,
     planned: &Planned<'_>,
     report: &[u8],
 ) -> Result<Answer, Halt>
-    requires table { IsTable held.now.info.table }
-    requires types { TypesAreInside (length held.now.types.records) planned.now.plan.audits }
-    requires tasks { IfSome planned.now.shapes.words.areas.stacks (λ shape. IsInside shape.tasks held.now.types) }
-    requires inside { AreInside (S.sizes store.old Dump) held.now.core.segments }
+    requires table { IsTable kernel.now.info.table }
+    requires types { TypesAreInside (length kernel.now.types.records) planned.now.plan.audits }
+    requires tasks { IfSome planned.now.shapes.words.areas.stacks (λ shape. IsInside shape.tasks kernel.now.types) }
+    requires inside { AreInside (S.sizes store.old Dump) kernel.now.core.segments }
 
-    ensures output { PrintsOfBytes explained_written (λ bytes. compared (explained_of held.now planned.now bytes) report.now)
+    ensures output { PrintsOfBytes explained_written (λ bytes. compared (explained_of kernel.now planned.now bytes) report.now)
         (content (S.files store.old) Dump (S.opened store.old Dump)) result }
     ensures refused { RefusesIn Slot.Report result }
     ensures files { S.files store.new ≡ S.files store.old }
@@ -121,13 +127,13 @@ fn explain_held<S: Store>(
     ensures quiet { UnlessStore result (S.faults store.new ≡ S.faults store.old) }
     ensures cause { OnStore result (Rose (S.faults store.old) (S.faults store.new)) }
 {
-    let room = Room::new(alloc, held.core.segments(), planned.plan.tail)?;
+    let room = Room::new(alloc, kernel.core.segments(), planned.plan.tail)?;
     let over = PlanOf {
         alloc,
         plan: &planned.plan,
-        types: &held.types,
+        types: &kernel.types,
         shapes: planned.shapes,
-        paging: paging_by(held.info),
+        paging: paging_by(kernel.info),
     };
     let memory = Phys::over(store, room);
     let Returned { memory, answer } = explain_over(memory, &over, report);

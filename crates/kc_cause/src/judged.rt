@@ -1,7 +1,6 @@
 // What a plan comes to on a dump.
-ghost use Rattle.std.specs.Prelude.{◌≡◌, ◌<◌, length, IfOk, IfSome};
+ghost use Rattle.std.specs.Prelude.{◌≡◌, length, IfOk, IfSome};
 ghost use Rattle.kc_memory.specs.Stays.{FramesStay, SpaceStays};
-ghost use Rattle.kc_tlb.specs.Entries.{AreEmpty};
 ghost use Rattle.kc_mem.specs.Paged.{with_paging};
 ghost use Rattle.kc_plan.specs.Inside.{AreInside as TypesAreInside};
 ghost use Rattle.kc_plan.specs.Verdicts.{FitsPlan};
@@ -10,23 +9,17 @@ ghost use Rattle.kc_report.specs.IsReport.{report_text};
 ghost use Rattle.kc_cause.specs.Judged.{AreOfPlan, FitsJudged, FitsTogether, JudgesAs, report_of_judged, whole_verdict};
 ghost use Rattle.kc_found.specs.Failures.{CountsFailures};
 
-use crate::returned::Returned;
 use kc_btf::Btf;
 use kc_found::{ReadFailed, Space, Verdict, Verdicts};
-use kc_mem::Memory;
 use kc_memory::Frames;
 use kc_plan::Plan;
+use kc_question::{Question, Returned, ask_over};
 use kc_report::{PlanNames, report_each, report_of, text};
 use kc_run::{run, run_each};
-use kc_tlb::Tlb;
 use kc_told::Shapes;
 use kc_word::{NoMemory, PageCfg, Steps};
 use std::alloc::Global;
-use std::marker::Brand;
-use std::sync::ledger::{Blank, Ledger};
-
-/// How many translations of pages are kept.
-const KEPT: usize = 4096;
+use std::sync::ledger::Ledger;
 
 /// The verdicts of a plan on a dump.
 #[derive(Drop)]
@@ -67,54 +60,35 @@ fn judge_whole<M: Space, L: Ledger>(
     if over.plan.version == 2 {
         return Ok(None);
     }
-    match run(over.alloc, over.plan, over.types, memory, steps) {
-        Ok(verdict) => Ok(Some(verdict)),
-        Err(stop) => Err(stop),
-    }
+    let verdict = run(over.alloc, over.plan, over.types, memory, steps)?;
+    Ok(Some(verdict))
 }
 
-// Both.
-fn judge<M: Space, L: Ledger>(
-    over: &PlanOf<'_>,
-    memory: &mut M,
-    steps: &mut Steps<L>,
-) -> Result<Judged, ReadFailed>
-    requires { TypesAreInside (length over.now.types.now.records) over.now.plan.now.audits }
-    ensures says { IfSome (M.image memory.old) (λ image. IfOk result (JudgesAs image over.now.plan.now)) }
-    ensures fits { IfOk result (FitsJudged (length over.now.plan.now.audits) (plan_seen over.now.plan.now)) }
-    ensures stays { SpaceStays M.image M.files M.through M.most memory.old memory.new }
-    ensures cause { CountsFailures result (M.faults memory.old) (M.faults memory.new) }
-{
-    let whole = judge_whole(over, memory, steps)?;
-    let roots = run_each(over.alloc, over.plan, over.types, memory, steps)?;
-    Ok(Judged { whole, roots })
+// The question what a plan comes to.
+#[derive(Clone, Copy)]
+struct Judging<'q> {
+    over: &'q PlanOf<'q>,
 }
 
-// The same over the physical memory of a dump, with places for translations, and steps on a blank of the caller's.
-fn judge_counted<F: Frames, L: Ledger>(
-    memory: F,
-    tlb: Tlb,
-    over: &PlanOf<'_>,
-    blank: Blank,
-) -> Returned<F, Result<Judged, ReadFailed>>
-    requires name { blank.name ≡ L.name }
-    requires parts { blank.parts ≡ L.parts }
-    requires some { 0 < L.parts }
-    requires types { TypesAreInside (length over.now.types.now.records) over.now.plan.now.audits }
-    requires empty { AreEmpty tlb.places.items }
+impl<'q> Question for Judging<'q> {
+    type Answer = Result<Judged, ReadFailed>;
 
-    ensures says { IfSome (with_paging tlb.paging (F.image memory))
-        (λ image. IfOk result.answer (JudgesAs image over.now.plan.now)) }
-    ensures fits { IfOk result.answer (FitsJudged (length over.now.plan.now.audits) (plan_seen over.now.plan.now)) }
-    ensures stays { FramesStay F.image F.files F.through memory result.memory }
-    ensures cause { CountsFailures result.answer (F.faults memory) (F.faults result.memory) }
-{
-    let mut steps = Steps::<L>::new(blank);
-    let mut space = Memory::over(memory, tlb);
-    let answer = judge(over, &mut space, &mut steps);
-    Returned {
-        memory: space.into_frames(),
-        answer,
+    ghost may = { λ of. TypesAreInside (length of.over.now.types.now.records) of.over.now.plan.now.audits };
+
+    ghost says = { λ of image answer. IfOk answer (JudgesAs image of.over.now.plan.now) };
+
+    ghost leaves = { λ of answer before after.
+        IfOk answer (FitsJudged (length of.over.now.plan.now.audits) (plan_seen of.over.now.plan.now)) × CountsFailures answer before after };
+
+    fn ask<M: Space, L: Ledger>(
+        &self,
+        memory: &mut M,
+        steps: &mut Steps<L>,
+    ) -> Result<Judged, ReadFailed> {
+        let over = self.over;
+        let whole = judge_whole(over, memory, steps)?;
+        let roots = run_each(over.alloc, over.plan, over.types, memory, steps)?;
+        Ok(Judged { whole, roots })
     }
 }
 
@@ -135,12 +109,11 @@ pub(crate) fn judge_over<F: Frames>(
     ensures stays { FramesStay F.image F.files F.through memory result.memory }
     ensures cause { CountsFailures result.answer (F.faults memory) (F.faults result.memory) }
 {
-    match Tlb::new(over.alloc, over.paging, KEPT) {
-        Ok(tlb) => judge_counted::<F, Brand>(memory, tlb, over, Blank::new(1)),
-        Err(NoMemory) => Returned {
-            memory,
-            answer: Err(ReadFailed::NoMemory),
-        },
+    let question = Judging { over };
+    let Returned { memory, answer } = ask_over(over.alloc, memory, over.paging, &question);
+    Returned {
+        memory,
+        answer: answer.unwrap_or(Err(ReadFailed::NoMemory)),
     }
 }
 

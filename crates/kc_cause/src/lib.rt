@@ -3,17 +3,15 @@
 
 mod explained;
 mod files;
-mod held;
 mod judged;
 mod laws;
 mod lines;
 mod places;
+mod planned;
 mod repairs;
-mod returned;
 mod rings;
 mod sentences;
 mod suspected;
 
 pub use files::{Asks, explain};
-pub use held::PlanFiles;
 pub use laws::know_causes;

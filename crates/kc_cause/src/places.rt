@@ -1,50 +1,23 @@
 // The list in which a violation lies, and the words that show it, with what is told of their addresses.
 ghost use Rattle.std.specs.Prelude.{◌≡◌, ◌<◌, ◌++◌, length, IfOk, IfSome, OnOk};
 ghost use Rattle.kc_memory.specs.Stays.{FramesStay, SpaceStays};
-ghost use Rattle.kc_tlb.specs.Entries.{AreEmpty};
 ghost use Rattle.kc_mem.specs.Paged.{with_paging};
 ghost use Rattle.kc_text.specs.Compose.{texts};
 ghost use Rattle.kc_plan.specs.Inside.{AreInside};
 ghost use Rattle.kc_cause.specs.Explained.{place_told, shown_lines};
 ghost use Rattle.kc_cause.specs.Judged.{FitsTogether, TasksAreInside, over_plan};
-ghost use Rattle.kc_told.specs.Objects.{told_of};
-ghost use Rattle.kc_told.specs.Views.{shapes_view, told_view};
 ghost use Rattle.kc_found.specs.Failures.{CountsFailures};
 
 use crate::judged::PlanOf;
-use crate::returned::Returned;
 use crate::rings::push_ring;
 use kc_found::{Found, Places, ReadFailed, Space};
-use kc_mem::Memory;
 use kc_memory::{Frames, Place};
+use kc_question::{Question, Returned, ask_over};
 use kc_report::push_place;
-use kc_tlb::Tlb;
-use kc_told::{Told, push_told, read_told};
+use kc_text::push;
+use kc_told::{push_told, read_told};
 use kc_word::{NoMemory, Steps};
-use std::marker::Brand;
-use std::sync::ledger::{Blank, Ledger};
-
-// How many translations of pages are kept.
-const KEPT: usize = 64;
-
-// What is told of an address.
-fn told_of<'p, M: Space, L: Ledger>(
-    over: &PlanOf<'p>,
-    memory: &mut M,
-    address: u64,
-    steps: &mut Steps<L>,
-) -> Result<Told<'p>, ReadFailed>
-    requires { TasksAreInside over.now }
-    ensures told { IfSome (M.image memory.old) (λ image. IfOk result (λ told. told_view told ≡ told_of image (shapes_view over.now.shapes) address)) }
-    ensures stays { SpaceStays M.image M.files M.through M.most memory.old memory.new }
-    ensures cause { CountsFailures result (M.faults memory.old) (M.faults memory.new) }
-{
-    match read_told(over.alloc, memory, over.types, &over.shapes, address, steps) {
-        Ok(told) => Ok(told),
-        Err(ReadFailed::Fault) => Err(ReadFailed::Fault),
-        Err(ReadFailed::NoMemory) => Err(ReadFailed::NoMemory),
-    }
-}
+use std::sync::ledger::Ledger;
 
 // Adds a place, with what is told of its address.
 fn push_place_told<M: Space, L: Ledger>(
@@ -59,17 +32,12 @@ fn push_place_told<M: Space, L: Ledger>(
     ensures stays { SpaceStays M.image M.files M.through M.most memory.old memory.new }
     ensures cause { CountsFailures result (M.faults memory.old) (M.faults memory.new) }
 {
-    if let Err(NoMemory) = push_place(text, *place) {
-        return Err(ReadFailed::NoMemory);
-    }
+    push_place(text, *place)?;
     let Some(address) = place.va else {
         return Ok(());
     };
-    let told = told_of(over, memory, address, steps)?;
-    match push_told(text, &over.shapes.map, address, &told) {
-        Ok(()) => Ok(()),
-        Err(NoMemory) => Err(ReadFailed::NoMemory),
-    }
+    let told = read_told(over.alloc, memory, over.types, &over.shapes, address, steps)?;
+    Ok(push_told(text, &over.shapes.map, address, &told)?)
 }
 
 // Adds each of some places so.
@@ -111,34 +79,32 @@ fn push_shown<M: Space, L: Ledger>(
     push_places_told(text, over, memory, &found.places, steps)
 }
 
-// The same over the physical memory of a dump, with places for translations, and steps on a blank of the caller's.
-fn push_counted<F: Frames, L: Ledger>(
-    memory: F,
-    tlb: Tlb,
-    text: &mut Vec<u8>,
-    over: &PlanOf<'_>,
-    found: &Found,
-    blank: Blank,
-) -> Returned<F, Result<(), ReadFailed>>
-    requires name { blank.name ≡ L.name }
-    requires parts { blank.parts ≡ L.parts }
-    requires some { 0 < L.parts }
-    requires tasks { TasksAreInside over.now }
-    requires types { AreInside (length over.now.types.now.records) over.now.plan.now.audits }
-    requires found { found.now.audit < length over.now.plan.now.audits }
-    requires empty { AreEmpty tlb.places.items }
+// The question which lines show a violation.
+#[derive(Clone, Copy)]
+struct Showing<'q> {
+    over: &'q PlanOf<'q>,
+    found: &'q Found,
+}
 
-    ensures added { OnOk result.answer (IfSome (with_paging tlb.paging (F.image memory)) (λ image.
-        text.new.items ≡ text.old.items ++ shown_lines (over_plan over.now image) found.now)) }
-    ensures stays { FramesStay F.image F.files F.through memory result.memory }
-    ensures cause { CountsFailures result.answer (F.faults memory) (F.faults result.memory) }
-{
-    let mut steps = Steps::<L>::new(blank);
-    let mut space = Memory::over(memory, tlb);
-    let answer = push_shown(text, over, &mut space, found, &mut steps);
-    Returned {
-        memory: space.into_frames(),
-        answer,
+impl<'q> Question for Showing<'q> {
+    type Answer = Result<Vec<u8>, ReadFailed>;
+
+    ghost may = { λ of. TasksAreInside of.over.now
+        × AreInside (length of.over.now.types.now.records) of.over.now.plan.now.audits
+        × (of.found.now.audit < length of.over.now.plan.now.audits) };
+
+    ghost says = { λ of image answer. IfOk answer (λ text. text.items ≡ shown_lines (over_plan of.over.now image) of.found.now) };
+
+    ghost leaves = { λ _ answer before after. CountsFailures answer before after };
+
+    fn ask<M: Space, L: Ledger>(
+        &self,
+        memory: &mut M,
+        steps: &mut Steps<L>,
+    ) -> Result<Vec<u8>, ReadFailed> {
+        let mut text = Vec::new(self.over.alloc);
+        push_shown(&mut text, self.over, memory, self.found, steps)?;
+        Ok(text)
     }
 }
 
@@ -157,11 +123,14 @@ pub(crate) fn push_shown_over<F: Frames>(
     ensures stays { FramesStay F.image F.files F.through memory result.memory }
     ensures cause { CountsFailures result.answer (F.faults memory) (F.faults result.memory) }
 {
-    match Tlb::new(over.alloc, over.paging, KEPT) {
-        Ok(tlb) => push_counted::<F, Brand>(memory, tlb, text, over, found, Blank::new(1)),
-        Err(NoMemory) => Returned {
-            memory,
-            answer: Err(ReadFailed::NoMemory),
+    let question = Showing { over, found };
+    let Returned { memory, answer } = ask_over(over.alloc, memory, over.paging, &question);
+    let answer = match answer.unwrap_or(Err(ReadFailed::NoMemory)) {
+        Ok(lines) => match push(text, &lines) {
+            Ok(()) => Ok(()),
+            Err(NoMemory) => Err(ReadFailed::NoMemory),
         },
-    }
+        Err(stop) => Err(stop),
+    };
+    Returned { memory, answer }
 }

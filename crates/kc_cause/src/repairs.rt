@@ -12,13 +12,13 @@ ghost use Rattle.kc_cause.specs.Lines.{next_line, next_lines, repair_lines, susp
 ghost use Rattle.kc_found.specs.Failures.{CountsFailures};
 
 use crate::judged::PlanOf;
-use crate::returned::Returned;
 use crate::suspected::as_ring_over;
 use kc_found::{Found, ReadFailed};
 use kc_kinds::Kind;
 use kc_memory::Frames;
 use kc_outside::Store;
 use kc_phys::Phys;
+use kc_question::Returned;
 use kc_repair::{Next, Repair, Repaired, RootAudit, Suspect, repair_over};
 use kc_report::rule_code;
 use kc_run::root_at;

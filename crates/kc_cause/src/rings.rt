@@ -140,10 +140,7 @@ fn push_task_ring<M: Space, L: Ledger>(
     let Some(ring) = task_ring(over, memory, shape, found, steps)? else {
         return Ok(());
     };
-    match push_tasks(text, over, shape, found, ring) {
-        Ok(()) => Ok(()),
-        Err(NoMemory) => Err(ReadFailed::NoMemory),
-    }
+    Ok(push_tasks(text, over, shape, found, ring)?)
 }
 
 // What has a pointer of a partial list, with its type.
@@ -202,10 +199,7 @@ fn push_cache_ring<M: Space, L: Ledger>(
     let Some(list) = cache_ring(over, memory, shape, found, steps)? else {
         return Ok(());
     };
-    match push_partial(text, over, shape, found, list) {
-        Ok(()) => Ok(()),
-        Err(NoMemory) => Err(ReadFailed::NoMemory),
-    }
+    Ok(push_partial(text, over, shape, found, list)?)
 }
 
 /// Adds the lines of the list of tasks or of a slab cache in which a violation lies, where it lies in one.

@@ -1,7 +1,6 @@
 // As what a violation is suspected.
-ghost use Rattle.std.specs.Prelude.{◌≡◌, ◌<◌, length, IfOk, IfSome};
+ghost use Rattle.std.specs.Prelude.{◌≡◌, length, IfOk, IfSome};
 ghost use Rattle.kc_memory.specs.Stays.{FramesStay, SpaceStays};
-ghost use Rattle.kc_tlb.specs.Entries.{AreEmpty};
 ghost use Rattle.kc_mem.specs.Paged.{with_paging};
 ghost use Rattle.kc_kinds.specs.declared.kind.Kind.TheVariants.{Slub, Tasks};
 ghost use Rattle.kc_kinds.specs.Inside.{KindInside};
@@ -11,22 +10,16 @@ ghost use Rattle.kc_cause.specs.Suspected.{in_ring, suspected, suspected_view};
 ghost use Rattle.kc_found.specs.Failures.{CountsFailures};
 
 use crate::judged::PlanOf;
-use crate::returned::Returned;
 use crate::rings::{cache_ring, task_ring};
 use kc_found::{Found, ListShape, ReadFailed, Space, WalkStop};
 use kc_kinds::Kind;
 use kc_list::ring;
-use kc_mem::Memory;
 use kc_memory::Frames;
-use kc_tlb::Tlb;
+use kc_question::{Question, Returned, ask_over};
 use kc_view::{SlubShape, TaskShape};
 use kc_which::{partial_head, ring_head};
-use kc_word::{NoMemory, Steps};
-use std::marker::Brand;
-use std::sync::ledger::{Blank, Ledger};
-
-// How many translations of pages are kept.
-const KEPT: usize = 64;
+use kc_word::Steps;
+use std::sync::ledger::Ledger;
 
 /// A violation of a list of tasks or of a slab cache, as the walk of that list alone finds it.
 #[derive(Drop)]
@@ -105,54 +98,36 @@ fn in_cache<M: Space, L: Ledger>(
     walk_ring(over, memory, kind, found, shape.list, head, steps)
 }
 
-// The same of any violation.
-fn as_ring<M: Space, L: Ledger>(
-    over: &PlanOf<'_>,
-    memory: &mut M,
-    kind: &Kind,
-    found: &Found,
-    steps: &mut Steps<L>,
-) -> Result<Option<AsRing>, ReadFailed>
-    requires { KindInside (length over.now.types.now.records) kind.now }
-    ensures exact { IfSome (M.image memory.old) (λ image. IfOk result (λ r. suspected_view kind.now found.now r ≡ suspected image found.now kind.now)) }
-    ensures stays { SpaceStays M.image M.files M.through M.most memory.old memory.new }
-    ensures cause { CountsFailures result (M.faults memory.old) (M.faults memory.new) }
-{
-    match kind {
-        Kind::Tasks(shape) => in_tasks(over, memory, kind, shape, found, steps),
-        Kind::Slub(shape) => in_cache(over, memory, kind, shape, found, steps),
-        Kind::Ring(_) | Kind::Hlist(_) | Kind::Rbtree(_) | Kind::Xarray(_) | Kind::Pids(_) => {
-            Ok(None)
-        }
-    }
+// The question as what a violation is suspected, that an audit of this kind found.
+#[derive(Clone, Copy)]
+struct Suspecting<'q> {
+    over: &'q PlanOf<'q>,
+    kind: &'q Kind,
+    found: &'q Found,
 }
 
-// The same over the physical memory of a dump, with places for translations, and steps on a blank of the caller's.
-fn as_ring_counted<F: Frames, L: Ledger>(
-    memory: F,
-    tlb: Tlb,
-    over: &PlanOf<'_>,
-    kind: &Kind,
-    found: &Found,
-    blank: Blank,
-) -> Returned<F, Result<Option<AsRing>, ReadFailed>>
-    requires name { blank.name ≡ L.name }
-    requires parts { blank.parts ≡ L.parts }
-    requires some { 0 < L.parts }
-    requires inside { KindInside (length over.now.types.now.records) kind.now }
-    requires empty { AreEmpty tlb.places.items }
+impl<'q> Question for Suspecting<'q> {
+    type Answer = Result<Option<AsRing>, ReadFailed>;
 
-    ensures exact { IfSome (with_paging tlb.paging (F.image memory))
-        (λ image. IfOk result.answer (λ r. suspected_view kind.now found.now r ≡ suspected image found.now kind.now)) }
-    ensures stays { FramesStay F.image F.files F.through memory result.memory }
-    ensures cause { CountsFailures result.answer (F.faults memory) (F.faults result.memory) }
-{
-    let mut steps = Steps::<L>::new(blank);
-    let mut space = Memory::over(memory, tlb);
-    let answer = as_ring(over, &mut space, kind, found, &mut steps);
-    Returned {
-        memory: space.into_frames(),
-        answer,
+    ghost may = { λ of. KindInside (length of.over.now.types.now.records) of.kind.now };
+
+    ghost says = { λ of image answer. IfOk answer (λ r. suspected_view of.kind.now of.found.now r ≡ suspected image of.found.now of.kind.now) };
+
+    ghost leaves = { λ _ answer before after. CountsFailures answer before after };
+
+    fn ask<M: Space, L: Ledger>(
+        &self,
+        memory: &mut M,
+        steps: &mut Steps<L>,
+    ) -> Result<Option<AsRing>, ReadFailed> {
+        let Suspecting { over, kind, found } = *self;
+        match kind {
+            Kind::Tasks(shape) => in_tasks(over, memory, kind, shape, found, steps),
+            Kind::Slub(shape) => in_cache(over, memory, kind, shape, found, steps),
+            Kind::Ring(_) | Kind::Hlist(_) | Kind::Rbtree(_) | Kind::Xarray(_) | Kind::Pids(_) => {
+                Ok(None)
+            }
+        }
     }
 }
 
@@ -175,11 +150,10 @@ pub(crate) fn as_ring_over<F: Frames>(
     ensures stays { FramesStay F.image F.files F.through memory result.memory }
     ensures cause { CountsFailures result.answer (F.faults memory) (F.faults result.memory) }
 {
-    match Tlb::new(over.alloc, over.paging, KEPT) {
-        Ok(tlb) => as_ring_counted::<F, Brand>(memory, tlb, over, kind, found, Blank::new(1)),
-        Err(NoMemory) => Returned {
-            memory,
-            answer: Err(ReadFailed::NoMemory),
-        },
+    let question = Suspecting { over, kind, found };
+    let Returned { memory, answer } = ask_over(over.alloc, memory, over.paging, &question);
+    Returned {
+        memory,
+        answer: answer.unwrap_or(Err(ReadFailed::NoMemory)),
     }
 }

@@ -1,2 +1,2 @@
 mod Answering
-mod Remembering
+mod Told

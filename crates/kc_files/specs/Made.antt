@@ -3,17 +3,15 @@ use Rattle.std.specs.Prelude.{ℕ, if◌then◌else◌, List, [], ◌∷◌, cod
 use Rattle.std.specs.Str.{bytes_eq}
 use Rattle.kc_outside.specs.declared.store.Slot.TheVariants.{Dump}
 use Rattle.kc_outside.specs.Files.{Files}
-use Rattle.kc_elf.specs.Parts.{Parts}
 use Rattle.kc_memory.specs.Stopped.{Stopped}
-use Rattle.kc_notes.specs.declared.info.Info.{Info}
-use Rattle.kc_notes.specs.Info.{info}
 use Rattle.kc_notes.specs.Notes.{text_in}
 use Rattle.kc_kallsyms.specs.declared.places.Places.{Places}
 use Rattle.kc_kallsyms.specs.Places.{places_in}
 use Rattle.kc_kallsyms.specs.Reading.{Why, Missed, Bad}
+use Rattle.kc_question.specs.Memory.{bare_image, bytes_of}
 use Rattle.kc_report.specs.Lines.{broken_text}
 use Rattle.kc_command.specs.declared.refusal.Refusal.TheVariants.{Notes, Tables}
-use Rattle.kc_command.specs.Inputs.{dump_parts}
+use Rattle.kc_command.specs.Kernels.{NotedAt, noted_in}
 use Rattle.kc_command.specs.Made.{◌>>=◌, Made, checked, gives, refuses}
 use Rattle.kc_command.specs.Paging.{by_info}
 use Rattle.kc_command.specs.declared.ends.status.Status.TheVariants.{Done, Broken as broken_status}
@@ -23,7 +21,7 @@ use Rattle.kc_command.specs.Ends.Written.{Written}
 use Rattle.kc_files.specs.declared.files.Asks.{Asks}
 use Rattle.kc_files.specs.declared.wish.Wish.{Wish}
 use Rattle.kc_files.specs.declared.wish.Wish.TheVariants.{Map, Types}
-use Rattle.kc_files.specs.Wished.{bytes_of, image_of, wished}
+use Rattle.kc_files.specs.Wished.{wished}
 
 -- what is shown: the bytes of a file, or where reading memory stopped
 pub data Shown : Type 0 where
@@ -47,16 +45,15 @@ places_made notes = do
   checked Tables (places_in note)
 
 -- what is made of a dump's bytes, its segments and its notes
-abbrev pub wish_made : Wish → List ℕ → Parts → Made Shown
-wish_made wish bytes parts = do
-  told ← checked Notes (info parts.notes)
-  places ← places_made parts.notes
-  shown_by (wished wish (image_of bytes parts.segments (by_info told)) told.kaslr places)
+abbrev pub wish_made : Wish → List ℕ → NotedAt → Made Shown
+wish_made wish bytes noted = do
+  places ← places_made noted.parts.notes
+  shown_by (wished wish (bare_image bytes noted.parts.segments (by_info noted.told)) noted.told.kaslr places)
 
 abbrev pub files_made : Wish → Option (List ℕ) → Made Shown
 files_made wish dump = do
-  parts ← dump_parts dump
-  wish_made wish (bytes_of dump) parts
+  noted ← noted_in dump
+  wish_made wish (bytes_of dump) noted
 
 -- the word of a wish
 abbrev pub wish_of : List ℕ → Option Wish

@@ -7,6 +7,7 @@ ghost use Rattle.kc_outside.specs.declared.store.Slot.TheVariants.{Dump};
 ghost use Rattle.kc_outside.specs.Counts.{Rose};
 ghost use Rattle.kc_outside.specs.Files.{content};
 ghost use Rattle.kc_phys.specs.Stored.{AreInside};
+ghost use Rattle.kc_question.specs.Memory.{bare_image};
 ghost use Rattle.kc_command.specs.Halts.{OnStore, UnlessStore};
 ghost use Rattle.kc_command.specs.Made.{Tells};
 ghost use Rattle.kc_command.specs.Paging.{IsTable, by_info};
@@ -15,14 +16,14 @@ ghost use Rattle.kc_command.specs.Ends.Answers.{OnNone, OnStoreIn, PrintsOf, Pri
 ghost use Rattle.kc_command.specs.Ends.Asked.{word_in};
 ghost use Rattle.kc_files.specs.Answered.{IsAnswer, IsStopped};
 ghost use Rattle.kc_files.specs.Made.{files_asks, files_made, files_view, files_written, places_made, shown_by};
-ghost use Rattle.kc_files.specs.Wished.{image_of, wished};
+ghost use Rattle.kc_files.specs.Wished.{wished};
 
 use crate::memory::read_file;
 use crate::wish::{Wish, wish_of};
-use kc_command::{Answer, Halt, Refusal, read_dump, read_info};
+use kc_command::{Answer, Halt, Noted, Refusal, read_noted};
 use kc_elf::Core;
 use kc_kallsyms::{Places, ReadStop, places_in};
-use kc_notes::{Info, vmcoreinfo};
+use kc_notes::vmcoreinfo;
 use kc_outside::Store;
 use kc_report::broken_text;
 use std::alloc::Global;
@@ -88,26 +89,24 @@ fn file<S: Store>(alloc: Global, store: &mut S, asks: Asks<'_>) -> Result<Answer
     ensures quiet { UnlessStore result (S.faults store.new ≡ S.faults store.old) }
     ensures cause { OnStore result (Rose (S.faults store.old) (S.faults store.new)) }
 {
-    let core = read_dump(alloc, store, asks.dump)?;
-    let info = read_info(&core)?;
-    let places = read_places(&core)?;
-    make(alloc, store, &core, info, &places, asks.wish)
+    let noted = read_noted(alloc, store, asks.dump)?;
+    let places = read_places(&noted.core)?;
+    make(alloc, store, &noted, &places, asks.wish)
 }
 
 // The answer on a dump that was read.
 fn make<S: Store>(
     alloc: Global,
     store: &mut S,
-    core: &Core,
-    info: Info,
+    noted: &Noted,
     places: &Places,
     wish: Wish,
 ) -> Result<Answer, Halt>
-    requires table { IsTable info.table }
-    requires inside { AreInside (S.sizes store.old Dump) core.now.segments }
+    requires table { IsTable noted.now.info.table }
+    requires inside { AreInside (S.sizes store.old Dump) noted.now.core.segments }
 
     ensures output { PrintsOfBytes files_written
-        (λ bytes. shown_by (wished wish (image_of bytes core.now.segments (by_info info)) info.kaslr places.now))
+        (λ bytes. shown_by (wished wish (bare_image bytes noted.now.core.segments (by_info noted.now.info)) noted.now.info.kaslr places.now))
         (content (S.files store.old) Dump (S.opened store.old Dump)) result }
     ensures refused { RefusesIn Dump result }
     ensures files { S.files store.new ≡ S.files store.old }
@@ -115,7 +114,7 @@ fn make<S: Store>(
     ensures quiet { UnlessStore result (S.faults store.new ≡ S.faults store.old) }
     ensures cause { OnStore result (Rose (S.faults store.old) (S.faults store.new)) }
 {
-    let bytes = read_file(alloc, store, core, info, places, wish);
+    let bytes = read_file(alloc, store, noted, places, wish);
     answer(alloc, bytes)
 }
 

@@ -1,81 +1,52 @@
-// The memory of a dump, from which a file is read.
-ghost use Rattle.std.specs.Prelude.{◌≡◌, ◌<◌, option_map};
-ghost use Rattle.kc_word.specs.declared.plain.Tail.TheVariants as Tail;
+// What is wished of a dump, asked of its memory.
+ghost use Rattle.std.specs.Prelude.{◌≡◌, ⊤, Some, option_map};
 ghost use Rattle.kc_outside.specs.declared.store.Slot.TheVariants.{Dump};
 ghost use Rattle.kc_outside.specs.Files.{content};
-ghost use Rattle.kc_memory.specs.Stays.{SpaceStays};
 ghost use Rattle.kc_phys.specs.Stored.{AreInside};
-ghost use Rattle.kc_tlb.specs.Entries.{AreEmpty};
+ghost use Rattle.kc_question.specs.Memory.{bare_image};
 ghost use Rattle.kc_command.specs.Paging.{IsTable, by_info};
 ghost use Rattle.kc_kallsyms.specs.Reading.{CountsReadFaults, ReadsAs};
-ghost use Rattle.kc_files.specs.Wished.{image_of, wished};
+ghost use Rattle.kc_files.specs.Wished.{wished};
 
 use crate::wish::Wish;
-use kc_command::paging_by;
-use kc_elf::Core;
+use kc_command::{Noted, paging_by};
 use kc_kallsyms::{Places, ReadStop, read_map, read_types};
-use kc_mem::Memory;
 use kc_memory::Space;
-use kc_notes::Info;
 use kc_outside::Store;
-use kc_phys::{Phys, Room};
-use kc_tlb::Tlb;
+use kc_question::{Question, ask_dump};
 use kc_word::{Steps, Tail};
 use std::alloc::Global;
-use std::marker::Brand;
-use std::sync::ledger::{Blank, Ledger};
+use std::sync::ledger::Ledger;
 
-/// How many translations of pages are kept.
-const KEPT: usize = 512;
-
-// What is wished of a memory.
-fn read_wish<M: Space, L: Ledger>(
+// A file that is wished of a kernel's memory, by where the tables of its symbols lie.
+#[derive(Drop)]
+struct WishedFile<'p> {
     alloc: Global,
-    memory: &mut M,
-    places: &Places,
+    places: &'p Places,
+    // How far KASLR moved the kernel's image, in bytes.
     kaslr: u64,
     wish: Wish,
-    steps: &mut Steps<L>,
-) -> Result<Vec<u8>, ReadStop>
-    ensures wish { ReadsAs (λ v. v.items) (λ image. wished wish image kaslr places.now) (M.image memory.old) result }
-    ensures stays { SpaceStays M.image M.files M.through M.most memory.old memory.new }
-    ensures cause { CountsReadFaults result (M.faults memory.old) (M.faults memory.new) }
-{
-    match wish {
-        Wish::Map => read_map(alloc, memory, places, kaslr, steps),
-        Wish::Types => read_types(alloc, memory, places, kaslr, steps),
-    }
 }
 
-// The same of the dump in slot Dump, over room for its blocks and places for translations, with steps on a blank of the caller's.
-fn read_over<S: Store, L: Ledger>(
-    alloc: Global,
-    store: &mut S,
-    room: Room,
-    tlb: Tlb,
-    places: &Places,
-    kaslr: u64,
-    wish: Wish,
-    blank: Blank,
-) -> Result<Vec<u8>, ReadStop>
-    requires name { blank.name ≡ L.name }
-    requires parts { blank.parts ≡ L.parts }
-    requires some { 0 < L.parts }
-    requires tail { room.tail ≡ Tail.Absent }
-    requires empty { AreEmpty tlb.places.items }
-    requires inside { AreInside (S.sizes store.old Dump) room.segments.items }
+impl<'p> Question for WishedFile<'p> {
+    type Answer = Result<Vec<u8>, ReadStop>;
 
-    ensures wish { ReadsAs (λ v. v.items) (λ image. wished wish image kaslr places.now)
-        (option_map (λ bytes. image_of bytes room.segments.items tlb.paging) (content (S.files store.old) Dump (S.opened store.old Dump))) result }
-    ensures files { S.files store.new ≡ S.files store.old }
-    ensures cause { CountsReadFaults result (S.faults store.old) (S.faults store.new) }
-{
-    let mut steps = Steps::<L>::new(blank);
-    let mut memory = Memory::over(Phys::over(store, room), tlb);
-    let bytes = read_wish(alloc, &mut memory, places, kaslr, wish, &mut steps);
-    let frames = memory.into_frames();
-    let _store = frames.into_store();
-    bytes
+    ghost may = { λ _. ⊤ };
+
+    ghost says = { λ of image answer. ReadsAs (λ v. v.items) (λ i. wished of.wish i of.kaslr of.places.now) (Some image) answer };
+
+    ghost leaves = { λ _ answer before after. CountsReadFaults answer before after };
+
+    fn ask<M: Space, L: Ledger>(
+        &self,
+        memory: &mut M,
+        steps: &mut Steps<L>,
+    ) -> Result<Vec<u8>, ReadStop> {
+        match self.wish {
+            Wish::Map => read_map(self.alloc, memory, self.places, self.kaslr, steps),
+            Wish::Types => read_types(self.alloc, memory, self.places, self.kaslr, steps),
+        }
+    }
 }
 
 /// What is wished of the memory of the dump in slot Dump, whose segments and notes were read.
@@ -86,29 +57,30 @@ fn read_over<S: Store, L: Ledger>(
 pub fn read_file<S: Store>(
     alloc: Global,
     store: &mut S,
-    core: &Core,
-    info: Info,
+    noted: &Noted,
     places: &Places,
     wish: Wish,
 ) -> Result<Vec<u8>, ReadStop>
-    requires table { IsTable info.table }
-    requires inside { AreInside (S.sizes store.old Dump) core.now.segments }
+    requires table { IsTable noted.now.info.table }
+    requires inside { AreInside (S.sizes store.old Dump) noted.now.core.segments }
 
-    ensures wish { ReadsAs (λ v. v.items) (λ image. wished wish image info.kaslr places.now)
-        (option_map (λ bytes. image_of bytes core.now.segments (by_info info)) (content (S.files store.old) Dump (S.opened store.old Dump))) result }
+    ensures wish { ReadsAs (λ v. v.items) (λ image. wished wish image noted.now.info.kaslr places.now)
+        (option_map (λ bytes. bare_image bytes noted.now.core.segments (by_info noted.now.info)) (content (S.files store.old) Dump (S.opened store.old Dump))) result }
     ensures files { S.files store.new ≡ S.files store.old }
     ensures cause { CountsReadFaults result (S.faults store.old) (S.faults store.new) }
 {
-    let room = Room::new(alloc, core.segments(), Tail::Absent)?;
-    let tlb = Tlb::new(alloc, paging_by(info), KEPT)?;
-    read_over::<S, Brand>(
+    let file = WishedFile {
+        alloc,
+        places,
+        kaslr: noted.info.kaslr,
+        wish,
+    };
+    ask_dump(
         alloc,
         store,
-        room,
-        tlb,
-        places,
-        info.kaslr,
-        wish,
-        Blank::new(1),
-    )
+        noted.core.segments(),
+        Tail::Absent,
+        paging_by(noted.info),
+        &file,
+    )?
 }

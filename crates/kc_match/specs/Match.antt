@@ -3,19 +3,19 @@ use Rattle.std.specs.Prelude.{ℕ, if◌then◌else◌, List, [], ◌∷◌, cod
 use Rattle.kc_outside.specs.declared.store.Slot.TheVariants as slot
 use Rattle.kc_outside.specs.Files.{Files as Told}
 use Rattle.kc_btf.specs.Btf.{Types}
-use Rattle.kc_notes.specs.Info.{info}
 use Rattle.kc_notes.specs.Notes.{text_in}
 use Rattle.kc_notes.specs.Values.{lines_of}
 use Rattle.kc_syms.specs.Rows.{RowText, addresses}
 use Rattle.kc_command.specs.declared.refusal.Refusal.TheVariants.{Notes}
-use Rattle.kc_command.specs.Inputs.{dump_parts, map_in, rows_in, types_in}
+use Rattle.kc_command.specs.declared.kernel.KernelFiles.{KernelFiles}
+use Rattle.kc_command.specs.Inputs.{map_in, rows_in, types_in}
+use Rattle.kc_command.specs.Kernels.{noted_in}
 use Rattle.kc_command.specs.Made.{◌>>=◌, Made, checked, gives}
 use Rattle.kc_command.specs.declared.ends.status.Status.{Status}
 use Rattle.kc_command.specs.declared.ends.status.Status.TheVariants.{Done, Broken}
 use Rattle.kc_command.specs.Ends.Asked.{Asked}
 use Rattle.kc_command.specs.Ends.Output.{written_files}
 use Rattle.kc_command.specs.Ends.Written.{Written}
-use Rattle.kc_match.specs.declared.files.Asks.{Asks}
 use Rattle.kc_match.specs.Findings.{Finding, findings}
 use Rattle.kc_match.specs.Outcomes.{Kernel}
 use Rattle.kc_match.specs.Text.{agree, match_text}
@@ -47,12 +47,11 @@ matched_in note types kaslr map = rows_in map >>= (λ rows. gives (matched note 
 -- the faults come in the order dump, types and map
 abbrev pub match_made : Option (List ℕ) → Option (List ℕ) → Option (List ℕ) → Made Matched
 match_made dump btf map = do
-  parts ← dump_parts dump
-  told ← checked Notes (info parts.notes)
-  note ← checked Notes (text_in parts.notes)
+  noted ← noted_in dump
+  note ← checked Notes (text_in noted.parts.notes)
   types ← types_in btf
   listed ← map_in map
-  matched_in note types told.kaslr listed
+  matched_in note types noted.told.kaslr listed
 
 -- what is asked: three files by their names
 pub record Files : Type 0 where
@@ -80,8 +79,8 @@ abbrev pub written_of : List (List ℕ) → Told → Option Written
 written_of words files = written_files usage_text match_written (match_asks words) files
 
 -- as the code keeps them
-abbrev pub files_view : Asks → Files
-files_view a = record { dump = a.dump.now; btf = a.btf.now; map = a.map.now }
+abbrev pub files_view : KernelFiles → Files
+files_view f = record { dump = f.dump.now; btf = f.btf.now; map = f.map.now }
 
-abbrev pub match_view : Asks → Asked Matched
-match_view a = match_asked (files_view a)
+abbrev pub match_view : KernelFiles → Asked Matched
+match_view f = match_asked (files_view f)

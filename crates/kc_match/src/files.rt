@@ -20,39 +20,30 @@ use crate::finding::findings;
 use crate::kernel::Kernel;
 use crate::text::{agree, match_text};
 use kc_btf::Btf;
-use kc_command::{Answer, Halt, Refusal, read_dump, read_info, read_map, read_symbols, read_types};
+use kc_command::{
+    Answer, Halt, KernelFiles, Refusal, read_map, read_noted, read_symbols, read_types,
+};
 use kc_elf::Core;
 use kc_notes::vmcoreinfo;
 use kc_outside::Store;
 use kc_word::NoMemory;
 use std::alloc::Global;
 
-/// What is asked: whether a map and a file of types are those of a dump's kernel.
-#[derive(Clone, Copy)]
-pub struct Asks<'w> {
-    /// The name of the dump.
-    pub dump: &'w str,
-    /// The name of the file of types.
-    pub btf: &'w str,
-    /// The name of the map.
-    pub map: &'w str,
-}
-
 // What the words ask.
-fn read(words: &[String]) -> Option<Asks<'_>>
+fn read(words: &[String]) -> Option<KernelFiles<'_>>
     ensures asked { option_map match_view result ≡ match_asks (map string_bytes words.now) }
 {
     let [dump, btf, map] = words else {
         return None;
     };
-    Some(Asks {
+    Some(KernelFiles {
         dump: dump.as_str(),
         btf: btf.as_str(),
         map: map.as_str(),
     })
 }
 
-/// Runs kmatch on the words behind its name: the first fault of the dump, the types or the map, else what is found of
+/// Runs kmatch on the words after its name: the first fault of the dump, the types or the map, else what is found of
 /// the note's lines. `None` where these aren't its words; the store isn't asked then.
 pub fn run<S: Store>(alloc: Global, store: &mut S, words: &[String]) -> Option<Result<Answer, Halt>>
     requires { (slot : Slot) → ForSome (word_in (match_asks (map string_bytes words.now)) slot) (S.may store.old slot) }
@@ -65,32 +56,31 @@ pub fn run<S: Store>(alloc: Global, store: &mut S, words: &[String]) -> Option<R
     ensures quiet { UnlessStoreIn result (S.faults store.new ≡ S.faults store.old) }
     ensures cause { OnStoreIn result (Rose (S.faults store.old) (S.faults store.new)) }
 {
-    let asks = read(words)?;
-    Some(compare(alloc, store, &asks))
+    let files = read(words)?;
+    Some(compare(alloc, store, &files))
 }
 
 // The answer to what is asked.
-fn compare<S: Store>(alloc: Global, store: &mut S, asks: &Asks<'_>) -> Result<Answer, Halt>
-    requires dump { S.may store.old Dump asks.now.dump.now }
-    requires btf { S.may store.old Slot.Btf asks.now.btf.now }
-    requires map { S.may store.old Map asks.now.map.now }
+fn compare<S: Store>(alloc: Global, store: &mut S, files: &KernelFiles<'_>) -> Result<Answer, Halt>
+    requires dump { S.may store.old Dump files.now.dump.now }
+    requires btf { S.may store.old Slot.Btf files.now.btf.now }
+    requires map { S.may store.old Map files.now.map.now }
 
     ensures output { PrintsOf match_written
-        (λ files. match_made (files Dump asks.now.dump.now) (files Slot.Btf asks.now.btf.now)
-        (files Map asks.now.map.now)) (S.files store.old) result }
-    ensures unopened { StayBehind (match_asked (files_view asks.now)).named result (S.opened store.old)
+        (λ told. match_made (told Dump files.now.dump.now) (told Slot.Btf files.now.btf.now)
+        (told Map files.now.map.now)) (S.files store.old) result }
+    ensures unopened { StayBehind (match_asked (files_view files.now)).named result (S.opened store.old)
         (S.opened store.new) }
     ensures files { S.files store.new ≡ S.files store.old }
     ensures later { S.faults store.old ≤ S.faults store.new }
     ensures quiet { UnlessStore result (S.faults store.new ≡ S.faults store.old) }
     ensures cause { OnStore result (Rose (S.faults store.old) (S.faults store.new)) }
 {
-    let core = read_dump(alloc, store, asks.dump)?;
-    let info = read_info(&core)?;
-    let note = read_note(&core)?;
-    let types = read_types(alloc, store, asks.btf)?;
-    let map = read_map(alloc, store, asks.map)?;
-    match_map(alloc, note, &types, info.kaslr, &map)
+    let noted = read_noted(alloc, store, files.dump)?;
+    let note = read_note(&noted.core)?;
+    let types = read_types(alloc, store, files.btf)?;
+    let map = read_map(alloc, store, files.map)?;
+    match_map(alloc, note, &types, noted.info.kaslr, &map)
 }
 
 // The text of a dump's VMCOREINFO.

@@ -2,7 +2,9 @@
 use denote.Enum.Bare.{sameb, same_true, same_false}
 use Rattle.std.proofs.Common.{◌≡◌, ℕ, nat_eq, Bool, true, false, ◌&&◌, List, [], ◌∷◌, length, take, Option, Some, None, Result, Ok, Err, ◌⊎◌, inl, inr, refl, sym, ap, ◌∙◌}
 use Rattle.std.specs.Prelude.{find, min, nat_lt, IfOk, IfSome}
+use Rattle.std.specs.Result.{result_unwrap_or}
 use Rattle.std.proofs.lemmas.Bool.{eqb-true, eq-eqb}
+use Rattle.kc_word.specs.declared.memory.NoMemory.{NoMemory as NoRoom}
 use Rattle.kc_memory.specs.contracts.rule.Rule.{the_type}
 use Rattle.kc_memory.specs.Image.{Image}
 use Rattle.kc_found.specs.declared.verdict.Verdict.{Verdict}
@@ -12,6 +14,7 @@ use Rattle.kc_kinds.specs.declared.kind.Kind.{Kind}
 use Rattle.kc_plan.specs.Planned.{AuditAt}
 use Rattle.kc_plan.specs.Roots.{Root}
 use Rattle.kc_found.specs.declared.failed.ReadFailed.{ReadFailed}
+use Rattle.kc_found.specs.declared.failed.ReadFailed.TheVariants.{NoMemory}
 use Rattle.kc_repair.specs.declared.suspect.suspect.Suspect.{Suspect}
 use Rattle.kc_repair.specs.Suspect.Suspects.{suspects}
 use Rattle.kc_repair.specs.declared.outcome.Breach.{Breach}
@@ -94,6 +97,12 @@ gives_by judge found suspected None is = record { none = is; number = refl; beyo
 
 pub gives : (judge : Suspect → Verdict) (found : Breach) (suspected : List Suspect) → IsRepair judge found suspected (repair judge found suspected)
 gives judge found suspected = gives_by judge found suspected (find (repairs judge) (take most suspected)) refl
+
+-- what was answered, where the question could be asked
+pub answered : {A : Type 0} (image : Option Image) (asked : Result (Result A ReadFailed) NoRoom) (a : A) (Says : Image → A → Type 0)
+    → result_unwrap_or asked (Err NoMemory) ≡ Ok a → IfOk asked (λ r. IfSome image (λ i. IfOk r (Says i))) → IfSome image (λ i. Says i a)
+answered image (Ok r) a Says is says = rw is at says
+answered image (Err none) a Says is says = absurd (let never : ⊥ = cc in never)
 
 -- that of what is suspected of a violation
 pub sought : (image image' : Option Image) (audits : List AuditAt) (root : Root) (kind : Kind) (v : Violation) (suspected : List Suspect) (r : Result Repair ReadFailed)

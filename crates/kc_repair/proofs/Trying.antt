@@ -21,12 +21,13 @@ use Rattle.kc_plan.specs.Stands.{RootStands}
 use Rattle.kc_found.specs.declared.failed.ReadFailed.{ReadFailed}
 use Rattle.kc_found.specs.declared.failed.ReadFailed.TheVariants.{Fault, NoMemory}
 use Rattle.kc_run.specs.Laws.{CleanRootsStand}
+use Rattle.kc_question.specs.Memory.{image_of}
 use Rattle.kc_repair.specs.declared.suspect.suspect.Suspect.{Suspect}
 use Rattle.kc_repair.specs.declared.outcome.Breach.{Breach}
 use Rattle.kc_repair.specs.declared.outcome.Next.{Next}
 use Rattle.kc_repair.specs.declared.outcome.Repair.{Repair}
 use Rattle.kc_repair.specs.declared.outcome.Repair.TheVariants.{Stands, Nothing}
-use Rattle.kc_repair.specs.Repairs.{GoesOn, IsElsewhere, IsFirstNext, IsNext, IsRepair, Judges, StandsAs, image_of, most, repairs, verdict_with, with_suspect}
+use Rattle.kc_repair.specs.Repairs.{GoesOn, IsElsewhere, IsFirstNext, IsNext, IsRepair, Judges, StandsAs, most, repairs, verdict_with, with_suspect}
 use Rattle.kc_found.specs.Failures.{CountsFailures}
 
 -- none of these repairs, and this is what the first leads to that leads elsewhere

@@ -2,9 +2,6 @@
 use denote.Enum.Bare.{sameb}
 use Rattle.std.specs.Prelude.{◌≡◌, ℕ, min, nat_eq, nat_lt, ◌⊎◌, Bool, ◌&&◌, if◌then◌else◌, is_none, List, [], ◌∷◌, length, take, find, Option, Some, None, Result, Ok, Err}
 use Rattle.std.specs.List.{All}
-use Rattle.kc_word.specs.declared.plain.PageCfg.{PageCfg}
-use Rattle.kc_word.specs.declared.plain.Segment.{Segment}
-use Rattle.kc_word.specs.declared.plain.Tail.{Tail}
 use Rattle.kc_memory.specs.Image.{Image}
 use Rattle.kc_memory.specs.contracts.rule.Rule.{the_type}
 use Rattle.kc_found.specs.declared.verdict.Verdict.{Verdict}
@@ -23,10 +20,6 @@ use Rattle.kc_repair.specs.declared.outcome.Breach.{Breach}
 use Rattle.kc_repair.specs.declared.outcome.Next.{Next}
 use Rattle.kc_repair.specs.declared.outcome.Repair.{Repair}
 use Rattle.kc_repair.specs.declared.outcome.Repair.TheVariants.{Stands, Nothing}
-
--- the memory of a dump with these bytes and segments, whose tails read so
-abbrev pub image_of : List ℕ → List Segment → Tail → PageCfg → Image
-image_of bytes segments tail paging = record { physical = record { bytes = bytes; segments = segments; tail = tail }; paging = paging }
 
 -- the change of the file that a suspect stands for
 abbrev pub change_of : Suspect → Change

@@ -1,10 +1,9 @@
 // The suspects of a violation, and which of them repairs.
-ghost use Rattle.std.specs.Prelude.{◌≡◌, ◌∷◌, [], ◌%◌, ◌^◌, ◌<◌, length, IfOk, IfSome};
+ghost use Rattle.std.specs.Prelude.{◌≡◌, ◌∷◌, [], ◌%◌, ◌^◌, ◌<◌, ⊤, length, IfOk, IfSome};
 ghost use Rattle.kc_outside.specs.declared.store.Slot.TheVariants.{Dump};
 ghost use Rattle.kc_outside.specs.Files.{content};
 ghost use Rattle.kc_memory.specs.Stays.{FramesStay};
 ghost use Rattle.kc_phys.specs.Stored.{stored};
-ghost use Rattle.kc_tlb.specs.Entries.{AreEmpty};
 ghost use Rattle.kc_mem.specs.Paged.{with_paging};
 ghost use Rattle.kc_plan.specs.Inside.{AreInside as TypesAreInside};
 ghost use Rattle.kc_plan.specs.Views.{plan_seen};
@@ -13,77 +12,41 @@ ghost use Rattle.kc_repair.specs.Repairs.{IsRepair, breach_of, repair_of, verdic
 ghost use Rattle.kc_found.specs.Failures.{CountsFailures};
 
 use crate::outcome::Breach;
-use crate::trial::{KEPT, RootAudit};
+use crate::trial::RootAudit;
 use crate::tries::{Repaired, try_all};
 use crate::{Suspect, Suspects, suspects};
-use kc_found::{Found, ReadFailed};
+use kc_found::{Found, ReadFailed, Space};
 use kc_kinds::Kind;
-use kc_mem::Memory;
 use kc_outside::Store;
 use kc_phys::Phys;
-use kc_tlb::Tlb;
-use kc_word::{NoMemory, PageCfg, Steps};
+use kc_question::{Question, Returned, ask_over};
+use kc_word::{PageCfg, Steps};
 use std::alloc::Global;
-use std::marker::Brand;
-use std::sync::ledger::{Blank, Ledger};
+use std::sync::ledger::Ledger;
 
-// The suspects of a violation, and the memory that was asked, handed back.
-#[derive(Drop)]
-struct Suspected<'s, S: Store> {
-    memory: Phys<'s, S>,
-    suspects: Result<Suspects, ReadFailed>,
+// The question which words a violation suspects, that an audit of this kind found.
+#[derive(Clone, Copy)]
+struct Suspecting<'q> {
+    alloc: Global,
+    kind: &'q Kind,
+    found: &'q Found,
 }
 
-// The suspects of a violation, with places for translations, and steps on a blank of the caller's.
-fn suspects_in<'s, S: Store, L: Ledger>(
-    alloc: Global,
-    memory: Phys<'s, S>,
-    tlb: Tlb,
-    kind: &Kind,
-    found: &Found,
-    blank: Blank,
-) -> Suspected<'s, S>
-    requires name { blank.name ≡ L.name }
-    requires parts { blank.parts ≡ L.parts }
-    requires some { 0 < L.parts }
-    requires empty { AreEmpty tlb.places.items }
+impl<'q> Question for Suspecting<'q> {
+    type Answer = Result<Suspects, ReadFailed>;
 
-    ensures exact { IfOk result.suspects (λ suspected. IfSome (with_paging tlb.paging (stored memory.entry.segments.items memory.entry.tail (content (S.files memory.entry.store.now) Dump (S.opened memory.entry.store.now Dump))))
-        (λ image. suspected ≡ suspects image kind.now found.now)) }
-    ensures stays { FramesStay (λ p. stored p.segments.items p.tail (content (S.files p.store.now) Dump (S.opened p.store.now Dump))) (λ p. S.files p.store.now) (λ p. p.store.ghost_name ∷ []) memory.entry result.memory }
-    ensures cause { CountsFailures result.suspects (S.faults memory.entry.store.now) (S.faults result.memory.store.now) }
-{
-    let mut steps = Steps::<L>::new(blank);
-    let mut space = Memory::over(memory, tlb);
-    let suspects = suspects(alloc, kind, found, &mut space, &mut steps);
-    Suspected {
-        memory: space.into_frames(),
-        suspects,
-    }
-}
+    ghost may = { λ _. ⊤ };
 
-// The same with places and steps of its own.
-fn suspects_over<'s, S: Store>(
-    alloc: Global,
-    memory: Phys<'s, S>,
-    paging: PageCfg,
-    kind: &Kind,
-    found: &Found,
-) -> Suspected<'s, S>
-    requires aligned { paging.table % 4096 ≡ 0 }
-    requires small { paging.table < 2 ^ 52 }
+    ghost says = { λ of image answer. IfOk answer (λ suspected. suspected ≡ suspects image of.kind.now of.found.now) };
 
-    ensures exact { IfOk result.suspects (λ suspected. IfSome (with_paging paging (stored memory.entry.segments.items memory.entry.tail (content (S.files memory.entry.store.now) Dump (S.opened memory.entry.store.now Dump))))
-        (λ image. suspected ≡ suspects image kind.now found.now)) }
-    ensures stays { FramesStay (λ p. stored p.segments.items p.tail (content (S.files p.store.now) Dump (S.opened p.store.now Dump))) (λ p. S.files p.store.now) (λ p. p.store.ghost_name ∷ []) memory.entry result.memory }
-    ensures cause { CountsFailures result.suspects (S.faults memory.entry.store.now) (S.faults result.memory.store.now) }
-{
-    match Tlb::new(alloc, paging, KEPT) {
-        Ok(tlb) => suspects_in::<S, Brand>(alloc, memory, tlb, kind, found, Blank::new(1)),
-        Err(NoMemory) => Suspected {
-            memory,
-            suspects: Err(ReadFailed::NoMemory),
-        },
+    ghost leaves = { λ _ answer before after. CountsFailures answer before after };
+
+    fn ask<M: Space, L: Ledger>(
+        &self,
+        memory: &mut M,
+        steps: &mut Steps<L>,
+    ) -> Result<Suspects, ReadFailed> {
+        suspects(self.alloc, self.kind, self.found, memory, steps)
     }
 }
 
@@ -135,16 +98,13 @@ pub fn repair_over<'s, S: Store>(
     ensures stays { FramesStay (λ p. stored p.segments.items p.tail (content (S.files p.store.now) Dump (S.opened p.store.now Dump))) (λ p. S.files p.store.now) (λ p. p.store.ghost_name ∷ []) memory.entry result.memory }
     ensures cause { CountsFailures result.repair (S.faults memory.entry.store.now) (S.faults result.memory.store.now) }
 {
-    let Suspected { memory, suspects } = suspects_over(alloc, memory, paging, kind, found);
-    match suspects {
+    let question = Suspecting { alloc, kind, found };
+    let Returned { memory, answer } = ask_over(alloc, memory, paging, &question);
+    match answer.unwrap_or(Err(ReadFailed::NoMemory)) {
         Ok(suspects) => try_found(alloc, memory, paging, audit, found, suspects.as_slice()),
-        Err(ReadFailed::Fault) => Repaired {
+        Err(stop) => Repaired {
             memory,
-            repair: Err(ReadFailed::Fault),
-        },
-        Err(ReadFailed::NoMemory) => Repaired {
-            memory,
-            repair: Err(ReadFailed::NoMemory),
+            repair: Err(stop),
         },
     }
 }

@@ -7,7 +7,8 @@ ghost use Rattle.kc_phys.specs.Stored.{AreInside, stored};
 ghost use Rattle.kc_mem.specs.Paged.{with_paging};
 ghost use Rattle.kc_plan.specs.Inside.{AreInside as TypesAreInside};
 ghost use Rattle.kc_plan.specs.Views.{plan_seen};
-ghost use Rattle.kc_repair.specs.Repairs.{GoesOn, IsRepair, Judges, StandsAs, image_of, verdict_with};
+ghost use Rattle.kc_question.specs.Memory.{image_of};
+ghost use Rattle.kc_repair.specs.Repairs.{GoesOn, IsRepair, Judges, StandsAs, verdict_with};
 ghost use Rattle.kc_found.specs.Failures.{CountsFailures};
 
 use crate::Suspect;
@@ -99,7 +100,7 @@ pub(crate) fn try_all<'s, S: Store>(
     for i in 0..tried {
         let trial = try_suspect(alloc, memory, paging, audit, suspects[i]);
         memory = trial.memory;
-        match judge(trial.found, suspects[i], found, &mut then) {
+        match judge(trial.answer, suspects[i], found, &mut then) {
             Some(repair) => return Repaired { memory, repair },
             None => {}
         }

@@ -15,7 +15,7 @@ use Rattle.kc_phys.specs.Blocks.{reach}
 use Rattle.kc_phys.specs.Stored.{AreInside, IsInside, stored}
 use Rattle.kc_mem.specs.Paged.{with_paging}
 use Rattle.kc_sight.specs.Refs.Stops.{Told}
-use Rattle.kc_why.specs.Memory.{image_of}
+use Rattle.kc_question.specs.Memory.{bare_image}
 
 -- segments that reach no further lie inside
 reached : (n : ℕ) (segments : List Segment) → reach segments ≤ n → All (IsInside n) segments
@@ -27,48 +27,45 @@ pub inside : (size : Option ℕ) (segments : List Segment) (end last : ℕ) → 
 inside size segments end last there within is same =
     (there, λ n at. reached n segments (subst (λ (k : ℕ). k ≤ n) (same ∙ is) (within n at)))
 
--- what is told of an image
-abbrev segments_in : Option Image → List Segment
+-- what is told of a physical memory
+abbrev segments_in : Option Physical → List Segment
 segments_in None = []
-segments_in (Some i) = i.physical.segments
+segments_in (Some p) = p.segments
 
-abbrev bytes_in : Option Image → Option (List ℕ)
+abbrev bytes_in : Option Physical → Option (List ℕ)
 bytes_in None = None
-bytes_in (Some i) = Some i.physical.bytes
+bytes_in (Some p) = Some p.bytes
 
-bytes_told : (paging : PageCfg) (segments : List Segment) (tail : Tail) (content : Option (List ℕ)) → bytes_in (with_paging paging (stored segments tail content)) ≡ content
-bytes_told paging segments tail None = refl
-bytes_told paging segments tail (Some bytes) = refl
+bytes_told : (segments : List Segment) (tail : Tail) (content : Option (List ℕ)) → bytes_in (stored segments tail content) ≡ content
+bytes_told segments tail None = refl
+bytes_told segments tail (Some bytes) = refl
 
-pub same_bytes : (old new : PageCfg) (before after : List Segment) (tail rest : Tail) (content now : Option (List ℕ))
-    → with_paging new (stored after rest now) ≡ with_paging old (stored before tail content) → now ≡ content
-same_bytes old new before after tail rest content now is = sym (bytes_told new after rest now) ∙ ap bytes_in is ∙ bytes_told old before tail content
+same_bytes : (before after : List Segment) (tail rest : Tail) (content now : Option (List ℕ)) → stored after rest now ≡ stored before tail content → now ≡ content
+same_bytes before after tail rest content now is = sym (bytes_told after rest now) ∙ ap bytes_in is ∙ bytes_told before tail content
 
-same_segments : (old new : PageCfg) (before after : List Segment) (tail rest : Tail) (bytes : List ℕ) (now : Option (List ℕ))
-    → with_paging new (stored after rest now) ≡ with_paging old (stored before tail (Some bytes)) → after ≡ before
-same_segments old new before after tail rest bytes None is = absurd (let none : ⊥ = cc in none)
-same_segments old new before after tail rest bytes (Some b) is = ap segments_in is
+same_segments : (before after : List Segment) (tail rest : Tail) (bytes : List ℕ) (now : Option (List ℕ)) → stored after rest now ≡ stored before tail (Some bytes) → after ≡ before
+same_segments before after tail rest bytes None is = absurd (let none : ⊥ = cc in none)
+same_segments before after tail rest bytes (Some b) is = ap segments_in is
 
 -- so they reach as far
-same_end : (old new : PageCfg) (before after : List Segment) (tail rest : Tail) (bytes : List ℕ) (now : Option (List ℕ)) (end last : ℕ) (test : Bool)
-    → with_paging new (stored after rest now) ≡ with_paging old (stored before tail (Some bytes)) → end ≡ reach before → last ≡ reach after
-    → (last ≡ end → test ≡ true) → test ≡ true
-same_end old new before after tail rest bytes now end last test is first second tests =
-    tests (second ∙ ap reach (same_segments old new before after tail rest bytes now is) ∙ sym first)
+same_end : (before after : List Segment) (tail rest : Tail) (bytes : List ℕ) (now : Option (List ℕ)) (end last : ℕ) (test : Bool)
+    → stored after rest now ≡ stored before tail (Some bytes) → end ≡ reach before → last ≡ reach after → (last ≡ end → test ≡ true) → test ≡ true
+same_end before after tail rest bytes now end last test is first second tests =
+    tests (second ∙ ap reach (same_segments before after tail rest bytes now is) ∙ sym first)
 
 -- what is said of the dump's bytes after it was asked is said of those before
-pub found_before : (old new : PageCfg) (before after : List Segment) (tail rest : Tail) (content now : Option (List ℕ)) (end last : ℕ) (test : Bool) (P : List ℕ → Type 0)
-    → with_paging new (stored after rest now) ≡ with_paging old (stored before tail content) → end ≡ reach before → last ≡ reach after
+pub found_before : (before after : List Segment) (tail rest : Tail) (content now : Option (List ℕ)) (end last : ℕ) (test : Bool) (P : List ℕ → Type 0)
+    → stored after rest now ≡ stored before tail content → end ≡ reach before → last ≡ reach after
     → (last ≡ end → test ≡ true) → OnTrue test (Told now P) → Told content P
-found_before old new before after tail rest None now end last test P is first second tests found = tt
-found_before old new before after tail rest (Some bytes) now end last test P is first second tests found =
-    subst (λ (c : Option (List ℕ)). Told c P) (same_bytes old new before after tail rest (Some bytes) now is)
-    (OnTrue_at (same_end old new before after tail rest bytes now end last test is first second tests) found)
+found_before before after tail rest None now end last test P is first second tests found = tt
+found_before before after tail rest (Some bytes) now end last test P is first second tests found =
+    subst (λ (c : Option (List ℕ)). Told c P) (same_bytes before after tail rest (Some bytes) now is)
+    (OnTrue_at (same_end before after tail rest bytes now end last test is first second tests) found)
 
 -- what is told of the memory is told of the dump's bytes
 pub told_by : (paging : PageCfg) (segments room : List Segment) (tail : Tail) (content : Option (List ℕ)) (P : Image → Type 0)
-    → room ≡ segments → tail ≡ Absent → IfSome (with_paging paging (stored room tail content)) P → Told content (λ bytes. P (image_of bytes segments paging))
+    → room ≡ segments → tail ≡ Absent → IfSome (with_paging paging (stored room tail content)) P → Told content (λ bytes. P (bare_image bytes segments paging))
 told_by paging segments room tail None P same absent told = tt
 told_by paging segments room tail (Some bytes) P same absent told =
-    subst (λ (ss : List Segment). P (image_of bytes ss paging)) same
+    subst (λ (ss : List Segment). P (bare_image bytes ss paging)) same
     (subst (λ (t : Tail). P (record { physical = record { bytes = bytes; segments = room; tail = t }; paging = paging })) absent told)

@@ -1,15 +1,11 @@
--- What is looked for in a dump, and why a search for it ends without an answer.
+-- What is looked for in a dump.
 use Rattle.std.specs.Prelude.{ℕ, List, [], map, Option, Some, None, Result, Ok, Err}
-use Rattle.kc_command.specs.declared.halt.Halt.{Halt}
-use Rattle.kc_command.specs.declared.halt.Halt.TheVariants.{Store, Memory}
 use Rattle.kc_memory.specs.Image.{Image}
 use Rattle.kc_found.specs.Violations.{Violation}
 use Rattle.kc_owner.specs.declared.object.keys.CacheKey.{CacheKey}
 use Rattle.kc_owner.specs.declared.object.keys.FreeKeys.{FreeKeys}
 use Rattle.kc_owner.specs.declared.object.shape.ObjectShape.{ObjectShape}
 use Rattle.kc_owner.specs.Object.Keys.{free_keys}
-use Rattle.kc_found.specs.declared.failed.ReadFailed.{ReadFailed}
-use Rattle.kc_found.specs.declared.failed.ReadFailed.TheVariants.{Fault, NoMemory}
 use Rattle.kc_sight.specs.Refs.Writings.{Sought}
 
 -- what free pointers are encoded with; nothing is told where the kernel lacks what that asks for
@@ -31,8 +27,3 @@ direct_in (Some (Err v)) = 0
 -- what is looked for: a value, as it is and as an encoded free pointer
 abbrev pub sought_by : ℕ → Option (Result FreeKeys Violation) → Sought
 sought_by value told = record { value = value; direct = direct_in told; randoms = map (λ (k : CacheKey). k.random) (keys_in told) }
-
--- a failure to read is one of the store
-abbrev pub search_halted : ReadFailed → Halt
-search_halted Fault = Store
-search_halted NoMemory = Memory

@@ -5,16 +5,14 @@ use Rattle.kc_word.specs.Hex.{hex_number}
 use Rattle.kc_word.specs.declared.plain.Segment.{Segment}
 use Rattle.kc_outside.specs.declared.store.Slot.TheVariants as slot
 use Rattle.kc_outside.specs.Files.{Files as Told}
-use Rattle.kc_btf.specs.Btf.{Types}
 use Rattle.kc_memory.specs.Image.{Image}
 use Rattle.kc_notes.specs.declared.info.Info.{Info}
-use Rattle.kc_notes.specs.Info.{info}
 use Rattle.kc_syms.specs.Addresses.{common_of}
 use Rattle.kc_syms.specs.Rows.{RowText, addresses}
-use Rattle.kc_command.specs.declared.refusal.Refusal.TheVariants.{Notes}
-use Rattle.kc_command.specs.Inputs.{dump_parts, map_in, rows_in, types_in}
-use Rattle.kc_command.specs.Made.{◌>>=◌, Made, checked, gives}
-use Rattle.kc_command.specs.Paging.{by_info}
+use Rattle.kc_question.specs.Memory.{bytes_of}
+use Rattle.kc_command.specs.Inputs.{rows_in}
+use Rattle.kc_command.specs.Kernels.{KernelAt, kernel_in}
+use Rattle.kc_command.specs.Made.{◌>>=◌, Made, gives}
 use Rattle.kc_command.specs.declared.ends.status.Status.TheVariants.{Done}
 use Rattle.kc_command.specs.Ends.Asked.{Asked}
 use Rattle.kc_command.specs.Ends.Output.{written_files}
@@ -32,7 +30,7 @@ use Rattle.kc_why.specs.declared.files.Form.{Form}
 use Rattle.kc_why.specs.declared.files.Form.TheVariants.{About, Explains}
 use Rattle.kc_why.specs.declared.files.Question.{Question}
 use Rattle.kc_why.specs.declared.files.Question.TheVariants.{Sight, Words}
-use Rattle.kc_why.specs.Memory.{bytes_of, image_of}
+use Rattle.kc_why.specs.Memory.{memory_of}
 use Rattle.kc_why.specs.Searching.{keys_of, sought_by}
 use Rattle.kc_told.specs.Near.{near_of}
 use Rattle.kc_told.specs.Objects.{Shapes, kernel_by, shapes_by, told_of}
@@ -77,44 +75,39 @@ rules_by told rows = record {
   five = told.five;
 }
 
-abbrev pub looked_by : Image → ℕ → Info → Types → List RowText → Looked
-looked_by image address told types rows = record {
+abbrev pub looked_by : Image → ℕ → KernelAt → List RowText → Looked
+looked_by image address kernel rows = record {
   image = image;
-  rules = rules_by told rows;
-  shapes = shapes_by types rows told;
+  rules = rules_by kernel.told rows;
+  shapes = shapes_by kernel.types rows kernel.told;
   address = address;
-  symbols = symbols_by told.kaslr rows;
+  symbols = symbols_by kernel.told.kaslr rows;
 }
 
--- what is seen of an address of a memory, by the kernel's types and the bytes of a map
-abbrev pub seen_in : Image → ℕ → Info → Types → List ℕ → Made Shown
-seen_in image address told types map = rows_in map >>= (λ rows. gives (Sees (looked_by image address told types rows)))
+-- what is seen of an address of a memory, by the files of its kernel
+abbrev pub seen_in : Image → ℕ → KernelAt → Made Shown
+seen_in image address kernel = rows_in kernel.map >>= (λ rows. gives (Sees (looked_by image address kernel rows)))
 
 -- where a value is written in a dump
-abbrev pub searched_by : List ℕ → List Segment → ℕ → Info → Types → List RowText → Searched
-searched_by bytes segments value told types rows = record {
+abbrev pub searched_by : List ℕ → ℕ → KernelAt → List RowText → Searched
+searched_by bytes value kernel rows = record {
   bytes = bytes;
-  segments = segments;
-  keys = keys_of (image_of bytes segments (by_info told)) (object_shape (kernel_by types rows told));
+  segments = kernel.segments;
+  keys = keys_of (memory_of kernel bytes) (object_shape (kernel_by kernel.types rows kernel.told));
   value = value;
 }
 
-abbrev pub found_in : List ℕ → List Segment → ℕ → Info → Types → List ℕ → Made Shown
-found_in bytes segments value told types map = rows_in map >>= (λ rows. gives (Finds (searched_by bytes segments value told types rows)))
+abbrev pub found_in : List ℕ → ℕ → KernelAt → Made Shown
+found_in bytes value kernel = rows_in kernel.map >>= (λ rows. gives (Finds (searched_by bytes value kernel rows)))
 
--- what is shown of a dump's bytes and segments
-abbrev pub shown_in : Question → List ℕ → List Segment → Info → Types → List ℕ → Made Shown
-shown_in (Sight address) bytes segments told types map = seen_in (image_of bytes segments (by_info told)) address told types map
-shown_in (Words value) bytes segments told types map = found_in bytes segments value told types map
+-- what is shown of a dump's bytes
+abbrev pub shown_in : Question → List ℕ → KernelAt → Made Shown
+shown_in (Sight address) bytes kernel = seen_in (memory_of kernel bytes) address kernel
+shown_in (Words value) bytes kernel = found_in bytes value kernel
 
 -- the faults come in the order dump, types and map
 abbrev pub why_made : Question → Option (List ℕ) → Option (List ℕ) → Option (List ℕ) → Made Shown
-why_made question dump btf map = do
-  parts ← dump_parts dump
-  told ← checked Notes (info parts.notes)
-  types ← types_in btf
-  listed ← map_in map
-  shown_in question (bytes_of dump) parts.segments told types listed
+why_made question dump btf map = kernel_in dump btf map >>= (λ kernel. shown_in question (bytes_of dump) kernel)
 
 -- what is asked of three files by their names
 pub record Asking : Type 0 where
@@ -130,7 +123,7 @@ why_asked q = record {
   made = λ files. why_made q.question (files slot.Dump) (files slot.Btf) (files slot.Map);
 }
 
--- the words behind the map: a number in hex, with `refs` before it where the words that hold it are wanted
+-- the words after the map: a number in hex, with `refs` before it where the words that hold it are wanted
 abbrev pub question_of : List (List ℕ) → Option Question
 question_of (address ∷ []) = option_map Sight (hex_number address)
 question_of (form ∷ address ∷ []) = if bytes_eq form (codes "refs") then option_map Words (hex_number address) else None
@@ -150,7 +143,7 @@ abbrev pub report_asked : List ℕ → List ℕ → List ℕ → List ℕ → Li
 report_asked dump btf map plan report =
     told_asked (record { files = record { dump = dump; btf = btf; map = map; plan = plan }; report = report })
 
--- the words after the program's name: behind the map a question, or else the names of a plan, which isn't `refs`, and of a report
+-- the words after the program's name: after the map a question, or else the names of a plan, which isn't `refs`, and of a report
 abbrev pub words_asked : List ℕ → List ℕ → List ℕ → List (List ℕ) → Option (Asked Shown)
 words_asked dump btf map (plan ∷ report ∷ []) =
     if bytes_eq plan (codes "refs") then question_asked dump btf map (question_of (plan ∷ report ∷ [])) else Some (report_asked dump btf map plan report)
@@ -169,7 +162,7 @@ written_of words files = written_files usage_text why_written (why_asks words) f
 
 -- as the code keeps it
 abbrev pub asks_view : Asks → Asking
-asks_view a = record { dump = a.dump.now; btf = a.btf.now; map = a.map.now; question = a.question }
+asks_view a = record { dump = a.files.dump.now; btf = a.files.btf.now; map = a.files.map.now; question = a.question }
 
 abbrev pub why_view : Asks → Asked Shown
 why_view a = why_asked (asks_view a)

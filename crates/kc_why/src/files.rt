@@ -9,20 +9,18 @@ ghost use Rattle.kc_outside.specs.Counts.{Rose};
 ghost use Rattle.kc_outside.specs.Files.{content};
 ghost use Rattle.kc_phys.specs.Stored.{AreInside};
 ghost use Rattle.kc_command.specs.Halts.{OnStore, UnlessStore};
-ghost use Rattle.kc_command.specs.Paging.{IsTable, by_info};
+ghost use Rattle.kc_command.specs.Kernels.{kernel_view};
+ghost use Rattle.kc_command.specs.Paging.{IsTable};
 ghost use Rattle.kc_command.specs.Slots.{RefusesIn};
 ghost use Rattle.kc_command.specs.Ends.Answers.{OnNone, OnStoreIn, PrintsOf, PrintsOfBytes, Runs, StayBehind, UnlessStoreIn};
 ghost use Rattle.kc_command.specs.Ends.Asked.{asked_files, word_in};
-ghost use Rattle.kc_why.specs.Memory.{image_of};
+ghost use Rattle.kc_why.specs.Memory.{memory_of};
 ghost use Rattle.kc_why.specs.Why.{asks_view, form_view, found_in, question_asked, question_of, seen_in, shown_in, why_asked, why_asks, why_made, why_written};
 
 use crate::looking::look_at;
 use crate::searching::find_written;
-use kc_btf::Btf;
-use kc_cause::{Asks as CauseAsks, PlanFiles, explain};
-use kc_command::{Answer, Halt, read_dump, read_info, read_map, read_symbols, read_types};
-use kc_elf::Core;
-use kc_notes::Info;
+use kc_cause::{Asks as CauseAsks, explain};
+use kc_command::{Answer, Halt, Kernel, KernelFiles, read_kernel, read_symbols};
 use kc_outside::Store;
 use kc_sight::Rules;
 use kc_told::{seen_text, shapes_in};
@@ -41,17 +39,13 @@ pub enum Question {
 /// A question about a dump, with the files of its kernel.
 #[derive(Clone, Copy)]
 pub struct Asks<'w> {
-    /// The name of the dump.
-    pub dump: &'w str,
-    /// The name of the file of types.
-    pub btf: &'w str,
-    /// The name of the map.
-    pub map: &'w str,
+    /// The files.
+    pub files: KernelFiles<'w>,
     /// What is asked.
     pub question: Question,
 }
 
-// What the words behind the map ask.
+// What the words after the map ask.
 fn question_of(words: &[String]) -> Option<Question>
     ensures { result ≡ question_of (map string_bytes words.now) }
 {
@@ -73,19 +67,12 @@ pub enum Form<'w> {
     Explains(CauseAsks<'w>),
 }
 
-// What a question behind the names of three files asks for.
-fn about<'w>(
-    dump: &'w str,
-    btf: &'w str,
-    map: &'w str,
-    question: Option<Question>,
-) -> Option<Form<'w>>
-    ensures asked { option_map form_view result ≡ question_asked dump.now btf.now map.now question }
+// What a question after the names of three files asks for.
+fn about(files: KernelFiles<'_>, question: Option<Question>) -> Option<Form<'_>>
+    ensures asked { option_map form_view result ≡ question_asked files.entry.dump.now files.entry.btf.now files.entry.map.now question }
 {
     Some(Form::About(Asks {
-        dump,
-        btf,
-        map,
+        files,
         question: question?,
     }))
 }
@@ -97,22 +84,22 @@ fn read(words: &[String]) -> Option<Form<'_>>
     let [dump, btf, map, words @ ..] = words else {
         return None;
     };
-    let (dump, btf, map) = (dump.as_str(), btf.as_str(), map.as_str());
+    let files = KernelFiles {
+        dump: dump.as_str(),
+        btf: btf.as_str(),
+        map: map.as_str(),
+    };
     match words {
         [plan, report] if plan.as_str() != "refs" => Some(Form::Explains(CauseAsks {
-            files: PlanFiles {
-                dump,
-                btf,
-                map,
-                plan: plan.as_str(),
-            },
+            files,
+            plan: plan.as_str(),
             report: report.as_str(),
         })),
-        _ => about(dump, btf, map, question_of(words)),
+        _ => about(files, question_of(words)),
     }
 }
 
-/// Runs kwhy on the words behind its name: the first fault of the dump, the types or the map, else what is seen of the
+/// Runs kwhy on the words after its name: the first fault of the dump, the types or the map, else what is seen of the
 /// address, or the words that hold it; or also of the plan or the report, else what explains the report. `None` where these aren't its words; the store isn't asked then.
 pub fn run<S: Store>(alloc: Global, store: &mut S, words: &[String]) -> Option<Result<Answer, Halt>>
     requires { (slot : Slot) → ForSome (word_in (why_asks (map string_bytes words.now)) slot) (S.may store.old slot) }
@@ -148,13 +135,13 @@ fn reply<S: Store>(alloc: Global, store: &mut S, form: &Form<'_>) -> Result<Answ
 
 // The answer to what is asked.
 fn why<S: Store>(alloc: Global, store: &mut S, asks: &Asks<'_>) -> Result<Answer, Halt>
-    requires dump { S.may store.old Dump asks.now.dump.now }
-    requires btf { S.may store.old Slot.Btf asks.now.btf.now }
-    requires map { S.may store.old Map asks.now.map.now }
+    requires dump { S.may store.old Dump asks.now.files.dump.now }
+    requires btf { S.may store.old Slot.Btf asks.now.files.btf.now }
+    requires map { S.may store.old Map asks.now.files.map.now }
 
     ensures output { PrintsOf why_written
-        (λ files. why_made asks.now.question (files Dump asks.now.dump.now) (files Slot.Btf asks.now.btf.now)
-        (files Map asks.now.map.now)) (S.files store.old) result }
+        (λ told. why_made asks.now.question (told Dump asks.now.files.dump.now) (told Slot.Btf asks.now.files.btf.now)
+        (told Map asks.now.files.map.now)) (S.files store.old) result }
     ensures unopened { StayBehind (why_asked (asks_view asks.now)).named result (S.opened store.old)
         (S.opened store.new) }
     ensures files { S.files store.new ≡ S.files store.old }
@@ -162,28 +149,22 @@ fn why<S: Store>(alloc: Global, store: &mut S, asks: &Asks<'_>) -> Result<Answer
     ensures quiet { UnlessStore result (S.faults store.new ≡ S.faults store.old) }
     ensures cause { OnStore result (Rose (S.faults store.old) (S.faults store.new)) }
 {
-    let core = read_dump(alloc, store, asks.dump)?;
-    let info = read_info(&core)?;
-    let types = read_types(alloc, store, asks.btf)?;
-    let map = read_map(alloc, store, asks.map)?;
-    answer(alloc, store, &core, info, &types, &map, asks.question)
+    let kernel = read_kernel(alloc, store, &asks.files)?;
+    answer(alloc, store, &kernel, asks.question)
 }
 
-// The answer to a question about a dump that was read, by the bytes of a map.
+// The answer to a question about a kernel whose files were read.
 fn answer<S: Store>(
     alloc: Global,
     store: &mut S,
-    core: &Core,
-    info: Info,
-    types: &Btf,
-    map: &[u8],
+    kernel: &Kernel,
     question: Question,
 ) -> Result<Answer, Halt>
-    requires table { IsTable info.table }
-    requires inside { AreInside (S.sizes store.old Dump) core.now.segments }
-    requires below { All (λ s. s.paddr + max s.filesz s.memsz ≤ 2 ^ 64) core.now.segments }
+    requires table { IsTable kernel.now.info.table }
+    requires inside { AreInside (S.sizes store.old Dump) kernel.now.core.segments }
+    requires below { All (λ s. s.paddr + max s.filesz s.memsz ≤ 2 ^ 64) kernel.now.core.segments }
 
-    ensures output { PrintsOfBytes why_written (λ bytes. shown_in question bytes core.now.segments info types.now map.now)
+    ensures output { PrintsOfBytes why_written (λ bytes. shown_in question bytes (kernel_view kernel.now))
         (content (S.files store.old) Dump (S.opened store.old Dump)) result }
     ensures refused { RefusesIn Map result }
     ensures files { S.files store.new ≡ S.files store.old }
@@ -192,8 +173,8 @@ fn answer<S: Store>(
     ensures cause { OnStore result (Rose (S.faults store.old) (S.faults store.new)) }
 {
     match question {
-        Question::Sight(address) => see(alloc, store, core, info, types, map, address),
-        Question::Words(value) => find(alloc, store, core, info, types, map, value),
+        Question::Sight(address) => see(alloc, store, kernel, address),
+        Question::Words(value) => find(alloc, store, kernel, value),
     }
 }
 
@@ -201,17 +182,14 @@ fn answer<S: Store>(
 fn see<S: Store>(
     alloc: Global,
     store: &mut S,
-    core: &Core,
-    info: Info,
-    types: &Btf,
-    map: &[u8],
+    kernel: &Kernel,
     address: u64,
 ) -> Result<Answer, Halt>
-    requires table { IsTable info.table }
-    requires inside { AreInside (S.sizes store.old Dump) core.now.segments }
+    requires table { IsTable kernel.now.info.table }
+    requires inside { AreInside (S.sizes store.old Dump) kernel.now.core.segments }
 
     ensures output { PrintsOfBytes why_written
-        (λ bytes. seen_in (image_of bytes core.now.segments (by_info info)) address info types.now map.now)
+        (λ bytes. seen_in (memory_of (kernel_view kernel.now) bytes) address (kernel_view kernel.now))
         (content (S.files store.old) Dump (S.opened store.old Dump)) result }
     ensures refused { RefusesIn Map result }
     ensures files { S.files store.new ≡ S.files store.old }
@@ -219,32 +197,24 @@ fn see<S: Store>(
     ensures quiet { UnlessStore result (S.faults store.new ≡ S.faults store.old) }
     ensures cause { OnStore result (Rose (S.faults store.old) (S.faults store.new)) }
 {
-    let symbols = read_symbols(alloc, map)?;
+    let symbols = read_symbols(alloc, &kernel.map)?;
     let rules = Rules {
-        direct: symbols.address(b"page_offset_base", info.kaslr),
-        phys_base: info.phys_base,
-        five: info.five,
+        direct: symbols.address(b"page_offset_base", kernel.info.kaslr),
+        phys_base: kernel.info.phys_base,
+        five: kernel.info.five,
     };
-    let shapes = shapes_in(alloc, types, &symbols, info, map)?;
-    let seen = look_at(alloc, store, core, info, &rules, types, &shapes, address)?;
+    let shapes = shapes_in(alloc, &kernel.types, &symbols, kernel.info, &kernel.map)?;
+    let seen = look_at(alloc, store, kernel, &rules, &shapes, address)?;
     Ok(Answer::Done(seen_text(alloc, &shapes.map, &seen)?))
 }
 
 // The words of a dump that hold a value.
-fn find<S: Store>(
-    alloc: Global,
-    store: &mut S,
-    core: &Core,
-    info: Info,
-    types: &Btf,
-    map: &[u8],
-    value: u64,
-) -> Result<Answer, Halt>
-    requires table { IsTable info.table }
-    requires inside { AreInside (S.sizes store.old Dump) core.now.segments }
-    requires below { All (λ s. s.paddr + max s.filesz s.memsz ≤ 2 ^ 64) core.now.segments }
+fn find<S: Store>(alloc: Global, store: &mut S, kernel: &Kernel, value: u64) -> Result<Answer, Halt>
+    requires table { IsTable kernel.now.info.table }
+    requires inside { AreInside (S.sizes store.old Dump) kernel.now.core.segments }
+    requires below { All (λ s. s.paddr + max s.filesz s.memsz ≤ 2 ^ 64) kernel.now.core.segments }
 
-    ensures output { PrintsOfBytes why_written (λ bytes. found_in bytes core.now.segments value info types.now map.now)
+    ensures output { PrintsOfBytes why_written (λ bytes. found_in bytes value (kernel_view kernel.now))
         (content (S.files store.old) Dump (S.opened store.old Dump)) result }
     ensures refused { RefusesIn Map result }
     ensures files { S.files store.new ≡ S.files store.old }
@@ -252,16 +222,8 @@ fn find<S: Store>(
     ensures quiet { UnlessStore result (S.faults store.new ≡ S.faults store.old) }
     ensures cause { OnStore result (Rose (S.faults store.old) (S.faults store.new)) }
 {
-    let symbols = read_symbols(alloc, map)?;
-    let shapes = shapes_in(alloc, types, &symbols, info, map)?;
-    let text = find_written(
-        alloc,
-        store,
-        core,
-        info,
-        types,
-        &shapes.words.objects,
-        value,
-    )?;
+    let symbols = read_symbols(alloc, &kernel.map)?;
+    let shapes = shapes_in(alloc, &kernel.types, &symbols, kernel.info, &kernel.map)?;
+    let text = find_written(alloc, store, kernel, &shapes.words.objects, value)?;
     Ok(Answer::Done(text))
 }

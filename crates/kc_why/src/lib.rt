@@ -1,6 +1,7 @@
 //! The program kwhy: what lies at an address of a dump, which words of the dump hold it, or what explains a report.
 #![tactic(auto)]
 
+mod failures;
 mod files;
 mod laws;
 mod looking;

@@ -1,49 +1,74 @@
 // One look at the memory of a dump.
-ghost use Rattle.std.specs.Prelude.{◌≡◌, ◌<◌, ◌≤◌, ◌%◌, ◌^◌, option_map, IfSome};
-ghost use Rattle.kc_word.specs.declared.plain.Tail.TheVariants as Tail;
+ghost use Rattle.std.specs.Prelude.{◌≡◌, ◌<◌, ◌≤◌, option_map, IfOk, IfSome};
 ghost use Rattle.kc_outside.specs.declared.store.Slot.TheVariants.{Dump};
 ghost use Rattle.kc_outside.specs.Counts.{Rose};
 ghost use Rattle.kc_outside.specs.Files.{content};
 ghost use Rattle.kc_phys.specs.Stored.{AreInside};
-ghost use Rattle.kc_tlb.specs.Entries.{AreEmpty};
 ghost use Rattle.kc_command.specs.Halts.{NotRefused, OnStore, UnlessStore};
-ghost use Rattle.kc_command.specs.Paging.{IsTable, by_info};
-ghost use Rattle.kc_why.specs.Looking.{LeadsAs, SightsAs, TellsAs, halted};
-ghost use Rattle.kc_why.specs.Memory.{image_of};
+ghost use Rattle.kc_command.specs.Kernels.{kernel_view};
+ghost use Rattle.kc_command.specs.Paging.{IsTable};
+ghost use Rattle.kc_why.specs.Looking.{IsSeen, LeadsAs, SightsAs, TellsAs};
+ghost use Rattle.kc_why.specs.Memory.{memory_of};
 ghost use Rattle.kc_told.specs.Views.{shapes_view};
 ghost use Rattle.kc_view.specs.TaskLists.{IsInside};
 ghost use Rattle.kc_found.specs.Failures.{CountsFailures};
 
+use crate::failures::halted;
 use kc_btf::Btf;
-use kc_command::{Halt, paging_by};
-use kc_elf::Core;
+use kc_command::{Halt, Kernel, paging_by};
 use kc_found::ReadFailed;
-use kc_mem::Memory;
-use kc_notes::Info;
+use kc_memory::Space;
 use kc_outside::Store;
 use kc_phys::{Phys, Room};
-use kc_sight::{Rules, read_entries, word_start};
-use kc_tlb::Tlb;
+use kc_question::{Question, Returned, ask_over};
+use kc_sight::{Entry, Rules, read_entries, word_start};
 use kc_told::{Shapes, Sighted, read_sighted};
-use kc_word::{PageCfg, Steps, Tail};
+use kc_word::{NoMemory, Steps, Tail};
 use std::alloc::Global;
 use std::marker::Brand;
 use std::sync::ledger::{Blank, Ledger};
 
-/// How many translations of pages are kept: a look is at three pages.
-const KEPT: usize = 8;
+// An address, with the kernel's rules for addresses and what it has that tells of them.
+#[derive(Drop)]
+struct Looking<'l, 'm> {
+    alloc: Global,
+    types: &'l Btf,
+    rules: &'l Rules,
+    shapes: &'l Shapes<'m>,
+    address: u64,
+    // The entries of the page tables on the way to it.
+    entries: Vec<Entry>,
+}
 
-// A failure to read the dump is one of the store.
-fn halted(stop: ReadFailed) -> Halt
-    ensures { result ≡ halted stop }
-{
-    match stop {
-        ReadFailed::Fault => Halt::Store,
-        ReadFailed::NoMemory => Halt::Memory,
+impl<'l, 'm> Question for Looking<'l, 'm> {
+    type Answer = Result<Sighted<'m>, ReadFailed>;
+
+    ghost may = { λ of. IfSome of.shapes.now.words.areas.stacks (λ shape. IsInside shape.tasks of.types.now) };
+
+    ghost says = { λ of image answer. IfOk answer (IsSeen image of.rules.now (shapes_view of.shapes.now) of.address of.entries.items) };
+
+    ghost leaves = { λ _ answer before after. CountsFailures answer before after };
+
+    fn ask<M: Space, L: Ledger>(
+        &self,
+        memory: &mut M,
+        steps: &mut Steps<L>,
+    ) -> Result<Sighted<'m>, ReadFailed> {
+        let entries = self.entries.to_vec(self.alloc)?;
+        read_sighted(
+            self.alloc,
+            memory,
+            self.types,
+            self.shapes,
+            self.address,
+            self.rules,
+            Ok(entries),
+            steps,
+        )
     }
 }
 
-/// What is seen of an address of the dump in slot Dump, whose segments and notes were read, and what holds it.
+/// What is seen of an address of the dump in slot Dump, and what holds it, where the files of its kernel were read.
 ///
 /// # Errors
 ///
@@ -51,22 +76,20 @@ fn halted(stop: ReadFailed) -> Halt
 pub fn look_at<'m, S: Store>(
     alloc: Global,
     store: &mut S,
-    core: &Core,
-    info: Info,
+    kernel: &Kernel,
     rules: &Rules,
-    types: &Btf,
     shapes: &Shapes<'m>,
     address: u64,
 ) -> Result<Sighted<'m>, Halt>
-    requires table { IsTable info.table }
-    requires inside { AreInside (S.sizes store.old Dump) core.now.segments }
-    requires tasks { IfSome shapes.now.words.areas.stacks (λ shape. IsInside shape.tasks types.now) }
+    requires table { IsTable kernel.now.info.table }
+    requires inside { AreInside (S.sizes store.old Dump) kernel.now.core.segments }
+    requires tasks { IfSome shapes.now.words.areas.stacks (λ shape. IsInside shape.tasks kernel.now.types) }
 
-    ensures sight { SightsAs (option_map (λ bytes. image_of bytes core.now.segments (by_info info)) (content (S.files store.old) Dump (S.opened store.old Dump)))
+    ensures sight { SightsAs (option_map (memory_of (kernel_view kernel.now)) (content (S.files store.old) Dump (S.opened store.old Dump)))
         rules.now address result }
-    ensures told { TellsAs (option_map (λ bytes. image_of bytes core.now.segments (by_info info)) (content (S.files store.old) Dump (S.opened store.old Dump)))
+    ensures told { TellsAs (option_map (memory_of (kernel_view kernel.now)) (content (S.files store.old) Dump (S.opened store.old Dump)))
         (shapes_view shapes.now) address result }
-    ensures leads { LeadsAs (option_map (λ bytes. image_of bytes core.now.segments (by_info info)) (content (S.files store.old) Dump (S.opened store.old Dump)))
+    ensures leads { LeadsAs (option_map (memory_of (kernel_view kernel.now)) (content (S.files store.old) Dump (S.opened store.old Dump)))
         (shapes_view shapes.now) address result }
     ensures not_refused { NotRefused result }
     ensures files { S.files store.new ≡ S.files store.old }
@@ -74,35 +97,18 @@ pub fn look_at<'m, S: Store>(
     ensures quiet { UnlessStore result (S.faults store.new ≡ S.faults store.old) }
     ensures cause { OnStore result (Rose (S.faults store.old) (S.faults store.new)) }
 {
-    let room = Room::new(alloc, core.segments(), Tail::Absent)?;
-    let paging = paging_by(info);
-    let tlb = Tlb::new(alloc, paging, KEPT)?;
-    match look::<S, Brand>(
-        alloc,
-        store,
-        room,
-        tlb,
-        paging,
-        rules,
-        types,
-        shapes,
-        address,
-        Blank::new(1),
-    ) {
+    match look::<S, Brand>(alloc, store, kernel, rules, shapes, address, Blank::new(1)) {
         Ok(sight) => Ok(sight),
         Err(stop) => Err(halted(stop)),
     }
 }
 
-// The same over room for blocks and places for translations, with steps on a blank of the caller's.
+// The same with the steps to the entries on a blank of the caller's.
 fn look<'m, S: Store, L: Ledger>(
     alloc: Global,
     store: &mut S,
-    room: Room,
-    tlb: Tlb,
-    paging: PageCfg,
+    kernel: &Kernel,
     rules: &Rules,
-    types: &Btf,
     shapes: &Shapes<'m>,
     address: u64,
     blank: Blank,
@@ -110,38 +116,36 @@ fn look<'m, S: Store, L: Ledger>(
     requires name { blank.name ≡ L.name }
     requires parts { blank.parts ≡ L.parts }
     requires some { 0 < L.parts }
-    requires paging { tlb.paging ≡ paging }
-    requires tail { room.tail ≡ Tail.Absent }
-    requires aligned { paging.table % 4096 ≡ 0 }
-    requires small { paging.table < 2 ^ 52 }
-    requires tasks { IfSome shapes.now.words.areas.stacks (λ shape. IsInside shape.tasks types.now) }
-    requires empty { AreEmpty tlb.places.items }
-    requires inside { AreInside (S.sizes store.old Dump) room.segments.items }
+    requires table { IsTable kernel.now.info.table }
+    requires inside { AreInside (S.sizes store.old Dump) kernel.now.core.segments }
+    requires tasks { IfSome shapes.now.words.areas.stacks (λ shape. IsInside shape.tasks kernel.now.types) }
 
-    ensures sight { SightsAs (option_map (λ bytes. image_of bytes room.segments.items paging) (content (S.files store.old) Dump (S.opened store.old Dump)))
+    ensures sight { SightsAs (option_map (memory_of (kernel_view kernel.now)) (content (S.files store.old) Dump (S.opened store.old Dump)))
         rules.now address result }
-    ensures told { TellsAs (option_map (λ bytes. image_of bytes room.segments.items paging) (content (S.files store.old) Dump (S.opened store.old Dump)))
+    ensures told { TellsAs (option_map (memory_of (kernel_view kernel.now)) (content (S.files store.old) Dump (S.opened store.old Dump)))
         (shapes_view shapes.now) address result }
-    ensures leads { LeadsAs (option_map (λ bytes. image_of bytes room.segments.items paging) (content (S.files store.old) Dump (S.opened store.old Dump)))
+    ensures leads { LeadsAs (option_map (memory_of (kernel_view kernel.now)) (content (S.files store.old) Dump (S.opened store.old Dump)))
         (shapes_view shapes.now) address result }
     ensures files { S.files store.new ≡ S.files store.old }
     ensures cause { CountsFailures result (S.faults store.old) (S.faults store.new) }
 {
+    let room = Room::new(alloc, kernel.core.segments(), Tail::Absent)?;
+    let paging = paging_by(kernel.info);
     let mut steps = Steps::<L>::new(blank);
     let mut frames = Phys::over(store, room);
-    let entries = read_entries(alloc, &mut frames, &paging, word_start(address), &mut steps);
-    let mut memory = Memory::over(frames, tlb);
-    let sight = read_sighted(
+    let entries = read_entries(alloc, &mut frames, &paging, word_start(address), &mut steps)?;
+    let looking = Looking {
         alloc,
-        &mut memory,
-        types,
+        types: &kernel.types,
+        rules,
         shapes,
         address,
-        rules,
         entries,
-        &mut steps,
-    );
-    let frames = memory.into_frames();
-    let _store = frames.into_store();
-    sight
+    };
+    let Returned { memory, answer } = ask_over(alloc, frames, paging, &looking);
+    let _store = memory.into_store();
+    match answer {
+        Ok(seen) => seen,
+        Err(NoMemory) => Err(ReadFailed::NoMemory),
+    }
 }

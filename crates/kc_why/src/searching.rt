@@ -1,77 +1,70 @@
 // The search for a value in a dump.
-ghost use Rattle.std.specs.Prelude.{◌≡◌, ◌+◌, ◌≤◌, ◌<◌, ◌^◌, map, max, IfOk, IfSome, option_map};
+ghost use Rattle.std.specs.Prelude.{◌≡◌, ⊤, ◌+◌, ◌≤◌, ◌^◌, map, max, IfOk};
 ghost use Rattle.std.specs.Bool.{OnTrue};
 ghost use Rattle.std.specs.List.{All};
-ghost use Rattle.kc_word.specs.declared.plain.Tail.TheVariants as Tail;
 ghost use Rattle.kc_outside.specs.declared.store.Slot.TheVariants.{Dump};
 ghost use Rattle.kc_outside.specs.Counts.{Rose};
 ghost use Rattle.kc_outside.specs.Files.{content};
-ghost use Rattle.kc_memory.specs.Stays.{SpaceStays};
 ghost use Rattle.kc_phys.specs.Stored.{AreInside};
-ghost use Rattle.kc_tlb.specs.Entries.{AreEmpty};
 ghost use Rattle.kc_command.specs.Halts.{NotRefused, OnStore, UnlessStore};
-ghost use Rattle.kc_command.specs.Paging.{IsTable, by_info};
+ghost use Rattle.kc_command.specs.Kernels.{kernel_view};
+ghost use Rattle.kc_command.specs.Paging.{IsTable};
 ghost use Rattle.kc_owner.specs.declared.object.keys.CacheKey.{CacheKey as Key};
 ghost use Rattle.kc_sight.specs.Refs.Holding.{in_segments};
 ghost use Rattle.kc_sight.specs.Refs.Stops.{Told};
-ghost use Rattle.kc_why.specs.Memory.{image_of};
-ghost use Rattle.kc_why.specs.Searching.{direct_in, keys_of, search_halted, sought_by};
+ghost use Rattle.kc_why.specs.Memory.{memory_of};
+ghost use Rattle.kc_why.specs.Searching.{direct_in, keys_of, sought_by};
 ghost use Rattle.kc_why.specs.WordText.{words_text};
 ghost use Rattle.kc_found.specs.Failures.{CountsFailures};
 
+use crate::failures::halted;
 use crate::written::{keys_in, words_text};
 use kc_btf::Btf;
-use kc_command::{Halt, paging_by};
-use kc_elf::Core;
+use kc_command::{Halt, Kernel, paging_by};
 use kc_found::{Found, ReadFailed, Space, WalkStop};
-use kc_mem::Memory;
-use kc_notes::Info;
 use kc_outside::Store;
 use kc_owner::{CacheKey, FreeKeys, ObjectShape, free_keys};
 use kc_phys::{Phys, Room};
+use kc_question::{Question, Returned, ask_over};
 use kc_sight::{FoundWord, Sought, find_words};
-use kc_tlb::Tlb;
-use kc_word::{NoMemory, PageCfg, Segment, Steps, Tail};
+use kc_word::{NoMemory, Segment, Steps, Tail};
 use std::alloc::Global;
-use std::marker::Brand;
-use std::sync::ledger::{Blank, Ledger};
-
-// How many translations of pages are kept.
-const KEPT: usize = 64;
+use std::sync::ledger::Ledger;
 
 /// What free pointers are encoded with, or why that can't be told, where the kernel has what it asks for.
 pub(crate) type ToldKeys = Option<Result<FreeKeys, Found>>;
 
-// A failure to read the dump is one of the store.
-fn halted(stop: ReadFailed) -> Halt
-    ensures { result ≡ search_halted stop }
-{
-    match stop {
-        ReadFailed::Fault => Halt::Store,
-        ReadFailed::NoMemory => Halt::Memory,
-    }
+// What free pointers are encoded with, where the kernel has what tells it.
+#[derive(Drop)]
+struct AsksKeys<'k> {
+    alloc: Global,
+    types: &'k Btf,
+    shape: &'k Option<ObjectShape>,
 }
 
-// What free pointers are encoded with.
-fn read_told<S: Space, L: Ledger>(
-    alloc: Global,
-    space: &mut S,
-    types: &Btf,
-    shape: &Option<ObjectShape>,
-    steps: &mut Steps<L>,
-) -> Result<ToldKeys, ReadFailed>
-    ensures told { IfOk result (λ told. IfSome (S.image space.old) (λ i. told ≡ keys_of i shape.now)) }
-    ensures stays { SpaceStays S.image S.files S.through S.most space.old space.new }
-    ensures cause { CountsFailures result (S.faults space.old) (S.faults space.new) }
-{
-    let Some(shape) = shape else {
-        return Ok(None);
-    };
-    match free_keys(alloc, space, types, shape, steps) {
-        Ok(keys) => Ok(Some(Ok(keys))),
-        Err(WalkStop::Broken(found)) => Ok(Some(Err(found))),
-        Err(WalkStop::Fault) => Err(ReadFailed::Fault),
-        Err(WalkStop::NoMemory) => Err(ReadFailed::NoMemory),
+impl<'k> Question for AsksKeys<'k> {
+    type Answer = Result<ToldKeys, ReadFailed>;
+
+    ghost may = { λ _. ⊤ };
+
+    ghost says = { λ of image answer. IfOk answer (λ told. told ≡ keys_of image of.shape.now) };
+
+    ghost leaves = { λ _ answer before after. CountsFailures answer before after };
+
+    fn ask<M: Space, L: Ledger>(
+        &self,
+        memory: &mut M,
+        steps: &mut Steps<L>,
+    ) -> Result<ToldKeys, ReadFailed> {
+        let Some(shape) = self.shape else {
+            return Ok(None);
+        };
+        match free_keys(self.alloc, memory, self.types, shape, steps) {
+            Ok(keys) => Ok(Some(Ok(keys))),
+            Err(WalkStop::Broken(found)) => Ok(Some(Err(found))),
+            Err(WalkStop::Fault) => Err(ReadFailed::Fault),
+            Err(WalkStop::NoMemory) => Err(ReadFailed::NoMemory),
+        }
     }
 }
 
@@ -134,50 +127,45 @@ fn find_if<S: Store>(
     }
 }
 
-// The same over room for blocks and places for translations, with steps on a blank of the caller's.
-fn search<S: Store, L: Ledger>(
+// The same of the dump in slot Dump, where the files of its kernel were read, with what free pointers are encoded with.
+fn search<S: Store>(
     alloc: Global,
     store: &mut S,
-    room: Room,
-    tlb: Tlb,
-    segments: &[Segment],
-    types: &Btf,
+    kernel: &Kernel,
     shape: &Option<ObjectShape>,
     value: u64,
-    blank: Blank,
 ) -> Result<Searched, ReadFailed>
-    requires name { blank.name ≡ L.name }
-    requires parts { blank.parts ≡ L.parts }
-    requires some { 0 < L.parts }
-    requires tail { room.tail ≡ Tail.Absent }
-    requires segments { room.segments.items ≡ segments.now }
-    requires empty { AreEmpty tlb.places.items }
-    requires inside { AreInside (S.sizes store.old Dump) segments.now }
-    requires below { All (λ s. s.paddr + max s.filesz s.memsz ≤ 2 ^ 64) segments.now }
+    requires table { IsTable kernel.now.info.table }
+    requires inside { AreInside (S.sizes store.old Dump) kernel.now.core.segments }
+    requires below { All (λ s. s.paddr + max s.filesz s.memsz ≤ 2 ^ 64) kernel.now.core.segments }
 
     ensures told { IfOk result (λ r. Told (content (S.files store.old) Dump (S.opened store.old Dump)) (λ bytes.
-        r.told ≡ keys_of (image_of bytes segments.now tlb.paging) shape.now)) }
+        r.told ≡ keys_of (memory_of (kernel_view kernel.now) bytes) shape.now)) }
     ensures found { IfOk result (λ r. Told (content (S.files store.old) Dump (S.opened store.old Dump)) (λ bytes.
-        r.found.items ≡ in_segments (sought_by value r.told) bytes segments.now)) }
+        r.found.items ≡ in_segments (sought_by value r.told) bytes kernel.now.core.segments)) }
     ensures files { S.files store.new ≡ S.files store.old }
     ensures cause { CountsFailures result (S.faults store.old) (S.faults store.new) }
 {
-    let mut steps = Steps::<L>::new(blank);
+    let room = Room::new(alloc, kernel.core.segments(), Tail::Absent)?;
     let frames = Phys::over(store, room);
     let end = frames.end;
-    let mut memory = Memory::over(frames, tlb);
-    let told = read_told(alloc, &mut memory, types, shape, &mut steps);
-    let frames = memory.into_frames();
-    let same = frames.end == end;
-    let store = frames.into_store();
-    let told = told?;
+    let asks = AsksKeys {
+        alloc,
+        types: &kernel.types,
+        shape,
+    };
+    let Returned { memory, answer } = ask_over(alloc, frames, paging_by(kernel.info), &asks);
+    let same = memory.end == end;
+    let store = memory.into_store();
+    let asked = answer?;
+    let told = asked?;
     let sought = sought_by(alloc, value, &told)?;
-    let found = find_if(alloc, store, segments, &sought, same)?;
+    let found = find_if(alloc, store, kernel.core.segments(), &sought, same)?;
     Ok(Searched { told, found })
 }
 
-/// The text of the words of the dump in slot Dump that hold a value, as it is and as an encoded free pointer; its segments and notes were
-/// read.
+/// The text of the words of the dump in slot Dump that hold a value, as it is and as an encoded free pointer; the files of its kernel
+/// were read.
 ///
 /// # Errors
 ///
@@ -185,38 +173,24 @@ fn search<S: Store, L: Ledger>(
 pub(crate) fn find_written<S: Store>(
     alloc: Global,
     store: &mut S,
-    core: &Core,
-    info: Info,
-    types: &Btf,
+    kernel: &Kernel,
     shape: &Option<ObjectShape>,
     value: u64,
 ) -> Result<Vec<u8>, Halt>
-    requires table { IsTable info.table }
-    requires inside { AreInside (S.sizes store.old Dump) core.now.segments }
-    requires below { All (λ s. s.paddr + max s.filesz s.memsz ≤ 2 ^ 64) core.now.segments }
+    requires table { IsTable kernel.now.info.table }
+    requires inside { AreInside (S.sizes store.old Dump) kernel.now.core.segments }
+    requires below { All (λ s. s.paddr + max s.filesz s.memsz ≤ 2 ^ 64) kernel.now.core.segments }
 
     ensures text { IfOk result (λ text. Told (content (S.files store.old) Dump (S.opened store.old Dump)) (λ bytes.
-        text.items ≡ words_text (keys_of (image_of bytes core.now.segments (by_info info)) shape.now)
-        (in_segments (sought_by value (keys_of (image_of bytes core.now.segments (by_info info)) shape.now)) bytes core.now.segments))) }
+        text.items ≡ words_text (keys_of (memory_of (kernel_view kernel.now) bytes) shape.now)
+        (in_segments (sought_by value (keys_of (memory_of (kernel_view kernel.now) bytes) shape.now)) bytes kernel.now.core.segments))) }
     ensures not_refused { NotRefused result }
     ensures files { S.files store.new ≡ S.files store.old }
     ensures later { S.faults store.old ≤ S.faults store.new }
     ensures quiet { UnlessStore result (S.faults store.new ≡ S.faults store.old) }
     ensures cause { OnStore result (Rose (S.faults store.old) (S.faults store.new)) }
 {
-    let room = Room::new(alloc, core.segments(), Tail::Absent)?;
-    let tlb = Tlb::new(alloc, paging_by(info), KEPT)?;
-    match search::<S, Brand>(
-        alloc,
-        store,
-        room,
-        tlb,
-        core.segments(),
-        types,
-        shape,
-        value,
-        Blank::new(1),
-    ) {
+    match search(alloc, store, kernel, shape, value) {
         Ok(searched) => Ok(words_text(alloc, &searched.told, searched.found.as_slice())?),
         Err(stop) => Err(halted(stop)),
     }

@@ -27,7 +27,7 @@ rechecked-requires-clause-inside g c = rw (c.find_cert.ensures.others_sizes Dump
 
 pub returns-clause-output : goal.returns-clause-output
 returns-clause-output g c =
-    cert_replies (λ files. audited (files Dump c.args.asks.now.files.dump.now) (files Btf c.args.asks.now.files.btf.now) (files Map c.args.asks.now.files.map.now) (files Plan c.args.asks.now.files.plan.now)) (λ files. files Report c.args.asks.now.cert.now)
+    cert_replies (λ files. audited (files Dump c.args.asks.now.files.kernel.dump.now) (files Btf c.args.asks.now.files.kernel.btf.now) (files Map c.args.asks.now.files.kernel.map.now) (files Plan c.args.asks.now.files.plan.now)) (λ files. files Report c.args.asks.now.cert.now)
     (g.S.Store.files c.args.store.now) (content (g.S.Store.files c.read_held.new.store) Dump (g.S.Store.opened c.read_held.new.store Dump)) c.in_ok-held.held c.in_ok-cert.cert c.rechecked.result
     c.in_ok-held.ensures.told (rw c.in_ok-held.ensures.files at c.in_ok-cert.ensures.told)
     (rw (c.find_cert.ensures.files, c.find_cert.ensures.others_opened Dump refl) at c.rechecked.ensures.output)

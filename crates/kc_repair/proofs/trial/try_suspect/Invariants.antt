@@ -3,10 +3,7 @@ use Rattle.kc_outside.specs.Files.{content}
 use Rattle.kc_phys.specs.Stored.{stored}
 use Rattle.kc_repair.proofs.trial.try_suspect.Given as goal
 
-abbrev pub ghosts-try_change-K-Lent : goal.ghosts-try_change-K-Lent
-ghosts-try_change-K-Lent g a = record {
+abbrev pub ghosts-try_change : goal.ghosts-try_change
+ghosts-try_change g a = record {
   physical = stored a.memory.segments.items a.memory.tail (content (g.S.Store.files a.memory.store.now) Dump (g.S.Store.opened a.memory.store.now Dump));
 }
-
-abbrev pub ghosts-try_change-L-Ledger : goal.ghosts-try_change-L-Ledger
-ghosts-try_change-L-Ledger g a = record { name = a.blank.name; parts = a.blank.parts }

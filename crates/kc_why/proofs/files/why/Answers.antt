@@ -1,7 +1,7 @@
-use Rattle.std.proofs.Common.{refl}
-use Rattle.kc_outside.specs.declared.store.Slot.TheVariants.{Dump}
+use Rattle.kc_why.proofs.WhyLemmas.{prints_made}
 use Rattle.kc_why.proofs.files.why.Goals as goal
 
--- the calls between read other files, so the dump's size stays
-pub answer-requires-clause-inside : goal.answer-requires-clause-inside
-answer-requires-clause-inside g c = rw (c.in_ok-map.ensures.others_sizes Dump refl, c.in_ok-types.ensures.others_sizes Dump refl) c.in_ok-core.ensures.inside
+pub returns-clause-output : goal.returns-clause-output
+returns-clause-output g c =
+    prints_made c.args.asks.now.question (g.S.Store.files c.args.store.now) c.args.asks.now.files.dump.now c.args.asks.now.files.btf.now c.args.asks.now.files.map.now c.in_ok-kernel.kernel _ c.answer.result
+    c.in_ok-kernel.ensures.told c.in_ok-kernel.ensures.content c.answer.ensures.output

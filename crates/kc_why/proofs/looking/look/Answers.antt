@@ -1,28 +1,22 @@
 use Rattle.std.proofs.Common.{rules}
 use Rattle.kc_outside.specs.declared.store.Slot.TheVariants.{Dump}
 use Rattle.kc_outside.specs.Files.{content}
+use Rattle.kc_command.specs.Kernels.{kernel_view}
 use Rattle.kc_told.specs.Views.{shapes_view}
-use Rattle.kc_why.proofs.LookLemmas.{leads, sighted, tells}
+use Rattle.kc_why.proofs.LookLemmas.{shown}
 use Rattle.kc_why.proofs.looking.look.Goals as goal
 
-pub returns-clause-told : goal.returns-clause-told
-returns-clause-told g c =
-    tells (content (g.S.Store.files c.args.store.now) Dump (g.S.Store.opened c.args.store.now Dump)) c.args.room.segments.items c.args.paging (shapes_view c.args.shapes.now) c.args.address _ c.read_sighted-sight.result
-    (search rules) c.read_sighted-sight.ensures.told
+pub returns-in-Ok-clause-sight : goal.returns-in-Ok-clause-sight
+returns-in-Ok-clause-sight g c =
+    (shown (content (g.S.Store.files c.args.store.now) Dump (g.S.Store.opened c.args.store.now Dump)) (kernel_view c.args.kernel.now) c.args.rules.now (shapes_view c.args.shapes.now) c.args.address c.in_ok-entries.entries c.in-Ok.seen
+    _ _ (search rules) (search rules) (search rules) (search rules)).sight
 
-pub returns-clause-leads : goal.returns-clause-leads
-returns-clause-leads g c =
-    leads (content (g.S.Store.files c.args.store.now) Dump (g.S.Store.opened c.args.store.now Dump)) c.args.room.segments.items c.args.paging (shapes_view c.args.shapes.now) c.args.address _ c.read_sighted-sight.result
-    (search rules) c.read_sighted-sight.ensures.leads
+pub returns-in-Ok-clause-told : goal.returns-in-Ok-clause-told
+returns-in-Ok-clause-told g c =
+    (shown (content (g.S.Store.files c.args.store.now) Dump (g.S.Store.opened c.args.store.now Dump)) (kernel_view c.args.kernel.now) c.args.rules.now (shapes_view c.args.shapes.now) c.args.address c.in_ok-entries.entries c.in-Ok.seen
+    _ _ (search rules) (search rules) (search rules) (search rules)).told
 
-pub returns-clause-sight : goal.returns-clause-sight
-returns-clause-sight g c =
-    sighted (content (g.S.Store.files c.args.store.now) Dump (g.S.Store.opened c.args.store.now Dump)) c.args.room.segments.items c.args.paging c.args.rules.now c.args.address _ _ _ c.read_sighted-sight.result
-    (search rules) (search rules) (rw c.word_start.ensures at c.read_entries-entries.ensures.entries) c.read_sighted-sight.ensures.entries
-    (record {
-      address_is = c.read_sighted-sight.ensures.address;
-      word = c.read_sighted-sight.ensures.word;
-      aliases_are = c.read_sighted-sight.ensures.aliases;
-      near_are = c.read_sighted-sight.ensures.near;
-      page = c.read_sighted-sight.ensures.page;
-    })
+pub returns-in-Ok-clause-leads : goal.returns-in-Ok-clause-leads
+returns-in-Ok-clause-leads g c =
+    (shown (content (g.S.Store.files c.args.store.now) Dump (g.S.Store.opened c.args.store.now Dump)) (kernel_view c.args.kernel.now) c.args.rules.now (shapes_view c.args.shapes.now) c.args.address c.in_ok-entries.entries c.in-Ok.seen
+    _ _ (search rules) (search rules) (search rules) (search rules)).leads

@@ -1,4 +1,0 @@
-use Rattle.kc_cause.proofs.judged.judge_over.Given as goal
-
-abbrev pub ghosts-judge_counted : goal.ghosts-judge_counted
-ghosts-judge_counted g a = record { name = a.blank.name; parts = a.blank.parts }

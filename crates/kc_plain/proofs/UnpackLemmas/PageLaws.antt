@@ -1,0 +1,67 @@
+-- Each page has 4096 bytes.
+use Rattle.std.proofs.Common.{◌≡◌, ℕ, Bool, true, false, cond, nat_eq, List, length, replicate, Option, Some, None, Result, Ok, Err, refl, sym, ap, ◌∙◌, arith, eqb-true}
+use Rattle.std.proofs.lemmas.List.{length-replicate}
+use Rattle.kc_inflate.specs.declared.fault.ZlibFault.{ZlibFault}
+use Rattle.kc_inflate.specs.Zlib.{zlib_of}
+use Rattle.kc_inflate.proofs.ZlibLaws.{zlib_length}
+use Rattle.kc_lzo.specs.declared.fault.LzoFault.{LzoFault}
+use Rattle.kc_lzo.specs.Lzo.{lzo_of}
+use Rattle.kc_lzo.proofs.SizeLaws.{lzo_length}
+use Rattle.kc_kdump.specs.declared.descriptor.Descriptor.{Descriptor}
+use Rattle.kc_kdump.specs.declared.layout.Layout.{Layout}
+use Rattle.kc_kdump.specs.Bytes.{part}
+use Rattle.kc_kdump.specs.Dump.{descriptor_at}
+use Rattle.kc_plain.specs.declared.unpacked.fault.PageFault.{PageFault}
+use Rattle.kc_plain.specs.declared.unpacked.fault.PageFault.TheVariants.{Packing, Size}
+use Rattle.kc_plain.specs.Unpack.Plain.{page_at}
+use Rattle.kc_plain.specs.Unpack.Unpacked.{by_lzo, by_zlib, descriptor_fault, page_of, page_or_zeros, raw, unless, unpacked}
+
+-- a page, or none
+IsWhole : Result (List ℕ) PageFault → Type 0
+IsWhole r = (page : List ℕ) → r ≡ Ok page → length page ≡ 4096
+
+raw_whole : (bytes : List ℕ) (b : Bool) → nat_eq (length bytes) 4096 ≡ b → IsWhole (cond b (Ok bytes) (Err Size))
+unfolding IsWhole
+raw_whole bytes true is page got = let same : bytes ≡ page = cc in ap length (sym same) ∙ eqb-true (length bytes) 4096 is
+raw_whole bytes false is page got = absurd (let none : ⊥ = cc in none)
+
+lzo_whole : (bytes : List ℕ) (r : Result (List ℕ) LzoFault) → lzo_of 4096 bytes ≡ r → IsWhole (by_lzo r)
+unfolding IsWhole
+lzo_whole bytes (Ok out) is page got = let same : out ≡ page = cc in ap length (sym same) ∙ lzo_length 4096 bytes out is
+lzo_whole bytes (Err fault) is page got = absurd (let none : ⊥ = cc in none)
+
+zlib_whole : (bytes : List ℕ) (r : Result (List ℕ) ZlibFault) → zlib_of 4096 bytes ≡ r → IsWhole (by_zlib r)
+unfolding IsWhole
+zlib_whole bytes (Ok out) is page got = let same : out ≡ page = cc in ap length (sym same) ∙ zlib_length 4096 bytes out is
+zlib_whole bytes (Err fault) is page got = absurd (let none : ⊥ = cc in none)
+
+none_whole : (fault : PageFault) → IsWhole (Err fault)
+unfolding IsWhole
+none_whole fault page got = absurd (let none : ⊥ = cc in none)
+
+either_whole : (b : Bool) (one other : Result (List ℕ) PageFault) → IsWhole one → IsWhole other → IsWhole (cond b one other)
+either_whole true one other first second = first
+either_whole false one other first second = second
+
+unpacked_whole : (flags : ℕ) (bytes : List ℕ) → IsWhole (unpacked flags bytes)
+unfolding unpacked
+unpacked_whole flags bytes =
+    either_whole (nat_eq flags 0) (raw bytes) _ (raw_whole bytes (nat_eq (length bytes) 4096) refl)
+    (either_whole (nat_eq flags 1) (by_zlib (zlib_of 4096 bytes)) _ (zlib_whole bytes (zlib_of 4096 bytes) refl)
+    (either_whole (nat_eq flags 2) (by_lzo (lzo_of 4096 bytes)) _ (lzo_whole bytes (lzo_of 4096 bytes) refl) (none_whole (Packing flags))))
+
+unless_whole : (fault : Option PageFault) (r : Result (List ℕ) PageFault) → IsWhole r → IsWhole (unless fault r)
+unless_whole None r whole = whole
+unless_whole (Some fault) r whole = none_whole fault
+
+page_whole : (bytes : List ℕ) (descriptor : Descriptor) → IsWhole (page_of bytes descriptor)
+unfolding page_of
+page_whole bytes descriptor = unless_whole (descriptor_fault (length bytes) descriptor) _ (unpacked_whole descriptor.flags (part descriptor.offset descriptor.size bytes))
+
+zeros_whole : (r : Result (List ℕ) PageFault) → IsWhole r → length (page_or_zeros r) ≡ 4096
+unfolding IsWhole
+zeros_whole (Ok page) whole = whole page refl
+zeros_whole (Err fault) whole = length-replicate {A = ℕ} 4096 0
+
+pub pages_whole : (layout : Layout) (bytes : List ℕ) (i : ℕ) → length (page_at layout bytes i) ≡ 4096
+pages_whole layout bytes i = zeros_whole (page_of bytes (descriptor_at layout bytes i)) (page_whole bytes (descriptor_at layout bytes i))

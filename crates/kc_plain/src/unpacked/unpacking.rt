@@ -1,0 +1,98 @@
+// Unpacking a page.
+ghost use Rattle.std.specs.Prelude.{◌≡◌, ◌≤◌, ◌+◌, length, IfErr, OnOk, Ok, Err};
+ghost use Rattle.kc_inflate.specs.Zlib.{zlib_of};
+ghost use Rattle.kc_lzo.specs.Lzo.{lzo_of};
+ghost use Rattle.kc_plain.specs.Unpack.Unpacked.{by_lzo, by_zlib, descriptor_fault, raw, unpacked};
+ghost use Rattle.std.specs.Option.{IfNone};
+
+use crate::unpacked::fault::PageFault;
+use kc_inflate::{Tables, unzip};
+use kc_kdump::Descriptor;
+use kc_lzo::unlzo;
+
+/// How many bytes a page has.
+pub const PAGE_BYTES: usize = 4096;
+
+// The flags of a page that isn't packed, and of one that zlib or LZO packed.
+const RAW: u32 = 0;
+
+const ZLIB: u32 = 1;
+
+const LZO: u32 = 2;
+
+/// What is wrong with a descriptor, in a file of this size, in bytes.
+#[tactic(auto, unfolding(crate::specs::Unpack::Unpacked::descriptor_fault))]
+pub fn descriptor_fault(descriptor: Descriptor, size: u64) -> Option<PageFault>
+    ensures value { result ≡ descriptor_fault size descriptor }
+    ensures inside { IfNone result (descriptor.offset + descriptor.size ≤ size) }
+    ensures small { IfNone result (descriptor.size ≤ 4096) }
+{
+    if descriptor.offset > size || u64::from(descriptor.size) > size - descriptor.offset {
+        Some(PageFault::OutsideFile)
+    } else if descriptor.size as usize > PAGE_BYTES {
+        Some(PageFault::Size)
+    } else {
+        None
+    }
+}
+
+// A page that isn't packed.
+fn copy_raw(bytes: &[u8], page: &mut [u8]) -> Result<(), PageFault>
+    requires { length page.old ≡ 4096 }
+    ensures ok { OnOk result (raw bytes.now ≡ Ok page.new) }
+    ensures err { IfErr result (λ fault. raw bytes.now ≡ Err fault) }
+{
+    if bytes.len() != PAGE_BYTES {
+        return Err(PageFault::Size);
+    }
+    page.copy_from_slice(bytes);
+    Ok(())
+}
+
+// A page that zlib packed.
+fn copy_zlib(tables: &mut Tables, bytes: &[u8], page: &mut [u8]) -> Result<(), PageFault>
+    requires { length page.old ≡ 4096 }
+    ensures ok { OnOk result (by_zlib (zlib_of 4096 bytes.now) ≡ Ok page.new) }
+    ensures err { IfErr result (λ fault. by_zlib (zlib_of 4096 bytes.now) ≡ Err fault) }
+{
+    match unzip(tables, bytes, page) {
+        Ok(()) => Ok(()),
+        Err(fault) => Err(PageFault::Zlib(fault)),
+    }
+}
+
+// A page that LZO packed.
+fn copy_lzo(bytes: &[u8], page: &mut [u8]) -> Result<(), PageFault>
+    requires { length page.old ≡ 4096 }
+    ensures ok { OnOk result (by_lzo (lzo_of 4096 bytes.now) ≡ Ok page.new) }
+    ensures err { IfErr result (λ fault. by_lzo (lzo_of 4096 bytes.now) ≡ Err fault) }
+{
+    match unlzo(bytes, page) {
+        Ok(()) => Ok(()),
+        Err(fault) => Err(PageFault::Lzo(fault)),
+    }
+}
+
+/// Unpacks a page from its bytes, by the flags of its descriptor.
+///
+/// # Errors
+///
+/// What the bytes are not. The buffer then holds any bytes.
+#[tactic(auto, unfolding(crate::specs::Unpack::Unpacked::unpacked))]
+pub fn unpack(
+    tables: &mut Tables,
+    flags: u32,
+    bytes: &[u8],
+    page: &mut [u8],
+) -> Result<(), PageFault>
+    requires { length page.old ≡ 4096 }
+    ensures ok { OnOk result (unpacked flags bytes.now ≡ Ok page.new) }
+    ensures err { IfErr result (λ fault. unpacked flags bytes.now ≡ Err fault) }
+{
+    match flags {
+        RAW => copy_raw(bytes, page),
+        ZLIB => copy_zlib(tables, bytes, page),
+        LZO => copy_lzo(bytes, page),
+        _ => Err(PageFault::Packing(flags)),
+    }
+}
