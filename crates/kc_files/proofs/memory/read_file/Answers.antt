@@ -10,4 +10,4 @@ pub returns-clause-wish : goal.returns-clause-wish
 returns-clause-wish g c =
     told (content (g.S.Store.files c.args.store.now) Dump (g.S.Store.opened c.args.store.now Dump)) (λ bytes. bare_image bytes c.args.noted.now.core.segments (by_info c.args.noted.now.info))
     (λ image. wished c.args.wish image c.args.noted.now.info.kaslr c.args.places.now) c.in_ok-ask_dump.field-0
-    (rw c.segments.ensures (rw c.paging_by.ensures c.in_ok-ask_dump.ensures.says))
+    (rw (c.segments.ensures, c.paging_by.ensures) at c.in_ok-ask_dump.ensures.says)
