@@ -146,7 +146,8 @@ fn search<S: Store>(
     ensures files { S.files store.new ≡ S.files store.old }
     ensures cause { CountsFailures result (S.faults store.old) (S.faults store.new) }
 {
-    let room = Room::new(alloc, kernel.core.segments(), Tail::Absent)?;
+    let segments = kernel.core.segments();
+    let room = Room::new(alloc, segments, Tail::Absent)?;
     let frames = Phys::over(store, room);
     let end = frames.end;
     let asks = AsksKeys {
@@ -160,7 +161,7 @@ fn search<S: Store>(
     let asked = answer?;
     let told = asked?;
     let sought = sought_by(alloc, value, &told)?;
-    let found = find_if(alloc, store, kernel.core.segments(), &sought, same)?;
+    let found = find_if(alloc, store, segments, &sought, same)?;
     Ok(Searched { told, found })
 }
 

@@ -9,14 +9,14 @@ use Rattle.kc_why.proofs.looking.look.Goals as goal
 pub returns-in-Ok-clause-sight : goal.returns-in-Ok-clause-sight
 returns-in-Ok-clause-sight g c =
     (shown (content (g.S.Store.files c.args.store.now) Dump (g.S.Store.opened c.args.store.now Dump)) (kernel_view c.args.kernel.now) c.args.rules.now (shapes_view c.args.shapes.now) c.args.address c.in_ok-entries.entries c.in-Ok.seen
-    _ _ (search rules) (search rules) (search rules) (search rules)).sight
+    _ _ (search rules) (search rules) (rw (c.word_start.ensures, c.paging_by-paging.ensures) at c.in_ok-entries.ensures.entries) (rw (c.paging_by-paging.ensures, c.in-Ok.is) at c.ask_over-memory.ensures.says)).sight
 
 pub returns-in-Ok-clause-told : goal.returns-in-Ok-clause-told
 returns-in-Ok-clause-told g c =
     (shown (content (g.S.Store.files c.args.store.now) Dump (g.S.Store.opened c.args.store.now Dump)) (kernel_view c.args.kernel.now) c.args.rules.now (shapes_view c.args.shapes.now) c.args.address c.in_ok-entries.entries c.in-Ok.seen
-    _ _ (search rules) (search rules) (search rules) (search rules)).told
+    _ _ (search rules) (search rules) (rw (c.word_start.ensures, c.paging_by-paging.ensures) at c.in_ok-entries.ensures.entries) (rw (c.paging_by-paging.ensures, c.in-Ok.is) at c.ask_over-memory.ensures.says)).told
 
 pub returns-in-Ok-clause-leads : goal.returns-in-Ok-clause-leads
 returns-in-Ok-clause-leads g c =
     (shown (content (g.S.Store.files c.args.store.now) Dump (g.S.Store.opened c.args.store.now Dump)) (kernel_view c.args.kernel.now) c.args.rules.now (shapes_view c.args.shapes.now) c.args.address c.in_ok-entries.entries c.in-Ok.seen
-    _ _ (search rules) (search rules) (search rules) (search rules)).leads
+    _ _ (search rules) (search rules) (rw (c.word_start.ensures, c.paging_by-paging.ensures) at c.in_ok-entries.ensures.entries) (rw (c.paging_by-paging.ensures, c.in-Ok.is) at c.ask_over-memory.ensures.says)).leads
