@@ -28,7 +28,7 @@ class Planted(unittest.TestCase):
         for name in os.listdir(os.path.join(TOP, "planted")):
             text = planted.read(os.path.join(TOP, "planted", name))
             edits = planted.apart(text)
-            self.assertEqual(planted.together(edits), text, name)
+            self.assertEqual(planted.together(edits), text, f"{name}: `python3 bench planted sort` puts it in order")
             for edit in edits:
                 self.assertTrue(list(planted.changes(edits[edit])), f"{name}: {edit}")
 
