@@ -31,19 +31,25 @@ by_log (Err (of_log.Missed s)) = Err (Missed s)
 by_log (Err (of_log.Bad fault)) = Err (BadLog fault)
 
 -- the same of what the code answers
+abbrev pub tables_stop : ReadStop → Unread
+tables_stop (tables.Miss s) = Miss s
+tables_stop tables.Fault = Fault
+tables_stop (tables.Table fault) = Table fault
+tables_stop tables.NoMemory = NoMemory
+
+abbrev pub log_stop : LogStop → Unread
+log_stop (logs.Miss s) = Miss s
+log_stop logs.Fault = Fault
+log_stop (logs.Refused fault) = Log fault
+log_stop logs.NoMemory = NoMemory
+
 abbrev pub tables_answer : {A : Type 0} → Result A ReadStop → Result A Unread
 tables_answer (Ok a) = Ok a
-tables_answer (Err (tables.Miss s)) = Err (Miss s)
-tables_answer (Err tables.Fault) = Err Fault
-tables_answer (Err (tables.Table fault)) = Err (Table fault)
-tables_answer (Err tables.NoMemory) = Err NoMemory
+tables_answer (Err stop) = Err (tables_stop stop)
 
 abbrev pub log_answer : {A : Type 0} → Result A LogStop → Result A Unread
 log_answer (Ok a) = Ok a
-log_answer (Err (logs.Miss s)) = Err (Miss s)
-log_answer (Err logs.Fault) = Err Fault
-log_answer (Err (logs.Refused fault)) = Err (Log fault)
-log_answer (Err logs.NoMemory) = Err NoMemory
+log_answer (Err stop) = Err (log_stop stop)
 
 -- the code's reason is the definition's; a failure of the dump and want of memory come with any
 abbrev pub Stops : {A : Type 0} → Result A Why → Unread → Type 0

@@ -1,7 +1,7 @@
 // Why a file isn't read out of a memory.
 ghost use Rattle.std.specs.Prelude.{◌≡◌};
 ghost use Rattle.kc_files.specs.declared.unread.Unread.TheVariants as unread;
-ghost use Rattle.kc_files.specs.Reading.{log_answer, tables_answer};
+ghost use Rattle.kc_files.specs.Reading.{log_answer, log_stop, tables_answer, tables_stop};
 
 use kc_kallsyms::{ReadStop, TableFault};
 use kc_memory::Miss;
@@ -31,28 +31,42 @@ impl From<NoMemory> for Unread {
     }
 }
 
-/// What the tables of symbols gave.
-pub(crate) fn tables_answer(read: Result<Vec<u8>, ReadStop>) -> Result<Vec<u8>, Unread>
-    ensures { result ≡ tables_answer read }
-{
-    match read {
-        Ok(bytes) => Ok(bytes),
-        Err(ReadStop::Miss(miss)) => Err(Unread::Miss(miss)),
-        Err(ReadStop::Fault) => Err(Unread::Fault),
-        Err(ReadStop::Table(fault)) => Err(Unread::Table(fault)),
-        Err(ReadStop::NoMemory) => Err(Unread::NoMemory),
+impl From<ReadStop> for Unread {
+    ghost from_gives = { λ stop unread. unread ≡ tables_stop stop };
+
+    fn from(stop: ReadStop) -> Self {
+        match stop {
+            ReadStop::Miss(miss) => Unread::Miss(miss),
+            ReadStop::Fault => Unread::Fault,
+            ReadStop::Table(fault) => Unread::Table(fault),
+            ReadStop::NoMemory => Unread::NoMemory,
+        }
     }
 }
 
-/// What the ring of the log gave.
+impl From<LogStop> for Unread {
+    ghost from_gives = { λ stop unread. unread ≡ log_stop stop };
+
+    fn from(stop: LogStop) -> Self {
+        match stop {
+            LogStop::Miss(miss) => Unread::Miss(miss),
+            LogStop::Fault => Unread::Fault,
+            LogStop::Refused(fault) => Unread::Log(fault),
+            LogStop::NoMemory => Unread::NoMemory,
+        }
+    }
+}
+
+// What the tables of symbols gave.
+pub(crate) fn tables_answer(read: Result<Vec<u8>, ReadStop>) -> Result<Vec<u8>, Unread>
+    ensures { result ≡ tables_answer read }
+{
+    Ok(read?)
+}
+
+// What the ring of the log gave.
 pub(crate) fn log_answer(read: Result<Vec<u8>, LogStop>) -> Result<Vec<u8>, Unread>
     ensures { result ≡ log_answer read }
 {
-    match read {
-        Ok(bytes) => Ok(bytes),
-        Err(LogStop::Miss(miss)) => Err(Unread::Miss(miss)),
-        Err(LogStop::Fault) => Err(Unread::Fault),
-        Err(LogStop::Refused(fault)) => Err(Unread::Log(fault)),
-        Err(LogStop::NoMemory) => Err(Unread::NoMemory),
-    }
+    Ok(read?)
 }
