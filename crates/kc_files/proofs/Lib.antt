@@ -1,3 +1,6 @@
 mod Answering
 mod Converting
+mod FileLaws
+mod LineLaws
+mod MapLaws
 mod Told

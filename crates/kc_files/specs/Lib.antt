@@ -1,4 +1,5 @@
 pub mod Answered
+pub mod Laws
 pub mod Made
 pub mod Reading
 pub mod Sought

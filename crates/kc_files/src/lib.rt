@@ -2,10 +2,12 @@
 #![tactic(auto)]
 
 mod files;
+mod laws;
 mod memory;
 mod sought;
 mod top;
 mod unread;
 mod wish;
 
+pub use laws::know_files;
 pub use top::kfiles;
