@@ -32,8 +32,8 @@ PINNED = {("kc_expr/specs/Machine.antt", "parsed"): ("kc_expr/specs/Spelling.ant
 NOT_CLEAN = {"audited_shown", "refusal_line", "ShownStand", "word_form", "layout_form", "show_form", "selftest_form"}
 NOT_CLEAN |= {"certify_form", "recheck_form", "CertifyEnds", "RecheckEnds", "Proves", "cert_text", "TextsTold", "AnswersAreRight"}
 
-# The crates that make counters of steps.
-MAKE_BLANKS = {"kc_question", "kc_app", "kc_cause", "kc_files", "kc_repair", "kc_why", "kc_tests", "try_walks", "try_files"}
+# The crates that make counters of steps: that of questions, kwhy's for the entries on the way to an address, and those of tests.
+MAKE_BLANKS = {"kc_question", "kc_why", "kc_tests", "try_walks", "try_files"}
 
 # The crate whose purpose is to state the laws of others: it alone should cite another's lemmas.
 STATE_LAWS = {"kc_laws"}
@@ -52,11 +52,11 @@ def read(path):
 
 
 def given_on():
-    """Of each crate the files of lower crates that it gives on as its own."""
+    """Of each crate the files of lower crates that it gives on as its own, by their last name."""
     for path in glob.glob("crates/*/specs/Lib.antt"):
         crate = path.split("/")[1]
         for low, name in re.findall(r"^pub use Rattle\.(kc_\w+)\.specs\.([\w.]+)$", read(path), re.M):
-            yield (crate, name), low
+            yield (crate, name.split(".")[-1]), (low, name)
 
 
 GIVEN = {}
@@ -64,8 +64,8 @@ GIVEN = {}
 
 def home(crate, path):
     """The file of definitions behind an import, or None where that is a type of the code."""
-    while (crate, path) in GIVEN:
-        crate = GIVEN[crate, path]
+    while (crate, path) in GIVEN and GIVEN[crate, path] != (crate, path):
+        crate, path = GIVEN[crate, path]
     parts = path.split(".")
     for count in range(len(parts), 0, -1):
         name = f"{crate}/specs/{'/'.join(parts[:count])}.antt"
@@ -184,20 +184,23 @@ def head_of(name):
 
 def layers():
     """The layers of crates.txt, each with its crates in their order."""
+    title = "the words"
     for part in read("crates.txt").split("\n\n"):
         rows = part.strip().split("\n")
-        title = rows[0].removeprefix("#").strip()
-        yield "the words" if ":" in title else title, [row.split(":")[0].split(" ")[0] for row in rows if not row.startswith("#")]
+        if rows[0].startswith("#") and not rows[0].startswith("# Bottom up"):
+            title = rows[0].removeprefix("#").strip()
+        yield title, [row.split(":")[0].split(" ")[0] for row in rows if not row.startswith("#")]
 
 
 def table(wanted):
     """The rows of each file, by layer, and the sums."""
-    listed = set()
+    listed, last = set(), None
     for layer, crates in layers():
         some = sorted((file for file in wanted if file.split("/")[0] in crates), key=lambda it: (crates.index(it.split("/")[0]), it))
         listed |= set(some)
-        if some:
+        if some and layer != last:
             yield f"\n# {layer}\n"
+            last = layer
         for file in some:
             yield f"{file:44} " + " ".join(f"{count:6}" for count in wanted[file]) + f"  {head_of(file)}"
     assert listed == set(wanted), set(wanted) - listed

@@ -3,6 +3,7 @@
 usage: planted cut CRATE FOLDER     writes each wrong body of the crate into FOLDER, as NAME.edit
        planted add CRATE FOLDER     puts each NAME.edit of FOLDER into planted/CRATE.edits
        planted count                prints how many each crate has in must-fail/ and in planted/, and the sums
+       planted sort                 puts the wrong bodies of each file of planted/ into the order of their names
        planted check                prints those of both that can't be applied to the code as it stands, and ends with 1 where there are some
 
 planted/CRATE.edits has the crate's wrong bodies in the order of their names. Each begins with a line `edit: NAME`, after which come the lines of
@@ -176,6 +177,9 @@ def main(words):
                 print(f"{crate:16} must-fail {gate:2} planted {planted:4}")
         elif words == ["check"]:
             return check_all()
+        elif words == ["sort"]:
+            for name in sorted(os.listdir(os.path.join(TOP, "planted"))):
+                write(place(name.removesuffix(".edits")), together(kept(name.removesuffix(".edits"))))
         elif len(words) == 3 and words[0] in ("cut", "add"):
             print(f"{words[1]}: {(cut if words[0] == 'cut' else add)(*words[1:])} wrong bodies")
         else:

@@ -103,10 +103,15 @@ def clauses(house):
     return count
 
 
-def calls(house, word, but):
-    """Files of the product's src that call something outside its own crate."""
+def calls(house, word, *but):
+    """Files of the product's src that have a call, outside comments and some crates."""
     return sorted({path for path, text in house.texts("src").items()
-                   if re.search(word, text) and path.split("/")[1] not in but and path.split("/")[1] in house.product()})
+                   if re.search(word, re.sub(r"//[^\n]*", "", text)) and path.split("/")[1] not in but and path.split("/")[1] in house.product()})
+
+
+def counted(paths):
+    """How many files, and which where they are few."""
+    return f"{len(paths)}" + (f": {' '.join(path.removeprefix('crates/') for path in paths)}" if 0 < len(paths) < 4 else "")
 
 
 def two_faults(house):
@@ -152,8 +157,8 @@ def main(words):
     table = [
         ("crates; longest chain", f"{len(house.deps)}; {chain(house)}"),
         ("product crates below 150 lines of src", f"{len(small(house))}: {' '.join(small(house))}"),
-        ("files that open a dump", len(calls(house, r"\bread_dump\(", ("kc_command",)))),
-        ("files that build a memory", len(calls(house, r"\bMemory::over\(", ("kc_mem",)))),
+        ("files that open a dump", counted(calls(house, r"\bread_dump\("))),
+        ("files that build a memory", counted(calls(house, r"\bMemory::(?:over|new)\(", "kc_mem"))),
         ("constants KEPT; definitions image_of", f"{sum(len(re.findall(r'const KEPT', text)) for text in house.texts('src').values())}; "
                                                  f"{sum(len(re.findall(r'^(?:abbrev |unfoldable )?pub image_of :', text, re.M)) for text in house.texts('specs').values())}"),
         ("enums of a fault and want of memory alone", f"{len(two_faults(house))}: {' '.join(two_faults(house))}"),

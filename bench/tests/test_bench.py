@@ -1,4 +1,6 @@
-"""Tests of the scripts that the repository leans on: planted/ taken apart, heads.py, and how commands are read out of documents."""
+"""Tests of the scripts that the repository leans on: planted/ taken apart, clauses compared, heads.py, and how commands are read out of documents."""
+import contextlib
+import io
 import os
 import shutil
 import sys
@@ -9,6 +11,7 @@ TOP = os.path.join(os.path.dirname(os.path.abspath(__file__)), "..", "..")
 sys.dont_write_bytecode = True
 sys.path[:0] = [os.path.join(TOP, "bench"), os.path.join(TOP, "plans"), TOP]
 
+import clauses
 import commands
 import files
 import heads
@@ -25,7 +28,7 @@ class Planted(unittest.TestCase):
         for name in os.listdir(os.path.join(TOP, "planted")):
             text = planted.read(os.path.join(TOP, "planted", name))
             edits = planted.apart(text)
-            self.assertEqual(planted.together(edits), text, name)
+            self.assertEqual(planted.together(edits), text, f"{name}: `python3 bench planted sort` puts it in order")
             for edit in edits:
                 self.assertTrue(list(planted.changes(edits[edit])), f"{name}: {edit}")
 
@@ -65,6 +68,81 @@ class Planted(unittest.TestCase):
         for odd in ("file: src/a.rt\nold: two\nnew: x\n", "file: src/a.rt\nold: four\nnew: x\n", "file: src/b.rt\nold: one\nnew: x\n", "words\n"):
             with self.assertRaises(planted.BadEdit, msg=odd):
                 planted.check("x", "odd", odd)
+
+
+BEFORE = {
+    "kc_a/src/lib.rt": "mod f;\npub use f::{T, f};\n",
+    "kc_a/src/f.rt": """ghost use Rattle.kc_a.specs.Words.{Good};
+
+pub struct T;
+
+// A brace { in a comment.
+pub fn f<R: Fn(u64) -> u64>(x: u64) -> Result<u64, T>
+    requires small { x < 5 }
+    ensures good { IfOk result (λ y. Good x y) }
+    ensures { result ≡ Ok 1 }
+{
+    Ok(1)
+}
+
+fn inner(x: u64) -> u64
+    ensures { result ≡ x }
+{
+    x
+}
+""",
+    "kc_a/specs/Lib.antt": "pub mod Words\n",
+    "kc_a/specs/Words.antt": "-- Words.\nabbrev pub Good : ℕ → ℕ → Type 0\nGood x y = x ≡ y\n",
+}
+AFTER = {
+    "kc_b/src/lib.rt": "mod a;\npub use a::{U, f};\n",
+    "kc_b/src/a/f.rt": BEFORE["kc_a/src/f.rt"].replace("kc_a.specs", "kc_b.specs.A").replace("T", "U").replace("λ y. Good x y", "λ z. Good x z"),
+    "kc_b/specs/Lib.antt": "pub mod A\n",
+    "kc_b/specs/A/Words.antt": BEFORE["kc_a/specs/Words.antt"],
+    "kc_b/specs/A/Others.antt": BEFORE["kc_a/specs/Words.antt"],
+}
+
+
+class Clauses(unittest.TestCase):
+    """Clauses of two states, of which the later one has the crate of the earlier one in another."""
+
+    def compare(self, old="", new="", words=()):
+        """The status and the text for the later state, in whose code one text stands for another."""
+        with tempfile.TemporaryDirectory() as top:
+            code = {"kc_b/src/a/f.rt": AFTER["kc_b/src/a/f.rt"].replace(old, new)}
+            for state, made in (("before", BEFORE), ("after", AFTER | code)):
+                for name, text in made.items():
+                    os.makedirs(os.path.dirname(os.path.join(top, state, "crates", name)), exist_ok=True)
+                    planted.write(os.path.join(top, state, "crates", name), text)
+            planted.write(os.path.join(top, "renames"), "[crates]\nkc_a = kc_b a A # merged\n[types]\nkc_a::T = kc_b::U\n")
+            with contextlib.redirect_stdout(io.StringIO()) as said:
+                status = clauses.main([*words, *(os.path.join(top, name) for name in ("before", "after", "renames"))])
+            return status, said.getvalue()
+
+    def test_what_moved_is_the_same(self):
+        status, said = self.compare()
+        self.assertEqual(status, 0, said)
+        self.assertIn("crates: kc_a -> kc_b a A", said)
+        self.assertIn("1 compared, in 3 texts: 0 gone, 0 changed, 0 new", said)
+        self.assertEqual(self.compare(words=["--definitions"])[0], 0)
+
+    def test_what_is_less_is_told(self):
+        for old, new, word in [
+            ("x < 5", "x < 6", "changed: requires small"),
+            ("Good x z", "Good z x", "changed: ensures good"),
+            ("specs.A.Words", "specs.A.Others", "kc_b.specs.A.Words.Good is now kc_b.specs.A.Others.Good"),
+            ("    ensures { result ≡ Ok 1 }\n", "", "gone: ensures"),
+            ("    requires", "    requires more { x ≡ 0 }\n    requires", "new: requires more"),
+            ("pub fn f", "pub fn g", "kc_a::f, now nothing"),
+        ]:
+            status, said = self.compare(old, new)
+            self.assertEqual(status, 1, word)
+            self.assertIn(word, said)
+
+    def test_what_is_more_is_told_and_no_fault(self):
+        status, said = self.compare("    ensures {", "    ensures more { 1 ≡ 1 }\n    ensures {")
+        self.assertEqual(status, 0, said)
+        self.assertIn("new: ensures more", said)
 
 
 class Heads(unittest.TestCase):

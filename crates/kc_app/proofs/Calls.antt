@@ -20,6 +20,7 @@ use Rattle.kc_app.specs.Calls.{FewCalls, LayoutCalls}
 -- the calls of a refusal are two or three
 refused_few : {S : Type 0} (faults asked : S → ℕ) (old new : S) (refusal : Refusal) → asked new ≡ called (refused_calls refusal) (asked old) → FewCalls faults asked old new
 refused_few faults asked old new (refusals.Tables fault) is = inr (inr (inl is))
+refused_few faults asked old new (refusals.Log fault) is = inr (inr (inl is))
 refused_few faults asked old new (refusals.TooLong slot) is = inr (inl is)
 refused_few faults asked old new (refusals.Core f) is = inr (inr (inl is))
 refused_few faults asked old new (refusals.Notes f) is = inr (inr (inl is))

@@ -11,6 +11,9 @@ use Rattle.kc_notes.specs.declared.fault.NoteKey.TheVariants.{L5, Offset, Sme}
 use Rattle.kc_kallsyms.specs.declared.fault.TableFault.{TableFault}
 use Rattle.kc_kallsyms.specs.declared.fault.TableFault.TheVariants.{S4, S5, S6, S7, S8, S9, S10, S11}
 use Rattle.kc_kallsyms.specs.Places.{line_key}
+use Rattle.kc_printk.specs.declared.fault.LogFault.{LogFault}
+use Rattle.kc_printk.specs.declared.fault.LogFault.TheVariants as logs
+use Rattle.kc_printk.specs.Note.{key_of}
 use Rattle.kc_btf.specs.declared.stop.BtfFault.{BtfFault}
 use Rattle.kc_btf.specs.declared.stop.BRule.{BRule}
 use Rattle.kc_btf.specs.declared.stop.BRule.TheVariants.{B1, B2, B3, B4, B5, B6, B7, B8}
@@ -25,7 +28,7 @@ use Rattle.kc_expr.specs.declared.keys.fault.PRule.TheVariants.{P1, P2, P3, P4, 
 use Rattle.kc_expr.specs.Keys.Keys.{spelled}
 use Rattle.kc_text.specs.Text.{hex}
 use Rattle.kc_command.specs.declared.refusal.Refusal.{Refusal}
-use Rattle.kc_command.specs.declared.refusal.Refusal.TheVariants.{Core, Notes, Tables, TooLong, Types, Module as of_module, MapLine, Symbol, NoType, Path, Plan as of_plan, Certificate, Report as of_report}
+use Rattle.kc_command.specs.declared.refusal.Refusal.TheVariants.{Core, Notes, Tables, Log, TooLong, Types, Module as of_module, MapLine, Symbol, NoType, Path, Plan as of_plan, Certificate, Report as of_report}
 use Rattle.kc_command.specs.declared.refusal.ReportFault.{ReportFault}
 use Rattle.kc_command.specs.declared.refusal.ReportFault.TheVariants.{F1, Y1, Y2}
 
@@ -68,6 +71,13 @@ table_code (S8 number) = codes "S8 symbol " ++ decimal number
 table_code S9 = codes "S9"
 table_code S10 = codes "S10"
 table_code S11 = codes "S11"
+
+-- the code of a fault of the dump's own log, with the line of the note that is missing
+abbrev pub log_code : LogFault → List ℕ
+log_code (logs.P1 line) = codes "P1 key " ++ key_of line
+log_code logs.P2 = codes "P2"
+log_code logs.P3 = codes "P3"
+log_code logs.P4 = codes "P4"
 
 -- the code of a rule of the file of types
 abbrev pub btf_code : BRule → List ℕ
@@ -146,6 +156,7 @@ abbrev pub refusal_text : Refusal → List ℕ
 refusal_text (Core fault) = codes "dump " ++ core_code fault
 refusal_text (Notes fault) = codes "dump " ++ note_code fault
 refusal_text (Tables fault) = codes "dump " ++ table_code fault
+refusal_text (Log fault) = codes "log " ++ log_code fault
 refusal_text (TooLong slot) = slot_name slot ++ codes " F1"
 refusal_text (Types fault) = codes "btf " ++ btf_text fault
 refusal_text (of_module fault) = codes "module " ++ btf_text fault

@@ -3,7 +3,7 @@ use Rattle.std.specs.Prelude.{◌≡◌, ⊤, Option, Some, None, Result, Ok, Er
 use Rattle.kc_outside.specs.declared.store.Slot.{Slot}
 use Rattle.kc_outside.specs.declared.store.Slot.TheVariants.{Dump, Btf, Map, Plan as plan_slot, Report, Module as module_slot}
 use Rattle.kc_command.specs.declared.refusal.Refusal.{Refusal}
-use Rattle.kc_command.specs.declared.refusal.Refusal.TheVariants.{Core, Notes, Tables, TooLong, Types, Module, MapLine, Symbol, NoType, Path, Plan, Certificate, Report as report_refused}
+use Rattle.kc_command.specs.declared.refusal.Refusal.TheVariants.{Core, Notes, Tables, Log, TooLong, Types, Module, MapLine, Symbol, NoType, Path, Plan, Certificate, Report as report_refused}
 use Rattle.kc_command.specs.declared.halt.Halt.{Halt}
 use Rattle.kc_command.specs.declared.halt.Halt.TheVariants.{Refused, Store, Memory}
 
@@ -12,6 +12,7 @@ abbrev pub refused_slot : Refusal → Option Slot
 refused_slot (Core fault) = Some Dump
 refused_slot (Notes fault) = Some Dump
 refused_slot (Tables fault) = Some Dump
+refused_slot (Log fault) = Some Dump
 refused_slot (TooLong slot) = Some slot
 refused_slot (Types fault) = Some Btf
 refused_slot (Module fault) = Some module_slot

@@ -2,7 +2,8 @@
 ghost use Rattle.std.specs.Prelude.{◌≡◌, ◌++◌, Some, codes, decimal, IfOk, OnOk};
 ghost use Rattle.kc_text.specs.Text.{hex};
 ghost use Rattle.kc_kallsyms.specs.Places.{line_key};
-ghost use Rattle.kc_command.specs.Lines.{audit_part, btf_code, btf_text, core_code, key_part, key_text, note_code, path_code, plan_code, plan_rule, refusal_line, refusal_text, report_code, slot_name, symbol_code, table_code};
+ghost use Rattle.kc_printk.specs.Note.{key_of};
+ghost use Rattle.kc_command.specs.Lines.{audit_part, btf_code, btf_text, core_code, key_part, key_text, log_code, note_code, path_code, plan_code, plan_rule, refusal_line, refusal_text, report_code, slot_name, symbol_code, table_code};
 
 use crate::refusal::{Refusal, ReportFault};
 use kc_btf::{BRule, BtfFault};
@@ -12,6 +13,7 @@ use kc_kallsyms::{TableFault, TableLine, line_key};
 use kc_layout::{PathFault, QRule};
 use kc_notes::{NoteFault, NoteKey};
 use kc_outside::Slot;
+use kc_printk::{LogFault, LogLine, key_of};
 use kc_syms::SymFault;
 use kc_text::{push, push_hex, push_numbered};
 use kc_word::NoMemory;
@@ -175,6 +177,31 @@ fn push_table(text: &mut Vec<u8>, fault: TableFault) -> Result<(), NoMemory>
     push_table_code(text, fault)
 }
 
+fn push_log_line(text: &mut Vec<u8>, line: LogLine) -> Result<(), NoMemory>
+    ensures { OnOk result (text.new.items ≡ text.old.items ++ (codes "P1 key " ++ key_of line)) }
+{
+    push(text, b"P1 key ")?;
+    push(text, key_of(line))
+}
+
+fn push_log_code(text: &mut Vec<u8>, fault: LogFault) -> Result<(), NoMemory>
+    ensures { OnOk result (text.new.items ≡ text.old.items ++ log_code fault) }
+{
+    match fault {
+        LogFault::P1(line) => push_log_line(text, line),
+        LogFault::P2 => push(text, b"P2"),
+        LogFault::P3 => push(text, b"P3"),
+        LogFault::P4 => push(text, b"P4"),
+    }
+}
+
+fn push_log(text: &mut Vec<u8>, fault: LogFault) -> Result<(), NoMemory>
+    ensures { OnOk result (text.new.items ≡ text.old.items ++ (codes "log " ++ log_code fault)) }
+{
+    push(text, b"log ")?;
+    push_log_code(text, fault)
+}
+
 fn push_too_long(text: &mut Vec<u8>, slot: Slot) -> Result<(), NoMemory>
     ensures { OnOk result (text.new.items ≡ text.old.items ++ (slot_name slot ++ codes " F1")) }
 {
@@ -276,6 +303,7 @@ fn push_refusal(text: &mut Vec<u8>, refusal: Refusal) -> Result<(), NoMemory>
         Refusal::Core(fault) => push_core(text, fault),
         Refusal::Notes(fault) => push_notes(text, fault),
         Refusal::Tables(fault) => push_table(text, fault),
+        Refusal::Log(fault) => push_log(text, fault),
         Refusal::TooLong(slot) => push_too_long(text, slot),
         Refusal::Types(fault) => push_btf(text, b"btf ", fault),
         Refusal::Module(fault) => push_btf(text, b"module ", fault),

@@ -1,6 +1,6 @@
 // Why a file, or what is looked up in it, is refused.
 ghost use Rattle.std.specs.Prelude.{◌≡◌};
-ghost use Rattle.kc_command.specs.declared.refusal.Refusal.TheVariants.{Core, Notes, Tables, Types, Symbol, Path, Plan};
+ghost use Rattle.kc_command.specs.declared.refusal.Refusal.TheVariants.{Core, Notes, Tables, Log, Types, Symbol, Path, Plan};
 
 use kc_btf::BtfFault;
 use kc_elf::CoreFault;
@@ -9,6 +9,7 @@ use kc_kallsyms::TableFault;
 use kc_layout::PathFault;
 use kc_notes::NoteFault;
 use kc_outside::Slot;
+use kc_printk::LogFault;
 use kc_syms::SymFault;
 
 /// Why the file of a report is refused.
@@ -31,6 +32,8 @@ pub enum Refusal {
     Notes(NoteFault),
     /// The dump's own symbol table is none, or doesn't have what is needed.
     Tables(TableFault),
+    /// The dump's own log is none, or its notes don't lead to it.
+    Log(LogFault),
     /// The file in this slot is above its limit of bytes.
     TooLong(Slot),
     /// The file of types breaks a rule.
@@ -75,6 +78,14 @@ impl From<TableFault> for Refusal {
 
     fn from(fault: TableFault) -> Self {
         Refusal::Tables(fault)
+    }
+}
+
+impl From<LogFault> for Refusal {
+    ghost from_gives = { λ fault refusal. refusal ≡ Log fault };
+
+    fn from(fault: LogFault) -> Self {
+        Refusal::Log(fault)
     }
 }
 

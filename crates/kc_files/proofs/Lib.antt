@@ -1,2 +1,6 @@
 mod Answering
+mod Converting
+mod FileLaws
+mod LineLaws
+mod MapLaws
 mod Told

@@ -1,14 +1,14 @@
 -- What is wished of the memory of a dump.
 use Rattle.std.specs.Prelude.{ℕ, List, Result}
 use Rattle.kc_memory.specs.Image.{Image}
-use Rattle.kc_kallsyms.specs.declared.places.Places.{Places}
 use Rattle.kc_kallsyms.specs.Map.{map_at}
-use Rattle.kc_kallsyms.specs.Reading.{Why}
 use Rattle.kc_kallsyms.specs.Types.{types_at}
-use Rattle.kc_files.specs.declared.wish.Wish.{Wish}
-use Rattle.kc_files.specs.declared.wish.Wish.TheVariants.{Map, Types}
+use Rattle.kc_printk.specs.Log.{log_of}
+use Rattle.kc_files.specs.Reading.{Why, by_log, by_tables}
+use Rattle.kc_files.specs.Sought.{SoughtAt, MapBy, TypesBy, LogBy}
 
--- the map of the kernel, or its types
-abbrev pub wished : Wish → Image → ℕ → Places → Result (List ℕ) Why
-wished Map image kaslr places = map_at image kaslr places
-wished Types image kaslr places = types_at image kaslr places
+-- the map of the kernel, its types, or its log
+abbrev pub wished : SoughtAt → Image → ℕ → Result (List ℕ) Why
+wished (MapBy places) image kaslr = by_tables (map_at image kaslr places)
+wished (TypesBy places) image kaslr = by_tables (types_at image kaslr places)
+wished (LogBy note) image kaslr = by_log (log_of image note)

@@ -9,21 +9,20 @@ ghost use Rattle.kc_outside.specs.Files.{content};
 ghost use Rattle.kc_phys.specs.Stored.{AreInside};
 ghost use Rattle.kc_question.specs.Memory.{bare_image};
 ghost use Rattle.kc_command.specs.Halts.{OnStore, UnlessStore};
-ghost use Rattle.kc_command.specs.Made.{Tells};
 ghost use Rattle.kc_command.specs.Paging.{IsTable, by_info};
-ghost use Rattle.kc_command.specs.Slots.{IsAbout, RefusesIn};
+ghost use Rattle.kc_command.specs.Slots.{RefusesIn};
 ghost use Rattle.kc_command.specs.Ends.Answers.{OnNone, OnStoreIn, PrintsOf, PrintsOfBytes, Runs, StayBehind, UnlessStoreIn};
 ghost use Rattle.kc_command.specs.Ends.Asked.{word_in};
 ghost use Rattle.kc_files.specs.Answered.{IsAnswer, IsStopped};
-ghost use Rattle.kc_files.specs.Made.{files_asks, files_made, files_view, files_written, places_made, shown_by};
+ghost use Rattle.kc_files.specs.Made.{files_asks, files_made, files_view, files_written, shown_by};
+ghost use Rattle.kc_files.specs.Sought.{sought_view};
 ghost use Rattle.kc_files.specs.Wished.{wished};
 
 use crate::memory::read_file;
+use crate::sought::{Sought, sought_by};
+use crate::unread::Unread;
 use crate::wish::{Wish, wish_of};
 use kc_command::{Answer, Halt, Noted, Refusal, read_noted};
-use kc_elf::Core;
-use kc_kallsyms::{Places, ReadStop, places_in};
-use kc_notes::vmcoreinfo;
 use kc_outside::Store;
 use kc_report::broken_text;
 use std::alloc::Global;
@@ -50,8 +49,8 @@ fn read(words: &[String]) -> Option<Asks<'_>>
     })
 }
 
-/// Runs kfiles on the words behind its name: the first fault of the dump or of its symbol table, the first word that can't be read, or the
-/// bytes of the file that is wished. `None` where these aren't its words; the store isn't asked then.
+/// Runs kfiles on the words after its name: the first fault of the dump, of its symbols' tables or of its log, the first word that can't be
+/// read, or the bytes of the file that is wished. `None` where these aren't its words; the store isn't asked then.
 pub fn run<S: Store>(alloc: Global, store: &mut S, words: &[String]) -> Option<Result<Answer, Halt>>
     requires { (slot : Slot) → ForSome (word_in (files_asks (map string_bytes words.now)) slot) (S.may store.old slot) }
 
@@ -67,16 +66,6 @@ pub fn run<S: Store>(alloc: Global, store: &mut S, words: &[String]) -> Option<R
     Some(file(alloc, store, asks))
 }
 
-// Where the tables lie, by a dump's notes.
-#[tactic(auto, unfolding(crate::specs::Made::places_made))]
-fn read_places(core: &Core) -> Result<Places, Refusal>
-    ensures made { Tells (λ places. places) (places_made core.now.notes) result }
-    ensures refused { IsAbout (Some Dump) result }
-{
-    let note = vmcoreinfo(core)?;
-    Ok(places_in(note)?)
-}
-
 // The answer to what is asked.
 fn file<S: Store>(alloc: Global, store: &mut S, asks: Asks<'_>) -> Result<Answer, Halt>
     requires may { S.may store.old Dump asks.dump.now }
@@ -90,8 +79,8 @@ fn file<S: Store>(alloc: Global, store: &mut S, asks: Asks<'_>) -> Result<Answer
     ensures cause { OnStore result (Rose (S.faults store.old) (S.faults store.new)) }
 {
     let noted = read_noted(alloc, store, asks.dump)?;
-    let places = read_places(&noted.core)?;
-    make(alloc, store, &noted, &places, asks.wish)
+    let sought = sought_by(&noted.core, asks.wish)?;
+    make(alloc, store, &noted, &sought)
 }
 
 // The answer on a dump that was read.
@@ -99,14 +88,13 @@ fn make<S: Store>(
     alloc: Global,
     store: &mut S,
     noted: &Noted,
-    places: &Places,
-    wish: Wish,
+    sought: &Sought<'_>,
 ) -> Result<Answer, Halt>
     requires table { IsTable noted.now.info.table }
     requires inside { AreInside (S.sizes store.old Dump) noted.now.core.segments }
 
     ensures output { PrintsOfBytes files_written
-        (λ bytes. shown_by (wished wish (bare_image bytes noted.now.core.segments (by_info noted.now.info)) noted.now.info.kaslr places.now))
+        (λ bytes. shown_by (wished (sought_view sought.now) (bare_image bytes noted.now.core.segments (by_info noted.now.info)) noted.now.info.kaslr))
         (content (S.files store.old) Dump (S.opened store.old Dump)) result }
     ensures refused { RefusesIn Dump result }
     ensures files { S.files store.new ≡ S.files store.old }
@@ -114,12 +102,12 @@ fn make<S: Store>(
     ensures quiet { UnlessStore result (S.faults store.new ≡ S.faults store.old) }
     ensures cause { OnStore result (Rose (S.faults store.old) (S.faults store.new)) }
 {
-    let bytes = read_file(alloc, store, noted, places, wish);
+    let bytes = read_file(alloc, store, noted, sought);
     answer(alloc, bytes)
 }
 
 // The answer by what reading memory gave.
-fn answer(alloc: Global, bytes: Result<Vec<u8>, ReadStop>) -> Result<Answer, Halt>
+fn answer(alloc: Global, bytes: Result<Vec<u8>, Unread>) -> Result<Answer, Halt>
     ensures { IsAnswer bytes result }
 {
     match bytes {
@@ -129,13 +117,14 @@ fn answer(alloc: Global, bytes: Result<Vec<u8>, ReadStop>) -> Result<Answer, Hal
 }
 
 // The answer where it stopped.
-fn stopped(alloc: Global, stop: ReadStop) -> Result<Answer, Halt>
+fn stopped(alloc: Global, stop: Unread) -> Result<Answer, Halt>
     ensures { IsStopped stop result }
 {
     match stop {
-        ReadStop::Miss(miss) => Ok(Answer::Broken(broken_text(alloc, miss)?)),
-        ReadStop::Fault => Err(Halt::Store),
-        ReadStop::Table(fault) => Err(Halt::Refused(Refusal::Tables(fault))),
-        ReadStop::NoMemory => Err(Halt::Memory),
+        Unread::Miss(miss) => Ok(Answer::Broken(broken_text(alloc, miss)?)),
+        Unread::Fault => Err(Halt::Store),
+        Unread::Table(fault) => Err(Halt::Refused(Refusal::Tables(fault))),
+        Unread::Log(fault) => Err(Halt::Refused(Refusal::Log(fault))),
+        Unread::NoMemory => Err(Halt::Memory),
     }
 }

@@ -1,9 +1,13 @@
-//! kfiles: the map and the types of a kernel out of the memory of its dump.
+//! kfiles: the map, the types and the log of a kernel out of the memory of its dump.
 #![tactic(auto)]
 
 mod files;
+mod laws;
 mod memory;
+mod sought;
 mod top;
+mod unread;
 mod wish;
 
+pub use laws::know_files;
 pub use top::kfiles;

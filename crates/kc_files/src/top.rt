@@ -21,7 +21,7 @@ use kc_outside::{Sink, Store};
 use std::alloc::Global;
 
 /// The lines that say how the program is called.
-const USAGE: &[u8] = b"usage: kfiles DUMP map\n       kfiles DUMP types\n";
+const USAGE: &[u8] = b"usage: kfiles DUMP map\n       kfiles DUMP types\n       kfiles DUMP log\n";
 
 /// The program. It answers the status that it ends with: done where the file is put that is wished, and broken where a word on the way to it
 /// can't be read. What it puts is made whole before a byte of it is put.

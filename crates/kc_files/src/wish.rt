@@ -9,6 +9,8 @@ pub enum Wish {
     Map,
     /// The types of its kernel.
     Types,
+    /// The log of its kernel.
+    Log,
 }
 
 /// The wish of a word.
@@ -19,6 +21,8 @@ pub fn wish_of(word: &str) -> Option<Wish>
         Some(Wish::Map)
     } else if word == "types" {
         Some(Wish::Types)
+    } else if word == "log" {
+        Some(Wish::Log)
     } else {
         None
     }

@@ -1,3 +1,4 @@
 pub mod Fields
 pub mod Head
 pub mod Pages
+pub mod Unpack

@@ -1,10 +1,13 @@
-//! The plain ELF core file that stands for a compressed dump: what stands before its pages, and where each page stands.
+//! The plain ELF core file that stands for a compressed dump: what stands before its pages, where each page stands, and what each page
+//! holds, unpacked.
 #![tactic(auto)]
 
 mod fields;
 mod head;
 mod laws;
 mod pad;
+mod unpacked;
 
 pub use head::head_of;
 pub use laws::{know_head, know_pages};
+pub use unpacked::{PAGE_BYTES, PageFault, descriptor_fault, know_page, unpack};

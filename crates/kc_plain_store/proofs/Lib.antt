@@ -1,4 +1,3 @@
 pub mod PageLemmas
 pub mod ViewLemmas
-pub mod UnpackLemmas
 pub mod CopyingLemmas

@@ -11,8 +11,8 @@ use Rattle.kc_kdump.specs.declared.layout.Layout.{Layout}
 use Rattle.kc_kdump.specs.Bytes.{part}
 use Rattle.kc_kdump.specs.Dump.{descriptor_at}
 use Rattle.kc_plain.specs.Pages.{AreWhole, HeadStands, PageStands, pages}
-use Rattle.kc_plain_store.specs.Unpack.Plain.{page_at}
-use Rattle.kc_plain_store.specs.Unpack.Unpacked.{descriptor_fault, page_of, page_or_zeros, unless, unpacked}
+use Rattle.kc_plain.specs.Unpack.Plain.{page_at}
+use Rattle.kc_plain.specs.Unpack.Unpacked.{descriptor_fault, page_of, page_or_zeros, unless, unpacked}
 use Rattle.kc_plain_store.specs.Kept.{IsKept}
 use Rattle.kc_plain_store.specs.declared.place.PagePlace.{PagePlace}
 

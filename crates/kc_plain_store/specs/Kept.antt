@@ -1,7 +1,7 @@
 -- Pages that are kept.
 use Rattle.std.specs.Prelude.{◌≡◌, ℕ, List, All, Option, Some, None}
 use Rattle.kc_kdump.specs.declared.layout.Layout.{Layout}
-use Rattle.kc_plain_store.specs.Unpack.Plain.{page_at}
+use Rattle.kc_plain.specs.Unpack.Plain.{page_at}
 use Rattle.kc_plain_store.specs.declared.place.PagePlace.{PagePlace}
 
 -- the page that a place keeps is the dump's

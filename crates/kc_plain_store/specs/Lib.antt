@@ -2,5 +2,4 @@ pub mod Kept
 pub mod Seen
 pub mod Shapes
 pub mod ViewLaws
-pub mod Unpack
 pub mod Copying

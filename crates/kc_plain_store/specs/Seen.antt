@@ -4,7 +4,7 @@ use Rattle.std.specs.Result.{result_ok}
 use Rattle.kc_outside.specs.declared.store.Slot.{Slot}
 use Rattle.kc_outside.specs.Files.{Files, slot_number}
 use Rattle.kc_kdump.specs.Header.{is_kdump}
-use Rattle.kc_plain_store.specs.Unpack.Plain.{plain}
+use Rattle.kc_plain.specs.Unpack.Plain.{plain}
 use Rattle.kc_plain_store.specs.declared.shape.Shape.{Shape}
 use Rattle.kc_plain_store.specs.Shapes.{shape_size}
 

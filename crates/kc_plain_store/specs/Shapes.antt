@@ -1,7 +1,7 @@
 -- What a view knows of the file in slot Dump.
 use Rattle.std.specs.Prelude.{◌≡◌, ℕ, ◌+◌, ◌*◌, List, ◌++◌, Option, Some, None, vec_len}
 use Rattle.kc_plain.specs.Pages.{pages}
-use Rattle.kc_plain_store.specs.Unpack.Plain.{page_at}
+use Rattle.kc_plain.specs.Unpack.Plain.{page_at}
 use Rattle.kc_plain_store.specs.declared.plain_core.PlainCore.{PlainCore}
 use Rattle.kc_plain_store.specs.declared.shape.Shape.{Shape}
 use Rattle.kc_plain_store.specs.declared.shape.Shape.TheVariants.{Whole, Plain}

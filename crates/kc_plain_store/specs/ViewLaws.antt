@@ -6,8 +6,8 @@ use Rattle.kc_outside.specs.declared.store.Slot.TheVariants.{Dump, Btf, Map, Pla
 use Rattle.kc_outside.specs.Files.{Files, HasLength, content}
 use Rattle.kc_plain.specs.Pages.{pages}
 use Rattle.kc_plain.proofs.PageLaws.{pages_end}
-use Rattle.kc_plain_store.specs.Unpack.Plain.{page_at}
-use Rattle.kc_plain_store.proofs.UnpackLemmas.PageLaws.{pages_whole}
+use Rattle.kc_plain.specs.Unpack.Plain.{page_at}
+use Rattle.kc_plain.proofs.UnpackLemmas.PageLaws.{pages_whole}
 use Rattle.kc_plain_store.specs.declared.plain_core.PlainCore.{PlainCore}
 use Rattle.kc_plain_store.specs.declared.shape.Shape.{Shape}
 use Rattle.kc_plain_store.specs.declared.shape.Shape.TheVariants.{Whole, Plain}

@@ -2,9 +2,9 @@
 ghost use Rattle.std.specs.Prelude.{◌≡◌, ◌≤◌, vec_len, All, IfOk};
 ghost use Rattle.kc_plain_store.specs.Kept.{IsEmpty};
 
-use crate::PAGE_BYTES;
 use crate::place::{Kept, PagePlace, Room};
 use kc_inflate::Tables;
+use kc_plain::PAGE_BYTES;
 use kc_word::NoMemory;
 use std::alloc::Global;
 

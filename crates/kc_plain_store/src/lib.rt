@@ -11,7 +11,6 @@ mod plain_core;
 mod shape;
 mod shown;
 mod stop;
-mod unpacked;
 mod view;
 
 pub use copying::{CopyStop, copy_file};
@@ -19,5 +18,4 @@ pub use place::{Kept, PagePlace, Room};
 pub use plain_core::PlainCore;
 pub use shape::Shape;
 pub use stop::{BadPage, ViewFault};
-pub use unpacked::{PAGE_BYTES, PageFault, descriptor_fault, know_page, unpack};
 pub use view::View;

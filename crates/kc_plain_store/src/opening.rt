@@ -6,7 +6,7 @@ ghost use Rattle.kc_outside.specs.Files.{content, named, OthersStay};
 ghost use Rattle.kc_kdump.specs.Header.{is_kdump};
 ghost use Rattle.kc_kdump.specs.Stays.{StoreStays};
 ghost use Rattle.kc_plain_store.specs.Seen.{seen_bytes};
-ghost use Rattle.kc_plain_store.specs.Unpack.Plain.{plain};
+ghost use Rattle.kc_plain.specs.Unpack.Plain.{plain};
 ghost use Rattle.kc_plain_store.specs.Shapes.{core_bytes, file_size, shape_bytes, shape_size};
 
 use crate::plain_core::PlainCore;

@@ -5,19 +5,18 @@ ghost use Rattle.kc_outside.specs.Files.{content};
 ghost use Rattle.kc_kdump.specs.Dump.{descriptor_at};
 ghost use Rattle.kc_kdump.specs.Stays.{StoreStays};
 ghost use Rattle.kc_kdump.specs.Bytes.{part};
-ghost use Rattle.kc_plain_store.specs.Unpack.Plain.{page_at};
-ghost use Rattle.kc_plain_store.specs.Unpack.Unpacked.{unpacked};
+ghost use Rattle.kc_plain.specs.Unpack.Plain.{page_at};
+ghost use Rattle.kc_plain.specs.Unpack.Unpacked.{unpacked};
 ghost use Rattle.kc_plain_store.specs.Kept.{IsKept};
 ghost use Rattle.kc_plain_store.specs.Shapes.{core_bytes, core_size};
 
 use crate::place::{Kept, PagePlace, Room};
 use crate::plain_core::PlainCore;
 use crate::stop::{BadPage, ViewFault};
-use crate::{PAGE_BYTES, descriptor_fault, know_page, unpack};
 use kc_inflate::Tables;
 use kc_kdump::{DESCRIPTOR_BYTES, Descriptor};
 use kc_outside::{Failed, Slot, Store, know_size};
-use kc_plain::{know_head, know_pages};
+use kc_plain::{PAGE_BYTES, descriptor_fault, know_head, know_page, know_pages, unpack};
 
 // How many pages are kept.
 const PLACES: u64 = 256;

@@ -1,6 +1,6 @@
 // Why a read through a view failed.
-use crate::PageFault;
 use kc_kdump::KdumpFault;
+use kc_plain::PageFault;
 
 /// A page that can't be had, by its number among those in the dump.
 #[derive(Clone, Copy)]

@@ -101,7 +101,7 @@ gives judge found suspected = gives_by judge found suspected (find (repairs judg
 -- what was answered, where the question could be asked
 pub answered : {A : Type 0} (image : Option Image) (asked : Result (Result A ReadFailed) NoRoom) (a : A) (Says : Image → A → Type 0)
     → result_unwrap_or asked (Err NoMemory) ≡ Ok a → IfOk asked (λ r. IfSome image (λ i. IfOk r (Says i))) → IfSome image (λ i. Says i a)
-answered image (Ok r) a Says is says = rw is at says
+answered image (Ok r) a Says is says = let same : r ≡ Ok a = is in rw same at says
 answered image (Err none) a Says is says = absurd (let never : ⊥ = cc in never)
 
 -- that of what is suspected of a violation

@@ -58,7 +58,7 @@ pub record Shown (image : Option Image) (rules : Rules) (shapes : Shapes) (addre
 
 abbrev Entered : KernelAt → ℕ → Vec Entry → Option Physical → Type 0
 Entered kernel address es physical =
-    LooksAs {E = ReadFailed} (λ (v : Vec Entry). v.items) (λ p. entries (record { physical = p; paging = by_info kernel.told }) (word_start address)) physical (Ok es)
+    LooksAs (λ (v : Vec Entry). v.items) (λ p. entries (record { physical = p; paging = by_info kernel.told }) (word_start address)) physical (Ok es)
 
 abbrev Said : KernelAt → Rules → Shapes → ℕ → Vec Entry → Result Sighted ReadFailed → Option Physical → Type 0
 Said kernel rules shapes address es r physical = IfSome (with_paging (by_info kernel.told) physical) (λ i. IfOk r (IsSeen i rules shapes address es.items))

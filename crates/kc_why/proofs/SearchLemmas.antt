@@ -62,6 +62,12 @@ found_before before after tail rest (Some bytes) now end last test P is first se
     subst (λ (c : Option (List ℕ)). Told c P) (same_bytes before after tail rest (Some bytes) now is)
     (OnTrue_at (same_end before after tail rest bytes now end last test is first second tests) found)
 
+-- what an answer says of the memory, where both are there
+pub of_each : {I A E : Type 0} (image : Option I) (r : Result A E) (P : I → A → Type 0) → IfOk r (λ a. IfSome image (λ i. P i a)) → IfSome image (λ i. IfOk r (P i))
+of_each None r P told = tt
+of_each (Some i) (Ok a) P told = told
+of_each (Some i) (Err e) P told = tt
+
 -- what is told of the memory is told of the dump's bytes
 pub told_by : (paging : PageCfg) (segments room : List Segment) (tail : Tail) (content : Option (List ℕ)) (P : Image → Type 0)
     → room ≡ segments → tail ≡ Absent → IfSome (with_paging paging (stored room tail content)) P → Told content (λ bytes. P (bare_image bytes segments paging))

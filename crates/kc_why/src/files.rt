@@ -197,13 +197,14 @@ fn see<S: Store>(
     ensures quiet { UnlessStore result (S.faults store.new ≡ S.faults store.old) }
     ensures cause { OnStore result (Rose (S.faults store.old) (S.faults store.new)) }
 {
-    let symbols = read_symbols(alloc, &kernel.map)?;
+    let map = kernel.map.as_slice();
+    let symbols = read_symbols(alloc, map)?;
     let rules = Rules {
         direct: symbols.address(b"page_offset_base", kernel.info.kaslr),
         phys_base: kernel.info.phys_base,
         five: kernel.info.five,
     };
-    let shapes = shapes_in(alloc, &kernel.types, &symbols, kernel.info, &kernel.map)?;
+    let shapes = shapes_in(alloc, &kernel.types, &symbols, kernel.info, map)?;
     let seen = look_at(alloc, store, kernel, &rules, &shapes, address)?;
     Ok(Answer::Done(seen_text(alloc, &shapes.map, &seen)?))
 }
@@ -222,8 +223,9 @@ fn find<S: Store>(alloc: Global, store: &mut S, kernel: &Kernel, value: u64) -> 
     ensures quiet { UnlessStore result (S.faults store.new ≡ S.faults store.old) }
     ensures cause { OnStore result (Rose (S.faults store.old) (S.faults store.new)) }
 {
-    let symbols = read_symbols(alloc, &kernel.map)?;
-    let shapes = shapes_in(alloc, &kernel.types, &symbols, kernel.info, &kernel.map)?;
+    let map = kernel.map.as_slice();
+    let symbols = read_symbols(alloc, map)?;
+    let shapes = shapes_in(alloc, &kernel.types, &symbols, kernel.info, map)?;
     let text = find_written(alloc, store, kernel, &shapes.words.objects, value)?;
     Ok(Answer::Done(text))
 }

@@ -23,7 +23,7 @@ use kc_phys::{Phys, Room};
 use kc_question::{Question, Returned, ask_over};
 use kc_sight::{Entry, Rules, read_entries, word_start};
 use kc_told::{Shapes, Sighted, read_sighted};
-use kc_word::{NoMemory, Steps, Tail};
+use kc_word::{Steps, Tail};
 use std::alloc::Global;
 use std::marker::Brand;
 use std::sync::ledger::{Blank, Ledger};
@@ -133,19 +133,24 @@ fn look<'m, S: Store, L: Ledger>(
     let paging = paging_by(kernel.info);
     let mut steps = Steps::<L>::new(blank);
     let mut frames = Phys::over(store, room);
-    let entries = read_entries(alloc, &mut frames, &paging, word_start(address), &mut steps)?;
-    let looking = Looking {
-        alloc,
-        types: &kernel.types,
-        rules,
-        shapes,
-        address,
-        entries,
-    };
-    let Returned { memory, answer } = ask_over(alloc, frames, paging, &looking);
-    let _store = memory.into_store();
-    match answer {
-        Ok(seen) => seen,
-        Err(NoMemory) => Err(ReadFailed::NoMemory),
+    match read_entries(alloc, &mut frames, &paging, word_start(address), &mut steps) {
+        Ok(entries) => {
+            let looking = Looking {
+                alloc,
+                types: &kernel.types,
+                rules,
+                shapes,
+                address,
+                entries,
+            };
+            let Returned { memory, answer } = ask_over(alloc, frames, paging, &looking);
+            let _store = memory.into_store();
+            let seen = answer?;
+            seen
+        }
+        Err(stop) => {
+            let _store = frames.into_store();
+            Err(stop)
+        }
     }
 }

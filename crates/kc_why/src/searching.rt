@@ -1,10 +1,11 @@
 // The search for a value in a dump.
-ghost use Rattle.std.specs.Prelude.{◌≡◌, ⊤, ◌+◌, ◌≤◌, ◌^◌, map, max, IfOk};
+ghost use Rattle.std.specs.Prelude.{◌≡◌, ⊤, ◌+◌, ◌≤◌, ◌^◌, map, max, IfOk, IfSome};
 ghost use Rattle.std.specs.Bool.{OnTrue};
 ghost use Rattle.std.specs.List.{All};
 ghost use Rattle.kc_outside.specs.declared.store.Slot.TheVariants.{Dump};
 ghost use Rattle.kc_outside.specs.Counts.{Rose};
 ghost use Rattle.kc_outside.specs.Files.{content};
+ghost use Rattle.kc_memory.specs.Stays.{SpaceStays};
 ghost use Rattle.kc_phys.specs.Stored.{AreInside};
 ghost use Rattle.kc_command.specs.Halts.{NotRefused, OnStore, UnlessStore};
 ghost use Rattle.kc_command.specs.Kernels.{kernel_view};
@@ -34,7 +35,30 @@ use std::sync::ledger::Ledger;
 /// What free pointers are encoded with, or why that can't be told, where the kernel has what it asks for.
 pub(crate) type ToldKeys = Option<Result<FreeKeys, Found>>;
 
-// What free pointers are encoded with, where the kernel has what tells it.
+// What free pointers are encoded with.
+fn read_told<S: Space, L: Ledger>(
+    alloc: Global,
+    space: &mut S,
+    types: &Btf,
+    shape: &Option<ObjectShape>,
+    steps: &mut Steps<L>,
+) -> Result<ToldKeys, ReadFailed>
+    ensures told { IfOk result (λ told. IfSome (S.image space.old) (λ i. told ≡ keys_of i shape.now)) }
+    ensures stays { SpaceStays S.image S.files S.through S.most space.old space.new }
+    ensures cause { CountsFailures result (S.faults space.old) (S.faults space.new) }
+{
+    let Some(shape) = shape else {
+        return Ok(None);
+    };
+    match free_keys(alloc, space, types, shape, steps) {
+        Ok(keys) => Ok(Some(Ok(keys))),
+        Err(WalkStop::Broken(found)) => Ok(Some(Err(found))),
+        Err(WalkStop::Fault) => Err(ReadFailed::Fault),
+        Err(WalkStop::NoMemory) => Err(ReadFailed::NoMemory),
+    }
+}
+
+// The question what free pointers are encoded with, to the memory of a dump.
 #[derive(Drop)]
 struct AsksKeys<'k> {
     alloc: Global,
@@ -56,15 +80,7 @@ impl<'k> Question for AsksKeys<'k> {
         memory: &mut M,
         steps: &mut Steps<L>,
     ) -> Result<ToldKeys, ReadFailed> {
-        let Some(shape) = self.shape else {
-            return Ok(None);
-        };
-        match free_keys(self.alloc, memory, self.types, shape, steps) {
-            Ok(keys) => Ok(Some(Ok(keys))),
-            Err(WalkStop::Broken(found)) => Ok(Some(Err(found))),
-            Err(WalkStop::Fault) => Err(ReadFailed::Fault),
-            Err(WalkStop::NoMemory) => Err(ReadFailed::NoMemory),
-        }
+        read_told(self.alloc, memory, self.types, self.shape, steps)
     }
 }
 
@@ -146,7 +162,8 @@ fn search<S: Store>(
     ensures files { S.files store.new ≡ S.files store.old }
     ensures cause { CountsFailures result (S.faults store.old) (S.faults store.new) }
 {
-    let room = Room::new(alloc, kernel.core.segments(), Tail::Absent)?;
+    let segments = kernel.core.segments();
+    let room = Room::new(alloc, segments, Tail::Absent)?;
     let frames = Phys::over(store, room);
     let end = frames.end;
     let asks = AsksKeys {
@@ -160,7 +177,7 @@ fn search<S: Store>(
     let asked = answer?;
     let told = asked?;
     let sought = sought_by(alloc, value, &told)?;
-    let found = find_if(alloc, store, kernel.core.segments(), &sought, same)?;
+    let found = find_if(alloc, store, segments, &sought, same)?;
     Ok(Searched { told, found })
 }
 

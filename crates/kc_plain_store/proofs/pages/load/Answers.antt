@@ -1,7 +1,7 @@
 use Rattle.std.proofs.Common.{◌≡◌, None, refl}
 use Rattle.kc_outside.specs.declared.store.Slot.TheVariants.{Dump}
 use Rattle.kc_outside.specs.Files.{content}
-use Rattle.kc_plain_store.specs.Unpack.Unpacked.{descriptor_fault}
+use Rattle.kc_plain.specs.Unpack.Unpacked.{descriptor_fault}
 use Rattle.kc_plain_store.proofs.PageLemmas.{on_ok, page_got}
 use Rattle.kc_plain_store.proofs.pages.load.Goals as goal
 

@@ -1,4 +1,4 @@
-use Rattle.std.proofs.Common.{ap, sym, ◌∙◌}
+use Rattle.std.proofs.Common.{◌≡◌, ap, sym, ◌∙◌}
 use Rattle.kc_mem.specs.Paged.{with_paging}
 use Rattle.kc_plan.specs.Views.{plan_seen}
 use Rattle.kc_repair.specs.Suspect.Suspects.{suspects}

@@ -18,7 +18,7 @@ returns-clause-output g c =
     let read = c.in_ok-symbols.ensures.made in
     let listed = rows_checked _ read.0 read.1 in
     prints_why (content (g.S.Store.files c.args.store.now) Dump (g.S.Store.opened c.args.store.now Dump)) (memory_of (kernel_view kernel))
-    c.args.address (kernel_view kernel) (map_symbols c.in_ok-shapes.shapes.map) _ (shapes_view c.in_ok-shapes.shapes) read.0 c.in_ok-seen.seen (answer.Done c.in_ok-seen_text.field-0) read.1
+    c.args.address (kernel_view kernel) (map_symbols c.in_ok-shapes.shapes.map) _ (shapes_view c.in_ok-shapes.shapes) read.0 c.in_ok-seen.seen (answer.Done c.in_ok-seen_text.field-0) (rw c.as_slice-map.ensures.value at read.1)
     (c.in_ok-shapes.ensures.symbols read.0 listed read.2)
     (rules_read kernel.info (symbol c.in_ok-symbols.symbols) read.0 c.address.result read.2 c.address.ensures.exact) (c.in_ok-shapes.ensures.exact read.0 listed read.2) c.in_ok-seen.ensures.sight c.in_ok-seen.ensures.told c.in_ok-seen.ensures.leads
     (ap (λ (o : List ℕ). record { out = o; err = []; status = Done }) c.in_ok-seen_text.ensures)

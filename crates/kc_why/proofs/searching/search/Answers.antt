@@ -13,9 +13,8 @@ use Rattle.kc_why.proofs.searching.search.Goals as goal
 pub find_if-requires-clause-inside : goal.find_if-requires-clause-inside
 find_if-requires-clause-inside g c =
     let frames = c.ask_over-memory.result.memory in
-    let segments = c.args.kernel.now.core.segments in
-    let same : c.in_ok-room.room.segments.items ≡ segments = search rules in
-    let ends : c.over-frames.result.end ≡ reach segments = c.over-frames.result.ends ∙ ap (λ v. reach v.items) c.over-frames.ensures.segments ∙ ap reach same in
+    let segments = c.segments-segments.result.now in
+    let ends : c.over-frames.result.end ≡ reach segments = c.over-frames.result.ends ∙ ap (λ v. reach v.items) c.over-frames.ensures.segments ∙ ap reach c.in_ok-room.ensures.segments in
     OnTrue_from _ _ (λ is. subst (λ m. AreInside (g.S.Store.sizes m Dump) segments) (sym c.into_store-store.ensures.now)
     (inside (g.S.Store.sizes frames.store.now Dump) segments c.over-frames.result.end frames.end frames.inside.0 frames.within ends (eqb-true _ _ is)))
 

@@ -11,10 +11,10 @@ use Rattle.kc_kdump.specs.declared.descriptor.Descriptor.{Descriptor}
 use Rattle.kc_kdump.specs.declared.layout.Layout.{Layout}
 use Rattle.kc_kdump.specs.Bytes.{part}
 use Rattle.kc_kdump.specs.Dump.{descriptor_at}
-use Rattle.kc_plain_store.specs.declared.unpacked.fault.PageFault.{PageFault}
-use Rattle.kc_plain_store.specs.declared.unpacked.fault.PageFault.TheVariants.{Packing, Size}
-use Rattle.kc_plain_store.specs.Unpack.Plain.{page_at}
-use Rattle.kc_plain_store.specs.Unpack.Unpacked.{by_lzo, by_zlib, descriptor_fault, page_of, page_or_zeros, raw, unless, unpacked}
+use Rattle.kc_plain.specs.declared.unpacked.fault.PageFault.{PageFault}
+use Rattle.kc_plain.specs.declared.unpacked.fault.PageFault.TheVariants.{Packing, Size}
+use Rattle.kc_plain.specs.Unpack.Plain.{page_at}
+use Rattle.kc_plain.specs.Unpack.Unpacked.{by_lzo, by_zlib, descriptor_fault, page_of, page_or_zeros, raw, unless, unpacked}
 
 -- a page, or none
 IsWhole : Result (List ℕ) PageFault → Type 0

@@ -6,7 +6,7 @@ use Rattle.kc_kdump.specs.Dump.{Dump, ◌>>=◌, descriptor_at, dump_of}
 use Rattle.kc_kdump.specs.Runs.{page_count}
 use Rattle.kc_plain.specs.Head.{head_of}
 use Rattle.kc_plain.specs.Pages.{pages}
-use Rattle.kc_plain_store.specs.Unpack.Unpacked.{page_of, page_or_zeros}
+use Rattle.kc_plain.specs.Unpack.Unpacked.{page_of, page_or_zeros}
 
 -- The page with a number, among those in the dump. One that can't be unpacked stands as zeros here, and no reader gives them: to
 -- read them is a failure.

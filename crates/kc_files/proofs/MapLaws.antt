@@ -21,9 +21,9 @@ use Rattle.kc_kallsyms.specs.Map.{Kernel, is_of_processors, kernel_at, kernel_by
 use Rattle.kc_kallsyms.specs.Reading.{◌>>=◌, Why, judged}
 use Rattle.kc_kallsyms.specs.Symbols.{Spot, Symbol, entry_at, symbol_of, symbols_at, symbols_in}
 use Rattle.kc_kallsyms.specs.Tables.{tables_at}
-use Rattle.kc_kallsyms_laws.specs.Laws.{MapSpellsSymbols, row_of}
-use Rattle.kc_kallsyms_laws.proofs.FileLaws.{went}
-use Rattle.kc_kallsyms_laws.proofs.LineLaws.{High, bare_line, first_line, high-append}
+use Rattle.kc_files.specs.Laws.{MapSpellsSymbols, row_of}
+use Rattle.kc_files.proofs.FileLaws.{went}
+use Rattle.kc_files.proofs.LineLaws.{High, bare_line, first_line, high-append}
 
 both : (a b : Bool) → (a && b) ≡ true → (a ≡ true) × (b ≡ true)
 both true b is = (refl, is)

@@ -13,7 +13,7 @@ use Rattle.kc_kallsyms.specs.Bytes.{byte_at, byte_in, bytes_at, onward, word_sta
 use Rattle.kc_kallsyms.specs.Map.{kernel_at}
 use Rattle.kc_kallsyms.specs.Reading.{◌>>=◌, Bad, Why, missed, wanted}
 use Rattle.kc_kallsyms.specs.Types.{address_by, size_between, types_at, types_between, types_of}
-use Rattle.kc_kallsyms_laws.specs.Laws.{ByteStands, BytesStand, LinkedRuns, TypesLieBetween}
+use Rattle.kc_files.specs.Laws.{ByteStands, BytesStand, LinkedRuns, TypesLieBetween}
 
 -- a step that went well, and the next one
 pub record Went {A B : Type 0} (r : Result A Why) (f : A → Result B Why) (b : B) : Type 0 where

@@ -1,7 +1,7 @@
 use Rattle.std.proofs.Common.{rules}
 use Rattle.kc_told.specs.Views.{shapes_view}
 use Rattle.kc_why.proofs.LookLemmas.{asked}
-use Rattle.kc_why.proofs.looking.Looking.ask.Goals as goal
+use Rattle.kc_why.proofs.looking.LookingQuestion.ask.Goals as goal
 
 pub returns-clause-says : goal.returns-clause-says
 returns-clause-says g c =

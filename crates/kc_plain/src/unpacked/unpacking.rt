@@ -2,7 +2,7 @@
 ghost use Rattle.std.specs.Prelude.{◌≡◌, ◌≤◌, ◌+◌, length, IfErr, OnOk, Ok, Err};
 ghost use Rattle.kc_inflate.specs.Zlib.{zlib_of};
 ghost use Rattle.kc_lzo.specs.Lzo.{lzo_of};
-ghost use Rattle.kc_plain_store.specs.Unpack.Unpacked.{by_lzo, by_zlib, descriptor_fault, raw, unpacked};
+ghost use Rattle.kc_plain.specs.Unpack.Unpacked.{by_lzo, by_zlib, descriptor_fault, raw, unpacked};
 ghost use Rattle.std.specs.Option.{IfNone};
 
 use crate::unpacked::fault::PageFault;

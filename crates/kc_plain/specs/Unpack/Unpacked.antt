@@ -6,8 +6,8 @@ use Rattle.kc_lzo.specs.declared.fault.LzoFault.{LzoFault}
 use Rattle.kc_lzo.specs.Lzo.{lzo_of}
 use Rattle.kc_kdump.specs.declared.descriptor.Descriptor.{Descriptor}
 use Rattle.kc_kdump.specs.Bytes.{part}
-use Rattle.kc_plain_store.specs.declared.unpacked.fault.PageFault.{PageFault}
-use Rattle.kc_plain_store.specs.declared.unpacked.fault.PageFault.TheVariants.{OutsideFile, Size, Packing, Zlib, Lzo}
+use Rattle.kc_plain.specs.declared.unpacked.fault.PageFault.{PageFault}
+use Rattle.kc_plain.specs.declared.unpacked.fault.PageFault.TheVariants.{OutsideFile, Size, Packing, Zlib, Lzo}
 
 -- what a stream comes to, with its fault as a page's
 abbrev pub by_zlib : Result (List ℕ) ZlibFault → Result (List ℕ) PageFault

@@ -1,3 +1,0 @@
-mod FileLaws
-mod LineLaws
-mod MapLaws

@@ -1,5 +1,0 @@
-use Rattle.kc_plain_store.proofs.UnpackLemmas.PageLaws.{pages_whole}
-use Rattle.kc_plain_store.proofs.unpacked.laws.know_page.Goals as goal
-
-pub returns : goal.returns
-returns c = pages_whole
