@@ -97,11 +97,12 @@ same_seen s t e = cc
 pub sound_is_of_all : ScanSound → SoundIsOfAll
 sound_is_of_all known image shapes cache frames s is sound =
     let made = ok_after (caches_in image shapes.pages.objects cache) _ s is in
-    let one = and_parts (nat_eq (length s.scan.broken) 0) _ sound in
-    let two = and_parts (nat_eq s.scan.totals.untold 0) _ one.1 in
+    let outer = and_parts _ (own_sound s.cpus) sound in
+    let inner = and_parts _ (not (nat_eq (length s.caches.entries) 0)) outer.0 in
+    let told = and_parts (nat_eq (length s.scan.broken) 0) (nat_eq s.scan.totals.untold 0) inner.0 in
     let same = same_seen (record { caches = made.0; scan = scanned image shapes.pages made.0 frames; cpus = owned_by image shapes.pages made.0 shapes.cpus }) s made.2 in
     let caches : made.0 ≡ s.caches = ap (λ (t : Seen). t.caches) same in
     let none : (scanned image shapes.pages made.0 frames).broken ≡ [] =
-    none_of (scanned image shapes.pages made.0 frames).broken (ap (λ (t : Seen). length t.scan.broken) same ∙ eqb-true (length s.scan.broken) 0 one.0) in
-    let all : (scanned image shapes.pages made.0 frames).totals.untold ≡ 0 = ap (λ (t : Seen). t.scan.totals.untold) same ∙ eqb-true s.scan.totals.untold 0 two.0 in
+    none_of (scanned image shapes.pages made.0 frames).broken (ap (λ (t : Seen). length t.scan.broken) same ∙ eqb-true (length s.scan.broken) 0 told.0) in
+    let all : (scanned image shapes.pages made.0 frames).totals.untold ≡ 0 = ap (λ (t : Seen). t.scan.totals.untold) same ∙ eqb-true s.scan.totals.untold 0 told.1 in
     subst (λ (c : Caches). AllByRecursion (λ n. IsSound (page_seen image shapes.pages c n)) frames) caches (known image shapes.pages made.0 frames none all)

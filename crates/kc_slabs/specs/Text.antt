@@ -61,12 +61,19 @@ own_sound None = true
 own_sound (Some (Ok s)) = nat_eq (length s.scan.broken) 0
 own_sound (Some (Err v)) = false
 
--- the counts
+-- the counts, a line each of frames, slabs and objects
+abbrev pub frames_line : Totals → List ℕ
+frames_line t = codes "frames " ++ decimal t.frames ++ codes " absent " ++ decimal t.absent ++ codes " unmarked " ++ decimal t.unmarked ++ codes "\n"
+
+abbrev pub slabs_line : Totals → ℕ → List ℕ
+slabs_line t broken =
+    codes "slabs " ++ decimal t.slabs ++ codes " frozen " ++ decimal t.frozen ++ codes " untold " ++ decimal t.untold ++ codes " broken " ++ decimal broken ++ codes "\n"
+
+abbrev pub objects_line : Totals → List ℕ
+objects_line t = codes "objects " ++ decimal t.objects ++ codes " free " ++ decimal t.free ++ codes "\n"
+
 abbrev pub totals_lines : Totals → ℕ → List ℕ
-totals_lines t broken =
-    codes "frames " ++ decimal t.frames ++ codes " absent " ++ decimal t.absent ++ codes " unmarked " ++ decimal t.unmarked
-    ++ codes "\nslabs " ++ decimal t.slabs ++ codes " frozen " ++ decimal t.frozen ++ codes " untold " ++ decimal t.untold ++ codes " broken " ++ decimal broken
-    ++ codes "\nobjects " ++ decimal t.objects ++ codes " free " ++ decimal t.free ++ codes "\n"
+totals_lines t broken = frames_line t ++ slabs_line t broken ++ objects_line t
 
 -- the slabs that break a rule, how many caches there are, and the counts
 abbrev pub seen_text : Seen → List ℕ

@@ -3,7 +3,7 @@ ghost use Rattle.std.specs.Prelude.{◌≡◌, ◌++◌, IfOk, OnOk};
 ghost use Rattle.kc_text.specs.Compose.{texts};
 ghost use Rattle.kc_slab_page.specs.Caches.{caches_view};
 ghost use Rattle.kc_slabs.specs.Looking.{seen_view, told_view};
-ghost use Rattle.kc_slabs.specs.Text.{are_sound, count_text, cpu_text, expected_text, name_in, own_sound, owned_text, rule_text, seen_text, slab_text, told_text, totals_lines};
+ghost use Rattle.kc_slabs.specs.Text.{are_sound, count_text, cpu_text, expected_text, frames_line, name_in, objects_line, own_sound, owned_text, rule_text, seen_text, slab_text, slabs_line, told_text, totals_lines};
 
 use crate::looking::{CpusSeen, SlabsSeen};
 use kc_found::Found;
@@ -129,20 +129,43 @@ fn push_owned(
     }
 }
 
-// The counts of frames, slabs and objects.
-fn push_totals(text: &mut Vec<u8>, totals: &Totals, broken: u64) -> Result<(), NoMemory>
-    ensures { OnOk result (text.new.items ≡ text.old.items ++ totals_lines totals.now broken) }
+// The count of frames.
+fn push_frames(text: &mut Vec<u8>, totals: &Totals) -> Result<(), NoMemory>
+    ensures { OnOk result (text.new.items ≡ text.old.items ++ frames_line totals.now) }
 {
     push_numbered(text, b"frames ", totals.frames)?;
     push_numbered(text, b" absent ", totals.absent)?;
     push_numbered(text, b" unmarked ", totals.unmarked)?;
-    push_numbered(text, b"\nslabs ", totals.slabs)?;
+    push(text, b"\n")
+}
+
+// That of slabs.
+fn push_slabs(text: &mut Vec<u8>, totals: &Totals, broken: u64) -> Result<(), NoMemory>
+    ensures { OnOk result (text.new.items ≡ text.old.items ++ slabs_line totals.now broken) }
+{
+    push_numbered(text, b"slabs ", totals.slabs)?;
     push_numbered(text, b" frozen ", totals.frozen)?;
     push_numbered(text, b" untold ", totals.untold)?;
     push_numbered(text, b" broken ", broken)?;
-    push_numbered(text, b"\nobjects ", totals.objects)?;
+    push(text, b"\n")
+}
+
+// That of objects.
+fn push_objects(text: &mut Vec<u8>, totals: &Totals) -> Result<(), NoMemory>
+    ensures { OnOk result (text.new.items ≡ text.old.items ++ objects_line totals.now) }
+{
+    push_numbered(text, b"objects ", totals.objects)?;
     push_numbered(text, b" free ", totals.free)?;
     push(text, b"\n")
+}
+
+// The counts of frames, slabs and objects.
+fn push_totals(text: &mut Vec<u8>, totals: &Totals, broken: u64) -> Result<(), NoMemory>
+    ensures { OnOk result (text.new.items ≡ text.old.items ++ totals_lines totals.now broken) }
+{
+    push_frames(text, totals)?;
+    push_slabs(text, totals, broken)?;
+    push_objects(text, totals)
 }
 
 // The lines of what was seen.

@@ -15,4 +15,4 @@ returns-clause-output g c =
     c.in_ok-noted.ensures.told c.in_ok-note.ensures.made (rw c.in_ok-noted.ensures.files at c.in_ok-types.ensures.told)
     (rw (c.in_ok-types.ensures.files, c.in_ok-noted.ensures.files) at c.in_ok-map.ensures.told)
     (rw (c.in_ok-map.ensures.files, c.in_ok-types.ensures.files, c.in_ok-map.ensures.others_opened Dump refl, c.in_ok-types.ensures.others_opened Dump refl) c.in_ok-noted.ensures.content)
-    c.look_with.ensures.output
+    (rw c.deref.ensures at c.look_with.ensures.output)

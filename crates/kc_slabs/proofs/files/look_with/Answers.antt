@@ -1,4 +1,4 @@
-use Rattle.std.proofs.Common.{arith}
+use Rattle.std.proofs.Common.{◌≡◌, Err, arith, rules}
 use Rattle.std.specs.Option.{option_copied}
 use Rattle.kc_outside.specs.declared.store.Slot.TheVariants.{Dump}
 use Rattle.kc_outside.specs.Files.{content}
@@ -18,8 +18,9 @@ pub returns-in_err-shape-clause-output : goal.returns-in_err-shape-clause-output
 returns-in_err-shape-clause-output g c =
     let files = c.args.files.now in
     let read = c.in_ok-symbols.ensures.made in
-    prints_halt (content (g.S.Store.files c.args.store.now) Dump (g.S.Store.opened c.args.store.now Dump)) (option_copied c.args.asks.now.cache) files.core.now.segments files.info files.note.now files.types.now files.map.now
-    (symbol c.in_ok-symbols.symbols) read.0 _ read.1 read.2 c.in_err-shape.ensures.made
+    let ended : c.from_residual-in_err-shape.result ≡ Err c.in_err-shape.field-0.0 = search rules in
+    rw ended (prints_halt (content (g.S.Store.files c.args.store.now) Dump (g.S.Store.opened c.args.store.now Dump)) (option_copied c.args.asks.now.cache) files.core.now.segments files.info files.note.now files.types.now files.map.now
+    (symbol c.in_ok-symbols.symbols) read.0 _ read.1 read.2 c.in_err-shape.ensures.made)
 
 -- the file bytes of a segment end no later than its memory
 pub look_at-requires-clause-memory : goal.look_at-requires-clause-memory
