@@ -174,12 +174,25 @@ class Pages(Folder):
         self.assertEqual(sorted(os.listdir(self.path("kept"))), ["all.report", "all.toml"])
 
     def test_compressed_goes_through_kplain(self):
+        self.write("core", core_with_note(b"OSRELEASE=6.1.0-test\n") + bytes(1 << 23))
+        self.script("kplain", f'[ "$2" = {self.path("vmcore")} ] || exit 6\n[ "$1" = core ] && exec cat {self.path("core")}\n'
+                              f'[ "$1" = check ] || exit 6\ncat <<T\n{CLEAN}\nT\n')
+        self.program("kaudit", "", 2, "refused dump E2")
+        for kind, head in (("compressed kdump", b"KDUMP   "), ("flattened", b"makedumpfile")):
+            with self.subTest(kind):
+                self.write("vmcore", head + bytes(5000))
+                status, out, _ = self.triage("--keep", self.path("kept"))
+                self.assertEqual((status, f"({kind})" in out, "6.1.0-test" in out), (0, True, True))
+                self.assertIn(f"  kwhy {self.path('vmcore')} ", out)
+                self.assertNotIn("core", os.listdir(self.path("kept")))
+
+    def test_a_page_that_cannot_be_had(self):
         self.write("vmcore", b"KDUMP   " + bytes(5000))
         self.write("core", core_with_note(b"OSRELEASE=6.1.0-test\n"))
-        self.script("kplain", f'[ "$1" = core ] && [ "$2" = {self.path("vmcore")} ] && exec cat {self.path("core")}\nexit 6\n')
-        status, out, _ = self.triage()
-        self.assertEqual((status, "(compressed kdump)" in out), (0, True))
-        self.assertIn(f"  kplain core {self.path('vmcore')} > ", out)
+        self.script("kplain", f'[ "$1" = core ] && exec cat {self.path("core")}\necho "store failed" >&2\necho "bad page 5 D1" >&2\nexit 3\n')
+        status, out, err = self.triage()
+        self.assertEqual((status, out, err.count("\n")), (3, "", 1))
+        self.assertIn("bad page 5 D1", err)
 
 
 class BadInput(Folder):

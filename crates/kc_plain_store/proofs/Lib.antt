@@ -1,3 +1,2 @@
 pub mod PageLemmas
 pub mod ViewLemmas
-pub mod CopyingLemmas

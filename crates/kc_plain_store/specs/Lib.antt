@@ -2,4 +2,3 @@ pub mod Kept
 pub mod Seen
 pub mod Shapes
 pub mod ViewLaws
-pub mod Copying

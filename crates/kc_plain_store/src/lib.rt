@@ -2,7 +2,6 @@
 #![tactic(auto)]
 
 mod calls;
-mod copying;
 mod keeping;
 mod opening;
 mod pages;
@@ -13,7 +12,6 @@ mod shown;
 mod stop;
 mod view;
 
-pub use copying::{CopyStop, copy_file};
 pub use place::{Kept, PagePlace, Room};
 pub use plain_core::PlainCore;
 pub use shape::Shape;

@@ -67,6 +67,13 @@ impl<S: Store + Drop> View<S> {
         })
     }
 
+    /// The store below, which tells more of a failure that was its own.
+    pub fn store(&self) -> &S
+        ensures { result.now ≡ self.now.store }
+    {
+        &self.store
+    }
+
     /// Why the last call that failed did, if one did.
     pub fn fault(&self) -> Option<ViewFault> {
         self.calls.last

@@ -1,9 +1,14 @@
 //! kwhy: what lies at an address of a dump, which words of the dump hold it, or what explains a report.
 #![tactic(auto)]
 
+ghost use Rattle.std.specs.Prelude.{ℕ, List};
+ghost use Rattle.kc_outside.specs.declared.store.Slot.{Slot};
+
+use kc_any_dump::{any_dump, end_with_cause};
 use kc_command::Status;
-use kc_outside::{ErrSink, FileStore, OutSink};
+use kc_outside::{ErrSink, FileStore, OutSink, Sink, Store};
 use kc_why::kwhy;
+use std::alloc::Global;
 use std::env::{self, Env};
 use std::io;
 use std::process::ExitCode;
@@ -25,12 +30,28 @@ fn read_words(rt: &(impl Env + AllocGlobal)) -> Result<Vec<String>, Status> {
     }
 }
 
+// Runs the program over dumps of any form.
+fn run<S: Store + Drop, O: Sink, E: Sink>(
+    alloc: Global,
+    words: &[String],
+    store: S,
+    out: &mut O,
+    err: &mut E,
+) -> Status
+    requires { (slot : Slot) (name : List ℕ) → S.may store slot name }
+{
+    let Ok(mut dump) = any_dump(alloc, store) else {
+        return Status::OutOfMemory;
+    };
+    let status = kwhy(alloc, words, &mut dump, out, err);
+    end_with_cause(alloc, status, &dump, err)
+}
+
 fn main(rt: HostRuntime) -> ExitCode {
-    let mut store = FileStore::new(&rt);
     let mut out = OutSink::new(rt.stdout());
     let mut err = ErrSink::new(rt.stderr());
     let status = match read_words(&rt) {
-        Ok(words) => kwhy(rt.alloc(), &words, &mut store, &mut out, &mut err),
+        Ok(words) => run(rt.alloc(), &words, FileStore::new(&rt), &mut out, &mut err),
         Err(status) => status,
     };
     ExitCode::from(u8::from(status))

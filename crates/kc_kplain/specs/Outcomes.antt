@@ -1,0 +1,95 @@
+-- How the program ends.
+use Rattle.std.specs.Prelude.{◌≡◌, ◌⊎◌, ℕ, List, Bool, true, false, Option, IfSome}
+use Rattle.std.specs.Bool.{OnTrue}
+use Rattle.kc_outside.specs.declared.store.Slot.{Slot}
+use Rattle.kc_outside.specs.declared.store.Slot.TheVariants.{Dump}
+use Rattle.kc_outside.specs.Files.{Files, named}
+use Rattle.kc_outside.specs.Texts.{with_piece}
+use Rattle.kc_command.specs.declared.ends.status.Status.{Status}
+use Rattle.kc_command.specs.declared.ends.status.Status.TheVariants.{Done, Broken, Refused, StoreFailed, SinkFailed, OutOfMemory, NoCommand}
+use Rattle.kc_command.specs.Ends.Failures.{memory_refused, store_failed}
+use Rattle.kc_command.specs.Ends.Status.{At, is_silent}
+use Rattle.kc_command.specs.Ends.Unopened.{AskedStay}
+use Rattle.kc_any_dump.specs.declared.cause.Cause.{Cause}
+use Rattle.kc_any_dump.specs.Causes.{SaysCause, cause_status}
+use Rattle.kc_any_dump.specs.Lines.{cause_line}
+use Rattle.kc_app.specs.CertHeadline.{CertifyEnds, RecheckEnds}
+use Rattle.kc_app.specs.Headline.{CheckEnds, CheckPrints}
+use Rattle.kc_app.specs.ModuleHeadline.{ModuleCheckEnds, ModuleCheckPrints}
+use Rattle.kc_app.specs.Output.{IsToldBy, TookTrue, out_of}
+use Rattle.kc_app.specs.Program.{program}
+
+-- ---- the command `core`
+
+-- its statuses
+abbrev pub is_core : Status → Bool
+is_core Broken = false
+is_core NoCommand = false
+is_core _ = true
+
+-- those after the dump was opened
+abbrev pub is_copy : Status → Bool
+is_copy Done = true
+is_copy StoreFailed = true
+is_copy SinkFailed = true
+is_copy _ = false
+
+-- those where it wasn't read to its end, or not written
+abbrev pub is_failed : Status → Bool
+is_failed StoreFailed = true
+is_failed SinkFailed = true
+is_failed _ = false
+
+-- and those where it wasn't opened
+abbrev pub is_unopened : Status → Bool
+is_unopened Refused = true
+is_unopened OutOfMemory = true
+is_unopened _ = false
+
+-- a cause has the status, and standard error took its line
+abbrev pub CausedBy : Status → Option (List ℕ) → Option (List ℕ) → Type 0
+CausedBy ends old new = (cause : Cause) × (ends ≡ cause_status cause) × (new ≡ with_piece old (cause_line cause))
+
+-- standard error took the line that the store failed, or that of a page that can't be had
+abbrev pub StoreSays : Option (List ℕ) → Option (List ℕ) → Type 0
+StoreSays old new = (new ≡ with_piece old store_failed) ⊎ CausedBy StoreFailed old new
+
+-- Where it ends with 0, standard output took the whole file that is shown for the dump. Where the dump's form is refused, and where no
+-- memory was left to open it, standard output took nothing.
+pub record CoreEnds (files : Option Files) (name : List ℕ) (ends : Status) (out_old out_new err_old err_new : Option (List ℕ)) : Type 0 where
+  pub status : is_core ends ≡ true
+  pub whole : At ends Done (IfSome (named files Dump name) (λ bytes. out_new ≡ with_piece out_old bytes))
+  pub unsaid : At ends Done (err_new ≡ err_old)
+  pub refused : At ends Refused (CausedBy ends err_old err_new)
+  pub store : At ends StoreFailed (StoreSays err_old err_new)
+  pub memory : At ends OutOfMemory (err_new ≡ with_piece err_old memory_refused)
+  pub silent : OnTrue (is_unopened ends) (out_new ≡ out_old)
+
+-- ---- the commands of kaudit
+
+-- the statuses of an answer that no failure of the store has
+abbrev pub is_settled : Status → Bool
+is_settled Done = true
+is_settled Broken = true
+is_settled NoCommand = true
+is_settled _ = false
+
+-- where kaudit ended since the store failed, and said so, the program ended by a cause
+abbrev pub SaysAfter : Status → Option (List ℕ) → Option (List ℕ) → Type 0
+SaysAfter ends old new = (cause : Cause) × SaysCause cause ends (with_piece old store_failed) new
+
+-- An answer is kaudit's over the files that are shown, and so is a refusal; but for the refusal of the dump's form, whose line follows the
+-- one that the store failed.
+pub record AuditEnds (words : List (List ℕ)) (files : Option Files) (opened_old opened_new : Slot → Option (List ℕ)) (ends : Status) (out_old out_new err_old err_new : Option (List ℕ)) : Type 0 where
+  pub told : OnTrue (is_settled ends) (IsToldBy words files ends out_old out_new err_old err_new)
+  pub stands : OnTrue (is_settled ends) (IfSome files (λ f. CheckEnds words f ends))
+  pub stands_with_module : OnTrue (is_settled ends) (IfSome files (λ f. ModuleCheckEnds words f ends))
+  pub roots : OnTrue (is_settled ends) (IfSome files (λ f. CheckPrints words f out_old out_new))
+  pub roots_with_module : OnTrue (is_settled ends) (IfSome files (λ f. ModuleCheckPrints words f out_old out_new))
+  pub shown : OnTrue (is_settled ends) (IfSome files (λ f. TookTrue (out_of words f) out_old out_new))
+  pub certified : OnTrue (is_settled ends) (IfSome files (λ f. CertifyEnds words f ends out_old out_new))
+  pub rechecked : OnTrue (is_settled ends) (IfSome files (λ f. RecheckEnds words f ends out_old out_new err_old err_new))
+  pub refused : At ends Refused ((IsToldBy words files ends out_old out_new err_old err_new × AskedStay (program words) files opened_old opened_new) ⊎ SaysAfter ends err_old err_new)
+  pub store : At ends StoreFailed ((err_new ≡ with_piece err_old store_failed) ⊎ SaysAfter ends err_old err_new)
+  pub memory : At ends OutOfMemory ((err_new ≡ with_piece err_old memory_refused) ⊎ SaysAfter ends err_old err_new)
+  pub silent : OnTrue (is_silent ends) (out_new ≡ out_old)
