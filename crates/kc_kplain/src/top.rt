@@ -52,6 +52,8 @@ pub fn kplain<D: Store + TellsCause, O: Sink, E: Sink>(
     ensures usage_only { form_of (map string_bytes words.now) ≡ Usage
         → IsTrue (nat_eq (number result) 6 || nat_eq (number result) 4) }
     ensures usage_unasked { form_of (map string_bytes words.now) ≡ Usage → D.asked dump.new ≡ D.asked dump.old }
+    ensures usage_silent { form_of (map string_bytes words.now) ≡ Usage → O.asked out.new ≡ O.asked out.old }
+    ensures usage_silent_text { form_of (map string_bytes words.now) ≡ Usage → O.taken out.new ≡ O.taken out.old }
 
     // Where nothing failed, there is an answer or want of memory.
     ensures complete { (Rose (D.faults dump.old) (D.faults dump.new) → ⊥)
