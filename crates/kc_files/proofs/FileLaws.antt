@@ -7,7 +7,7 @@ use Rattle.kc_memory.specs.Stopped.{Stopped}
 use Rattle.kc_memory.specs.Translation.{vword}
 use Rattle.kc_kallsyms.specs.declared.fault.TableFault.{TableFault}
 use Rattle.kc_kallsyms.specs.declared.fault.TableFault.TheVariants.{S10, S11}
-use Rattle.kc_kallsyms.specs.declared.frame.Frame.{Frame}
+use Rattle.kc_kallsyms.specs.declared.frame.RowFrame.{RowFrame}
 use Rattle.kc_kallsyms.specs.Addresses.{offset_of}
 use Rattle.kc_kallsyms.specs.Bytes.{byte_at, byte_in, bytes_at, onward, word_start}
 use Rattle.kc_kallsyms.specs.Map.{kernel_at}
@@ -70,7 +70,7 @@ less_by start end is = grind (arith, nat_tests)
 size_is : (start end n : ℕ) → size_between start end ≡ Ok n → start + n ≡ end
 size_is start end n is = sized (nat_le start end) (nat_le (end - start) (2 ^ 26)) start end n (less_by start end) is
 
-pub record Between (image : Image) (frame : Frame) (first last : Option ℕ) (bytes : List ℕ) : Type 0 where
+pub record Between (image : Image) (frame : RowFrame) (first last : Option ℕ) (bytes : List ℕ) : Type 0 where
   pub start : ℕ
   pub end : ℕ
   pub starts : address_by frame first ≡ Some start
@@ -78,7 +78,7 @@ pub record Between (image : Image) (frame : Frame) (first last : Option ℕ) (by
   pub whole : start + length bytes ≡ end
   pub stand : BytesStand image start bytes
 
-between : (image : Image) (frame : Frame) (first last : Option ℕ) (bytes : List ℕ) → types_between image frame first last ≡ Ok bytes → Between image frame first last bytes
+between : (image : Image) (frame : RowFrame) (first last : Option ℕ) (bytes : List ℕ) → types_between image frame first last ≡ Ok bytes → Between image frame first last bytes
 unfolding types_between
 between image frame first last bytes is =
     let a = went (wanted S10 (address_by frame first)) (λ start. wanted S10 (address_by frame last) >>= (λ end. size_between start end >>= (λ size. bytes_at image size start))) bytes is in

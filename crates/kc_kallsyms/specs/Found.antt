@@ -3,7 +3,7 @@ use Rattle.std.specs.Prelude.{◌≡◌, ⊤, ℕ, List, codes, Option, Some, No
 use Rattle.kc_memory.specs.Image.{Image}
 use Rattle.kc_kallsyms.specs.declared.kernel.Kernel.{Kernel as CodeKernel}
 use Rattle.kc_kallsyms.specs.declared.places.Places.{Places}
-use Rattle.kc_kallsyms.specs.declared.stop.ReadStop.{ReadStop}
+use Rattle.kc_kallsyms.specs.declared.stop.TableStop.{TableStop}
 use Rattle.kc_kallsyms.specs.Addresses.{offset_of}
 use Rattle.kc_kallsyms.specs.Map.{kernel_at}
 use Rattle.kc_kallsyms.specs.Reading.{Stops}
@@ -18,7 +18,7 @@ pub record IsFound (image : Image) (kaslr : ℕ) (places : Places) (found : Code
   pub start : found.marks.start ≡ offset_of (codes "__start_BTF") symbols
   pub end : found.marks.end ≡ offset_of (codes "__stop_BTF") symbols
 
-abbrev pub FindsAs : ℕ → Places → Option Image → Result CodeKernel ReadStop → Type 0
+abbrev pub FindsAs : ℕ → Places → Option Image → Result CodeKernel TableStop → Type 0
 FindsAs kaslr places None r = ⊤
 FindsAs kaslr places (Some image) (Ok found) = IsFound image kaslr places found
 FindsAs kaslr places (Some image) (Err stop) = Stops (kernel_at image kaslr places) stop

@@ -6,7 +6,7 @@ ghost use Rattle.kc_kallsyms.specs.Reading.{CountsReadFaults, ReadsAs};
 
 use crate::cursor::Cursor;
 use crate::fault::TableFault;
-use crate::stop::ReadStop;
+use crate::stop::TableStop;
 use kc_memory::Space;
 use kc_word::Steps;
 use std::alloc::Global;
@@ -23,7 +23,7 @@ pub fn read_bytes<S: Space, L: Ledger>(
     at: u64,
     count: u64,
     steps: &mut Steps<L>,
-) -> Result<Vec<u8>, ReadStop>
+) -> Result<Vec<u8>, TableStop>
     ensures bytes { ReadsAs (λ v. v.items) (λ image. bytes_at image count at) (S.image space.old) result }
     ensures stays { SpaceStays S.image S.files S.through S.most space.old space.new }
     ensures cause { CountsReadFaults result (S.faults space.old) (S.faults space.new) }
@@ -47,7 +47,7 @@ pub(crate) fn read_string<S: Space, L: Ledger>(
     number: u16,
     at: u64,
     steps: &mut Steps<L>,
-) -> Result<Vec<u8>, ReadStop>
+) -> Result<Vec<u8>, TableStop>
     ensures token { ReadsAs (λ v. v.items) (λ image. string_at image number 512 at) (S.image space.old) result }
     ensures stays { SpaceStays S.image S.files S.through S.most space.old space.new }
     ensures cause { CountsReadFaults result (S.faults space.old) (S.faults space.new) }
@@ -61,5 +61,5 @@ pub(crate) fn read_string<S: Space, L: Ledger>(
         }
         token.push(byte)?;
     }
-    Err(ReadStop::Table(TableFault::S6(number)))
+    Err(TableStop::Table(TableFault::S6(number)))
 }

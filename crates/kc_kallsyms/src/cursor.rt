@@ -6,7 +6,7 @@ ghost use Rattle.kc_memory.specs.Translation.{vword};
 ghost use Rattle.kc_kallsyms.specs.Bytes.{IsKept, byte_at, byte_in, eight_at, four_at, onward, two_at, word_start};
 ghost use Rattle.kc_kallsyms.specs.Reading.{CountsReadFaults, ReadsAs};
 
-use crate::stop::ReadStop;
+use crate::stop::TableStop;
 use kc_memory::{Space, Stop, VWord};
 use kc_word::Steps;
 use std::sync::ledger::Ledger;
@@ -69,7 +69,7 @@ impl Cursor {
         &mut self,
         space: &mut S,
         steps: &mut Steps<L>,
-    ) -> Result<u8, ReadStop>
+    ) -> Result<u8, TableStop>
         requires { IsKept (S.image space.old) self.old.word }
         ensures byte { ReadsAs (λ b. b) (λ image. byte_at image self.old.at) (S.image space.old) result }
         ensures at { OnOk result (self.new.at ≡ onward self.old.at 1) }
@@ -94,7 +94,7 @@ impl Cursor {
         &mut self,
         space: &mut S,
         steps: &mut Steps<L>,
-    ) -> Result<u16, ReadStop>
+    ) -> Result<u16, TableStop>
         requires { IsKept (S.image space.old) self.old.word }
         ensures number { ReadsAs (λ n. n) (λ image. two_at image self.old.at) (S.image space.old) result }
         ensures at { OnOk result (self.new.at ≡ onward self.old.at 2) }
@@ -117,7 +117,7 @@ impl Cursor {
         &mut self,
         space: &mut S,
         steps: &mut Steps<L>,
-    ) -> Result<u32, ReadStop>
+    ) -> Result<u32, TableStop>
         requires { IsKept (S.image space.old) self.old.word }
         ensures number { ReadsAs (λ n. n) (λ image. four_at image self.old.at) (S.image space.old) result }
         ensures at { OnOk result (self.new.at ≡ onward self.old.at 4) }
@@ -140,7 +140,7 @@ impl Cursor {
         &mut self,
         space: &mut S,
         steps: &mut Steps<L>,
-    ) -> Result<u64, ReadStop>
+    ) -> Result<u64, TableStop>
         requires { IsKept (S.image space.old) self.old.word }
         ensures number { ReadsAs (λ n. n) (λ image. eight_at image self.old.at) (S.image space.old) result }
         ensures kept { IsKept (S.image space.new) self.new.word }

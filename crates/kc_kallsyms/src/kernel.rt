@@ -10,11 +10,11 @@ ghost use Rattle.kc_kallsyms.specs.Judged.{Judges};
 
 use crate::bytes::read_bytes;
 use crate::fault::TableFault;
-use crate::frame::{Frame, address, reading_by};
+use crate::frame::{RowFrame, address, reading_by};
 use crate::map::Lines;
 use crate::marks::Marks;
 use crate::places::Places;
-use crate::stop::ReadStop;
+use crate::stop::TableStop;
 use crate::tabled::read_tables;
 use crate::tables::Tables;
 use crate::walk::walk_symbols;
@@ -27,7 +27,7 @@ use std::sync::ledger::Ledger;
 #[derive(Debug, Drop)]
 pub(crate) struct Kernel {
     pub tables: Tables,
-    pub frame: Frame,
+    pub frame: RowFrame,
     pub marks: Marks,
 }
 
@@ -39,7 +39,7 @@ fn find_kernel<S: Space, L: Ledger>(
     places: &Places,
     kaslr: u64,
     steps: &mut Steps<L>,
-) -> Result<Kernel, ReadStop>
+) -> Result<Kernel, TableStop>
     ensures kernel { FindsAs kaslr places.now (S.image space.old) result }
     ensures stays { SpaceStays S.image S.files S.through S.most space.old space.new }
     ensures cause { CountsReadFaults result (S.faults space.old) (S.faults space.new) }
@@ -53,7 +53,7 @@ fn find_kernel<S: Space, L: Ledger>(
     };
     walk_symbols(alloc, space, places, &tables, &mut marks, steps)?;
     let reading = reading_by(places.text, tables.base, marks.text).ok_or(TableFault::S9)?;
-    let frame = Frame {
+    let frame = RowFrame {
         reading,
         base: tables.base,
         kaslr,
@@ -78,7 +78,7 @@ pub fn read_map<S: Space, L: Ledger>(
     places: &Places,
     kaslr: u64,
     steps: &mut Steps<L>,
-) -> Result<Vec<u8>, ReadStop>
+) -> Result<Vec<u8>, TableStop>
     ensures map { ReadsAs (λ text. text.items) (λ image. map_at image kaslr places.now) (S.image space.old) result }
     ensures stays { SpaceStays S.image S.files S.through S.most space.old space.new }
     ensures cause { CountsReadFaults result (S.faults space.old) (S.faults space.new) }
@@ -93,7 +93,7 @@ pub fn read_map<S: Space, L: Ledger>(
 }
 
 // Where a symbol of an offset stands at run time.
-fn address_by(frame: &Frame, offset: Option<u32>) -> Result<u64, TableFault>
+fn address_by(frame: &RowFrame, offset: Option<u32>) -> Result<u64, TableFault>
     ensures { Judges (wanted S10 (address_by frame.now offset)) result }
 {
     match offset {
@@ -121,11 +121,11 @@ fn size_between(start: u64, end: u64) -> Result<u64, TableFault>
 fn read_between<S: Space, L: Ledger>(
     alloc: Global,
     space: &mut S,
-    frame: &Frame,
+    frame: &RowFrame,
     first: Option<u32>,
     last: Option<u32>,
     steps: &mut Steps<L>,
-) -> Result<Vec<u8>, ReadStop>
+) -> Result<Vec<u8>, TableStop>
     ensures types { ReadsAs (λ bytes. bytes.items) (λ image. types_between image frame.now first last) (S.image space.old) result }
     ensures stays { SpaceStays S.image S.files S.through S.most space.old space.new }
     ensures cause { CountsReadFaults result (S.faults space.old) (S.faults space.new) }
@@ -148,7 +148,7 @@ pub fn read_types<S: Space, L: Ledger>(
     places: &Places,
     kaslr: u64,
     steps: &mut Steps<L>,
-) -> Result<Vec<u8>, ReadStop>
+) -> Result<Vec<u8>, TableStop>
     ensures types { ReadsAs (λ bytes. bytes.items) (λ image. types_at image kaslr places.now) (S.image space.old) result }
     ensures stays { SpaceStays S.image S.files S.through S.most space.old space.new }
     ensures cause { CountsReadFaults result (S.faults space.old) (S.faults space.new) }

@@ -11,7 +11,7 @@ use crate::bytes::read_string;
 use crate::cursor::{Cursor, onward};
 use crate::fault::TableFault;
 use crate::places::Places;
-use crate::stop::ReadStop;
+use crate::stop::TableStop;
 use crate::tables::Tables;
 use kc_memory::Space;
 use kc_word::Steps;
@@ -44,7 +44,7 @@ fn read_token<S: Space, L: Ledger>(
     table: u64,
     number: u16,
     steps: &mut Steps<L>,
-) -> Result<Vec<u8>, ReadStop>
+) -> Result<Vec<u8>, TableStop>
     requires { IsKept (S.image space.old) cursor.old.word }
     ensures token { ReadsAs (λ v. v.items) (λ image. token_at image table number cursor.old.at) (S.image space.old) result }
     ensures at { OnOk result (cursor.new.at ≡ onward cursor.old.at 2) }
@@ -63,7 +63,7 @@ fn read_tokens<S: Space, L: Ledger>(
     table: u64,
     index: u64,
     steps: &mut Steps<L>,
-) -> Result<Vec<Vec<u8>>, ReadStop>
+) -> Result<Vec<Vec<u8>>, TableStop>
     ensures tokens { ReadsAs (λ ts. map (λ t. t.items) ts.items) (λ image. tokens_at image table 256 0 index) (S.image space.old) result }
     ensures count { IfOk result (λ ts. vec_len ts ≡ 256) }
     ensures stays { SpaceStays S.image S.files S.through S.most space.old space.new }
@@ -89,7 +89,7 @@ pub fn read_tables<S: Space, L: Ledger>(
     space: &mut S,
     places: &Places,
     steps: &mut Steps<L>,
-) -> Result<Tables, ReadStop>
+) -> Result<Tables, TableStop>
     ensures tables { ReadsAs tables_view (λ image. tables_at image places.now) (S.image space.old) result }
     ensures stays { SpaceStays S.image S.files S.through S.most space.old space.new }
     ensures cause { CountsReadFaults result (S.faults space.old) (S.faults space.new) }

@@ -9,7 +9,7 @@ ghost use Rattle.kc_kallsyms.specs.Walked.{WalksAs, text_from};
 
 use crate::cursor::Cursor;
 use crate::places::Places;
-use crate::stop::ReadStop;
+use crate::stop::TableStop;
 use crate::symbol::{Symbol, symbol_of};
 use crate::tables::Tables;
 use kc_memory::Space;
@@ -49,7 +49,7 @@ fn read_length<S: Space, L: Ledger>(
     space: &mut S,
     cursor: &mut Cursor,
     steps: &mut Steps<L>,
-) -> Result<u16, ReadStop>
+) -> Result<u16, TableStop>
     requires { IsKept (S.image space.old) cursor.old.word }
     ensures length { ReadsAs (λ n. record { count = n; start = cursor.new.at }) (λ image. length_at image cursor.old.at) (S.image space.old) result }
     ensures kept { IsKept (S.image space.new) cursor.new.word }
@@ -72,7 +72,7 @@ fn push_tokens<S: Space, L: Ledger>(
     count: u16,
     text: &mut Vec<u8>,
     steps: &mut Steps<L>,
-) -> Result<(), ReadStop>
+) -> Result<(), TableStop>
     requires kept { IsKept (S.image space.old) cursor.old.word }
     requires all { length tokens.now ≡ 256 }
     ensures text { ReadsAs (λ _. text.new.items) (λ image. text_from image (tokens_view tokens.now) text.old.items count cursor.old.at) (S.image space.old) result }
@@ -96,7 +96,7 @@ fn read_name<S: Space, L: Ledger>(
     tokens: &[Vec<u8>],
     text: &mut Vec<u8>,
     steps: &mut Steps<L>,
-) -> Result<(), ReadStop>
+) -> Result<(), TableStop>
     requires kept { IsKept (S.image space.old) cursor.old.word }
     requires all { length tokens.now ≡ 256 }
     ensures name { ReadsAs (λ _. record { text = text.new.items; next = cursor.new.at })
@@ -131,7 +131,7 @@ impl Walk {
         space: &mut S,
         tokens: &[Vec<u8>],
         steps: &mut Steps<L>,
-    ) -> Result<u32, ReadStop>
+    ) -> Result<u32, TableStop>
         requires names { IsKept (S.image space.old) self.old.names.word }
         requires offsets { IsKept (S.image space.old) self.old.offsets.word }
         requires all { length tokens.now ≡ 256 }
@@ -159,7 +159,7 @@ pub fn walk_symbols<S: Space, L: Ledger, R: Rows>(
     tables: &Tables,
     rows: &mut R,
     steps: &mut Steps<L>,
-) -> Result<(), ReadStop>
+) -> Result<(), TableStop>
     ensures symbols { WalksAs (R.took rows.old rows.new) (λ image. symbols_in image places.now (tables_view tables.now)) (S.image space.old) result }
     ensures stays { SpaceStays S.image S.files S.through S.most space.old space.new }
     ensures cause { CountsReadFaults result (S.faults space.old) (S.faults space.new) }

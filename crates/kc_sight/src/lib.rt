@@ -14,7 +14,7 @@ mod symbol;
 mod words;
 
 pub use aliases::{Aliases, Rules, read_aliases};
-pub use entries::{Entry, page_bytes, read_entries};
+pub use entries::{TableEntry, page_bytes, read_entries};
 pub use holders::find_holders;
 pub use laws::know_sights;
 pub use meaning::{Meaning, meaning_of};

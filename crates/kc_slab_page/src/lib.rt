@@ -18,4 +18,4 @@ pub use laws::know_slab_pages;
 pub use mark::Mark;
 pub use page::{PageSeen, SlabSeen, SlabState, look_at_page};
 pub use shape::PageShape;
-pub use slab::{Counted, SlabFree, is_laid, read_counts, read_list};
+pub use slab::{SlabCounted, SlabFree, is_laid, read_counts, read_list};

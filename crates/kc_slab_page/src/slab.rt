@@ -28,7 +28,7 @@ pub struct SlabFree {
 
 /// How many objects a slab has.
 #[derive(Clone, Copy, Debug, PartialEq, Eq)]
-pub struct Counted {
+pub struct SlabCounted {
     /// All of them. It isn't 0.
     pub objects: u64,
     /// Those that its own free list doesn't have: at most `objects`.
@@ -55,7 +55,7 @@ pub fn read_counts<S: Space, L: Ledger>(
     shape: &SlubShape,
     slab: &View<'_>,
     steps: &mut Steps<L>,
-) -> Result<Counted, WalkStop>
+) -> Result<SlabCounted, WalkStop>
     ensures exact { WalksAs (λ n. n) (λ i. counted i shape.now slab.now.at) (S.image space.old) result }
     ensures stays { SpaceStays S.image S.files S.through S.most space.old space.new }
     ensures cause { CountsWalkFaults result (S.faults space.old) (S.faults space.new) }
@@ -67,7 +67,7 @@ pub fn read_counts<S: Space, L: Ledger>(
     if objects.value() == 0 || objects.value() < inuse.value() {
         return Err(broken_field(alloc, &asked, Rule::U3, objects.at, &objects.number, None));
     }
-    Ok(Counted {
+    Ok(SlabCounted {
         objects: objects.value(),
         inuse,
         frozen: frozen != 0,
@@ -104,7 +104,7 @@ fn read_free<S: Space, L: Ledger>(
     shape: &SlubShape,
     grid: &Grid,
     slab: &View<'_>,
-    counts: &Counted,
+    counts: &SlabCounted,
     steps: &mut Steps<L>,
 ) -> Result<SlabFree, WalkStop>
     requires { IsGrid grid.now }
