@@ -37,6 +37,13 @@ pub struct SlabCounted {
     pub frozen: bool,
 }
 
+// A page's descriptor, and what it has as its cache.
+#[derive(Clone, Copy)]
+pub(crate) struct NamedPage<'p> {
+    pub(crate) view: &'p View<'p>,
+    pub(crate) cache: &'p FieldNumber,
+}
+
 /// Whether objects have a size, in which the 8 bytes of their free pointer lie.
 pub fn is_laid(objects: SlabObjects) -> bool
     ensures { result ≡ is_laid objects }
@@ -140,20 +147,20 @@ pub(crate) fn read_slab<S: Space, L: Ledger>(
     shape: &SlubShape,
     bases: &SlubBases,
     objects: &SlabObjects,
-    slab: &View<'_>,
-    cache: &FieldNumber,
+    slab: &NamedPage<'_>,
     steps: &mut Steps<L>,
 ) -> Result<SlabFree, WalkStop>
     requires { IsTrue (is_laid objects.now) }
-    ensures exact { WalksAs (λ f. f) (λ i. slab_free i shape.now bases.now objects.now slab.now.at cache.now) (S.image space.old) result }
+    ensures exact { WalksAs (λ f. f) (λ i. slab_free i shape.now bases.now objects.now slab.now.view.now.at slab.now.cache.now) (S.image space.old) result }
     ensures stays { SpaceStays S.image S.files S.through S.most space.old space.new }
     ensures cause { CountsWalkFaults result (S.faults space.old) (S.faults space.new) }
 {
-    if !is_descriptor(shape, bases, slab.at()) {
-        let asked = looked_at(slab.at());
-        return Err(broken_field(alloc, &asked, Rule::U4, slab.at(), &cache.number, None));
+    let view = slab.view;
+    if !is_descriptor(shape, bases, view.at()) {
+        let asked = looked_at(view.at());
+        return Err(broken_field(alloc, &asked, Rule::U4, view.at(), &slab.cache.number, None));
     }
-    let counts = read_counts(alloc, space, shape, slab, steps)?;
-    let grid = grid_of(shape, bases, objects, slab.at(), counts.objects);
-    read_free(alloc, space, shape, &grid, slab, &counts, steps)
+    let counts = read_counts(alloc, space, shape, view, steps)?;
+    let grid = grid_of(shape, bases, objects, view.at(), counts.objects);
+    read_free(alloc, space, shape, &grid, view, &counts, steps)
 }
