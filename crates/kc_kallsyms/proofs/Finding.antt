@@ -21,7 +21,7 @@ use Rattle.kc_kallsyms.specs.Views.{tables_view}
 
 -- no symbol is known at first
 abbrev pub unmarked : Marks
-unmarked = record { text = None; processors = None; start = None; end = None }
+unmarked = record { text = None; processors = None; start = None; end = None; loaded = None; typed = None }
 
 -- the tables can't be read
 kernel-no_tables : (image : Image) (kaslr : ℕ) (places : Places) (e : Why) → tables_at image places ≡ Err e → kernel_at image kaslr places ≡ Err e
@@ -78,4 +78,6 @@ found (Some image) kaslr places kernel reading read came by frame =
           ∙ ap (λ f. let r : Result Kernel Why = Ok (record { symbols = came.all; frame = f }) in r) (sym framed);
       start = came.holds.start;
       end = came.holds.end;
+      loaded = came.holds.loaded;
+      typed = came.holds.typed;
     }
