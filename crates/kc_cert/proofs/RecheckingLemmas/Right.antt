@@ -55,7 +55,7 @@ checks_none i asked element (check ∷ checks) e =
     let parts = wrong_parts (checked asked element check there) (checks_seen (world i) asked checks element) e in
     ap (λ es. es ++ checks_seen (world i) asked checks element) (check_none asked element check there parts.0) ∙ checks_none i asked element checks parts.1
 
-none_of : (o : Option Violation) → is_none o ≡ true → o ≡ None
+pub none_of : (o : Option Violation) → is_none o ≡ true → o ≡ None
 none_of None e = refl
 none_of (Some v) e = let none : ⊥ = cc in absurd none
 
@@ -90,7 +90,7 @@ nodes_tallied i n a start judge see (node ∷ nodes) p after further hold e = by
         tally_goes p.counts q.counts (at_element (world i) n a start see (container_of a.link node)) _ (ap (tally p.counts) here ∙ first)
         ∙ more q parts.1 e
 
-fits_parts : (i : Image) (n : ℕ) (a : AuditAt) (start : ℕ) (s : CertStep) → fits i n a start s ≡ true → (is_shape i a.kind n start s.lists ≡ true) × (all_hold i n a start (nodes_in a.kind s.lists) ≡ true)
+pub fits_parts : (i : Image) (n : ℕ) (a : AuditAt) (start : ℕ) (s : CertStep) → fits i n a start s ≡ true → (is_shape i a.kind n start s.lists ≡ true) × (all_hold i n a start (nodes_in a.kind s.lists) ≡ true)
 unfolding fits
 fits_parts i n a start s is =
     let parts = and_parts (nat_eq s.audit n && nat_eq s.start start) (is_shape i a.kind n start s.lists && all_hold i n a start (nodes_in a.kind s.lists)) is in
