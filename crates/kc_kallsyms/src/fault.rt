@@ -86,7 +86,7 @@ pub enum TableFault {
     /// The types lack this member.
     #[error("S14: the types lack a member: {0:?}")]
     S14(ModuleMember),
-    /// A list of modules has more than 65,536 nodes.
+    /// A list of modules has 65,536 nodes or more: it runs into itself.
     #[error("S15: the list of modules has no end")]
     S15,
     /// No module that has types has the name.
