@@ -1,5 +1,6 @@
 -- What the files that are made of a dump say of it, in the words of the field.
 use Rattle.std.specs.Prelude.{◌≡◌, ℕ, ◌+◌, ◌^◌, ◌<◌, ◌≤◌, List, [], ◌∷◌, length, map, codes, Some, Ok}
+use Rattle.kc_bytes.specs.Bytes.{byte_in, onward, word_start}
 use Rattle.kc_memory.specs.declared.words.VWord.{VWord}
 use Rattle.kc_memory.specs.Image.{Image}
 use Rattle.kc_memory.specs.Translation.{vword}
@@ -9,7 +10,6 @@ use Rattle.kc_syms.specs.Spelling.{SpellAll}
 use Rattle.kc_kallsyms.specs.declared.frame.RowFrame.{RowFrame}
 use Rattle.kc_kallsyms.specs.declared.places.Places.{Places}
 use Rattle.kc_kallsyms.specs.Addresses.{linked, offset_of}
-use Rattle.kc_kallsyms.specs.Bytes.{byte_in, onward, word_start}
 use Rattle.kc_kallsyms.specs.Map.{Kernel, kernel_at, listed, map_at}
 use Rattle.kc_kallsyms.specs.Symbols.{Symbol}
 use Rattle.kc_kallsyms.specs.Types.{address_by, types_at}

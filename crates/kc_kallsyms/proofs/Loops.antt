@@ -9,7 +9,8 @@ use Rattle.kc_kallsyms.specs.declared.fault.TableFault.{TableFault}
 use Rattle.kc_kallsyms.specs.declared.fault.TableFault.TheVariants.{S6}
 use Rattle.kc_kallsyms.specs.declared.stop.TableStop.{TableStop}
 use Rattle.kc_kallsyms.specs.declared.stop.TableStop.TheVariants.{Table}
-use Rattle.kc_kallsyms.specs.Bytes.{byte_at, bytes_at, onward, string_at}
+use Rattle.kc_bytes.specs.Bytes.{onward}
+use Rattle.kc_kallsyms.specs.Bytes.{byte_at, bytes_at, string_at}
 use Rattle.kc_kallsyms.specs.Going.{CameAs, GoesAs}
 use Rattle.kc_kallsyms.specs.Reading.{ReadsAs, Why}
 use Rattle.kc_kallsyms.specs.Symbols.{Entry, Spot, Symbol, entry_at, symbol_of, symbols_at, token_of}
@@ -26,32 +27,6 @@ Text o truth r = ReadsAs (λ (v : Vec ℕ). v.items) truth o r
 
 pushed : (old new : List ℕ) (byte : ℕ) → new ≡ old ++ byte ∷ [] → (done : List ℕ) → old ≡ done → new ≡ done ++ byte ∷ []
 pushed old new byte is done so_far = is ∙ ap (λ (l : List ℕ). l ++ byte ∷ []) so_far
-
--- bytes
-pub bytes_go : (o : Option Image) (count start i at next byte : ℕ) (old new : List ℕ)
-    → GoesAs (λ bs. old ≡ bs) (λ image. bytes_at image count start) (λ image. bytes_at image (count - i) at) o
-    → Read o (λ image. byte_at image at) (Ok byte) → i < count → next ≡ onward at 1 → new ≡ old ++ byte ∷ []
-    → GoesAs (λ bs. new ≡ bs) (λ image. bytes_at image count start) (λ image. bytes_at image (count - (i + 1)) next) o
-bytes_go o count start i at next byte old new goes read lt is more =
-    goes_more (λ (bs : List ℕ). old ≡ bs) (λ (bs : List ℕ). new ≡ bs) (λ image. bytes_at image count start) (λ image. bytes_at image (count - i) at) (λ image. bytes_at image (count - (i + 1)) next)
-    byte (λ image. byte_at image at) (λ (b : ℕ). b) byte o goes read
-    (λ image one. bytes_more image count i at next byte lt is one) (pushed old new byte more)
-
-pub bytes_halt : {W : Type 0} (o : Option Image) (count start i at : ℕ) (Holds : List ℕ → Type 0) (stop : TableStop) (seen : W → List ℕ)
-    → GoesAs Holds (λ image. bytes_at image count start) (λ image. bytes_at image (count - i) at) o
-    → Read o (λ image. byte_at image at) (Err stop) → i < count
-    → ReadsAs seen (λ image. bytes_at image count start) o (Err stop)
-bytes_halt o count start i at Holds stop seen goes read lt =
-    goes_stops Holds (λ image. bytes_at image count start) (λ image. bytes_at image (count - i) at) (λ image. byte_at image at) (λ image. bytes_at image count start)
-    (λ (b : ℕ). b) seen o stop goes read (λ image e one. bytes_stop image count i at e lt one) (λ image e is. is)
-
-pub bytes_come : (o : Option Image) (count start i at : ℕ) (v : Vec ℕ)
-    → GoesAs (λ bs. v.items ≡ bs) (λ image. bytes_at image count start) (λ image. bytes_at image (count - i) at) o → count ≤ i
-    → Text o (λ image. bytes_at image count start) (Ok v)
-bytes_come o count start i at v goes past =
-    came_as (λ (bs : List ℕ). v.items ≡ bs) (λ image. bytes_at image count start) (λ image. bytes_at image count start) (λ (w : Vec ℕ). w.items) v o
-    (goes_ends (λ (bs : List ℕ). v.items ≡ bs) (λ image. bytes_at image count start) (λ image. bytes_at image (count - i) at) o goes (λ image. bytes_end image count i at past))
-    (λ image all holds is. is ∙ ap (λ (l : List ℕ). Ok l) (sym holds))
 
 -- the bytes of a token
 pub string_go : (o : Option Image) (number room start i at next byte : ℕ) (old new : List ℕ)

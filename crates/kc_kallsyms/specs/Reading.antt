@@ -1,6 +1,8 @@
 -- What reading the tables of a dump answers: a value, or why there is none.
 use Rattle.std.specs.Prelude.{◌≡◌, ⊤, ℕ, ◌≤◌, Option, Some, None, Result, Ok, Err}
 use Rattle.kc_outside.specs.Counts.{Rose}
+use Rattle.kc_bytes.specs.declared.stop.BytesStop.{BytesStop}
+use Rattle.kc_bytes.specs.declared.stop.BytesStop.TheVariants as bytes
 use Rattle.kc_memory.specs.declared.space.Stop.{Stop}
 use Rattle.kc_memory.specs.declared.space.Stop.TheVariants as stops
 use Rattle.kc_memory.specs.Stopped.{Stopped}
@@ -55,6 +57,11 @@ ReadsAs view truth (Some image) r = Reads view (truth image) r
 abbrev pub of_stop : Stop → TableStop
 of_stop (stops.Miss s) = Miss s
 of_stop stops.Fault = Fault
+
+abbrev pub of_bytes : BytesStop → TableStop
+of_bytes (bytes.Miss s) = Miss s
+of_bytes bytes.Fault = Fault
+of_bytes bytes.NoMemory = NoMemory
 
 -- the count of failures rose where reading failed, and else it is as it was
 abbrev pub CountsReadFaults : {A : Type 0} → Result A TableStop → ℕ → ℕ → Type 0

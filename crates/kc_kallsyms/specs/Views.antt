@@ -1,7 +1,7 @@
 -- What contracts see of the code's structs.
 use Rattle.std.specs.Prelude.{ℕ, List, map}
 use Rattle.std.specs.Global.{Vec}
-use Rattle.kc_kallsyms.specs.declared.cursor.Cursor.{Cursor}
+use Rattle.kc_bytes.specs.declared.cursor.Cursor.{Cursor}
 use Rattle.kc_kallsyms.specs.declared.kernel.ListStart.{ListStart as CodeStart}
 use Rattle.kc_kallsyms.specs.declared.symbol.Symbol.{Symbol as CodeSymbol}
 use Rattle.kc_kallsyms.specs.declared.tables.Tables.{Tables as CodeTables}

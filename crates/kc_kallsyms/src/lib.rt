@@ -3,7 +3,6 @@
 #![tactic(auto)]
 
 mod bytes;
-mod cursor;
 mod fault;
 mod frame;
 mod kernel;
@@ -18,8 +17,6 @@ mod tabled;
 mod tables;
 mod walk;
 
-pub use bytes::read_bytes;
-pub use cursor::Cursor;
 pub use fault::{ModuleList, ModuleMember, TableFault, TableLine};
 pub use frame::RowFrame;
 pub use kernel::{ListStart, read_list_start, read_map, read_types};

@@ -3,6 +3,7 @@ ghost use Rattle.std.specs.Prelude.{◌≡◌};
 ghost use Rattle.kc_kallsyms.specs.declared.stop.TableStop.TheVariants as stop;
 
 use crate::fault::TableFault;
+use kc_bytes::BytesStop;
 use kc_memory::{Miss, Stop};
 use kc_word::NoMemory;
 use std::alloc::{AllocError, AllocFailed};
@@ -29,6 +30,20 @@ impl From<Stop> for TableStop {
         match stop {
             Stop::Miss(miss) => TableStop::Miss(miss),
             Stop::Fault => TableStop::Fault,
+        }
+    }
+}
+
+impl From<BytesStop> for TableStop {
+    ghost use Rattle.kc_kallsyms.specs.Reading.{of_bytes};
+
+    ghost from_gives = { λ stop r. r ≡ of_bytes stop };
+
+    fn from(stop: BytesStop) -> Self {
+        match stop {
+            BytesStop::Miss(miss) => TableStop::Miss(miss),
+            BytesStop::Fault => TableStop::Fault,
+            BytesStop::NoMemory => TableStop::NoMemory,
         }
     }
 }

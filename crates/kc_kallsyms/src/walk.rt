@@ -1,17 +1,18 @@
 // The symbols of a table, one after the other.
 ghost use Rattle.std.specs.Prelude.{◌≡◌, ◌++◌, ◌∷◌, [], List, None, length, OnOk};
 ghost use Rattle.kc_memory.specs.Stays.{SpaceStays};
-ghost use Rattle.kc_kallsyms.specs.Bytes.{IsKept, onward};
+ghost use Rattle.kc_bytes.specs.Bytes.{IsKept, onward};
 ghost use Rattle.kc_kallsyms.specs.Reading.{CountsReadFaults, ReadsAs};
 ghost use Rattle.kc_kallsyms.specs.Symbols.{Symbol as Listed, entry_at, length_at, name_at, symbols_in};
 ghost use Rattle.kc_kallsyms.specs.Views.{entry_view, spot_of, symbol_view, tables_view, tokens_view};
 ghost use Rattle.kc_kallsyms.specs.Walked.{WalksAs, text_from};
 
-use crate::cursor::Cursor;
+use crate::bytes::{next, next_four};
 use crate::places::Places;
 use crate::stop::TableStop;
 use crate::symbol::{Symbol, symbol_of};
 use crate::tables::Tables;
+use kc_bytes::Cursor;
 use kc_memory::Space;
 use kc_word::{NoMemory, Steps};
 use std::alloc::Global;
@@ -56,11 +57,11 @@ fn read_length<S: Space, L: Ledger>(
     ensures stays { SpaceStays S.image S.files S.through S.most space.old space.new }
     ensures cause { CountsReadFaults result (S.faults space.old) (S.faults space.new) }
 {
-    let low = u16::from(cursor.next(space, steps)?);
+    let low = u16::from(next(cursor, space, steps)?);
     if low < 128 {
         return Ok(low);
     }
-    let high = u16::from(cursor.next(space, steps)?);
+    let high = u16::from(next(cursor, space, steps)?);
     Ok(low % 128 + 128 * high)
 }
 
@@ -82,7 +83,7 @@ fn push_tokens<S: Space, L: Ledger>(
     ensures cause { CountsReadFaults result (S.faults space.old) (S.faults space.new) }
 {
     for i in 0..count {
-        let number = cursor.next(space, steps)?;
+        let number = next(cursor, space, steps)?;
         text.extend_from_slice(&tokens[usize::from(number)])?;
     }
     Ok(())
@@ -143,7 +144,7 @@ impl Walk {
         ensures cause { CountsReadFaults result (S.faults space.old) (S.faults space.new) }
     {
         read_name(space, &mut self.names, tokens, &mut self.text, steps)?;
-        self.offsets.next_four(space, steps)
+        next_four(&mut self.offsets, space, steps)
     }
 }
 

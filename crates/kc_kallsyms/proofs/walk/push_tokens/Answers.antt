@@ -1,6 +1,6 @@
 use Rattle.std.proofs.Common.{◌≡◌, ◌∙◌, List, ℕ, Err, ap, sym, ◌++◌, arith, rules}
 use Rattle.kc_memory.specs.Stays.{stays_on}
-use Rattle.kc_kallsyms.specs.Bytes.{onward}
+use Rattle.kc_bytes.specs.Bytes.{onward}
 use Rattle.kc_kallsyms.specs.Views.{tokens_view}
 use Rattle.kc_kallsyms.proofs.Loops.{text_come, text_go, text_halt}
 use Rattle.kc_kallsyms.proofs.Steps.{onward_more, token_is}
