@@ -16,8 +16,8 @@ use Rattle.kc_kallsyms.specs.Reading.{ReadsAs, Why}
 use Rattle.kc_kallsyms.specs.Symbols.{Entry, Spot, Symbol, entry_at, symbol_of, symbols_at, token_of}
 use Rattle.kc_kallsyms.specs.Tables.{token_at, tokens_at}
 use Rattle.kc_kallsyms.specs.Walked.{text_from}
-use Rattle.kc_kallsyms.proofs.Going.{came_as, goes_ends, goes_more, goes_stops}
-use Rattle.kc_kallsyms.proofs.Steps.{bytes_end, bytes_more, bytes_stop, string_end, string_more, string_none, string_stop, symbols_bad, symbols_end, symbols_more, symbols_stop, tokens_end, tokens_more, tokens_stop}
+use Rattle.kc_kallsyms.proofs.Going.{came_as, goes_ends, goes_first, goes_more, goes_stops}
+use Rattle.kc_kallsyms.proofs.Steps.{bytes_all, bytes_end, bytes_more, bytes_stop, string_end, string_more, string_none, string_stop, symbols_bad, symbols_end, symbols_more, symbols_stop, tokens_end, tokens_more, tokens_stop}
 
 abbrev Read : Option Image → (Image → Result ℕ Why) → Result ℕ TableStop → Type 0
 Read o truth r = ReadsAs (λ (b : ℕ). b) truth o r
@@ -114,6 +114,11 @@ joined_more tokens first old new number is done so_far =
     ∙ append_assoc first (flat_map (token_of tokens) done) (token_of tokens number)
     ∙ ap (λ (t : List ℕ). first ++ t) (ap (λ (t : List ℕ). flat_map (token_of tokens) done ++ t) (sym (append-nil (token_of tokens number)))
     ∙ sym (flat_map-append (token_of tokens) done (number ∷ [])))
+
+pub text_first : (o : Option Image) (tokens : List (List ℕ)) (count start : ℕ) (first : List ℕ)
+    → GoesAs (λ ns. first ≡ first ++ flat_map (token_of tokens) ns) (λ image. bytes_at image count start) (λ image. bytes_at image (count - 0) start) o
+text_first o tokens count start first =
+    goes_first (Joined tokens first first) (λ image. bytes_at image count start) (λ image. bytes_at image (count - 0) start) o (λ image. bytes_all image count start start refl) (sym (append-nil first))
 
 pub text_go : (o : Option Image) (tokens : List (List ℕ)) (count start i at next number : ℕ) (first old new : List ℕ)
     → GoesAs (λ ns. old ≡ first ++ flat_map (token_of tokens) ns) (λ image. bytes_at image count start) (λ image. bytes_at image (count - i) at) o
