@@ -1,5 +1,5 @@
 // The symbols of a table, one after the other.
-ghost use Rattle.std.specs.Prelude.{◌≡◌, ◌++◌, ◌∷◌, [], List, None, length, OnOk};
+ghost use Rattle.std.specs.Prelude.{◌≡◌, ◌<◌, ◌^◌, ◌++◌, ◌∷◌, [], List, None, length, OnOk};
 ghost use Rattle.kc_memory.specs.Stays.{SpaceStays};
 ghost use Rattle.kc_bytes.specs.Bytes.{IsKept, onward};
 ghost use Rattle.kc_kallsyms.specs.Reading.{CountsReadFaults, ReadsAs};
@@ -53,6 +53,7 @@ fn read_length<S: Space, L: Ledger>(
 ) -> Result<u16, TableStop>
     requires { IsKept (S.image space.old) cursor.old.word }
     ensures length { ReadsAs (λ n. record { count = n; start = cursor.new.at }) (λ image. length_at image cursor.old.at) (S.image space.old) result }
+    ensures fits { OnOk result (cursor.new.at < 2 ^ 64) }
     ensures kept { IsKept (S.image space.new) cursor.new.word }
     ensures stays { SpaceStays S.image S.files S.through S.most space.old space.new }
     ensures cause { CountsReadFaults result (S.faults space.old) (S.faults space.new) }
@@ -65,7 +66,7 @@ fn read_length<S: Space, L: Ledger>(
     Ok(low % 128 + 128 * high)
 }
 
-// Adds the tokens of so many numbers to a text.
+// Adds the tokens of so many numbers to a text. The place is an address of 64 bits.
 fn push_tokens<S: Space, L: Ledger>(
     space: &mut S,
     cursor: &mut Cursor,
@@ -75,6 +76,7 @@ fn push_tokens<S: Space, L: Ledger>(
     steps: &mut Steps<L>,
 ) -> Result<(), TableStop>
     requires kept { IsKept (S.image space.old) cursor.old.word }
+    requires fits { cursor.old.at < 2 ^ 64 }
     requires all { length tokens.now ≡ 256 }
     ensures text { ReadsAs (λ _. text.new.items) (λ image. text_from image (tokens_view tokens.now) text.old.items count cursor.old.at) (S.image space.old) result }
     ensures at { OnOk result (cursor.new.at ≡ onward cursor.old.at count) }

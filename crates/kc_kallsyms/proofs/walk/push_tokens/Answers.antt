@@ -9,7 +9,7 @@ use Rattle.kc_kallsyms.proofs.walk.push_tokens.Goals as goal
 pub loop-i-init : goal.loop-i-init
 loop-i-init g c = record {
   goes = text_first (g.S.Space.image c.args.space.now) (tokens_view c.args.tokens.now) c.args.count c.args.cursor.now.at c.args.text.now.items;
-  place = search rules;
+  place = let fits = c.requires.fits in omega (arith, fits);
   kept = search rules;
   stays = search rules;
   quiet = search rules;
