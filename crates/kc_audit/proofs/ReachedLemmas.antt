@@ -1,5 +1,5 @@
 -- A root audit reaches the audits that a path of `each` leads to.
-use Rattle.std.proofs.Common.{◌≡◌, ℕ, zero, suc, ◌+◌, ◌-◌, ◌<◌, ◌≤◌, Bool, true, false, ◌&&◌, nat_eq, nat_le, nat_lt, List, [], ◌∷◌, ◌++◌, length, drop, slice_get, Some, refl, sym, ◌∙◌, ap, subst, arith, le-refl}
+use Rattle.std.proofs.Common.{◌≡◌, ℕ, zero, suc, ◌+◌, ◌-◌, ◌<◌, ◌≤◌, Bool, true, false, ◌&&◌, nat_eq, nat_le, nat_lt, List, [], ◌∷◌, ◌++◌, length, drop, slice_get, Some, refl, sym, ◌∙◌, ap, subst, arith, inl, inr}
 use Rattle.std.specs.Prelude.{◌⊎◌, ◌||◌, if◌then◌else◌}
 use Rattle.std.proofs.lemmas.Bool.{and_from, and_parts, eqb-true, le-leb, leb-true, ltb-true}
 use Rattle.std.proofs.lemmas.Bool.Decides.{nat_tests}
@@ -78,7 +78,9 @@ abbrev AreLater : List AuditAt → Type 0
 AreLater audits = are_later 0 (length audits) audits ≡ true
 
 names_later : (audits : List AuditAt) (n m : ℕ) → AreLater audits → Names audits n m → (n < m) × (m < length audits)
-names_later audits n m later names = between_at n (length audits) m names.0.each (later_at audits 0 (length audits) n names.0 later names.1) names.2
+names_later audits n m later names =
+    let from : 0 + n ≡ n = omega arith in
+    between_at n (length audits) m names.0.each (subst (λ (k : ℕ). are_between k (length audits) names.0.each ≡ true) from (later_at audits 0 (length audits) n names.0 later names.1)) names.2
 
 -- a path leads to an audit from one of some, which has a number from k on
 record From (audits : List AuditAt) (some : List ℕ) (k m : ℕ) : Type 0 where
@@ -104,19 +106,20 @@ from_named audits some a k m at here f = elim (in_parts f.first some a.each f.th
   | inr new ↦ record { first = k; there = here; past = omega arith; below = item_below audits k a at; path = f.first ∷ f.path; leads = ((a, at, new), f.leads) }
 ]
 
+from_test : (audits : List AuditAt) (some : List ℕ) (a : AuditAt) (k m : ℕ) (named others : List ℕ) (b : Bool) → slice_get audits k ≡ Some a → is_among k some ≡ b
+    → (In m named → From audits (some ++ a.each) (suc k) m) → (In m others → From audits some (suc k) m) → In m (if b then k ∷ named else others) → From audits some k m
+from_test audits some a k m named others true at here of_named of_others there = elim (either (nat_eq k m) (is_among m named) there) [
+  | inl same ↦ record { first = k; there = here; past = omega arith; below = item_below audits k a at; path = []; leads = eqb-true k m same }
+  | inr rest ↦ from_named audits some a k m at here (of_named rest)
+]
+from_test audits some a k m named others false at here of_named of_others there = from_past audits some k m (of_others there)
+
 reached_from_some : (audits later : List AuditAt) (k : ℕ) (some : List ℕ) (m : ℕ) → drop k audits ≡ later → In m (reached some k later) → From audits some k m
 reached_from_some audits [] k some m is there = absurd (let none : ⊥ = cc in none)
-reached_from_some audits (a ∷ later) k some m is there = by_test (is_among k some) refl there
-  where
-    at : (slice_get audits k ≡ Some a) × (drop (suc k) audits ≡ later)
-    at = drop_head audits k a later is
-
-    by_test : (b : Bool) → is_among k some ≡ b → In m (if b then k ∷ reached (some ++ a.each) (suc k) later else reached some (suc k) later) → From audits some k m
-    by_test true here there = elim (either (nat_eq k m) (is_among m (reached (some ++ a.each) (suc k) later)) there) [
-      | inl same ↦ record { first = k; there = here; past = omega arith; below = item_below audits k a at.0; path = []; leads = eqb-true k m same }
-      | inr rest ↦ from_named audits some a k m at.0 here (reached_from_some audits later (suc k) (some ++ a.each) m at.1 rest)
-    ]
-    by_test false here there = from_past audits some k m (reached_from_some audits later (suc k) some m at.1 there)
+reached_from_some audits (a ∷ later) k some m is there =
+    let at = drop_head audits k a later is in
+    from_test audits some a k m (reached (some ++ a.each) (suc k) later) (reached some (suc k) later) (is_among k some) at.0 refl
+    (λ rest. reached_from_some audits later (suc k) (some ++ a.each) m at.1 rest) (λ rest. reached_from_some audits later (suc k) some m at.1 rest) there
 
 -- and each that a path leads to is reached
 same_test : (n m : ℕ) → n ≡ m → nat_eq n m ≡ true
@@ -142,40 +145,41 @@ goes_on audits a some k m (j ∷ js) later at leads =
     let named : In j a.each = subst (λ (x : AuditAt). In j x.each) (one_item audits k leads.0.0 a leads.0.1 at) leads.0.2 in
     inr (record { first = j; there = in_second j some a.each named; past = omega (arith, past.0); below = past.1; path = js; leads = leads.1 })
 
+-- where k itself is one of some
+by_path : (audits : List AuditAt) (a : AuditAt) (some named : List ℕ) (k m : ℕ) (path : List ℕ) → AreLater audits → slice_get audits k ≡ Some a → (From audits (some ++ a.each) (suc k) m → In m named)
+    → Leads audits k path m → In m (k ∷ named)
+by_path audits a some named k m path later at further leads = elim (goes_on audits a some k m path later at leads) [
+  | inl same ↦ or_left (nat_eq k m) (is_among m named) (same_test k m same)
+  | inr more ↦ or_right (nat_eq k m) (is_among m named) (further more)
+]
+
+by_first : (audits : List AuditAt) (a : AuditAt) (some named : List ℕ) (k m : ℕ) (f : From audits some k m) (same : Bool) → AreLater audits → slice_get audits k ≡ Some a
+    → (From audits (some ++ a.each) (suc k) m → In m named) → nat_eq k f.first ≡ same → In m (k ∷ named)
+by_first audits a some named k m f true later at further same =
+    by_path audits a some named k m f.path later at further (subst (λ (n : ℕ). Leads audits n f.path m) (sym (eqb-true k f.first same)) f.leads)
+by_first audits a some named k m f false later at further other =
+    or_right (nat_eq k m) (is_among m named)
+    (further (record { first = f.first; there = in_first f.first some a.each f.there; past = other_past k f.first other f.past; below = f.below; path = f.path; leads = f.leads }))
+
+-- and where it isn't
+passed : (audits : List AuditAt) (some others : List ℕ) (k m : ℕ) (f : From audits some k m) (same : Bool) → is_among k some ≡ false → (From audits some (suc k) m → In m others) → nat_eq k f.first ≡ same → In m others
+passed audits some others k m f true not_among further same =
+    let among : is_among k some ≡ true = subst (λ (n : ℕ). In n some) (sym (eqb-true k f.first same)) f.there in
+    absurd (let no : true ≡ false = sym among ∙ not_among in let none : ⊥ = cc in none)
+passed audits some others k m f false not_among further other =
+    further (record { first = f.first; there = f.there; past = other_past k f.first other f.past; below = f.below; path = f.path; leads = f.leads })
+
+by_test : (audits : List AuditAt) (a : AuditAt) (some named others : List ℕ) (k m : ℕ) (f : From audits some k m) (b : Bool) → is_among k some ≡ b → AreLater audits → slice_get audits k ≡ Some a
+    → (From audits (some ++ a.each) (suc k) m → In m named) → (From audits some (suc k) m → In m others) → In m (if b then k ∷ named else others)
+by_test audits a some named others k m f true is later at of_named of_others = by_first audits a some named k m f (nat_eq k f.first) later at of_named refl
+by_test audits a some named others k m f false is later at of_named of_others = passed audits some others k m f (nat_eq k f.first) is of_others refl
+
 some_reached : (audits later : List AuditAt) (k : ℕ) (some : List ℕ) (m : ℕ) → AreLater audits → drop k audits ≡ later → From audits some k m → In m (reached some k later)
 some_reached audits [] k some m law is f = absurd (none_past audits k f.first is f.past f.below)
-some_reached audits (a ∷ later) k some m law is f = by_test (is_among k some) refl
-  where
-    at : (slice_get audits k ≡ Some a) × (drop (suc k) audits ≡ later)
-    at = drop_head audits k a later is
-
-    Here : Bool → Type 0
-    Here b = In m (if b then k ∷ reached (some ++ a.each) (suc k) later else reached some (suc k) later)
-
-    further : From audits (some ++ a.each) (suc k) m → Here true
-    further g = or_right (nat_eq k m) (is_among m (reached (some ++ a.each) (suc k) later)) (some_reached audits later (suc k) (some ++ a.each) m law at.1 g)
-
-    by_path : (path : List ℕ) → Leads audits k path m → Here true
-    by_path path leads = elim (goes_on audits a some k m path law at.0 leads) [
-      | inl same ↦ or_left (nat_eq k m) (is_among m (reached (some ++ a.each) (suc k) later)) (same_test k m same)
-      | inr more ↦ further more
-    ]
-
-    by_first : (same : Bool) → nat_eq k f.first ≡ same → Here true
-    by_first true same = by_path f.path (subst (λ (n : ℕ). Leads audits n f.path m) (sym (eqb-true k f.first same)) f.leads)
-    by_first false other =
-        further (record { first = f.first; there = in_first f.first some a.each f.there; past = other_past k f.first other f.past; below = f.below; path = f.path; leads = f.leads })
-
-    passed : is_among k some ≡ false → (same : Bool) → nat_eq k f.first ≡ same → Here false
-    passed not_among true same =
-        let among : is_among k some ≡ true = subst (λ (n : ℕ). In n some) (sym (eqb-true k f.first same)) f.there in
-        absurd (let no : true ≡ false = sym among ∙ not_among in let none : ⊥ = cc in none)
-    passed not_among false other =
-        some_reached audits later (suc k) some m law at.1 (record { first = f.first; there = f.there; past = other_past k f.first other f.past; below = f.below; path = f.path; leads = f.leads })
-
-    by_test : (b : Bool) → is_among k some ≡ b → Here b
-    by_test true is = by_first (nat_eq k f.first) refl
-    by_test false is = passed is (nat_eq k f.first) refl
+some_reached audits (a ∷ later) k some m law is f =
+    let at = drop_head audits k a later is in
+    by_test audits a some (reached (some ++ a.each) (suc k) later) (reached some (suc k) later) k m f (is_among k some) refl law at.0
+    (λ g. some_reached audits later (suc k) (some ++ a.each) m law at.1 g) (λ g. some_reached audits later (suc k) some m law at.1 g)
 
 -- they rise
 rise_past : (k : ℕ) (ns : List ℕ) → rise (suc k) ns ≡ true → rise k ns ≡ true
@@ -185,13 +189,14 @@ rise_past k (n ∷ ns) is =
     let le : k ≤ n = let more : suc k ≤ n = leb-true (suc k) n parts.0 in omega (arith, more) in
     and_from (nat_le k n) (rise (suc n) ns) (le-leb k n le) parts.1
 
+test_rises : (k : ℕ) (named others : List ℕ) (b : Bool) → rise (suc k) named ≡ true → rise (suc k) others ≡ true → rise k (if b then k ∷ named else others) ≡ true
+test_rises k named others true of_named of_others = let le : k ≤ k = omega arith in and_from (nat_le k k) (rise (suc k) named) (le-leb k k le) of_named
+test_rises k named others false of_named of_others = rise_past k others of_others
+
 reached_rise : (later : List AuditAt) (k : ℕ) (some : List ℕ) → rise k (reached some k later) ≡ true
 reached_rise [] k some = refl
-reached_rise (a ∷ later) k some = by_test (is_among k some)
-  where
-    by_test : (b : Bool) → rise k (if b then k ∷ reached (some ++ a.each) (suc k) later else reached some (suc k) later) ≡ true
-    by_test true = let le : k ≤ k = omega arith in and_from (nat_le k k) (rise (suc k) (reached (some ++ a.each) (suc k) later)) (le-leb k k le) (reached_rise later (suc k) (some ++ a.each))
-    by_test false = rise_past k (reached some (suc k) later) (reached_rise later (suc k) some)
+reached_rise (a ∷ later) k some =
+    test_rises k (reached (some ++ a.each) (suc k) later) (reached some (suc k) later) (is_among k some) (reached_rise later (suc k) (some ++ a.each)) (reached_rise later (suc k) some)
 
 -- the first is the root
 only_root : (root first : ℕ) → In first (root ∷ []) → root ≡ first
