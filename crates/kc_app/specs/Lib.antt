@@ -9,7 +9,7 @@ pub mod Commands
 pub mod Fitted
 pub mod Form
 pub mod Headline
-pub mod HeldFiles
+pub mod Held
 pub mod Layout
 pub mod ModuleHeadline
 pub mod Output

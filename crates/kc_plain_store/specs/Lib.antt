@@ -1,4 +1,4 @@
-pub mod KeptPages
+pub mod Kept
 pub mod Seen
 pub mod Shapes
 pub mod ViewLaws
