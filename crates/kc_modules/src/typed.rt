@@ -1,8 +1,8 @@
 // A module's types.
-ghost use Rattle.std.specs.Prelude.{◌≡◌, bytes_eq, Ok};
+ghost use Rattle.std.specs.Prelude.{◌≡◌};
 ghost use Rattle.kc_memory.specs.Stays.{SpaceStays};
 ghost use Rattle.kc_kallsyms.specs.Bytes.{bytes_at};
-ghost use Rattle.kc_kallsyms.specs.Reading.{◌>>=◌, CountsReadFaults, ReadsAs};
+ghost use Rattle.kc_kallsyms.specs.Reading.{CountsReadFaults, ReadsAs};
 ghost use Rattle.kc_modules.specs.Lines.{text_of};
 ghost use Rattle.kc_modules.specs.Typed.{checked_size, data_at, module_types_at, named_at, types_of};
 
