@@ -10,8 +10,4 @@ mod unread;
 mod wish;
 
 pub use laws::know_files;
-pub use memory::read_file;
-pub use sought::{SoughtFile, sought_by};
 pub use top::kfiles;
-pub use unread::Unread;
-pub use wish::Wish;

@@ -57,7 +57,7 @@ match_made dump btf map = do
   file ← short_file slot.Btf btf
   types ← checked refusals.Types (btf_types file)
   listed ← map_in map
-  matched_in note types noted.told.kaslr (beside file (own_types (bytes_of dump) noted)) listed
+  matched_in note types noted.told.kaslr (beside file (own_types (bytes_of dump) noted note)) listed
 
 -- what is asked: three files by their names
 pub record Files : Type 0 where

@@ -1,19 +1,26 @@
 // The file of types beside the types that the dump holds.
-ghost use Rattle.std.specs.Prelude.{◌≡◌, ◌≤◌, Ok, Some, option_map};
+ghost use Rattle.std.specs.Prelude.{◌≡◌, ◌≤◌, ⊤, Some, option_map};
 ghost use Rattle.kc_outside.specs.declared.store.Slot.TheVariants.{Dump};
 ghost use Rattle.kc_outside.specs.Counts.{Rose};
 ghost use Rattle.kc_outside.specs.Files.{content};
 ghost use Rattle.kc_phys.specs.Stored.{AreInside};
+ghost use Rattle.kc_question.specs.Memory.{bare_image};
+ghost use Rattle.kc_kallsyms.specs.Reading.{CountsReadFaults, ReadsAs};
+ghost use Rattle.kc_kallsyms.specs.Types.{types_at};
 ghost use Rattle.kc_command.specs.Halts.{OnStore, UnlessStore};
 ghost use Rattle.kc_command.specs.Kernels.{noted_view};
-ghost use Rattle.kc_command.specs.Paging.{IsTable};
-ghost use Rattle.kc_match.specs.Beside.{beside, first_difference, own_types};
+ghost use Rattle.kc_command.specs.Paging.{IsTable, by_info};
+ghost use Rattle.kc_match.specs.Beside.{beside, first_difference};
 ghost use Rattle.kc_match.specs.Own.{FindsOwn, IsLack, IsOwn, own_view};
 
-use kc_command::{Halt, Noted};
-use kc_files::{Unread, Wish, read_file, sought_by};
+use kc_command::{Halt, Noted, paging_by};
+use kc_kallsyms::{Places, TableStop, places_in, read_types};
+use kc_memory::Space;
 use kc_outside::Store;
+use kc_question::{Question, ask_dump};
+use kc_word::{Steps, Tail};
 use std::alloc::Global;
+use std::sync::ledger::Ledger;
 
 /// What the bytes of the file of types are beside those that the dump holds.
 #[derive(Clone, Copy, Debug, PartialEq, Eq)]
@@ -57,20 +64,19 @@ pub(crate) fn beside(file: &[u8], own: &Option<Vec<u8>>) -> TypesBeside
 }
 
 // Why none are found, or a failure.
-fn lack(stop: Unread) -> Result<Option<Vec<u8>>, Halt>
+fn lack(stop: TableStop) -> Result<Option<Vec<u8>>, Halt>
     ensures { IsLack stop result }
 {
     match stop {
-        Unread::Fault => Err(Halt::Store),
-        Unread::NoMemory => Err(Halt::Memory),
-        Unread::Miss(_) => Ok(None),
-        Unread::Table(_) => Ok(None),
-        Unread::Log(_) => Ok(None),
+        TableStop::Fault => Err(Halt::Store),
+        TableStop::NoMemory => Err(Halt::Memory),
+        TableStop::Miss(_) => Ok(None),
+        TableStop::Table(_) => Ok(None),
     }
 }
 
 // By what reading them gave.
-fn own_of(read: Result<Vec<u8>, Unread>) -> Result<Option<Vec<u8>>, Halt>
+fn own_of(read: Result<Vec<u8>, TableStop>) -> Result<Option<Vec<u8>>, Halt>
     ensures { IsOwn read result }
 {
     match read {
@@ -79,7 +85,65 @@ fn own_of(read: Result<Vec<u8>, Unread>) -> Result<Option<Vec<u8>>, Halt>
     }
 }
 
-/// The types that the dump in slot Dump holds, where they are found.
+// The types that a kernel's memory holds.
+#[derive(Drop)]
+struct OwnTypes {
+    alloc: Global,
+    // Where the tables of its symbols lie.
+    places: Places,
+    // How far KASLR moved its image, in bytes.
+    kaslr: u64,
+}
+
+impl Question for OwnTypes {
+    type Answer = Result<Vec<u8>, TableStop>;
+
+    ghost may = { λ _. ⊤ };
+
+    ghost says = { λ of image answer. ReadsAs (λ v. v.items) (λ i. types_at i of.kaslr of.places) (Some image) answer };
+
+    ghost leaves = { λ _ answer before after. CountsReadFaults answer before after };
+
+    fn ask<M: Space, L: Ledger>(
+        &self,
+        memory: &mut M,
+        steps: &mut Steps<L>,
+    ) -> Result<Vec<u8>, TableStop> {
+        read_types(self.alloc, memory, &self.places, self.kaslr, steps)
+    }
+}
+
+// The types in the memory of the dump in slot Dump, by where the tables of its kernel's symbols lie.
+fn ask_types<S: Store>(
+    alloc: Global,
+    store: &mut S,
+    noted: &Noted,
+    places: Places,
+) -> Result<Vec<u8>, TableStop>
+    requires table { IsTable noted.now.info.table }
+    requires inside { AreInside (S.sizes store.old Dump) noted.now.core.segments }
+
+    ensures types { ReadsAs (λ v. v.items) (λ image. types_at image noted.now.info.kaslr places)
+        (option_map (λ bytes. bare_image bytes noted.now.core.segments (by_info noted.now.info)) (content (S.files store.old) Dump (S.opened store.old Dump))) result }
+    ensures files { S.files store.new ≡ S.files store.old }
+    ensures cause { CountsReadFaults result (S.faults store.old) (S.faults store.new) }
+{
+    let question = OwnTypes {
+        alloc,
+        places,
+        kaslr: noted.info.kaslr,
+    };
+    ask_dump(
+        alloc,
+        store,
+        noted.core.segments(),
+        Tail::Absent,
+        paging_by(noted.info),
+        &question,
+    )?
+}
+
+/// The types that the dump in slot Dump holds, where the text of its VMCOREINFO leads to them.
 ///
 /// # Errors
 ///
@@ -88,18 +152,19 @@ pub(crate) fn read_own<S: Store>(
     alloc: Global,
     store: &mut S,
     noted: &Noted,
+    note: &[u8],
 ) -> Result<Option<Vec<u8>>, Halt>
     requires table { IsTable noted.now.info.table }
     requires inside { AreInside (S.sizes store.old Dump) noted.now.core.segments }
 
-    ensures own { FindsOwn (noted_view noted.now) (content (S.files store.old) Dump (S.opened store.old Dump)) result }
+    ensures own { FindsOwn (noted_view noted.now) note.now (content (S.files store.old) Dump (S.opened store.old Dump)) result }
     ensures files { S.files store.new ≡ S.files store.old }
     ensures later { S.faults store.old ≤ S.faults store.new }
     ensures quiet { UnlessStore result (S.faults store.new ≡ S.faults store.old) }
     ensures cause { OnStore result (Rose (S.faults store.old) (S.faults store.new)) }
 {
-    match sought_by(&noted.core, Wish::Types) {
-        Ok(sought) => own_of(read_file(alloc, store, noted, &sought)),
+    match places_in(note) {
+        Ok(places) => own_of(ask_types(alloc, store, noted, places)),
         Err(_) => Ok(None),
     }
 }

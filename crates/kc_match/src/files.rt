@@ -80,7 +80,7 @@ fn compare<S: Store>(alloc: Global, store: &mut S, files: &KernelFiles<'_>) -> R
     let noted = read_noted(alloc, store, files.dump)?;
     let note = read_note(&noted.core)?;
     let file = read_file(alloc, store, Slot::Btf, files.btf)?;
-    let own = read_own(alloc, store, &noted)?;
+    let own = read_own(alloc, store, &noted, note)?;
     let told = beside(&file, &own);
     let types = take_types(alloc, file)?;
     let map = read_map(alloc, store, files.map)?;

@@ -1,7 +1,14 @@
 use Rattle.std.proofs.Common.{◌≡◌, ◌∙◌, Err, arith, rules}
 use Rattle.kc_memory.specs.Stays.{stays_on}
-use Rattle.kc_modules.proofs.Loops.{sizes_come, sizes_go, sizes_halt}
+use Rattle.kc_modules.proofs.Loops.{sizes_come, sizes_first, sizes_go, sizes_halt}
 use Rattle.kc_modules.proofs.entry.sum_sizes.Goals as goal
+
+pub loop-i-init : goal.loop-i-init
+loop-i-init g c = record {
+  left = sizes_first (g.S.Space.image c.args.space.now) c.args.stride c.args.count c.args.first;
+  stays = search rules;
+  quiet = search rules;
+}
 
 pub loop-i-preserved : goal.loop-i-preserved
 loop-i-preserved g c =

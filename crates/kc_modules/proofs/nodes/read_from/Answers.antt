@@ -1,7 +1,14 @@
 use Rattle.std.proofs.Common.{◌≡◌, ◌∙◌, Err, arith, rules}
 use Rattle.kc_memory.specs.Stays.{stays_on}
-use Rattle.kc_modules.proofs.Loops.{nodes_come, nodes_go, nodes_halt, nodes_lack}
+use Rattle.kc_modules.proofs.Loops.{nodes_come, nodes_first, nodes_go, nodes_halt, nodes_lack}
 use Rattle.kc_modules.proofs.nodes.read_from.Goals as goal
+
+pub loop-i-init : goal.loop-i-init
+loop-i-init g c = record {
+  left = nodes_first (g.S.Space.image c.args.space.now) c.args.head c.args.first _ (search rules);
+  stays = search rules;
+  quiet = search rules;
+}
 
 pub loop-i-preserved : goal.loop-i-preserved
 loop-i-preserved g c =
