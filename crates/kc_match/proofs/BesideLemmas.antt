@@ -1,5 +1,5 @@
 -- The first byte at which two files differ, byte by byte.
-use Rattle.std.proofs.Common.{◌≡◌, ◌≢◌, ℕ, zero, suc, ◌+◌, ◌<◌, ◌≤◌, nat_eq, Bool, true, false, if◌then◌else◌, List, [], ◌∷◌, length, drop, get_or, Option, Some, None, option_map, refl, sym, ap, ◌∙◌, arith}
+use Rattle.std.proofs.Common.{◌≡◌, ◌≢◌, ℕ, zero, suc, ◌+◌, ◌<◌, ◌≤◌, nat_eq, nat_lt, min, Bool, true, false, if◌then◌else◌, List, [], ◌∷◌, length, drop, get_or, Option, Some, None, option_map, refl, sym, ap, ◌∙◌, arith}
 use Rattle.std.proofs.lemmas.Bool.Decides.{nat_tests}
 use Rattle.std.proofs.lemmas.List.{drop_all}
 use Rattle.std.proofs.Math.Seq.{drop-cons}
@@ -90,3 +90,18 @@ difference_own file own at lt over so_far =
     let e : at ≡ at + 0 = omega arith in
     sym (so_far ∙ ap (λ (f : List ℕ). shift at (first_difference f (drop at own))) (cut file at lt)
     ∙ ap (shift at) (own-ends (drop (at + 1) file) (drop at own) (get_or file at 0) (drop_all at own over)) ∙ ap (λ n. Some n) (sym e))
+
+ends-by : (b : Bool) (file own : List ℕ) (at both : ℕ) → nat_lt (length file) (length own) ≡ b → both ≡ min (length file) (length own) → both ≡ at → (length file ≡ length own → ⊥)
+    → first_difference file own ≡ from_byte file own at → Some both ≡ first_difference file own
+ends-by true file own at both is shorter here ne so_far =
+    let less : length file < length own = grind (arith, nat_tests) in
+    ap (λ n. Some n) here ∙ difference_file file own at (omega arith) (omega arith) so_far
+ends-by false file own at both is shorter here ne so_far =
+    let ge : length own ≤ length file = grind (arith, nat_tests) in
+    let less : length own < length file = grind (arith, nat_tests) in
+    ap (λ n. Some n) here ∙ difference_own file own at (omega arith) (omega arith) so_far
+
+-- where one ends, and the other doesn't
+pub difference_ends : (file own : List ℕ) (at both : ℕ) → both ≡ min (length file) (length own) → both ≡ at → (length file ≡ length own → ⊥)
+    → first_difference file own ≡ from_byte file own at → Some both ≡ first_difference file own
+difference_ends file own at both shorter here ne so_far = ends-by (nat_lt (length file) (length own)) file own at both refl shorter here ne so_far
