@@ -1,5 +1,6 @@
 -- The modules of a kernel, a line each, as /proc/modules has their names, sizes and addresses (kernel/module/procfs.c, m_show).
-use Rattle.std.specs.Prelude.{ℕ, zero, suc, ◌==◌, List, [], ◌∷◌, ◌++◌, codes, decimal, Option, Some, None, position, take, Result, Ok}
+use Rattle.std.specs.Prelude.{ℕ, zero, suc, ◌==◌, List, [], ◌∷◌, ◌++◌, codes, decimal, Result, Ok}
+use Rattle.std.specs.List.{before_first}
 use Rattle.kc_bytes.specs.Bytes.{onward}
 use Rattle.kc_memory.specs.Image.{Image}
 use Rattle.kc_btf.specs.Btf.{btf}
@@ -16,12 +17,8 @@ use Rattle.kc_modules.specs.Parts.{back}
 use Rattle.kc_modules.specs.Shapes.{module_shape, sound}
 
 -- the bytes before the first NUL, or all where there is none
-abbrev pub before : Option ℕ → List ℕ → List ℕ
-before None bytes = bytes
-before (Some end) bytes = take end bytes
-
 abbrev pub text_of : List ℕ → List ℕ
-text_of bytes = before (position (λ c. c == 0) bytes) bytes
+text_of bytes = before_first (λ c. c == 0) bytes
 
 -- the name that stands at an address, of 56 bytes (MODULE_NAME_LEN)
 unfoldable pub name_at : Image → ℕ → Result (List ℕ) Why
