@@ -16,16 +16,17 @@ ghost use Rattle.kc_command.specs.Ends.Asked.{word_in};
 ghost use Rattle.kc_match.specs.Match.{files_view, match_asked, match_asks, match_made, match_view, match_written, matched, matched_in};
 ghost use Rattle.kc_match.specs.Views.{kernel_view};
 
+use crate::beside::{TypesBeside, beside, read_own};
 use crate::finding::findings;
 use crate::kernel::Compared;
 use crate::text::{agree, match_text};
 use kc_btf::Btf;
 use kc_command::{
-    Answer, Halt, KernelFiles, Refusal, read_map, read_noted, read_symbols, read_types,
+    Answer, Halt, KernelFiles, Refusal, read_file, read_map, read_noted, read_symbols, take_types,
 };
 use kc_elf::Core;
 use kc_notes::vmcoreinfo;
-use kc_outside::Store;
+use kc_outside::{Slot, Store};
 use kc_word::NoMemory;
 use std::alloc::Global;
 
@@ -78,9 +79,12 @@ fn compare<S: Store>(alloc: Global, store: &mut S, files: &KernelFiles<'_>) -> R
 {
     let noted = read_noted(alloc, store, files.dump)?;
     let note = read_note(&noted.core)?;
-    let types = read_types(alloc, store, files.btf)?;
+    let file = read_file(alloc, store, Slot::Btf, files.btf)?;
+    let own = read_own(alloc, store, &noted, note)?;
+    let told = beside(&file, &own);
+    let types = take_types(alloc, file)?;
     let map = read_map(alloc, store, files.map)?;
-    match_map(alloc, note, &types, noted.info.kaslr, &map)
+    match_map(alloc, note, &types, noted.info.kaslr, told, &map)
 }
 
 // The text of a dump's VMCOREINFO.
@@ -97,9 +101,10 @@ fn match_map(
     note: &[u8],
     types: &Btf,
     kaslr: u64,
+    told: TypesBeside,
     map: &[u8],
 ) -> Result<Answer, Halt>
-    ensures output { Prints match_written (matched_in note.now types.now kaslr map.now) result }
+    ensures output { Prints match_written (matched_in note.now types.now kaslr told map.now) result }
     ensures refused { RefusesIn Map result }
     ensures no_call { NotStore result }
 {
@@ -109,16 +114,21 @@ fn match_map(
         symbols: &symbols,
         kaslr,
     };
-    Ok(answer(alloc, note, kernel)?)
+    Ok(answer(alloc, note, kernel, told)?)
 }
 
 // The answer on a note and a kernel.
-fn answer(alloc: Global, note: &[u8], kernel: Compared<'_, '_>) -> Result<Answer, NoMemory>
-    ensures { IfOk result (λ answer. written_by answer ≡ match_written (matched note.now (kernel_view kernel.entry))) }
+fn answer(
+    alloc: Global,
+    note: &[u8],
+    kernel: Compared<'_, '_>,
+    told: TypesBeside,
+) -> Result<Answer, NoMemory>
+    ensures { IfOk result (λ answer. written_by answer ≡ match_written (matched note.now (kernel_view kernel.entry) told)) }
 {
     let found = findings(alloc, kernel, note)?;
-    let text = match_text(alloc, note, &found)?;
-    if agree(&found) {
+    let text = match_text(alloc, note, &found, told)?;
+    if agree(&found, told) {
         Ok(Answer::Done(text))
     } else {
         Ok(Answer::Broken(text))
