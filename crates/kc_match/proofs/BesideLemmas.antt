@@ -16,7 +16,7 @@ from_byte file own at = shift at (first_difference (drop at file) (drop at own))
 
 shift-none : (o : Option ℕ) → o ≡ shift 0 o
 shift-none None = refl
-shift-none (Some n) = refl
+shift-none (Some n) = ap (λ k. Some k) (let e : n ≡ 0 + n = omega arith in e)
 
 pub difference_first : (file own : List ℕ) → first_difference file own ≡ from_byte file own 0
 difference_first file own = shift-none (first_difference file own)

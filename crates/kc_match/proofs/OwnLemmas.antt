@@ -14,7 +14,7 @@ use Rattle.kc_kallsyms.specs.Reading.{CountsReadFaults, ReadsAs, Why}
 use Rattle.kc_kallsyms.specs.Types.{types_at}
 use Rattle.kc_command.specs.declared.halt.Halt.{Halt}
 use Rattle.kc_command.specs.declared.halt.Halt.TheVariants.{Store, Memory}
-use Rattle.kc_command.specs.Halts.{OnStore, UnlessStore}
+use Rattle.kc_command.specs.Halts.{NotRefused, OnStore, UnlessStore}
 use Rattle.kc_command.specs.Kernels.{NotedAt}
 use Rattle.kc_command.specs.Paging.{by_info}
 use Rattle.kc_match.specs.Own.{FindsOwn, IsOwn}
@@ -58,3 +58,11 @@ counted (Err (Miss s)) r before after quiet own = record { later = same before a
 counted (Err Fault) r before after rose own = record { later = rose.0; quiet = rw own tt; cause = rw own rose.1 }
 counted (Err (Table fault)) r before after quiet own = record { later = same before after quiet; quiet = rw own quiet; cause = rw own tt }
 counted (Err NoMemory) r before after quiet own = record { later = same before after quiet; quiet = rw own quiet; cause = rw own tt }
+
+-- nothing is refused
+pub not_refused : (bytes : Result (Vec ℕ) TableStop) (r : Result (Option (Vec ℕ)) Halt) → IsOwn bytes r → NotRefused r
+not_refused (Ok v) r own = rw own tt
+not_refused (Err (Miss s)) r own = rw own tt
+not_refused (Err Fault) r own = rw own tt
+not_refused (Err (Table fault)) r own = rw own tt
+not_refused (Err NoMemory) r own = rw own tt

@@ -7,7 +7,7 @@ ghost use Rattle.kc_phys.specs.Stored.{AreInside};
 ghost use Rattle.kc_question.specs.Memory.{bare_image};
 ghost use Rattle.kc_kallsyms.specs.Reading.{CountsReadFaults, ReadsAs};
 ghost use Rattle.kc_kallsyms.specs.Types.{types_at};
-ghost use Rattle.kc_command.specs.Halts.{OnStore, UnlessStore};
+ghost use Rattle.kc_command.specs.Halts.{NotRefused, OnStore, UnlessStore};
 ghost use Rattle.kc_command.specs.Kernels.{noted_view};
 ghost use Rattle.kc_command.specs.Paging.{IsTable, by_info};
 ghost use Rattle.kc_match.specs.Beside.{beside, first_difference};
@@ -158,6 +158,7 @@ pub(crate) fn read_own<S: Store>(
     requires inside { AreInside (S.sizes store.old Dump) noted.now.core.segments }
 
     ensures own { FindsOwn (noted_view noted.now) note.now (content (S.files store.old) Dump (S.opened store.old Dump)) result }
+    ensures not_refused { NotRefused result }
     ensures files { S.files store.new ≡ S.files store.old }
     ensures later { S.faults store.old ≤ S.faults store.new }
     ensures quiet { UnlessStore result (S.faults store.new ≡ S.faults store.old) }

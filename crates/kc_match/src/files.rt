@@ -80,10 +80,11 @@ fn compare<S: Store>(alloc: Global, store: &mut S, files: &KernelFiles<'_>) -> R
     let noted = read_noted(alloc, store, files.dump)?;
     let note = read_note(&noted.core)?;
     let file = read_file(alloc, store, Slot::Btf, files.btf)?;
-    let own = read_own(alloc, store, &noted, note)?;
-    let told = beside(&file, &own);
+    let bytes = file.to_vec(alloc)?;
     let types = take_types(alloc, file)?;
     let map = read_map(alloc, store, files.map)?;
+    let own = read_own(alloc, store, &noted, note)?;
+    let told = beside(&bytes, &own);
     match_map(alloc, note, &types, noted.info.kaslr, told, &map)
 }
 
