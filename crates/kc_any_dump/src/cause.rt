@@ -7,7 +7,7 @@ use kc_flattened::FlatFault;
 use kc_flattened_store::{Flattened, FlattenedFault};
 use kc_kdump::KdumpFault;
 use kc_outside::Store;
-use kc_plain_store::{BadPage, View, ViewFault};
+use kc_plain_store::{BadPage, PlainView, ViewFault};
 
 /// Why a dump can't be read, where it isn't that a file couldn't.
 #[derive(Clone, Copy)]
@@ -37,7 +37,7 @@ pub trait TellsCause {
     fn cause(&self) -> Option<Cause>;
 }
 
-impl<S: Store + Drop> TellsCause for View<Flattened<S>> {
+impl<S: Store + Drop> TellsCause for PlainView<Flattened<S>> {
     fn cause(&self) -> Option<Cause> {
         match self.fault()? {
             ViewFault::Store => flattened_cause(self.store().fault()),

@@ -17,7 +17,8 @@ use Rattle.kc_cert.specs.declared.rechecking.against.CertAnswer.{CertAnswer}
 use Rattle.kc_cert.specs.declared.rechecking.against.CertAnswer.TheVariants.{Yes, No}
 use Rattle.kc_cert.specs.Rechecking.Answers.{IsRight}
 use Rattle.kc_cert.specs.Rechecking.Certificates.{answer}
-use Rattle.kc_cert.specs.Rechecking.Laws.{AnswersAreRight}
+use Rattle.kc_cert.specs.Rechecking.Laws.{AnswersAreRight, StepsAreWalks}
+use Rattle.kc_cert.specs.Single.{CertificatesAreOne}
 use Rattle.kc_cert.specs.Text.CertTexts.{IsCertificate, IsNoCertificate, TextsTold, cert_in}
 use Rattle.kc_command.specs.declared.refusal.Refusal.{Refusal}
 use Rattle.kc_command.specs.declared.refusal.Refusal.TheVariants.{Certificate, TooLong}
@@ -45,44 +46,49 @@ Wrote cert made ends old new err_old err_new = IsWritten (option_map (output_wri
 standing : ChecksStand → (all : Audited) → TellsStanding all (said_status (verdict_said (names_of all.audits) (verdict all.image all.audits)))
 standing law all = law (record { image = all.image; version = 1; audits = all.audits })
 
+-- what is known of certificates
+pub record CertLaws : Type 0 where
+  pub only : CertificatesAreOne
+  pub order : StepsAreWalks
+
 -- by the verdict
-by_verdict : (cert : List CertStep) (all : Audited) (found : Verdict) (ends : Status) (old new : Option (List ℕ)) → verdict all.image all.audits ≡ found
+by_verdict : CertLaws → (cert : List CertStep) (all : Audited) (found : Verdict) (ends : Status) (old new : Option (List ℕ)) → verdict all.image all.audits ≡ found
     → TellsStanding all (said_status (verdict_said (names_of all.audits) found)) → Fits cert (certified_by all found)
     → ends ≡ reply_status (certified_by all found) → new ≡ with_piece old (reply_text cert (certified_by all found)) → TellsProof all ends old new
-by_verdict cert all (Clean counts) ends old new is stands fits end took =
+by_verdict certs cert all (Clean counts) ends old new is stands fits end took =
     record {
       stands = subst (λ (s : Status). TellsStanding all s) (sym end) stands;
-      proof = λ done. (cert, fits, took);
+      proof = λ done. (cert, fits, (λ other is. certs.only all.image all.audits other cert is.counts fits.counts is.fits fits.fits), certs.order all.image all.audits cert fits.counts fits.fits, took);
       broken = λ broken. absurd (let no : status.Broken ≡ status.Done = sym broken ∙ end in let none : ⊥ = cc in none);
     }
-by_verdict cert all (Broken v) ends old new is stands fits end took =
+by_verdict certs cert all (Broken v) ends old new is stands fits end took =
     record {
       stands = subst (λ (s : Status). TellsStanding all s) (sym end) stands;
       proof = λ done. absurd (let no : status.Done ≡ status.Broken = sym done ∙ end in let none : ⊥ = cc in none);
       broken = λ broken. took ∙ ap (λ (f : Verdict). with_piece old (shown_text (verdict_shown all.image (names_of all.audits) f))) (sym is);
     }
 
-certify_by : ChecksStand → (cert : List CertStep) (made : Made Audited) (ends : Status) (old new err_old err_new : Option (List ℕ))
+certify_by : ChecksStand → CertLaws → (cert : List CertStep) (made : Made Audited) (ends : Status) (old new err_old err_new : Option (List ℕ))
     → FitsOutput cert (option_map Ends (made >>= (λ all. gives (certified all)))) → Wrote cert (made >>= (λ all. gives (certified all))) ends old new err_old err_new → CertifyBy made ends old new
-certify_by law cert None ends old new err_old err_new fits is = absurd is
-certify_by law cert (Some (Err refusal)) ends old new err_old err_new fits is = is.ends
-certify_by law cert (Some (Ok all)) ends old new err_old err_new fits is = by_verdict cert all (verdict all.image all.audits) ends old new refl (standing law all) fits is.ends is.out_took
+certify_by law certs cert None ends old new err_old err_new fits is = absurd is
+certify_by law certs cert (Some (Err refusal)) ends old new err_old err_new fits is = is.ends
+certify_by law certs cert (Some (Ok all)) ends old new err_old err_new fits is = by_verdict certs cert all (verdict all.image all.audits) ends old new refl (standing law all) fits is.ends is.out_took
 
-certify_written : ChecksStand → (cert : List CertStep) (words : List (List ℕ)) (files : Told) (ends : Status) (old new err_old err_new : Option (List ℕ))
+certify_written : ChecksStand → CertLaws → (cert : List CertStep) (words : List (List ℕ)) (files : Told) (ends : Status) (old new err_old err_new : Option (List ℕ))
     → FitsFiles cert words (Some files) → IsWritten (written_of cert words files) ends old new err_old err_new → CertifyEnds words files ends old new
-certify_written law cert words files ends old new err_old err_new fits is f same =
-    certify_by law cert (audited (files Dump f.dump) (files Btf f.btf) (files Map f.map) (files Plan f.plan)) ends old new err_old err_new (rw same at fits) (rw same at is)
+certify_written law certs cert words files ends old new err_old err_new fits is f same =
+    certify_by law certs cert (audited (files Dump f.dump) (files Btf f.btf) (files Map f.map) (files Plan f.plan)) ends old new err_old err_new (rw same at fits) (rw same at is)
 
-certify_told : ChecksStand → (cert : List CertStep) (words : List (List ℕ)) (files : Option Told) (ends : Status) (old new err_old err_new : Option (List ℕ))
+certify_told : ChecksStand → CertLaws → (cert : List CertStep) (words : List (List ℕ)) (files : Option Told) (ends : Status) (old new err_old err_new : Option (List ℕ))
     → FitsFiles cert words files → IsTold (written_of cert words) files ends old new err_old err_new → IfSome files (λ f. CertifyEnds words f ends old new)
-certify_told law cert words None ends old new err_old err_new fits is = tt
-certify_told law cert words (Some files) ends old new err_old err_new fits is = certify_written law cert words files ends old new err_old err_new fits is
+certify_told law certs cert words None ends old new err_old err_new fits is = tt
+certify_told law certs cert words (Some files) ends old new err_old err_new fits is = certify_written law certs cert words files ends old new err_old err_new fits is
 
 -- an answer of the program ends `certify` by what its files hold
-pub answer_certifies : ChecksStand → (words : List (List ℕ)) (files : Option Told) (ends : Status) (old new err_old err_new : Option (List ℕ))
+pub answer_certifies : ChecksStand → CertLaws → (words : List (List ℕ)) (files : Option Told) (ends : Status) (old new err_old err_new : Option (List ℕ))
     → OnTrue (is_answer ends) (IsToldBy words files ends old new err_old err_new) → OnTrue (is_answer ends) (IfSome files (λ f. CertifyEnds words f ends old new))
-answer_certifies law words files ends old new err_old err_new told =
-    on_true (is_answer ends) (λ is. certify_told law is.0 words files ends old new err_old err_new is.1 is.2) told
+answer_certifies law certs words files ends old new err_old err_new told =
+    on_true (is_answer ends) (λ is. certify_told law certs is.0 words files ends old new err_old err_new is.1 is.2) told
 
 -- what is made of a certificate's file, by whether it is short
 abbrev short_made : Bool → List ℕ → Made (List CertStep)

@@ -23,7 +23,7 @@ use Rattle.kc_command.specs.declared.ends.answer.Answer.{Answer}
 use Rattle.kc_command.specs.declared.ends.status.Status.{Status}
 use Rattle.kc_command.specs.Ends.Answers.{StayBehind}
 use Rattle.kc_command.specs.Ends.Asked.{AllStay, behind}
-use Rattle.kc_app.specs.declared.held.Held.{Held}
+use Rattle.kc_app.specs.declared.held.HeldFiles.{HeldFiles}
 use Rattle.kc_app.specs.Answer.{WritesText}
 use Rattle.kc_app.specs.Certified.{IsFound, IsMade, IsSpelled, IsUnclean}
 use Rattle.kc_app.specs.Certify.{certified}
@@ -138,7 +138,7 @@ found_counts (Err stops.Fault) r before after text counts = record { later = cou
 found_counts (Err stops.NoMemory) r before after text counts = quiet_counts r before after counts (rw text tt)
 
 -- and where the files are told
-pub cert_replies : (made : Told → Made Audited) (file : Told → Option (List ℕ)) (files : Option Told) (content : Option (List ℕ)) (held : Held) (cert : List CertStep) (r : Result Answer Halt)
+pub cert_replies : (made : Told → Made Audited) (file : Told → Option (List ℕ)) (files : Option Told) (content : Option (List ℕ)) (held : HeldFiles) (cert : List CertStep) (r : Result Answer Halt)
     → Holds made files content (Ok held) → IsOf {X = List CertStep} (λ x. x) (λ files. cert_file (file files)) files (Ok cert)
     → RepliesOfBytes (λ bytes. Rechecks (answer (audited_of held bytes).image (audited_of held bytes).audits cert)) content r
     → RepliesOf (λ files. made files >>= (λ all. cert_file (file files) >>= (λ steps. gives (Rechecks (answer all.image all.audits steps))))) files r

@@ -1,7 +1,8 @@
 -- That the end of a check says what stands in the dump.
-use Rattle.std.proofs.Common.{◌≡◌, ℕ, nat_eq, Bool, true, false, if◌then◌else◌, List, Option, Some, None, option_map, IfSome, Ok, Err, refl, sym, subst}
+use Rattle.std.proofs.Common.{◌≡◌, ℕ, nat_eq, Bool, true, false, if◌then◌else◌, List, Option, Some, None, option_map, IfSome, Ok, Err, refl, sym, subst, arith}
 use Rattle.std.specs.Prelude.{◌↔◌}
 use Rattle.std.specs.Bool.{OnTrue}
+use Rattle.std.proofs.lemmas.Bool.Decides.{nat_tests}
 use Rattle.std.proofs.lemmas.List.{append-nil}
 use Rattle.kc_outside.specs.declared.store.Slot.TheVariants.{Dump, Btf, Map, Plan}
 use Rattle.kc_outside.specs.Files.{Files as Told}
@@ -59,12 +60,18 @@ pub checks_stand : CleanWhereStanding → FirstOfRoots → ChecksStand
 checks_stand clean first all = versions_stand clean first all (nat_eq all.version 2)
 
 -- what is said of each root audit
-versions_told : CleanRootsStand → (all : Audited) (each : Bool) → TellsRoots all (shown_by each all)
-versions_told law all true = roots_told law all (roots 0 all.audits)
-versions_told law all false = tt
+is_two : (version : ℕ) → nat_eq version 2 ≡ true → version ≡ 2
+is_two version is = grind (arith, nat_tests)
+
+isnt_two : (version : ℕ) → nat_eq version 2 ≡ false → ¬ (version ≡ 2)
+isnt_two version isnt is = absurd (let no : nat_eq 2 2 ≡ false = subst (λ (n : ℕ). nat_eq n 2 ≡ false) is isnt in let none : ⊥ = cc in none)
+
+versions_told : CleanRootsStand → (all : Audited) (each : Bool) → nat_eq all.version 2 ≡ each → TellsRoots all (shown_by each all)
+versions_told law all true is = (is_two all.version is, roots_told law all (roots 0 all.audits))
+versions_told law all false isnt = isnt_two all.version isnt
 
 pub roots_are_told : CleanRootsStand → RootsTold
-roots_are_told law all = versions_told law all (nat_eq all.version 2)
+roots_are_told law all = versions_told law all (nat_eq all.version 2) refl
 
 -- the text is a report's
 verdict_same : (names : List (List ℕ)) (seen : Verdict) → seen_text (verdict_said names seen) (verdict_places seen) ≡ report_text (report_of names seen)

@@ -16,7 +16,7 @@ use Rattle.kc_command.specs.Slots.{refused_slot}
 use Rattle.kc_command.specs.declared.ends.answer.Answer.{Answer}
 use Rattle.kc_command.specs.Ends.Answers.{PrintsOf, PrintsOfBytes, StayBehind}
 use Rattle.kc_command.specs.Ends.Asked.{AllStay, behind}
-use Rattle.kc_app.specs.declared.held.Held.{Held}
+use Rattle.kc_app.specs.declared.held.HeldFiles.{HeldFiles}
 use Rattle.kc_app.specs.declared.plan_files.PlanFiles.{PlanFiles}
 use Rattle.kc_app.specs.Check.{Audited, audited, audited_by, audited_shown, check_asked, files_view, planned_in}
 use Rattle.kc_app.specs.Fitted.{RepliesOf, RepliesOfBytes}
@@ -43,14 +43,14 @@ holds (Some files) a kernel plan content is planned same =
     made_held (files slot.Dump a.kernel.dump.now) (files slot.Btf a.kernel.btf.now) (files slot.Map a.kernel.map.now) (files slot.Plan a.plan.now) content (kernel_view kernel) (plan_whole plan) is planned same
 
 -- what is shown of what they hold
-pub held_prints : (made : Told → Made Audited) (files : Option Told) (content : Option (List ℕ)) (held : Held) (r : Result Answer Halt) → Holds made files content (Ok held)
+pub held_prints : (made : Told → Made Audited) (files : Option Told) (content : Option (List ℕ)) (held : HeldFiles) (r : Result Answer Halt) → Holds made files content (Ok held)
     → PrintsOfBytes shown_written (λ bytes. gives (audited_shown (audited_of held bytes))) content r
     → PrintsOf shown_written (λ files. made files >>= (λ all. gives (audited_shown all))) files r
 held_prints made None content held r is prints = tt
 held_prints made (Some files) content held r is prints = rw is.2 (rw is.1 at prints)
 
 -- and what is replied
-pub held_replies : (made : Told → Made Audited) (reply : Audited → Reply) (files : Option Told) (content : Option (List ℕ)) (held : Held) (r : Result Answer Halt) → Holds made files content (Ok held)
+pub held_replies : (made : Told → Made Audited) (reply : Audited → Reply) (files : Option Told) (content : Option (List ℕ)) (held : HeldFiles) (r : Result Answer Halt) → Holds made files content (Ok held)
     → RepliesOfBytes (λ bytes. reply (audited_of held bytes)) content r
     → RepliesOf (λ files. made files >>= (λ all. gives (reply all))) files r
 held_replies made reply None content held r is replies = tt

@@ -7,6 +7,7 @@ use Rattle.kc_plan.specs.Stands.{PlanStands}
 use Rattle.kc_plan.specs.Verdicts.{verdict}
 use Rattle.kc_cert.specs.declared.text.certificate.CertStep.{CertStep}
 use Rattle.kc_cert.specs.Rechecking.Certificates.{answer}
+use Rattle.kc_cert.specs.Rechecking.Laws.{AreWalks}
 use Rattle.kc_cert.specs.Text.CertTexts.{IsCertificate, IsNoCertificate, cert_text}
 use Rattle.kc_command.specs.declared.refusal.Refusal.TheVariants.{Certificate, TooLong}
 use Rattle.kc_command.specs.Lines.{refusal_line}
@@ -19,11 +20,15 @@ use Rattle.kc_app.specs.Recheck.{CertFiles}
 use Rattle.kc_app.specs.Reply.{Proves, answer_line, answer_status}
 use Rattle.kc_app.specs.Shown.{shown_text}
 
--- `certify` ends with 0 exactly where every root audit stands in the dump, and then prints a certificate of it; and with 1 exactly where
--- one doesn't, and then prints what is shown of the verdict
+-- no other certificate is one of the dump
+abbrev pub IsOnly : List CertStep → Audited → Type 0
+IsOnly cert all = (other : List CertStep) → Proves other all.image all.audits → other ≡ cert
+
+-- `certify` ends with 0 exactly where every root audit stands in the dump, and then prints its only certificate, whose
+-- steps are the walks of the verdict in its order; and with 1 exactly where one doesn't, and then prints what is shown of the verdict
 pub record TellsProof (all : Audited) (ends : Status) (old new : Option (List ℕ)) : Type 0 where
   pub stands : TellsStanding all ends
-  pub proof : ends ≡ status.Done → (cert : List CertStep) × Proves cert all.image all.audits × (new ≡ with_piece old (cert_text cert))
+  pub proof : ends ≡ status.Done → (cert : List CertStep) × Proves cert all.image all.audits × IsOnly cert all × AreWalks all.image all.audits cert × (new ≡ with_piece old (cert_text cert))
   pub broken : ends ≡ status.Broken → new ≡ with_piece old (shown_text (verdict_shown all.image (names_of all.audits) (verdict all.image all.audits)))
 
 -- or with 2, where a file is refused; where a file isn't there, it doesn't end so

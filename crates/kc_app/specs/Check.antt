@@ -140,11 +140,11 @@ TellsRoot all root seen =
     ((said_status seen.said ≡ status.Done) ↔ RootStands all.image all.audits root)
     × ((said_status seen.said ≡ status.Broken) ↔ ¬ RootStands all.image all.audits root)
 
--- so it is said of each root audit, in the order of the plan
+-- of a plan of version 2, and of no other, this is said of each root audit, in the order of the plan
 abbrev pub TellsRoots : Audited → Shown → Type 0
-TellsRoots all (Seen said image places) = ⊤
-TellsRoots all (Rooted image seen) = AllZip (TellsRoot all) (roots 0 all.audits) seen
-TellsRoots all (Listed strings t name lines) = ⊤
+TellsRoots all (Seen said image places) = ¬ (all.version ≡ 2)
+TellsRoots all (Rooted image seen) = (all.version ≡ 2) × AllZip (TellsRoot all) (roots 0 all.audits) seen
+TellsRoots all (Listed strings t name lines) = ⊥
 
 abbrev pub RootsTold : Type 0
 RootsTold = (all : Audited) → TellsRoots all (audited_shown all)

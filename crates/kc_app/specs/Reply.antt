@@ -15,7 +15,7 @@ use Rattle.kc_command.specs.Ends.Asked.{Asked}
 use Rattle.kc_command.specs.Ends.Written.{Written}
 use Rattle.kc_app.specs.Shown.{Shown, shown_status, shown_text}
 
--- Of a certificate a reply tells the memory and the audits: which certificate of these it is, no definition says.
+-- of a certificate a reply has the memory and the audits: a dump has at most one
 pub data Reply : Type 0 where
   Shows : Shown → Reply
   CertificateOf : Image → List AuditAt → Reply

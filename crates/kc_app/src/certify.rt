@@ -17,7 +17,7 @@ ghost use Rattle.kc_app.specs.Fitted.{RepliesOf, RepliesOfBytes};
 ghost use Rattle.kc_app.specs.Held.{audited_of};
 ghost use Rattle.kc_app.specs.Certified.{IsMade, IsSpelled, IsUnclean, NamesIn};
 
-use crate::held::{Held, ask_held, read_held};
+use crate::held::{HeldFiles, ask_held, read_held};
 use crate::plan_files::PlanFiles;
 use crate::verdict::answer;
 use kc_audit::{PlanOf, names_of};
@@ -58,7 +58,7 @@ pub(crate) fn certify<S: Store>(
 }
 
 // The answer on what the files hold.
-fn certified<S: Store>(alloc: Global, store: &mut S, held: &Held) -> Result<Answer, Halt>
+fn certified<S: Store>(alloc: Global, store: &mut S, held: &HeldFiles) -> Result<Answer, Halt>
     requires table { IsTable held.now.info.table }
     requires types { TypesAreInside (length held.now.types.records) held.now.plan.audits }
     requires inside { AreInside (S.sizes store.old Dump) held.now.core.segments }

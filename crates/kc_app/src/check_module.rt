@@ -16,7 +16,7 @@ ghost use Rattle.kc_app.specs.CheckModule.{audited_with, checks_asks, five_view,
 ghost use Rattle.kc_app.specs.Held.{Holds};
 ghost use Rattle.kc_app.specs.Shown.{shown_written};
 
-use crate::held::Held;
+use crate::held::HeldFiles;
 use crate::plan_files::{PlanFiles, find_plan};
 use crate::verdict::judge;
 use kc_command::{Answer, Halt, KernelFiles, read_map, read_module, read_noted, read_types};
@@ -97,7 +97,7 @@ fn check<S: Store>(alloc: Global, store: &mut S, asks: &Asks<'_>) -> Result<Answ
 }
 
 // What the files hold, or their first fault.
-fn read_joined<S: Store>(alloc: Global, store: &mut S, asks: &Asks<'_>) -> Result<Held, Halt>
+fn read_joined<S: Store>(alloc: Global, store: &mut S, asks: &Asks<'_>) -> Result<HeldFiles, Halt>
     requires dump { S.may store.old Dump asks.now.files.kernel.dump.now }
     requires btf { S.may store.old Slot.Btf asks.now.files.kernel.btf.now }
     requires split { S.may store.old Slot.Module asks.now.split.now }
@@ -125,7 +125,7 @@ fn read_joined<S: Store>(alloc: Global, store: &mut S, asks: &Asks<'_>) -> Resul
     let types = read_module(alloc, store, asks.split, &base)?;
     let map = read_map(alloc, store, asks.files.kernel.map)?;
     let plan = find_plan(alloc, store, &map, asks.files.plan, &types, &noted.info)?;
-    Ok(Held {
+    Ok(HeldFiles {
         core: noted.core,
         info: noted.info,
         types,

@@ -25,7 +25,7 @@ use std::alloc::Global;
 
 /// What the four files of an audit hold. The dump stays in slot Dump.
 #[derive(Drop)]
-pub struct Held {
+pub struct HeldFiles {
     /// The segments and notes of the dump.
     pub core: Core,
     /// What its notes tell.
@@ -41,7 +41,11 @@ pub struct Held {
 /// # Errors
 ///
 /// The first fault of these files, in their order; a failed call of the store; no memory was left.
-pub fn read_held<S: Store>(alloc: Global, store: &mut S, asks: &PlanFiles<'_>) -> Result<Held, Halt>
+pub fn read_held<S: Store>(
+    alloc: Global,
+    store: &mut S,
+    asks: &PlanFiles<'_>,
+) -> Result<HeldFiles, Halt>
     requires dump { S.may store.old Dump asks.now.kernel.dump.now }
     requires btf { S.may store.old Slot.Btf asks.now.kernel.btf.now }
     requires map { S.may store.old Map asks.now.kernel.map.now }
@@ -73,7 +77,7 @@ pub fn read_held<S: Store>(alloc: Global, store: &mut S, asks: &PlanFiles<'_>) -
         &kernel.types,
         &kernel.info,
     )?;
-    Ok(Held {
+    Ok(HeldFiles {
         core: kernel.core,
         info: kernel.info,
         types: kernel.types,
@@ -89,7 +93,7 @@ pub fn read_held<S: Store>(alloc: Global, store: &mut S, asks: &PlanFiles<'_>) -
 pub fn ask_held<S: Store, Q: Question>(
     alloc: Global,
     store: &mut S,
-    held: &Held,
+    held: &HeldFiles,
     question: &Q,
 ) -> Result<Q::Answer, NoMemory>
     requires may { Q.may question.now }

@@ -1,12 +1,13 @@
 // What the definition of the output says.
 ghost use Rattle.kc_cert.specs.Text.CertTexts.{TextsTold};
-ghost use Rattle.kc_cert.specs.Rechecking.Laws.{AnswersAreRight};
+ghost use Rattle.kc_cert.specs.Rechecking.Laws.{AnswersAreRight, StepsAreWalks};
+ghost use Rattle.kc_cert.specs.Single.{CertificatesAreOne};
 ghost use Rattle.kc_app.specs.Check.{ChecksStand, ReportsShown, RootsTold};
 ghost use Rattle.kc_app.specs.Headline.{ChecksEnd};
 ghost use Rattle.kc_app.specs.ModuleHeadline.{ModuleChecksEnd};
 ghost use Rattle.kc_app.specs.Output.{ShownStand};
 
-use kc_cert::{know_answers, know_texts};
+use kc_cert::{know_answers, know_single, know_texts};
 use kc_memory::know_places;
 use kc_run::know_verdicts;
 use kc_view::know_values;
@@ -14,7 +15,8 @@ use kc_view::know_values;
 /// Does nothing. Every word of a dump that an output shows stands in the dump at the printed places. `check` shows that a
 /// dump is clean exactly where every structure that the plan reaches stands, and so it ends: with 0 there, with 1 where one
 /// doesn't stand, and with 2 where a file is refused. Of a plan of version 2 it shows so of each root audit. A
-/// certificate is read from exactly its text, and fits a dump only where every structure stands.
+/// certificate is read from exactly its text, and fits a dump only where every structure stands; a dump has at
+/// most one, with the walks of the verdict in its order.
 pub fn know_shown()
     ensures shown { ShownStand }
     ensures checked { ChecksStand }
@@ -23,9 +25,12 @@ pub fn know_shown()
     ensures module_ends { ModuleChecksEnd }
     ensures texts { TextsTold }
     ensures right { AnswersAreRight }
+    ensures order { StepsAreWalks }
+    ensures single { CertificatesAreOne }
 {
     know_answers();
     know_places();
+    know_single();
     know_texts();
     know_values();
     know_verdicts();

@@ -23,7 +23,7 @@ ghost use Rattle.kc_app.specs.Recheck.{cert_file, cert_files, recheck_asked, rec
 ghost use Rattle.kc_app.specs.Reply.{Rechecks, answer_line, answer_status};
 ghost use Rattle.kc_found.specs.Failures.{CountsFailures};
 
-use crate::held::{Held, ask_held, read_held};
+use crate::held::{HeldFiles, ask_held, read_held};
 use crate::plan_files::PlanFiles;
 use kc_audit::PlanOf;
 use kc_cert::{CertAnswer, CertRead, Certificate, read_cert, recheck as recheck_plan};
@@ -109,7 +109,7 @@ fn take_cert(alloc: Global, bytes: &[u8]) -> Result<Certificate, Halt>
 fn rechecked<S: Store>(
     alloc: Global,
     store: &mut S,
-    held: &Held,
+    held: &HeldFiles,
     cert: &Certificate,
 ) -> Result<Answer, Halt>
     requires table { IsTable held.now.info.table }

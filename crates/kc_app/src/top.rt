@@ -39,7 +39,7 @@ pub fn kaudit<S: Store, O: Sink, E: Sink>(
     requires { (slot : Slot) → ForSome (word_in (program (map string_bytes words.now)) slot) (S.may store.old slot) }
 
     // Where the files are told, an answer is the one that the output of the words and the files has. Of `certify` on a clean
-    // dump it is the text of some certificate that fits; which one it is, no definition says.
+    // dump it is the text of a certificate that fits; by `certified` there is only one.
     ensures told { OnTrue (is_answer result)
         (IsToldBy (map string_bytes words.now) (S.files store.old) result (O.taken out.old) (O.taken out.new)
         (E.taken err.old) (E.taken err.new)) }
@@ -59,7 +59,8 @@ pub fn kaudit<S: Store, O: Sink, E: Sink>(
     ensures shown { OnTrue (is_answer result) (IfSome (S.files store.old)
         (λ files. TookTrue (out_of (map string_bytes words.now) files) (O.taken out.old) (O.taken out.new))) }
 
-    // `certify` ends so too, and prints a certificate of the dump where it ends with 0. `recheck` tells of the certificate whose text
+    // `certify` ends so too, and prints the dump's only certificate where it ends with 0: the walks of the
+    // verdict, in its order. `recheck` tells of the certificate whose text
     // a file is whether it fits the dump, ends with 0 only where every root audit stands in the dump, and refuses a file above 256 MiB
     // or one that isn't a certificate's text.
     ensures certified { OnTrue (is_answer result) (IfSome (S.files store.old)

@@ -19,7 +19,7 @@ ghost use Rattle.kc_app.specs.Check.{audited_shown, root_seen, roots_shown, verd
 ghost use Rattle.kc_app.specs.Held.{audited_of};
 ghost use Rattle.kc_app.specs.Shown.{shown_written};
 
-use crate::held::{Held, ask_held};
+use crate::held::{HeldFiles, ask_held};
 use kc_audit::{EachRoot, PlanOf, WholePlan, is_broken, names_of};
 use kc_command::{Answer, Halt};
 use kc_found::{ReadFailed, Verdict, Verdicts};
@@ -28,7 +28,7 @@ use kc_report::{PlanNames, report_each, report_of, text};
 use std::alloc::Global;
 
 /// The answer of a plan on a dump that was read: of version 2 with a verdict on each root audit, else with one on all audits.
-pub fn judge<S: Store>(alloc: Global, store: &mut S, held: &Held) -> Result<Answer, Halt>
+pub fn judge<S: Store>(alloc: Global, store: &mut S, held: &HeldFiles) -> Result<Answer, Halt>
     requires table { IsTable held.now.info.table }
     requires types { TypesAreInside (length held.now.types.records) held.now.plan.audits }
     requires inside { AreInside (S.sizes store.old Dump) held.now.core.segments }
@@ -54,7 +54,7 @@ pub fn judge<S: Store>(alloc: Global, store: &mut S, held: &Held) -> Result<Answ
 fn judge_all<S: Store>(
     alloc: Global,
     store: &mut S,
-    held: &Held,
+    held: &HeldFiles,
     names: &PlanNames,
 ) -> Result<Answer, Halt>
     requires table { IsTable held.now.info.table }
@@ -89,7 +89,7 @@ fn judge_all<S: Store>(
 fn judge_each<S: Store>(
     alloc: Global,
     store: &mut S,
-    held: &Held,
+    held: &HeldFiles,
     names: &PlanNames,
 ) -> Result<Answer, Halt>
     requires table { IsTable held.now.info.table }

@@ -1,5 +1,5 @@
-//! Slab caches and task lists by the lists of their chains: whether lists are those of a structure, and which nodes they give. The
-//! lists say what is read, so a test takes steps by their numbers, whatever the dump holds.
+//! Slab caches, task lists and process ids by the lists of their chains: whether lists are those of a structure, and which
+//! nodes they give. The lists say what is read, so a test takes steps by their numbers, whatever the dump holds.
 #![tactic(auto)]
 
 mod free;

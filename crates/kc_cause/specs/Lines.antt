@@ -13,7 +13,7 @@ use Rattle.kc_plan.specs.Seen.{container_of}
 use Rattle.kc_report.specs.Lines.{rule_code}
 use Rattle.kc_layout.specs.MemberPath.MemberPaths.{member_path}
 use Rattle.kc_element.specs.declared.element.Element.{Element}
-use Rattle.kc_element.specs.declared.number.Part.{Part}
+use Rattle.kc_element.specs.declared.number.FoundNumber.{FoundNumber}
 use Rattle.kc_element.specs.Elements.{element_of}
 use Rattle.kc_element.specs.Numbers.{differing, part_of}
 use Rattle.kc_repair.specs.declared.suspect.suspect.Suspect.{Suspect}
@@ -57,7 +57,7 @@ abbrev pub element_lines : Types → Violation → Option Element → List ℕ
 element_lines types v element = option_map_or (λ e. typed_part types e ++ about_part types v e) element []
 
 -- a number against the one that is expected, and in how many bits they differ
-abbrev pub number_line : Part → List ℕ
+abbrev pub number_line : FoundNumber → List ℕ
 number_line p = codes "expected " ++ hex p.expected ++ codes " found " ++ hex p.found ++ (codes " bits " ++ decimal (differing p)) ++ codes "\n"
 
 abbrev pub number_lines : Kind → Violation → List ℕ

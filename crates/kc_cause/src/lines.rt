@@ -8,7 +8,7 @@ ghost use Rattle.kc_cause.specs.Lines.{about_part, bytes_line, element_lines, is
 
 use crate::sentences::sentence;
 use kc_btf::Btf;
-use kc_element::{Element, Part, element_of, part_of};
+use kc_element::{Element, FoundNumber, element_of, part_of};
 use kc_found::{Found, Name};
 use kc_kinds::Kind;
 use kc_layout::push_member;
@@ -129,7 +129,7 @@ pub fn push_element(
 }
 
 // The line of a number against the one that is expected.
-fn push_part(text: &mut Vec<u8>, part: &Part) -> Result<(), NoMemory>
+fn push_part(text: &mut Vec<u8>, part: &FoundNumber) -> Result<(), NoMemory>
     ensures { OnOk result (text.new.items ≡ text.old.items ++ number_line part.now) }
 {
     push(text, b"expected ")?;

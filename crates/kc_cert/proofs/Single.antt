@@ -48,7 +48,7 @@ each_same judge one (x ∷ xs) p q after_p after_q e f g =
     }
 
 -- a test that was met
-if_ok : (b : Bool) (r : Judged) (left : List CertStep) (p : Progress) → (if b then r else Err left) ≡ Ok p → (b ≡ true) × (r ≡ Ok p)
+pub if_ok : (b : Bool) (r : Judged) (left : List CertStep) (p : Progress) → (if b then r else Err left) ≡ Ok p → (b ≡ true) × (r ≡ Ok p)
 if_ok true r left p e = (refl, e)
 if_ok false r left p e = absurd (cc)
 
@@ -109,7 +109,7 @@ none_left : (steps : List CertStep) (counts found : List AuditCount) (left : Lis
 none_left steps counts found [] e = refl
 none_left steps counts found (s ∷ left) e = absurd (cc)
 
-answered : (steps : List CertStep) (r : Judged) (found : List AuditCount) → answer_of steps r ≡ Yes found → (p : Progress) × (r ≡ Ok p) × (p.left ≡ [])
+pub answered : (steps : List CertStep) (r : Judged) (found : List AuditCount) → answer_of steps r ≡ Yes found → (p : Progress) × (r ≡ Ok p) × (p.left ≡ [])
 answered steps (Err left) found e = absurd (cc)
 answered steps (Ok p) found e = (p, refl, none_left steps p.counts found p.left e)
 

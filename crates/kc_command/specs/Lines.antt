@@ -9,7 +9,8 @@ use Rattle.kc_notes.specs.declared.fault.NoteFault.TheVariants.{V1, V2, V3, V4, 
 use Rattle.kc_notes.specs.declared.fault.NoteKey.{NoteKey}
 use Rattle.kc_notes.specs.declared.fault.NoteKey.TheVariants.{L5, Offset, Sme}
 use Rattle.kc_kallsyms.specs.declared.fault.TableFault.{TableFault}
-use Rattle.kc_kallsyms.specs.declared.fault.TableFault.TheVariants.{S4, S5, S6, S7, S8, S9, S10, S11}
+use Rattle.kc_kallsyms.specs.declared.fault.TableFault.TheVariants.{S4, S5, S6, S7, S8, S9, S10, S11, S12, S13, S14, S15, S16, S17}
+use Rattle.kc_kallsyms.specs.Modules.{list_key, member_key}
 use Rattle.kc_kallsyms.specs.Places.{line_key}
 use Rattle.kc_printk.specs.declared.fault.LogFault.{LogFault}
 use Rattle.kc_printk.specs.declared.fault.LogFault.TheVariants as logs
@@ -61,7 +62,8 @@ note_code V5 = codes "V5"
 note_code (V6 key) = codes "V6 key " ++ key_text key
 note_code V7 = codes "V7"
 
--- the code of a fault of the dump's own symbol table, with the line that is missing, or the number of symbols, of the token or of the symbol
+-- the code of a fault of the dump's own symbol table, with the line, the symbol or the member that is missing, or the number of symbols, of the
+-- token or of the symbol
 abbrev pub table_code : TableFault → List ℕ
 table_code (S4 line) = codes "S4 key " ++ line_key line
 table_code (S5 count) = codes "S5 count " ++ decimal count
@@ -71,6 +73,12 @@ table_code (S8 number) = codes "S8 symbol " ++ decimal number
 table_code S9 = codes "S9"
 table_code S10 = codes "S10"
 table_code S11 = codes "S11"
+table_code S12 = codes "S12"
+table_code (S13 list) = codes "S13 key " ++ list_key list
+table_code (S14 member) = codes "S14 key " ++ member_key member
+table_code S15 = codes "S15"
+table_code S16 = codes "S16"
+table_code S17 = codes "S17"
 
 -- the code of a fault of the dump's own log, with the line of the note that is missing
 abbrev pub log_code : LogFault → List ℕ

@@ -1,6 +1,7 @@
 // The line of a refusal.
 ghost use Rattle.std.specs.Prelude.{◌≡◌, ◌++◌, Some, codes, decimal, IfOk, OnOk};
 ghost use Rattle.kc_text.specs.Text.{hex};
+ghost use Rattle.kc_kallsyms.specs.Modules.{list_key, member_key};
 ghost use Rattle.kc_kallsyms.specs.Places.{line_key};
 ghost use Rattle.kc_printk.specs.Note.{key_of};
 ghost use Rattle.kc_command.specs.Lines.{audit_part, btf_code, btf_text, core_code, key_part, key_text, log_code, note_code, path_code, plan_code, plan_rule, refusal_line, refusal_text, report_code, slot_name, symbol_code, table_code};
@@ -9,7 +10,9 @@ use crate::refusal::{Refusal, ReportFault};
 use kc_btf::{BRule, BtfFault};
 use kc_elf::CoreFault;
 use kc_expr::{PRule, PlanFault, PlanKey, spelling};
-use kc_kallsyms::{TableFault, TableLine, line_key};
+use kc_kallsyms::{
+    ModuleList, ModuleMember, TableFault, TableLine, line_key, list_key, member_key,
+};
 use kc_layout::{PathFault, QRule};
 use kc_notes::{NoteFault, NoteKey};
 use kc_outside::Slot;
@@ -155,6 +158,20 @@ fn push_table_line(text: &mut Vec<u8>, line: TableLine) -> Result<(), NoMemory>
     push(text, line_key(line))
 }
 
+fn push_list(text: &mut Vec<u8>, list: ModuleList) -> Result<(), NoMemory>
+    ensures { OnOk result (text.new.items ≡ text.old.items ++ (codes "S13 key " ++ list_key list)) }
+{
+    push(text, b"S13 key ")?;
+    push(text, list_key(list))
+}
+
+fn push_member(text: &mut Vec<u8>, member: ModuleMember) -> Result<(), NoMemory>
+    ensures { OnOk result (text.new.items ≡ text.old.items ++ (codes "S14 key " ++ member_key member)) }
+{
+    push(text, b"S14 key ")?;
+    push(text, member_key(member))
+}
+
 fn push_table_code(text: &mut Vec<u8>, fault: TableFault) -> Result<(), NoMemory>
     ensures { OnOk result (text.new.items ≡ text.old.items ++ table_code fault) }
 {
@@ -167,6 +184,12 @@ fn push_table_code(text: &mut Vec<u8>, fault: TableFault) -> Result<(), NoMemory
         TableFault::S9 => push(text, b"S9"),
         TableFault::S10 => push(text, b"S10"),
         TableFault::S11 => push(text, b"S11"),
+        TableFault::S12 => push(text, b"S12"),
+        TableFault::S13(list) => push_list(text, list),
+        TableFault::S14(member) => push_member(text, member),
+        TableFault::S15 => push(text, b"S15"),
+        TableFault::S16 => push(text, b"S16"),
+        TableFault::S17 => push(text, b"S17"),
     }
 }
 

@@ -30,7 +30,7 @@ pub enum Refusal {
     Core(CoreFault),
     /// The dump's notes don't tell what is needed.
     Notes(NoteFault),
-    /// The dump's own symbol table is none, or doesn't have what is needed.
+    /// The dump's own symbol table is none, or doesn't lead to what is needed.
     Tables(TableFault),
     /// The dump's own log is none, or its notes don't lead to it.
     Log(LogFault),

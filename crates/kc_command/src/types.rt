@@ -17,8 +17,12 @@ use kc_btf::Btf;
 use kc_outside::{Slot, Store};
 use std::alloc::Global;
 
-// The types of a file with these bytes.
-fn take_types(alloc: Global, bytes: Vec<u8>) -> Result<Btf, Halt>
+/// The types of a kernel, by the raw bytes of its section `.BTF`, of which there are at most 64 MiB.
+///
+/// # Errors
+///
+/// The first fault B1 to B8; no memory was left.
+pub fn take_types(alloc: Global, bytes: Vec<u8>) -> Result<Btf, Halt>
     requires { length bytes.items ≤ 2 ^ 26 }
     ensures made { Is (λ types. types) (checked Types (btf bytes.items)) result }
     ensures short { IfOk result AreShort }

@@ -10,12 +10,12 @@ use Rattle.kc_view.specs.declared.slub.SlubShape.{SlubShape}
 use Rattle.kc_view.specs.declared.tasks.TaskShape.{TaskShape}
 use Rattle.kc_kinds.specs.declared.kind.Kind.{Kind}
 use Rattle.kc_kinds.specs.declared.kind.Kind.TheVariants.{Ring, Hlist, Rbtree, Xarray, Slub, Tasks, Pids}
-use Rattle.kc_element.specs.declared.number.Part.{Part}
+use Rattle.kc_element.specs.declared.number.FoundNumber.{FoundNumber}
 use Rattle.kc_element.specs.declared.number.Spot.{Spot}
 use Rattle.kc_element.specs.declared.number.Spot.TheVariants.{Word, Parent, Bits}
 
 -- how many bits of the two numbers differ
-abbrev pub differing : Part → ℕ
+abbrev pub differing : FoundNumber → ℕ
 differing p = count_ones (bit_xor p.found p.expected)
 
 -- where the number of a field stands: from a bit of its first byte on
@@ -81,13 +81,13 @@ number_spot (Tasks shape) rule = task_spot shape rule
 number_spot (Pids shape) rule = pid_spot shape rule
 
 -- the number in some bits from one of a word on, where the word has them all
-abbrev pub bits_part : ℕ → ℕ → ℕ → ℕ → Option Part
+abbrev pub bits_part : ℕ → ℕ → ℕ → ℕ → Option FoundNumber
 bits_part from width expected word =
     if nat_lt from 64 && nat_le (from + width) 64 then Some (record { found = word / 2 ^ from % 2 ^ width; expected = expected % 2 ^ width })
     else None
 
 -- the number that stands there, by the word
-abbrev pub part_in : Spot → ℕ → ℕ → ℕ → Option Part
+abbrev pub part_in : Spot → ℕ → ℕ → ℕ → Option FoundNumber
 part_in Word at expected word = Some (record { found = word; expected = expected })
 part_in Parent at expected word = Some (record { found = word / 4 * 4; expected = expected })
 part_in (Bits bit width) at expected word = bits_part (at % 8 * 8 + bit) width expected word
@@ -103,6 +103,6 @@ word_at at (p ∷ []) = word_shown at p.va p.value
 word_at at (p ∷ q ∷ ps) = None
 
 -- what stands where a violation expects a number
-abbrev pub part_of : Kind → Violation → Option Part
+abbrev pub part_of : Kind → Violation → Option FoundNumber
 part_of kind v =
     option_and_then (λ spot. option_and_then (λ word. option_and_then (λ expected. part_in spot v.at expected word) v.expected) (word_at v.at v.places)) (number_spot kind v.rule)

@@ -6,4 +6,4 @@ mod element;
 mod number;
 
 pub use element::{Element, element_of};
-pub use number::{Part, part_of};
+pub use number::{FoundNumber, part_of};

@@ -10,14 +10,14 @@ use kc_view::{PidShape, SlubShape, TaskShape};
 
 /// What stands where a number is expected.
 #[derive(Clone, Copy, Debug, PartialEq, Eq)]
-pub struct Part {
+pub struct FoundNumber {
     /// The number there, without sign.
     pub found: u64,
     /// What is expected, in as many bits.
     pub expected: u64,
 }
 
-impl Part {
+impl FoundNumber {
     /// How many bits differ.
     pub fn differing(&self) -> u32
         ensures { result ≡ differing self.now }
@@ -135,28 +135,28 @@ fn bits_of(from: u8, width: u8, word: u64) -> u64
 }
 
 // The number in some bits from one of a word on, where the word has them all.
-fn bits_part(from: u64, width: u8, expected: u64, word: u64) -> Option<Part>
+fn bits_part(from: u64, width: u8, expected: u64, word: u64) -> Option<FoundNumber>
     ensures { result ≡ bits_part from width expected word }
 {
     if from >= 64 || u64::from(width) > 64 - from {
         return None;
     }
-    Some(Part {
+    Some(FoundNumber {
         found: bits_of(from as u8, width, word),
         expected: bits_of(0, width, expected),
     })
 }
 
 // The number that stands there, by the word.
-fn part_in(spot: Spot, at: u64, expected: u64, word: u64) -> Option<Part>
+fn part_in(spot: Spot, at: u64, expected: u64, word: u64) -> Option<FoundNumber>
     ensures { result ≡ part_in spot at expected word }
 {
     match spot {
-        Spot::Word => Some(Part {
+        Spot::Word => Some(FoundNumber {
             found: word,
             expected,
         }),
-        Spot::Parent => Some(Part {
+        Spot::Parent => Some(FoundNumber {
             found: word / 4 * 4,
             expected,
         }),
@@ -177,7 +177,7 @@ fn word_at(at: u64, places: &Places) -> Option<u64>
 }
 
 /// The number that stands where the rule of a violation expects another, where the violation shows the one word that has it.
-pub fn part_of(kind: &Kind, found: &Found) -> Option<Part>
+pub fn part_of(kind: &Kind, found: &Found) -> Option<FoundNumber>
     ensures { result ≡ part_of kind.now found.now }
 {
     let spot = number_spot(kind, found.rule)?;

@@ -1,4 +1,5 @@
-//! Checks of elements: the language of a plan's key `check`, its trees and their values.
+//! Checks of elements: the language of a plan's key `check`, its trees and their values; and the keys of a plan with the
+//! faults P of plans.
 #![tactic(auto)]
 
 mod evaluation;

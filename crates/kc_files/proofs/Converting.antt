@@ -2,8 +2,8 @@
 use Rattle.std.proofs.Common.{◌≡◌, ℕ, List, Option, Some, None, Result, Ok, Err, refl}
 use Rattle.std.specs.Global.{Vec}
 use Rattle.kc_memory.specs.Image.{Image}
-use Rattle.kc_kallsyms.specs.declared.stop.ReadStop.{ReadStop}
-use Rattle.kc_kallsyms.specs.declared.stop.ReadStop.TheVariants as tables
+use Rattle.kc_kallsyms.specs.declared.stop.TableStop.{TableStop}
+use Rattle.kc_kallsyms.specs.declared.stop.TableStop.TheVariants as tables
 use Rattle.kc_kallsyms.specs.Reading as of_tables
 use Rattle.kc_printk.specs.declared.stop.LogStop.{LogStop}
 use Rattle.kc_printk.specs.declared.stop.LogStop.TheVariants as logs
@@ -11,19 +11,19 @@ use Rattle.kc_printk.specs.Answers as of_log
 use Rattle.kc_printk.specs.Log as log
 use Rattle.kc_files.specs.Reading.{CountsUnread, Reads, ReadsAs, by_log, by_tables, log_answer, tables_answer}
 
-tables_one : (truth : Result (List ℕ) of_tables.Why) (r : Result (Vec ℕ) ReadStop) → of_tables.Reads (λ (v : Vec ℕ). v.items) truth r → Reads (λ (v : Vec ℕ). v.items) (by_tables truth) (tables_answer r)
+tables_one : (truth : Result (List ℕ) of_tables.Why) (r : Result (Vec ℕ) TableStop) → of_tables.Reads (λ (v : Vec ℕ). v.items) truth r → Reads (λ (v : Vec ℕ). v.items) (by_tables truth) (tables_answer r)
 tables_one truth (Ok bytes) is = rw is refl
 tables_one truth (Err (tables.Miss s)) is = rw is refl
 tables_one truth (Err tables.Fault) is = tt
 tables_one truth (Err (tables.Table fault)) is = rw is refl
 tables_one truth (Err tables.NoMemory) is = tt
 
-pub tables_read : (image : Option Image) (truth : Image → Result (List ℕ) of_tables.Why) (r : Result (Vec ℕ) ReadStop)
+pub tables_read : (image : Option Image) (truth : Image → Result (List ℕ) of_tables.Why) (r : Result (Vec ℕ) TableStop)
     → of_tables.ReadsAs (λ (v : Vec ℕ). v.items) truth image r → ReadsAs (λ (v : Vec ℕ). v.items) (λ i. by_tables (truth i)) image (tables_answer r)
 tables_read None truth r is = tt
 tables_read (Some image) truth r is = tables_one (truth image) r is
 
-pub tables_count : (r : Result (Vec ℕ) ReadStop) (before after : ℕ) → of_tables.CountsReadFaults r before after → CountsUnread (tables_answer r) before after
+pub tables_count : (r : Result (Vec ℕ) TableStop) (before after : ℕ) → of_tables.CountsReadFaults r before after → CountsUnread (tables_answer r) before after
 tables_count (Ok bytes) before after is = is
 tables_count (Err (tables.Miss s)) before after is = is
 tables_count (Err tables.Fault) before after is = is

@@ -12,7 +12,7 @@ use Rattle.kc_syms.specs.Rows.{is_kind, is_name_byte, lines as rows_lines, name_
 use Rattle.kc_syms.specs.Spelling.{IsKind, IsNameByte, SpellAll, Spells}
 use Rattle.kc_kallsyms.specs.declared.fault.TableFault.{TableFault}
 use Rattle.kc_kallsyms.specs.declared.fault.TableFault.TheVariants.{S7, S8}
-use Rattle.kc_kallsyms.specs.declared.frame.Frame.{Frame}
+use Rattle.kc_kallsyms.specs.declared.frame.RowFrame.{RowFrame}
 use Rattle.kc_kallsyms.specs.declared.places.Places.{Places}
 use Rattle.kc_kallsyms.specs.declared.reading.Reading.{Reading}
 use Rattle.kc_kallsyms.specs.declared.reading.Reading.TheVariants.{Absolute, Relative}
@@ -111,7 +111,7 @@ symbols_good image tokens (suc count) number spot ss is =
     (symbol_good number e.first.text e.first.offset s.first (judged_by (symbol_of number e.first.text e.first.offset) s.first s.was), symbols_good image tokens count (number + 1) e.first.next r.first r.was)
 
 -- the line of a symbol without its newline
-abbrev body : Frame → Symbol → List ℕ
+abbrev body : RowFrame → Symbol → List ℕ
 body frame s = hex (listed frame s) ++ 32 ∷ letter frame s ∷ 32 ∷ s.name
 
 letter_kind : (b : Bool) (c : ℕ) → IsKind c → IsKind (if b then 68 else c)
@@ -135,7 +135,7 @@ unfolding hex_digits
 digits_high zero n = tt
 digits_high (suc k) n = high-append (hex_digits k (n / 16)) (hex_digit (n % 16) ∷ []) (digits_high k (n / 16)) (digit_high (n % 16), tt)
 
-body_high : (frame : Frame) (s : Symbol) → IsGood s → High (body frame s)
+body_high : (frame : RowFrame) (s : Symbol) → IsGood s → High (body frame s)
 body_high frame s is =
     let kind = kind_high (letter frame s) (letter_kind (is_of_processors frame.reading frame.processors s) s.letter is.kind) in
     high-append (hex (listed frame s)) (32 ∷ letter frame s ∷ 32 ∷ s.name) (digits_high 16 (listed frame s)) (omega arith, (kind, (omega arith, is.high)))
@@ -152,7 +152,7 @@ linked_small : (b : Bool) (kaslr at : ℕ) → at < 2 ^ 64 → (if b then at - k
 linked_small true kaslr at small = omega arith
 linked_small false kaslr at small = small
 
-spells : (frame : Frame) (s : Symbol) → IsGood s → Spells (body frame s) (row_of frame s)
+spells : (frame : RowFrame) (s : Symbol) → IsGood s → Spells (body frame s) (row_of frame s)
 spells frame s is = record {
   kind = letter frame s;
   text = refl;
@@ -162,10 +162,10 @@ spells frame s is = record {
   visible = is.visible;
 }
 
-line_is : (frame : Frame) (s : Symbol) → line frame s ≡ body frame s ++ 10 ∷ []
+line_is : (frame : RowFrame) (s : Symbol) → line frame s ≡ body frame s ++ 10 ∷ []
 line_is frame s = refl
 
-spelled : (frame : Frame) (ss : List Symbol) → AllGood ss → SpellAll (rows_lines (lines frame ss)) (map (row_of frame) ss)
+spelled : (frame : RowFrame) (ss : List Symbol) → AllGood ss → SpellAll (rows_lines (lines frame ss)) (map (row_of frame) ss)
 spelled frame [] good = subst (λ (ls : List (List ℕ)). SpellAll (map without_terminator ls) []) (sym lines-nil) tt
 spelled frame (s ∷ ss) good =
     let high = body_high frame s good.0 in

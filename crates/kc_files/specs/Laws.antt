@@ -1,15 +1,15 @@
 -- What the files that are made of a dump say of it, in the words of the field.
 use Rattle.std.specs.Prelude.{◌≡◌, ℕ, ◌+◌, ◌^◌, ◌<◌, ◌≤◌, List, [], ◌∷◌, length, map, codes, Some, Ok}
+use Rattle.kc_bytes.specs.Bytes.{byte_in, onward, word_start}
 use Rattle.kc_memory.specs.declared.words.VWord.{VWord}
 use Rattle.kc_memory.specs.Image.{Image}
 use Rattle.kc_memory.specs.Translation.{vword}
 use Rattle.kc_syms.specs.Addresses.{at_run}
 use Rattle.kc_syms.specs.Rows.{RowText, lines as lines_of}
 use Rattle.kc_syms.specs.Spelling.{SpellAll}
-use Rattle.kc_kallsyms.specs.declared.frame.Frame.{Frame}
+use Rattle.kc_kallsyms.specs.declared.frame.RowFrame.{RowFrame}
 use Rattle.kc_kallsyms.specs.declared.places.Places.{Places}
 use Rattle.kc_kallsyms.specs.Addresses.{linked, offset_of}
-use Rattle.kc_kallsyms.specs.Bytes.{byte_in, onward, word_start}
 use Rattle.kc_kallsyms.specs.Map.{Kernel, kernel_at, listed, map_at}
 use Rattle.kc_kallsyms.specs.Symbols.{Symbol}
 use Rattle.kc_kallsyms.specs.Types.{address_by, types_at}
@@ -45,7 +45,7 @@ abbrev pub LinkedRuns : Type 0
 LinkedRuns = (kaslr at : ℕ) → 0xffffffff80000000 + kaslr ≤ at → at < 2 ^ 64 → at_run kaslr (linked kaslr at) ≡ at
 
 -- the row of a symbol: the address that is listed for it, and its name
-abbrev pub row_of : Frame → Symbol → RowText
+abbrev pub row_of : RowFrame → Symbol → RowText
 row_of frame s = record { listed = listed frame s; name = s.name }
 
 -- Each line of the map spells the row of its symbol, by what spells a row of a System.map, and there is no other line.

@@ -3,8 +3,8 @@ use Rattle.std.specs.Prelude.{◌≡◌, ⊤, ℕ, ◌≤◌, Option, Some, None
 use Rattle.kc_outside.specs.Counts.{Rose}
 use Rattle.kc_memory.specs.Stopped.{Stopped}
 use Rattle.kc_kallsyms.specs.declared.fault.TableFault.{TableFault}
-use Rattle.kc_kallsyms.specs.declared.stop.ReadStop.{ReadStop}
-use Rattle.kc_kallsyms.specs.declared.stop.ReadStop.TheVariants as tables
+use Rattle.kc_kallsyms.specs.declared.stop.TableStop.{TableStop}
+use Rattle.kc_kallsyms.specs.declared.stop.TableStop.TheVariants as tables
 use Rattle.kc_kallsyms.specs.Reading as of_tables
 use Rattle.kc_printk.specs.declared.fault.LogFault.{LogFault}
 use Rattle.kc_printk.specs.declared.stop.LogStop.{LogStop}
@@ -31,7 +31,7 @@ by_log (Err (of_log.Missed s)) = Err (Missed s)
 by_log (Err (of_log.Bad fault)) = Err (BadLog fault)
 
 -- the same of what the code answers
-abbrev pub tables_stop : ReadStop → Unread
+abbrev pub tables_stop : TableStop → Unread
 tables_stop (tables.Miss s) = Miss s
 tables_stop tables.Fault = Fault
 tables_stop (tables.Table fault) = Table fault
@@ -43,7 +43,7 @@ log_stop logs.Fault = Fault
 log_stop (logs.Refused fault) = Log fault
 log_stop logs.NoMemory = NoMemory
 
-abbrev pub tables_answer : {A : Type 0} → Result A ReadStop → Result A Unread
+abbrev pub tables_answer : {A : Type 0} → Result A TableStop → Result A Unread
 tables_answer (Ok a) = Ok a
 tables_answer (Err stop) = Err (tables_stop stop)
 

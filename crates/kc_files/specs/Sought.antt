@@ -5,8 +5,8 @@ use Rattle.kc_kallsyms.specs.declared.places.Places.{Places}
 use Rattle.kc_kallsyms.specs.Places.{places_in}
 use Rattle.kc_command.specs.declared.refusal.Refusal.TheVariants.{Notes, Tables}
 use Rattle.kc_command.specs.Made.{◌>>=◌, Made, checked, gives}
-use Rattle.kc_files.specs.declared.sought.Sought.{Sought}
-use Rattle.kc_files.specs.declared.sought.Sought.TheVariants as sought
+use Rattle.kc_files.specs.declared.sought.SoughtFile.{SoughtFile}
+use Rattle.kc_files.specs.declared.sought.SoughtFile.TheVariants as sought
 use Rattle.kc_files.specs.declared.wish.Wish.{Wish}
 use Rattle.kc_files.specs.declared.wish.Wish.TheVariants.{Map, Types, Log}
 
@@ -27,7 +27,7 @@ unfoldable pub sought_in : Wish → List (List ℕ) → Made SoughtAt
 sought_in wish notes = checked Notes (text_in notes) >>= (λ note. sought_of wish note)
 
 -- as the code keeps it
-abbrev pub sought_view : Sought → SoughtAt
+abbrev pub sought_view : SoughtFile → SoughtAt
 sought_view (sought.Map places) = MapBy places
 sought_view (sought.Types places) = TypesBy places
 sought_view (sought.Log note) = LogBy note.now

@@ -19,7 +19,7 @@ ghost use Rattle.kc_files.specs.Sought.{sought_view};
 ghost use Rattle.kc_files.specs.Wished.{wished};
 
 use crate::memory::read_file;
-use crate::sought::{Sought, sought_by};
+use crate::sought::{SoughtFile, sought_by};
 use crate::unread::Unread;
 use crate::wish::{Wish, wish_of};
 use kc_command::{Answer, Halt, Noted, Refusal, read_noted};
@@ -88,7 +88,7 @@ fn make<S: Store>(
     alloc: Global,
     store: &mut S,
     noted: &Noted,
-    sought: &Sought<'_>,
+    sought: &SoughtFile<'_>,
 ) -> Result<Answer, Halt>
     requires table { IsTable noted.now.info.table }
     requires inside { AreInside (S.sizes store.old Dump) noted.now.core.segments }

@@ -9,7 +9,7 @@ ghost use Rattle.kc_files.specs.Reading.{CountsUnread, ReadsAs};
 ghost use Rattle.kc_files.specs.Sought.{sought_view};
 ghost use Rattle.kc_files.specs.Wished.{wished};
 
-use crate::sought::Sought;
+use crate::sought::SoughtFile;
 use crate::unread::{Unread, log_answer, tables_answer};
 use kc_command::{Noted, paging_by};
 use kc_kallsyms::{read_map, read_types};
@@ -25,7 +25,7 @@ use std::sync::ledger::Ledger;
 #[derive(Drop)]
 struct WishedFile<'p> {
     alloc: Global,
-    sought: &'p Sought<'p>,
+    sought: &'p SoughtFile<'p>,
     // How far KASLR moved the kernel's image, in bytes.
     kaslr: u64,
 }
@@ -45,13 +45,13 @@ impl<'p> Question for WishedFile<'p> {
         steps: &mut Steps<L>,
     ) -> Result<Vec<u8>, Unread> {
         match self.sought {
-            Sought::Map(places) => {
+            SoughtFile::Map(places) => {
                 tables_answer(read_map(self.alloc, memory, places, self.kaslr, steps))
             }
-            Sought::Types(places) => {
+            SoughtFile::Types(places) => {
                 tables_answer(read_types(self.alloc, memory, places, self.kaslr, steps))
             }
-            Sought::Log(note) => log_answer(read_log(self.alloc, memory, note, steps)),
+            SoughtFile::Log(note) => log_answer(read_log(self.alloc, memory, note, steps)),
         }
     }
 }
@@ -65,7 +65,7 @@ pub fn read_file<S: Store>(
     alloc: Global,
     store: &mut S,
     noted: &Noted,
-    sought: &Sought<'_>,
+    sought: &SoughtFile<'_>,
 ) -> Result<Vec<u8>, Unread>
     requires table { IsTable noted.now.info.table }
     requires inside { AreInside (S.sizes store.old Dump) noted.now.core.segments }

@@ -15,7 +15,7 @@ use kc_notes::vmcoreinfo;
 
 /// What is sought in the memory of a dump.
 #[derive(Clone, Copy)]
-pub enum Sought<'n> {
+pub enum SoughtFile<'n> {
     /// The map, by where the tables of its symbols lie.
     Map(Places),
     /// The types, by where the tables of the kernel's symbols lie.
@@ -37,15 +37,15 @@ fn read_places(note: &[u8]) -> Result<Places, Refusal>
 /// # Errors
 ///
 /// The first fault V1 or V2 of the notes; for the map and the types S4, where a line of VMCOREINFO is missing.
-#[tactic(auto, unfolding(crate::specs::Sought::sought_in))]
-pub fn sought_by(core: &Core, wish: Wish) -> Result<Sought<'_>, Refusal>
+#[tactic(auto, unfolding(crate::specs::SoughtFile::sought_in))]
+pub fn sought_by(core: &Core, wish: Wish) -> Result<SoughtFile<'_>, Refusal>
     ensures made { Tells sought_view (sought_in wish core.now.notes) result }
     ensures refused { IsAbout (Some Dump) result }
 {
     let note = vmcoreinfo(core)?;
     match wish {
-        Wish::Map => Ok(Sought::Map(read_places(note)?)),
-        Wish::Types => Ok(Sought::Types(read_places(note)?)),
-        Wish::Log => Ok(Sought::Log(note)),
+        Wish::Map => Ok(SoughtFile::Map(read_places(note)?)),
+        Wish::Types => Ok(SoughtFile::Types(read_places(note)?)),
+        Wish::Log => Ok(SoughtFile::Log(note)),
     }
 }

@@ -3,7 +3,7 @@ ghost use Rattle.std.specs.Prelude.{◌≡◌};
 ghost use Rattle.kc_files.specs.declared.unread.Unread.TheVariants as unread;
 ghost use Rattle.kc_files.specs.Reading.{log_answer, log_stop, tables_answer, tables_stop};
 
-use kc_kallsyms::{ReadStop, TableFault};
+use kc_kallsyms::{TableFault, TableStop};
 use kc_memory::Miss;
 use kc_printk::{LogFault, LogStop};
 use kc_word::NoMemory;
@@ -31,15 +31,15 @@ impl From<NoMemory> for Unread {
     }
 }
 
-impl From<ReadStop> for Unread {
+impl From<TableStop> for Unread {
     ghost from_gives = { λ stop unread. unread ≡ tables_stop stop };
 
-    fn from(stop: ReadStop) -> Self {
+    fn from(stop: TableStop) -> Self {
         match stop {
-            ReadStop::Miss(miss) => Unread::Miss(miss),
-            ReadStop::Fault => Unread::Fault,
-            ReadStop::Table(fault) => Unread::Table(fault),
-            ReadStop::NoMemory => Unread::NoMemory,
+            TableStop::Miss(miss) => Unread::Miss(miss),
+            TableStop::Fault => Unread::Fault,
+            TableStop::Table(fault) => Unread::Table(fault),
+            TableStop::NoMemory => Unread::NoMemory,
         }
     }
 }
@@ -58,7 +58,7 @@ impl From<LogStop> for Unread {
 }
 
 // What the tables of symbols gave.
-pub(crate) fn tables_answer(read: Result<Vec<u8>, ReadStop>) -> Result<Vec<u8>, Unread>
+pub(crate) fn tables_answer(read: Result<Vec<u8>, TableStop>) -> Result<Vec<u8>, Unread>
     ensures { result ≡ tables_answer read }
 {
     Ok(read?)

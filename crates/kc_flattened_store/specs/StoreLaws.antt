@@ -5,20 +5,20 @@ use Rattle.kc_outside.specs.declared.store.Slot.{Slot}
 use Rattle.kc_outside.specs.declared.store.Slot.TheVariants.{Dump, Btf, Map, Plan, Report, Module}
 use Rattle.kc_outside.specs.Files.{Files, HasLength, content}
 use Rattle.kc_flattened.specs.Flat.{pasted, size_of, values, written}
-use Rattle.kc_flattened_store.specs.declared.shape.Shape.{Shape}
-use Rattle.kc_flattened_store.specs.declared.shape.Shape.TheVariants.{Whole, Flat}
+use Rattle.kc_flattened_store.specs.declared.shape.FlatShape.{FlatShape}
+use Rattle.kc_flattened_store.specs.declared.shape.FlatShape.TheVariants.{Whole, Flat}
 use Rattle.kc_flattened_store.specs.Seen.{is_dump, learnt_size, opened_by, seen_by, seen_bytes, seen_files, seen_opened, seen_sizes}
 use Rattle.kc_flattened_store.specs.Shapes.{file_size, shape_bytes, shape_size}
 
 -- ---- a slot whose size is learnt holds a file
 
-dump_opened : (learnt : Bool) (shape : Option Shape) (name : Option (List ℕ)) → ((s : Shape) → shape ≡ Some s → IsSome name) → IsSome (learnt_size learnt shape) → IsSome (opened_by true shape name)
+dump_opened : (learnt : Bool) (shape : Option FlatShape) (name : Option (List ℕ)) → ((s : FlatShape) → shape ≡ Some s → IsSome name) → IsSome (learnt_size learnt shape) → IsSome (opened_by true shape name)
 dump_opened true (Some s) name there known = there s refl
 dump_opened true None name there known = let none : ⊥ = Prim.cc in absurd none
 dump_opened false shape name there known = let none : ⊥ = Prim.cc in absurd none
 
-pub sizes_opened : (learnt : Bool) (shape : Option Shape) (opened : Slot → Option (List ℕ)) (sizes : Slot → Option ℕ) (slot : Slot)
-    → ((s : Shape) → shape ≡ Some s → IsSome (opened Dump)) → (IsSome (sizes slot) → IsSome (opened slot))
+pub sizes_opened : (learnt : Bool) (shape : Option FlatShape) (opened : Slot → Option (List ℕ)) (sizes : Slot → Option ℕ) (slot : Slot)
+    → ((s : FlatShape) → shape ≡ Some s → IsSome (opened Dump)) → (IsSome (sizes slot) → IsSome (opened slot))
     → IsSome (seen_sizes (learnt_size learnt shape) sizes slot) → IsSome (seen_opened shape opened slot)
 sizes_opened learnt shape opened sizes Dump there law known = dump_opened learnt shape (opened Dump) there known
 sizes_opened learnt shape opened sizes Btf there law known = law known
@@ -29,13 +29,13 @@ sizes_opened learnt shape opened sizes Module there law known = law known
 
 -- ---- a size fits 64 bits
 
-dump_fits : (learnt : Bool) (shape : Option Shape) (n : ℕ) → ((s : Shape) → shape ≡ Some s → shape_size s < 2 ^ 64) → learnt_size learnt shape ≡ Some n → n < 2 ^ 64
+dump_fits : (learnt : Bool) (shape : Option FlatShape) (n : ℕ) → ((s : FlatShape) → shape ≡ Some s → shape_size s < 2 ^ 64) → learnt_size learnt shape ≡ Some n → n < 2 ^ 64
 dump_fits true (Some s) n fits known = let same : shape_size s ≡ n = Prim.cc in subst (λ (k : ℕ). k < 2 ^ 64) same (fits s refl)
 dump_fits true None n fits known = let none : ⊥ = Prim.cc in absurd none
 dump_fits false shape n fits known = let none : ⊥ = Prim.cc in absurd none
 
-pub sizes_fit : (learnt : Bool) (shape : Option Shape) (sizes : Slot → Option ℕ) (slot : Slot) (n : ℕ)
-    → ((s : Shape) → shape ≡ Some s → shape_size s < 2 ^ 64) → (sizes slot ≡ Some n → n < 2 ^ 64)
+pub sizes_fit : (learnt : Bool) (shape : Option FlatShape) (sizes : Slot → Option ℕ) (slot : Slot) (n : ℕ)
+    → ((s : FlatShape) → shape ≡ Some s → shape_size s < 2 ^ 64) → (sizes slot ≡ Some n → n < 2 ^ 64)
     → seen_sizes (learnt_size learnt shape) sizes slot ≡ Some n → n < 2 ^ 64
 sizes_fit learnt shape sizes Dump n fits law known = dump_fits learnt shape n fits known
 sizes_fit learnt shape sizes Btf n fits law known = law known
@@ -66,17 +66,17 @@ unfolding values
 length_values f at zero = refl
 length_values f at (suc n) = ap suc (length_values f (at + 1) n)
 
-shape_long : (s : Shape) (bytes : List ℕ) → file_size s ≡ length bytes → shape_size s ≡ length (shape_bytes s bytes)
+shape_long : (s : FlatShape) (bytes : List ℕ) → file_size s ≡ length bytes → shape_size s ≡ length (shape_bytes s bytes)
 shape_long (Whole size) bytes long = long
 shape_long (Flat file) bytes long = file.sized ∙ sym (length_values (λ i. written bytes file.records.items i 0) 0 (size_of file.records.items))
 
-told_long : (told : Option (List ℕ)) (s : Shape) → HasLength told (file_size s) → ((bytes : List ℕ) → told ≡ Some bytes → seen_bytes bytes ≡ Some (shape_bytes s bytes)) → HasLength (seen_by true told) (shape_size s)
+told_long : (told : Option (List ℕ)) (s : FlatShape) → HasLength told (file_size s) → ((bytes : List ℕ) → told ≡ Some bytes → seen_bytes bytes ≡ Some (shape_bytes s bytes)) → HasLength (seen_by true told) (shape_size s)
 told_long None s long is = tt
 told_long (Some bytes) s long is = subst (λ (seen : Option (List ℕ)). HasLength seen (shape_size s)) (sym (is bytes refl)) (shape_long s bytes long)
 
-pub dump_length : (learnt : Bool) (shape : Option Shape) (files : Option Files) (name : Option (List ℕ)) (n : ℕ)
-    → ((s : Shape) → shape ≡ Some s → HasLength (content files Dump name) (file_size s))
-    → ((s : Shape) (bytes : List ℕ) → shape ≡ Some s → content files Dump name ≡ Some bytes → seen_bytes bytes ≡ Some (shape_bytes s bytes))
+pub dump_length : (learnt : Bool) (shape : Option FlatShape) (files : Option Files) (name : Option (List ℕ)) (n : ℕ)
+    → ((s : FlatShape) → shape ≡ Some s → HasLength (content files Dump name) (file_size s))
+    → ((s : FlatShape) (bytes : List ℕ) → shape ≡ Some s → content files Dump name ≡ Some bytes → seen_bytes bytes ≡ Some (shape_bytes s bytes))
     → learnt_size learnt shape ≡ Some n → HasLength (content (seen_files files) Dump (opened_by true shape name)) n
 dump_length true (Some s) files name n long is known =
     let same : shape_size s ≡ n = Prim.cc in
@@ -89,9 +89,9 @@ other_length : (files : Option Files) (slot : Slot) (name : Option (List ℕ)) (
 other_length files slot name n other long =
     subst (λ (seen : Option (List ℕ)). HasLength seen n) (sym (content_seen files slot name ∙ ap (λ (b : Bool). seen_by b (content files slot name)) other)) long
 
-pub sizes_length : (learnt : Bool) (shape : Option Shape) (files : Option Files) (opened : Slot → Option (List ℕ)) (sizes : Slot → Option ℕ) (slot : Slot) (n : ℕ)
-    → ((s : Shape) → shape ≡ Some s → sizes Dump ≡ Some (file_size s))
-    → ((s : Shape) (bytes : List ℕ) → shape ≡ Some s → content files Dump (opened Dump) ≡ Some bytes → seen_bytes bytes ≡ Some (shape_bytes s bytes))
+pub sizes_length : (learnt : Bool) (shape : Option FlatShape) (files : Option Files) (opened : Slot → Option (List ℕ)) (sizes : Slot → Option ℕ) (slot : Slot) (n : ℕ)
+    → ((s : FlatShape) → shape ≡ Some s → sizes Dump ≡ Some (file_size s))
+    → ((s : FlatShape) (bytes : List ℕ) → shape ≡ Some s → content files Dump (opened Dump) ≡ Some bytes → seen_bytes bytes ≡ Some (shape_bytes s bytes))
     → ((m : ℕ) → sizes Dump ≡ Some m → HasLength (content files Dump (opened Dump)) m)
     → (sizes slot ≡ Some n → HasLength (content files slot (opened slot)) n)
     → seen_sizes (learnt_size learnt shape) sizes slot ≡ Some n → HasLength (content (seen_files files) slot (seen_opened shape opened slot)) n

@@ -10,6 +10,6 @@ mod stop;
 mod store;
 
 pub use flat_file::FlatFile;
-pub use shape::Shape;
+pub use shape::FlatShape;
 pub use stop::FlattenedFault;
 pub use store::Flattened;

@@ -8,14 +8,14 @@ ghost use Rattle.kc_flattened_store.specs.Seen.{seen_bytes};
 ghost use Rattle.kc_flattened_store.specs.Shapes.{file_size, shape_bytes, shape_size};
 
 use crate::flat_file::FlatFile;
-use crate::shape::Shape;
+use crate::shape::FlatShape;
 use crate::stop::FlattenedFault;
 use kc_flattened::{FlatStop, read_flat, size_of};
 use kc_outside::{Failed, Slot, Store, know_size};
 use std::alloc::Global;
 
 // What is seen of the file.
-fn shape_of<S: Store>(alloc: Global, store: &mut S, size: u64) -> Result<Shape, FlattenedFault>
+fn shape_of<S: Store>(alloc: Global, store: &mut S, size: u64) -> Result<FlatShape, FlattenedFault>
     requires learnt { S.sizes store.old Dump ≡ Some size }
     ensures told { IfOk result (λ shape. IfSome (content (S.files store.old) Dump (S.opened store.old Dump)) (λ bytes. seen_bytes bytes ≡ Some (shape_bytes shape bytes))) }
     ensures size { IfOk result (λ shape. file_size shape ≡ size) }
@@ -30,13 +30,13 @@ fn shape_of<S: Store>(alloc: Global, store: &mut S, size: u64) -> Result<Shape, 
     match found {
         Some(records) => {
             let meant = size_of(size, &records);
-            Ok(Shape::Flat(FlatFile {
+            Ok(FlatShape::Flat(FlatFile {
                 records,
                 size: meant,
                 file_size: size,
             }))
         }
-        None => Ok(Shape::Whole(size)),
+        None => Ok(FlatShape::Whole(size)),
     }
 }
 
@@ -54,7 +54,7 @@ pub(crate) fn open_shape<S: Store>(
     alloc: Global,
     store: &mut S,
     name: &str,
-) -> Result<Shape, FlattenedFault>
+) -> Result<FlatShape, FlattenedFault>
     requires { S.may store.old Dump name.now }
     ensures known { IfOk result (λ shape. S.sizes store.new Dump ≡ Some (file_size shape)) }
     ensures fits { IfOk result (λ shape. shape_size shape < 2 ^ 64) }

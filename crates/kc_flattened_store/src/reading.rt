@@ -4,26 +4,26 @@ ghost use Rattle.kc_outside.specs.declared.store.Slot.TheVariants.{Dump};
 ghost use Rattle.kc_outside.specs.Files.{HasLength, content};
 ghost use Rattle.kc_flattened.specs.Flat.{pasted};
 ghost use Rattle.kc_flattened.specs.Stays.{StoreStays};
-ghost use Rattle.kc_flattened_store.specs.declared.shape.Shape.{Shape};
+ghost use Rattle.kc_flattened_store.specs.declared.shape.FlatShape.{FlatShape};
 ghost use Rattle.kc_flattened_store.specs.Shapes.{file_size, shape_bytes, shape_size};
 
 use crate::flat_file::FlatFile;
-use crate::shape::Shape;
+use crate::shape::FlatShape;
 use kc_flattened::read_part;
 use kc_outside::{Failed, Slot, Store, know_size};
 
 // How many bytes a shape has.
-fn shape_len<S: Store>(store: &S, shape: &Shape) -> u64
+fn shape_len<S: Store>(store: &S, shape: &FlatShape) -> u64
     requires known { S.sizes store.now Dump ≡ Some (file_size shape.now) }
     ensures size { result ≡ shape_size shape.now }
     ensures long { HasLength (content (S.files store.now) Dump (S.opened store.now Dump)) (file_size shape.now) }
 {
     match shape {
-        Shape::Whole(size) => {
+        FlatShape::Whole(size) => {
             know_size(store, Slot::Dump, *size);
             *size
         }
-        Shape::Flat(file) => {
+        FlatShape::Flat(file) => {
             know_size(store, Slot::Dump, file.file_size);
             file.size
         }
@@ -31,11 +31,11 @@ fn shape_len<S: Store>(store: &S, shape: &Shape) -> u64
 }
 
 // How many bytes are seen.
-pub(crate) fn seen_size<S: Store>(store: &S, shape: &Option<Shape>) -> u64
+pub(crate) fn seen_size<S: Store>(store: &S, shape: &Option<FlatShape>) -> u64
     requires there { IsSome shape.now }
-    requires known { (s : Shape) → shape.now ≡ Some s → S.sizes store.now Dump ≡ Some (file_size s) }
+    requires known { (s : FlatShape) → shape.now ≡ Some s → S.sizes store.now Dump ≡ Some (file_size s) }
     ensures size { option_map shape_size shape.now ≡ Some result }
-    ensures long { (s : Shape) → shape.now ≡ Some s → HasLength (content (S.files store.now) Dump (S.opened store.now Dump)) (file_size s) }
+    ensures long { (s : FlatShape) → shape.now ≡ Some s → HasLength (content (S.files store.now) Dump (S.opened store.now Dump)) (file_size s) }
 {
     match shape {
         Some(shape) => shape_len(store, shape),
@@ -64,7 +64,7 @@ fn read_flat_file<S: Store>(
 // Fills the buffer with the bytes of a shape from a place on.
 fn read_shape<S: Store>(
     store: &mut S,
-    shape: &Shape,
+    shape: &FlatShape,
     off: u64,
     buf: &mut [u8],
 ) -> Result<(), Failed>
@@ -74,22 +74,22 @@ fn read_shape<S: Store>(
     ensures stays { StoreStays S.opened S.sizes S.files S.may S.asked store.old store.new }
 {
     match shape {
-        Shape::Whole(_) => store.read_at(Slot::Dump, off, buf),
-        Shape::Flat(file) => read_flat_file(store, file, off, buf),
+        FlatShape::Whole(_) => store.read_at(Slot::Dump, off, buf),
+        FlatShape::Flat(file) => read_flat_file(store, file, off, buf),
     }
 }
 
 // Fills the buffer with the bytes that are seen from a place on.
 pub(crate) fn read_seen<S: Store>(
     store: &mut S,
-    shape: &Option<Shape>,
+    shape: &Option<FlatShape>,
     off: u64,
     buf: &mut [u8],
 ) -> Result<(), Failed>
     requires there { IsSome shape.now }
-    requires known { (s : Shape) → shape.now ≡ Some s → S.sizes store.old Dump ≡ Some (file_size s) }
-    requires within { (s : Shape) → shape.now ≡ Some s → off + length buf.old ≤ shape_size s }
-    ensures part { OnOk result ((s : Shape) → shape.now ≡ Some s → IfSome (content (S.files store.old) Dump (S.opened store.old Dump)) (λ bytes. buf.new ≡ take (length buf.old) (drop off (shape_bytes s bytes)))) }
+    requires known { (s : FlatShape) → shape.now ≡ Some s → S.sizes store.old Dump ≡ Some (file_size s) }
+    requires within { (s : FlatShape) → shape.now ≡ Some s → off + length buf.old ≤ shape_size s }
+    ensures part { OnOk result ((s : FlatShape) → shape.now ≡ Some s → IfSome (content (S.files store.old) Dump (S.opened store.old Dump)) (λ bytes. buf.new ≡ take (length buf.old) (drop off (shape_bytes s bytes)))) }
     ensures stays { StoreStays S.opened S.sizes S.files S.may S.asked store.old store.new }
 {
     match shape {

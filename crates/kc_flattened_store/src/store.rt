@@ -3,14 +3,14 @@ ghost use Rattle.std.specs.Prelude.{◌≡◌, ◌<◌, ◌^◌, ℕ, List, Some
 ghost use Rattle.std.proofs.Props.{props};
 ghost use Rattle.kc_outside.specs.declared.store.Slot.TheVariants.{Dump};
 ghost use Rattle.kc_outside.specs.Files.{content};
-ghost use Rattle.kc_flattened_store.specs.declared.shape.Shape.{Shape};
+ghost use Rattle.kc_flattened_store.specs.declared.shape.FlatShape.{FlatShape};
 ghost use Rattle.kc_flattened_store.specs.Seen.{is_dump, seen_bytes};
 ghost use Rattle.kc_flattened_store.specs.Shapes.{file_size, shape_bytes, shape_size};
 
 use crate::calls::Calls;
 use crate::opening::open_shape;
 use crate::reading::{read_seen, seen_size};
-use crate::shape::Shape;
+use crate::shape::FlatShape;
 use crate::stop::FlattenedFault;
 use kc_outside::{Failed, Slot, Store};
 use std::alloc::Global;
@@ -22,14 +22,14 @@ pub struct Flattened<S: Store + Drop> {
     alloc: Global,
     store: S,
     // What is seen in slot Dump.
-    shape: Option<Shape>,
+    shape: Option<FlatShape>,
     // Whether its size was told.
     is_learnt: bool,
     calls: Calls,
-    ghost known: { (s : Shape) → shape ≡ Some s → S.sizes store Dump ≡ Some (file_size s) } by { Prim.hlevel props },
-    ghost fits: { (s : Shape) → shape ≡ Some s → shape_size s < 2 ^ 64 } by { Prim.hlevel props },
-    ghost told: { (s : Shape) (bytes : List ℕ) → shape ≡ Some s → content (S.files store) Dump (S.opened store Dump) ≡ Some bytes → seen_bytes bytes ≡ Some (shape_bytes s bytes) } by { Prim.hlevel props },
-    ghost held: { (s : Shape) → shape ≡ Some s → IsSome (S.opened store Dump) } by { Prim.hlevel props },
+    ghost known: { (s : FlatShape) → shape ≡ Some s → S.sizes store Dump ≡ Some (file_size s) } by { Prim.hlevel props },
+    ghost fits: { (s : FlatShape) → shape ≡ Some s → shape_size s < 2 ^ 64 } by { Prim.hlevel props },
+    ghost told: { (s : FlatShape) (bytes : List ℕ) → shape ≡ Some s → content (S.files store) Dump (S.opened store Dump) ≡ Some bytes → seen_bytes bytes ≡ Some (shape_bytes s bytes) } by { Prim.hlevel props },
+    ghost held: { (s : FlatShape) → shape ≡ Some s → IsSome (S.opened store Dump) } by { Prim.hlevel props },
 }
 
 impl<S: Store + Drop> Flattened<S> {

@@ -6,8 +6,8 @@ use Rattle.kc_kallsyms.specs.declared.kernel.Kernel.{Kernel as CodeKernel}
 use Rattle.kc_kallsyms.specs.declared.marks.Marks.{Marks}
 use Rattle.kc_kallsyms.specs.declared.places.Places.{Places}
 use Rattle.kc_kallsyms.specs.declared.reading.Reading.{Reading}
-use Rattle.kc_kallsyms.specs.declared.stop.ReadStop.{ReadStop}
-use Rattle.kc_kallsyms.specs.declared.stop.ReadStop.TheVariants.{Miss, Fault, Table, NoMemory}
+use Rattle.kc_kallsyms.specs.declared.stop.TableStop.{TableStop}
+use Rattle.kc_kallsyms.specs.declared.stop.TableStop.TheVariants.{Miss, Fault, Table, NoMemory}
 use Rattle.kc_kallsyms.specs.declared.tables.Tables.{Tables as CodeTables}
 use Rattle.kc_kallsyms.specs.Addresses.{offset_of, reading_by}
 use Rattle.kc_kallsyms.specs.Found.{FindsAs}
@@ -21,7 +21,7 @@ use Rattle.kc_kallsyms.specs.Views.{tables_view}
 
 -- no symbol is known at first
 abbrev pub unmarked : Marks
-unmarked = record { text = None; processors = None; start = None; end = None }
+unmarked = record { text = None; processors = None; start = None; end = None; loaded = None; typed = None }
 
 -- the tables can't be read
 kernel-no_tables : (image : Image) (kaslr : ℕ) (places : Places) (e : Why) → tables_at image places ≡ Err e → kernel_at image kaslr places ≡ Err e
@@ -40,14 +40,14 @@ kernel-symbols : (image : Image) (kaslr : ℕ) (places : Places) (tables : Table
 unfolding kernel_at
 kernel-symbols image kaslr places tables symbols text reading read is found by = rw (read, is, found, by) refl
 
-pub no_tables : (o : Option Image) (kaslr : ℕ) (places : Places) (stop : ReadStop) → ReadsAs tables_view (λ image. tables_at image places) o (Err stop) → FindsAs kaslr places o (Err stop)
+pub no_tables : (o : Option Image) (kaslr : ℕ) (places : Places) (stop : TableStop) → ReadsAs tables_view (λ image. tables_at image places) o (Err stop) → FindsAs kaslr places o (Err stop)
 no_tables None kaslr places stop read = tt
 no_tables (Some image) kaslr places (Miss s) read = kernel-no_tables image kaslr places (Missed s) read
 no_tables (Some image) kaslr places Fault read = tt
 no_tables (Some image) kaslr places (Table f) read = kernel-no_tables image kaslr places (Bad f) read
 no_tables (Some image) kaslr places NoMemory read = tt
 
-pub no_symbols : (o : Option Image) (kaslr : ℕ) (places : Places) (tables : CodeTables) (stop : ReadStop) → ReadsAs tables_view (λ image. tables_at image places) o (Ok tables)
+pub no_symbols : (o : Option Image) (kaslr : ℕ) (places : Places) (tables : CodeTables) (stop : TableStop) → ReadsAs tables_view (λ image. tables_at image places) o (Ok tables)
     → ReadsAs (λ (xs : List Symbol). xs) (λ image. symbols_in image places (tables_view tables)) o (Err stop) → FindsAs kaslr places o (Err stop)
 no_symbols None kaslr places tables stop read is = tt
 no_symbols (Some image) kaslr places tables (Miss s) read is = kernel-no_symbols image kaslr places (tables_view tables) (Missed s) read is
@@ -78,4 +78,6 @@ found (Some image) kaslr places kernel reading read came by frame =
           ∙ ap (λ f. let r : Result Kernel Why = Ok (record { symbols = came.all; frame = f }) in r) (sym framed);
       start = came.holds.start;
       end = came.holds.end;
+      loaded = came.holds.loaded;
+      typed = came.holds.typed;
     }

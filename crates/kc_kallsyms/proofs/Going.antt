@@ -1,8 +1,8 @@
 -- How a reading of a list goes on.
 use Rattle.std.proofs.Common.{◌≡◌, List, [], ◌∷◌, ◌++◌, Option, Some, None, Result, Ok, Err, refl, sym, ap, ◌∙◌, append_assoc}
 use Rattle.std.proofs.lemmas.List.{append-nil}
-use Rattle.kc_kallsyms.specs.declared.stop.ReadStop.{ReadStop}
-use Rattle.kc_kallsyms.specs.declared.stop.ReadStop.TheVariants.{Miss, Fault, Table, NoMemory}
+use Rattle.kc_kallsyms.specs.declared.stop.TableStop.{TableStop}
+use Rattle.kc_kallsyms.specs.declared.stop.TableStop.TheVariants.{Miss, Fault, Table, NoMemory}
 use Rattle.kc_kallsyms.specs.Going.{CameAs, GoesAs}
 use Rattle.kc_kallsyms.specs.Reading.{◌>>=◌, Bad, Missed, ReadsAs, Why}
 
@@ -37,7 +37,7 @@ ended : {X : Type 0} (done : List X) (whole rest : Result (List X) Why) (e : Why
 ended {X} done whole rest e same stops = sym same ∙ ap (λ (r : Result (List X) Why). r >>= (λ xs. Ok (done ++ xs))) stops
 
 -- the next can't be read
-pub goes_stops : {I X Y Z A W : Type 0} (P : List X → Type 0) (whole rest : I → Result (List X) Why) (one : I → Result Y Why) (truth : I → Result A Why) (view : Z → Y) (seen : W → A) (o : Option I) (stop : ReadStop)
+pub goes_stops : {I X Y Z A W : Type 0} (P : List X → Type 0) (whole rest : I → Result (List X) Why) (one : I → Result Y Why) (truth : I → Result A Why) (view : Z → Y) (seen : W → A) (o : Option I) (stop : TableStop)
     → GoesAs P whole rest o → ReadsAs view one o (Err stop)
     → ((i : I) (e : Why) → one i ≡ Err e → rest i ≡ Err e)
     → ((i : I) (e : Why) → whole i ≡ Err e → truth i ≡ Err e)

@@ -3,4 +3,5 @@ pub mod Going
 pub mod Loops
 pub mod Making
 pub mod Marking
+pub mod Starting
 pub mod Steps

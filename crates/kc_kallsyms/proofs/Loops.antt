@@ -7,51 +7,26 @@ use Rattle.std.specs.List.{flat_map}
 use Rattle.kc_memory.specs.Image.{Image}
 use Rattle.kc_kallsyms.specs.declared.fault.TableFault.{TableFault}
 use Rattle.kc_kallsyms.specs.declared.fault.TableFault.TheVariants.{S6}
-use Rattle.kc_kallsyms.specs.declared.stop.ReadStop.{ReadStop}
-use Rattle.kc_kallsyms.specs.declared.stop.ReadStop.TheVariants.{Table}
-use Rattle.kc_kallsyms.specs.Bytes.{byte_at, bytes_at, onward, string_at}
+use Rattle.kc_kallsyms.specs.declared.stop.TableStop.{TableStop}
+use Rattle.kc_kallsyms.specs.declared.stop.TableStop.TheVariants.{Table}
+use Rattle.kc_bytes.specs.Bytes.{onward}
+use Rattle.kc_kallsyms.specs.Bytes.{byte_at, bytes_at, string_at}
 use Rattle.kc_kallsyms.specs.Going.{CameAs, GoesAs}
 use Rattle.kc_kallsyms.specs.Reading.{ReadsAs, Why}
 use Rattle.kc_kallsyms.specs.Symbols.{Entry, Spot, Symbol, entry_at, symbol_of, symbols_at, token_of}
 use Rattle.kc_kallsyms.specs.Tables.{token_at, tokens_at}
 use Rattle.kc_kallsyms.specs.Walked.{text_from}
-use Rattle.kc_kallsyms.proofs.Going.{came_as, goes_ends, goes_more, goes_stops}
-use Rattle.kc_kallsyms.proofs.Steps.{bytes_end, bytes_more, bytes_stop, string_end, string_more, string_none, string_stop, symbols_bad, symbols_end, symbols_more, symbols_stop, tokens_end, tokens_more, tokens_stop}
+use Rattle.kc_kallsyms.proofs.Going.{came_as, goes_ends, goes_first, goes_more, goes_stops}
+use Rattle.kc_kallsyms.proofs.Steps.{bytes_all, bytes_end, bytes_more, bytes_stop, string_end, string_more, string_none, string_stop, symbols_bad, symbols_end, symbols_more, symbols_stop, tokens_end, tokens_more, tokens_stop}
 
-abbrev Read : Option Image → (Image → Result ℕ Why) → Result ℕ ReadStop → Type 0
+abbrev Read : Option Image → (Image → Result ℕ Why) → Result ℕ TableStop → Type 0
 Read o truth r = ReadsAs (λ (b : ℕ). b) truth o r
 
-abbrev Text : Option Image → (Image → Result (List ℕ) Why) → Result (Vec ℕ) ReadStop → Type 0
+abbrev Text : Option Image → (Image → Result (List ℕ) Why) → Result (Vec ℕ) TableStop → Type 0
 Text o truth r = ReadsAs (λ (v : Vec ℕ). v.items) truth o r
 
 pushed : (old new : List ℕ) (byte : ℕ) → new ≡ old ++ byte ∷ [] → (done : List ℕ) → old ≡ done → new ≡ done ++ byte ∷ []
 pushed old new byte is done so_far = is ∙ ap (λ (l : List ℕ). l ++ byte ∷ []) so_far
-
--- bytes
-pub bytes_go : (o : Option Image) (count start i at next byte : ℕ) (old new : List ℕ)
-    → GoesAs (λ bs. old ≡ bs) (λ image. bytes_at image count start) (λ image. bytes_at image (count - i) at) o
-    → Read o (λ image. byte_at image at) (Ok byte) → i < count → next ≡ onward at 1 → new ≡ old ++ byte ∷ []
-    → GoesAs (λ bs. new ≡ bs) (λ image. bytes_at image count start) (λ image. bytes_at image (count - (i + 1)) next) o
-bytes_go o count start i at next byte old new goes read lt is more =
-    goes_more (λ (bs : List ℕ). old ≡ bs) (λ (bs : List ℕ). new ≡ bs) (λ image. bytes_at image count start) (λ image. bytes_at image (count - i) at) (λ image. bytes_at image (count - (i + 1)) next)
-    byte (λ image. byte_at image at) (λ (b : ℕ). b) byte o goes read
-    (λ image one. bytes_more image count i at next byte lt is one) (pushed old new byte more)
-
-pub bytes_halt : {W : Type 0} (o : Option Image) (count start i at : ℕ) (Holds : List ℕ → Type 0) (stop : ReadStop) (seen : W → List ℕ)
-    → GoesAs Holds (λ image. bytes_at image count start) (λ image. bytes_at image (count - i) at) o
-    → Read o (λ image. byte_at image at) (Err stop) → i < count
-    → ReadsAs seen (λ image. bytes_at image count start) o (Err stop)
-bytes_halt o count start i at Holds stop seen goes read lt =
-    goes_stops Holds (λ image. bytes_at image count start) (λ image. bytes_at image (count - i) at) (λ image. byte_at image at) (λ image. bytes_at image count start)
-    (λ (b : ℕ). b) seen o stop goes read (λ image e one. bytes_stop image count i at e lt one) (λ image e is. is)
-
-pub bytes_come : (o : Option Image) (count start i at : ℕ) (v : Vec ℕ)
-    → GoesAs (λ bs. v.items ≡ bs) (λ image. bytes_at image count start) (λ image. bytes_at image (count - i) at) o → count ≤ i
-    → Text o (λ image. bytes_at image count start) (Ok v)
-bytes_come o count start i at v goes past =
-    came_as (λ (bs : List ℕ). v.items ≡ bs) (λ image. bytes_at image count start) (λ image. bytes_at image count start) (λ (w : Vec ℕ). w.items) v o
-    (goes_ends (λ (bs : List ℕ). v.items ≡ bs) (λ image. bytes_at image count start) (λ image. bytes_at image (count - i) at) o goes (λ image. bytes_end image count i at past))
-    (λ image all holds is. is ∙ ap (λ (l : List ℕ). Ok l) (sym holds))
 
 -- the bytes of a token
 pub string_go : (o : Option Image) (number room start i at next byte : ℕ) (old new : List ℕ)
@@ -63,7 +38,7 @@ string_go o number room start i at next byte old new goes read lt is some more =
     byte (λ image. byte_at image at) (λ (b : ℕ). b) byte o goes read
     (λ image one. string_more image number room i at next byte lt is some one) (pushed old new byte more)
 
-pub string_halt : (o : Option Image) (number room start i at : ℕ) (old : List ℕ) (stop : ReadStop)
+pub string_halt : (o : Option Image) (number room start i at : ℕ) (old : List ℕ) (stop : TableStop)
     → GoesAs (λ bs. old ≡ bs) (λ image. string_at image number room start) (λ image. string_at image number (room - i) at) o
     → Read o (λ image. byte_at image at) (Err stop) → i < room
     → Text o (λ image. string_at image number room start) (Err stop)
@@ -109,10 +84,10 @@ tokens_go o table most start i at next token old new goes read lt is more =
     token.items (λ image. token_at image table i at) (λ (v : Vec ℕ). v.items) token o goes read
     (λ image one. tokens_more image table most i at next token.items lt is one) (listed_more old new token more)
 
-abbrev Tokens : Option Image → (Image → Result (List (List ℕ)) Why) → Result (Vec (Vec ℕ)) ReadStop → Type 0
+abbrev Tokens : Option Image → (Image → Result (List (List ℕ)) Why) → Result (Vec (Vec ℕ)) TableStop → Type 0
 Tokens o truth r = ReadsAs (λ (ts : Vec (Vec ℕ)). map (λ (t : Vec ℕ). t.items) ts.items) truth o r
 
-pub tokens_halt : (o : Option Image) (table most start i at : ℕ) (old : List (Vec ℕ)) (stop : ReadStop)
+pub tokens_halt : (o : Option Image) (table most start i at : ℕ) (old : List (Vec ℕ)) (stop : TableStop)
     → GoesAs (λ ts. map (λ (t : Vec ℕ). t.items) old ≡ ts) (λ image. tokens_at image table most 0 start) (λ image. tokens_at image table (most - i) i at) o
     → Text o (λ image. token_at image table i at) (Err stop) → i < most
     → Tokens o (λ image. tokens_at image table most 0 start) (Err stop)
@@ -140,6 +115,11 @@ joined_more tokens first old new number is done so_far =
     ∙ ap (λ (t : List ℕ). first ++ t) (ap (λ (t : List ℕ). flat_map (token_of tokens) done ++ t) (sym (append-nil (token_of tokens number)))
     ∙ sym (flat_map-append (token_of tokens) done (number ∷ [])))
 
+pub text_first : (o : Option Image) (tokens : List (List ℕ)) (count start : ℕ) (first : List ℕ)
+    → GoesAs (λ ns. first ≡ first ++ flat_map (token_of tokens) ns) (λ image. bytes_at image count start) (λ image. bytes_at image (count - 0) start) o
+text_first o tokens count start first =
+    goes_first (Joined tokens first first) (λ image. bytes_at image count start) (λ image. bytes_at image (count - 0) start) o (λ image. bytes_all image count start start refl) (sym (append-nil first))
+
 pub text_go : (o : Option Image) (tokens : List (List ℕ)) (count start i at next number : ℕ) (first old new : List ℕ)
     → GoesAs (λ ns. old ≡ first ++ flat_map (token_of tokens) ns) (λ image. bytes_at image count start) (λ image. bytes_at image (count - i) at) o
     → Read o (λ image. byte_at image at) (Ok number) → i < count → next ≡ onward at 1 → new ≡ old ++ token_of tokens number
@@ -149,7 +129,7 @@ text_go o tokens count start i at next number first old new goes read lt is more
     number (λ image. byte_at image at) (λ (b : ℕ). b) number o goes read
     (λ image one. bytes_more image count i at next number lt is one) (joined_more tokens first old new number more)
 
-abbrev Filled : Option Image → List ℕ → (Image → Result (List ℕ) Why) → Result (Unit {0}) ReadStop → Type 0
+abbrev Filled : Option Image → List ℕ → (Image → Result (List ℕ) Why) → Result (Unit {0}) TableStop → Type 0
 Filled o text truth r = ReadsAs (λ (_ : Unit {0}). text) truth o r
 
 filled-stop : (image : Image) (tokens : List (List ℕ)) (first : List ℕ) (count start : ℕ) (e : Why) → bytes_at image count start ≡ Err e → text_from image tokens first count start ≡ Err e
@@ -158,7 +138,7 @@ filled-stop image tokens first count start e is = rw is refl
 filled-end : (image : Image) (tokens : List (List ℕ)) (first text all : List ℕ) (count start : ℕ) → Joined tokens first text all → bytes_at image count start ≡ Ok all → text_from image tokens first count start ≡ Ok text
 filled-end image tokens first text all count start holds is = rw (is, holds) refl
 
-pub text_halt : (o : Option Image) (tokens : List (List ℕ)) (count start i at : ℕ) (first old last : List ℕ) (stop : ReadStop)
+pub text_halt : (o : Option Image) (tokens : List (List ℕ)) (count start i at : ℕ) (first old last : List ℕ) (stop : TableStop)
     → GoesAs (λ ns. old ≡ first ++ flat_map (token_of tokens) ns) (λ image. bytes_at image count start) (λ image. bytes_at image (count - i) at) o
     → Read o (λ image. byte_at image at) (Err stop) → i < count
     → Filled o last (λ image. text_from image tokens first count start) (Err stop)
@@ -185,7 +165,7 @@ symbols_go o tokens whole most i spot view x symbol P Q goes read lt named more 
     symbol (λ image. entry_at image tokens spot) view x o goes read
     (λ image one. symbols_more image tokens most i spot (view x) symbol lt one named) more
 
-pub symbols_halt : {X : Type 0} (o : Option Image) (tokens : List (List ℕ)) (whole : Image → Result (List Symbol) Why) (most i : ℕ) (spot : Spot) (P : List Symbol → Type 0) (view : X → Entry) (stop : ReadStop)
+pub symbols_halt : {X : Type 0} (o : Option Image) (tokens : List (List ℕ)) (whole : Image → Result (List Symbol) Why) (most i : ℕ) (spot : Spot) (P : List Symbol → Type 0) (view : X → Entry) (stop : TableStop)
     → GoesAs P whole (λ image. symbols_at image tokens (most - i) i spot) o
     → ReadsAs view (λ image. entry_at image tokens spot) o (Err stop) → i < most
     → ReadsAs (λ (xs : List Symbol). xs) whole o (Err stop)

@@ -5,8 +5,8 @@ use Rattle.kc_memory.specs.Image.{Image}
 use Rattle.kc_kallsyms.specs.declared.kernel.Kernel.{Kernel as CodeKernel}
 use Rattle.kc_kallsyms.specs.declared.map.Lines.{Lines}
 use Rattle.kc_kallsyms.specs.declared.places.Places.{Places}
-use Rattle.kc_kallsyms.specs.declared.stop.ReadStop.{ReadStop}
-use Rattle.kc_kallsyms.specs.declared.stop.ReadStop.TheVariants.{Miss, Fault, Table, NoMemory}
+use Rattle.kc_kallsyms.specs.declared.stop.TableStop.{TableStop}
+use Rattle.kc_kallsyms.specs.declared.stop.TableStop.TheVariants.{Miss, Fault, Table, NoMemory}
 use Rattle.kc_kallsyms.specs.Addresses.{offset_of}
 use Rattle.kc_kallsyms.specs.Found.{FindsAs, IsFound}
 use Rattle.kc_kallsyms.specs.Going.{CameAs}
@@ -17,7 +17,7 @@ use Rattle.kc_kallsyms.specs.Symbols.{Symbol, symbols_in}
 use Rattle.kc_kallsyms.specs.Types.{types_at, types_between, types_of}
 use Rattle.kc_kallsyms.specs.Views.{tables_view}
 
-abbrev Texts : Option Image → (Image → Result (List ℕ) Why) → Result (Vec ℕ) ReadStop → Type 0
+abbrev Texts : Option Image → (Image → Result (List ℕ) Why) → Result (Vec ℕ) TableStop → Type 0
 Texts o truth r = ReadsAs (λ (v : Vec ℕ). v.items) truth o r
 
 map-stops : (image : Image) (kaslr : ℕ) (places : Places) (e : Why) → kernel_at image kaslr places ≡ Err e → map_at image kaslr places ≡ Err e
@@ -28,14 +28,14 @@ types-stops : (image : Image) (kaslr : ℕ) (places : Places) (e : Why) → kern
 unfolding types_at
 types-stops image kaslr places e is = rw is refl
 
-pub map_stops : (o : Option Image) (kaslr : ℕ) (places : Places) (stop : ReadStop) → FindsAs kaslr places o (Err stop) → Texts o (λ image. map_at image kaslr places) (Err stop)
+pub map_stops : (o : Option Image) (kaslr : ℕ) (places : Places) (stop : TableStop) → FindsAs kaslr places o (Err stop) → Texts o (λ image. map_at image kaslr places) (Err stop)
 map_stops None kaslr places stop is = tt
 map_stops (Some image) kaslr places (Miss s) is = map-stops image kaslr places (Missed s) is
 map_stops (Some image) kaslr places Fault is = tt
 map_stops (Some image) kaslr places (Table f) is = map-stops image kaslr places (Bad f) is
 map_stops (Some image) kaslr places NoMemory is = tt
 
-pub types_stops : (o : Option Image) (kaslr : ℕ) (places : Places) (stop : ReadStop) → FindsAs kaslr places o (Err stop) → Texts o (λ image. types_at image kaslr places) (Err stop)
+pub types_stops : (o : Option Image) (kaslr : ℕ) (places : Places) (stop : TableStop) → FindsAs kaslr places o (Err stop) → Texts o (λ image. types_at image kaslr places) (Err stop)
 types_stops None kaslr places stop is = tt
 types_stops (Some image) kaslr places (Miss s) is = types-stops image kaslr places (Missed s) is
 types_stops (Some image) kaslr places Fault is = tt
@@ -69,7 +69,7 @@ types-by image kaslr places kernel found =
     ∙ ap (λ (s : Option ℕ). types_between image kernel.frame s (offset_of (codes "__stop_BTF") found.symbols)) (sym found.start)
     ∙ ap (λ (s : Option ℕ). types_between image kernel.frame kernel.marks.start s) (sym found.end)
 
-pub typed : (o : Option Image) (kaslr : ℕ) (places : Places) (kernel : CodeKernel) (r : Result (Vec ℕ) ReadStop) → FindsAs kaslr places o (Ok kernel)
+pub typed : (o : Option Image) (kaslr : ℕ) (places : Places) (kernel : CodeKernel) (r : Result (Vec ℕ) TableStop) → FindsAs kaslr places o (Ok kernel)
     → Texts o (λ image. types_between image kernel.frame kernel.marks.start kernel.marks.end) r → Texts o (λ image. types_at image kaslr places) r
 typed None kaslr places kernel r found read = tt
 typed (Some image) kaslr places kernel (Ok v) found read = types-by image kaslr places kernel found ∙ read

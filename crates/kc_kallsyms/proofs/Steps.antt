@@ -3,30 +3,48 @@ use Rattle.std.proofs.Common.{◌≡◌, ℕ, zero, suc, ◌+◌, ◌-◌, ◌<�
 use Rattle.std.proofs.lemmas.List.{get_or-map}
 use Rattle.std.proofs.lemmas.Bool.Decides.{nat_tests}
 use Rattle.std.specs.Global.{Vec}
+use Rattle.kc_bytes.specs.Bytes as memory
 use Rattle.kc_memory.specs.Image.{Image}
+use Rattle.kc_memory.specs.Stopped.{Stopped}
+use Rattle.kc_memory.specs.Translation.{and_then}
 use Rattle.kc_kallsyms.specs.declared.fault.TableFault.{TableFault}
 use Rattle.kc_kallsyms.specs.declared.fault.TableFault.TheVariants.{S6}
-use Rattle.kc_kallsyms.specs.Bytes.{byte_at, bytes_at, onward, string_at}
-use Rattle.kc_kallsyms.specs.Reading.{◌>>=◌, Bad, Why, judged}
+use Rattle.kc_bytes.specs.Bytes.{onward}
+use Rattle.kc_kallsyms.specs.Bytes.{byte_at, bytes_at, string_at}
+use Rattle.kc_kallsyms.specs.Reading.{◌>>=◌, Bad, Why, judged, missed}
 use Rattle.kc_kallsyms.specs.Symbols.{Entry, Spot, Symbol, entry_at, symbol_of, symbols_at}
 use Rattle.kc_kallsyms.specs.Tables.{token_at, tokens_at}
 
+-- one step of memory, and the next one
+missed_then : {A B : Type 0} (r : Result A Stopped) (f : A → Result B Stopped) → missed (and_then r f) ≡ missed r >>= (λ a. missed (f a))
+missed_then (Ok a) f = refl
+missed_then (Err s) f = refl
+
 -- bytes
+abbrev bytes_by : Image → ℕ → ℕ → ℕ → Result (List ℕ) Stopped
+bytes_by image count at byte = and_then (memory.bytes_at image count (onward at 1)) (λ rest. Ok (byte ∷ rest))
+
+bytes_one : (image : Image) (count at : ℕ) → bytes_at image (suc count) at ≡ byte_at image at >>= (λ byte. missed (bytes_by image count at byte))
+unfolding memory.bytes_at
+bytes_one image count at = missed_then (memory.byte_at image at) (bytes_by image count at)
+
 pub bytes_more : (image : Image) (count i at next byte : ℕ) → i < count → next ≡ onward at 1 → byte_at image at ≡ Ok byte
     → bytes_at image (count - i) at ≡ bytes_at image (count - (i + 1)) next >>= (λ rest. Ok (byte ∷ rest))
-unfolding bytes_at
 bytes_more image count i at next byte lt is read =
     let e : count - i ≡ suc (count - (i + 1)) = omega arith in
-    rw (e, is, read) refl
+    ap (λ n. bytes_at image n at) e ∙ bytes_one image (count - (i + 1)) at
+    ∙ ap (λ (r : Result ℕ Why). r >>= (λ b. missed (bytes_by image (count - (i + 1)) at b))) read
+    ∙ missed_then (memory.bytes_at image (count - (i + 1)) (onward at 1)) (λ (rest : List ℕ). Ok (byte ∷ rest))
+    ∙ ap (λ n. bytes_at image (count - (i + 1)) n >>= (λ rest. Ok (byte ∷ rest))) (sym is)
 
 pub bytes_stop : (image : Image) (count i at : ℕ) (e : Why) → i < count → byte_at image at ≡ Err e → bytes_at image (count - i) at ≡ Err e
-unfolding bytes_at
 bytes_stop image count i at e lt read =
     let m : count - i ≡ suc (count - (i + 1)) = omega arith in
-    rw (m, read) refl
+    ap (λ n. bytes_at image n at) m ∙ bytes_one image (count - (i + 1)) at
+    ∙ ap (λ (r : Result ℕ Why). r >>= (λ b. missed (bytes_by image (count - (i + 1)) at b))) read
 
 pub bytes_end : (image : Image) (count i at : ℕ) → count ≤ i → bytes_at image (count - i) at ≡ Ok []
-unfolding bytes_at
+unfolding memory.bytes_at
 bytes_end image count i at past =
     let e : count - i ≡ zero = omega arith in
     rw e refl

@@ -5,6 +5,7 @@ pub mod Going
 pub mod Judged
 pub mod Lined
 pub mod Map
+pub mod Modules
 pub mod Marked
 pub mod Places
 pub mod Reading

@@ -4,7 +4,7 @@ use Rattle.std.specs.List.{flat_map}
 use Rattle.kc_memory.specs.Image.{Image}
 use Rattle.kc_text.specs.Text.{hex}
 use Rattle.kc_kallsyms.specs.declared.fault.TableFault.TheVariants.{S9}
-use Rattle.kc_kallsyms.specs.declared.frame.Frame.{Frame}
+use Rattle.kc_kallsyms.specs.declared.frame.RowFrame.{RowFrame}
 use Rattle.kc_kallsyms.specs.declared.places.Places.{Places}
 use Rattle.kc_kallsyms.specs.declared.reading.Reading.{Reading}
 use Rattle.kc_kallsyms.specs.declared.reading.Reading.TheVariants.{Absolute, Relative}
@@ -23,26 +23,26 @@ abbrev pub is_of_processors : Reading → Option ℕ → Symbol → Bool
 is_of_processors Absolute end s = (s.letter == 65) && is_below end s.offset
 is_of_processors Relative end s = false
 
-abbrev pub letter : Frame → Symbol → ℕ
+abbrev pub letter : RowFrame → Symbol → ℕ
 letter frame s = if is_of_processors frame.reading frame.processors s then 68 else s.letter
 
 -- the address as linked in 16 hex digits, a space, the letter, a space, the name and a newline
-abbrev pub listed : Frame → Symbol → ℕ
+abbrev pub listed : RowFrame → Symbol → ℕ
 listed frame s = linked frame.kaslr (address frame.reading frame.base s.offset)
 
-abbrev pub line : Frame → Symbol → List ℕ
+abbrev pub line : RowFrame → Symbol → List ℕ
 line frame s = hex (listed frame s) ++ 32 ∷ letter frame s ∷ 32 ∷ s.name ++ 10 ∷ []
 
 -- those of all symbols, in their order
-abbrev pub lines : Frame → List Symbol → List ℕ
+abbrev pub lines : RowFrame → List Symbol → List ℕ
 lines frame symbols = flat_map (line frame) symbols
 
 -- a kernel's symbols, and what their rows are made by
 pub record Kernel : Type 0 where
   pub symbols : List Symbol
-  pub frame : Frame
+  pub frame : RowFrame
 
-abbrev pub frame_of : ℕ → ℕ → Reading → List Symbol → Frame
+abbrev pub frame_of : ℕ → ℕ → Reading → List Symbol → RowFrame
 frame_of base kaslr reading symbols = record {
   reading = reading;
   base = base;

@@ -1,6 +1,8 @@
 -- The first symbols of some names.
 use Rattle.std.specs.Prelude.{◌≡◌, ℕ, List, [], codes, Option, Some, None, refl}
 use Rattle.std.specs.Option.{option_or}
+use Rattle.kc_kallsyms.specs.declared.fault.ModuleList.{ModuleList}
+use Rattle.kc_kallsyms.specs.declared.fault.ModuleList.TheVariants.{Loaded, Typed}
 use Rattle.kc_kallsyms.specs.declared.marks.Marks.{Marks}
 use Rattle.kc_kallsyms.specs.Addresses.{offset_of}
 use Rattle.kc_kallsyms.specs.Symbols.{Symbol}
@@ -14,10 +16,17 @@ pub record MarksFrom (first now : Marks) (symbols : List Symbol) : Type 0 where
   pub processors : now.processors ≡ known_from first.processors (codes "__per_cpu_end") symbols
   pub start : now.start ≡ known_from first.start (codes "__start_BTF") symbols
   pub end : now.end ≡ known_from first.end (codes "__stop_BTF") symbols
+  pub loaded : now.loaded ≡ known_from first.loaded (codes "modules") symbols
+  pub typed : now.typed ≡ known_from first.typed (codes "btf_modules") symbols
+
+-- the offset of a list's head
+abbrev pub head_in : Marks → ModuleList → Option ℕ
+head_in marks Loaded = marks.loaded
+head_in marks Typed = marks.typed
 
 as_known : (known : Option ℕ) → known ≡ option_or known None
 as_known None = refl
 as_known (Some n) = refl
 
 pub marks_none : (rows : Marks) → MarksFrom rows rows []
-marks_none rows = record { text = as_known rows.text; processors = as_known rows.processors; start = as_known rows.start; end = as_known rows.end }
+marks_none rows = record { text = as_known rows.text; processors = as_known rows.processors; start = as_known rows.start; end = as_known rows.end; loaded = as_known rows.loaded; typed = as_known rows.typed }

@@ -7,7 +7,8 @@ use Rattle.kc_syms.specs.Rows.{is_kind, name_in}
 use Rattle.kc_kallsyms.specs.declared.fault.TableFault.{TableFault}
 use Rattle.kc_kallsyms.specs.declared.fault.TableFault.TheVariants.{S7, S8}
 use Rattle.kc_kallsyms.specs.declared.places.Places.{Places}
-use Rattle.kc_kallsyms.specs.Bytes.{byte_at, bytes_at, four_at, onward}
+use Rattle.kc_bytes.specs.Bytes.{onward}
+use Rattle.kc_kallsyms.specs.Bytes.{byte_at, bytes_at, four_at}
 use Rattle.kc_kallsyms.specs.Reading.{◌>>=◌, Why, judged}
 use Rattle.kc_kallsyms.specs.Tables.{Tables}
 

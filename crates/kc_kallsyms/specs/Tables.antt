@@ -4,7 +4,8 @@ use Rattle.std.specs.Prelude.{ℕ, zero, suc, ◌+◌, ◌^◌, ◌&&◌, nat_le
 use Rattle.kc_memory.specs.Image.{Image}
 use Rattle.kc_kallsyms.specs.declared.fault.TableFault.TheVariants.{S5}
 use Rattle.kc_kallsyms.specs.declared.places.Places.{Places}
-use Rattle.kc_kallsyms.specs.Bytes.{four_at, eight_at, onward, string_at, two_at}
+use Rattle.kc_bytes.specs.Bytes.{onward}
+use Rattle.kc_kallsyms.specs.Bytes.{four_at, eight_at, string_at, two_at}
 use Rattle.kc_kallsyms.specs.Reading.{◌>>=◌, Why, Bad}
 
 pub record Tables : Type 0 where

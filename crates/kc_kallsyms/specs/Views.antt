@@ -1,10 +1,12 @@
 -- What contracts see of the code's structs.
 use Rattle.std.specs.Prelude.{ℕ, List, map}
 use Rattle.std.specs.Global.{Vec}
-use Rattle.kc_kallsyms.specs.declared.cursor.Cursor.{Cursor}
+use Rattle.kc_bytes.specs.declared.cursor.Cursor.{Cursor}
+use Rattle.kc_kallsyms.specs.declared.kernel.ListStart.{ListStart as CodeStart}
 use Rattle.kc_kallsyms.specs.declared.symbol.Symbol.{Symbol as CodeSymbol}
 use Rattle.kc_kallsyms.specs.declared.tables.Tables.{Tables as CodeTables}
 use Rattle.kc_kallsyms.specs.declared.walk.Walk.{Walk}
+use Rattle.kc_kallsyms.specs.Modules.{ListStart}
 use Rattle.kc_kallsyms.specs.Symbols.{Entry, Spot, Symbol}
 use Rattle.kc_kallsyms.specs.Tables.{Tables}
 
@@ -13,6 +15,9 @@ tokens_view tokens = map (λ t. t.items) tokens
 
 abbrev pub tables_view : CodeTables → Tables
 tables_view t = record { count = t.count; base = t.base; tokens = tokens_view t.tokens.items }
+
+abbrev pub start_view : CodeStart → ListStart
+start_view s = record { types = s.types.items; head = s.head }
 
 abbrev pub symbol_view : CodeSymbol → Symbol
 symbol_view s = record { letter = s.letter; name = s.name.now; offset = s.offset }

@@ -2,14 +2,14 @@
 use Rattle.std.specs.Prelude.{ℕ, ◌++◌, List, Option, Result, Ok, Err}
 use Rattle.std.specs.List.{flat_map}
 use Rattle.kc_memory.specs.Image.{Image}
-use Rattle.kc_kallsyms.specs.declared.stop.ReadStop.{ReadStop}
+use Rattle.kc_kallsyms.specs.declared.stop.TableStop.{TableStop}
 use Rattle.kc_kallsyms.specs.Going.{CameAs}
 use Rattle.kc_kallsyms.specs.Reading.{◌>>=◌, ReadsAs, Why}
 use Rattle.kc_kallsyms.specs.Bytes.{bytes_at}
 use Rattle.kc_kallsyms.specs.Symbols.{token_of}
 
 -- all were taken that the definition has, or it stopped where the definition does
-abbrev pub WalksAs : {I X A : Type 0} → (List X → Type 0) → (I → Result (List X) Why) → Option I → Result A ReadStop → Type 0
+abbrev pub WalksAs : {I X A : Type 0} → (List X → Type 0) → (I → Result (List X) Why) → Option I → Result A TableStop → Type 0
 WalksAs Holds whole image (Ok a) = CameAs Holds whole image
 WalksAs {X = X} Holds whole image (Err stop) = ReadsAs (λ (xs : List X). xs) whole image (Err stop)
 

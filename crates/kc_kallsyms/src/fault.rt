@@ -20,7 +20,37 @@ pub enum TableLine {
     Text,
 }
 
-/// The first fault of the kernel's symbol table in a dump, or of what is looked up in it.
+/// A list of modules that a kernel keeps.
+#[derive(Clone, Copy, Debug, PartialEq, Eq)]
+pub enum ModuleList {
+    /// All modules: `modules` of kernel/module/main.c.
+    Loaded,
+    /// Those that have types: `btf_modules` of kernel/bpf/btf.c.
+    Typed,
+}
+
+/// A member that leads from a list to a module, or to its types.
+#[derive(Clone, Copy, Debug, PartialEq, Eq)]
+pub enum ModuleMember {
+    /// `list` of `struct module`.
+    List,
+    /// `name` of `struct module`.
+    Name,
+    /// `core_layout` of `struct module`, or `mem` in its place.
+    Memory,
+    /// `list` of `struct btf_module`.
+    TypedList,
+    /// `module` of `struct btf_module`.
+    Module,
+    /// `btf` of `struct btf_module`.
+    Types,
+    /// `data` of `struct btf`.
+    Data,
+    /// `data_size` of `struct btf`.
+    Size,
+}
+
+/// The first fault of the kernel's symbol table in a dump, or of what is looked up by it.
 #[derive(Clone, Copy, Debug, PartialEq, Eq, Error)]
 pub enum TableFault {
     /// This line of VMCOREINFO is missing or has no hex number.
@@ -47,4 +77,22 @@ pub enum TableFault {
     /// The types end before they begin, or have more than 64 MiB.
     #[error("S11: the types have no size that can be")]
     S11,
+    /// The types break a rule of the format BTF.
+    #[error("S12: the types are no types")]
+    S12,
+    /// There is no symbol with the name of this list.
+    #[error("S13: no symbol of the list: {0:?}")]
+    S13(ModuleList),
+    /// The types lack this member.
+    #[error("S14: the types lack a member: {0:?}")]
+    S14(ModuleMember),
+    /// A list of modules has 65,536 nodes or more: it runs into itself.
+    #[error("S15: the list of modules has no end")]
+    S15,
+    /// No module that has types has the name.
+    #[error("S16: no types of such a module")]
+    S16,
+    /// The module's types have more than 64 MiB.
+    #[error("S17: the module's types are too long")]
+    S17,
 }

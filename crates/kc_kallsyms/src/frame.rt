@@ -9,7 +9,7 @@ use crate::symbol::Symbol;
 
 /// What the rows of a map are made by.
 #[derive(Clone, Copy, Debug, PartialEq, Eq)]
-pub struct Frame {
+pub struct RowFrame {
     /// How an offset gives an address.
     pub reading: Reading,
     /// The address that offsets count from.
@@ -77,7 +77,7 @@ fn is_below(end: Option<u32>, offset: u32) -> bool
     }
 }
 
-impl Frame {
+impl RowFrame {
     // Whether a symbol is a variable of processors, to which the kernel's table gives the letter A.
     fn is_of_processors(&self, symbol: &Symbol<'_>) -> bool
         ensures { result ≡ is_of_processors self.now.reading self.now.processors (symbol_view symbol.now) }

@@ -1,14 +1,14 @@
 //! The kernel's own symbol table in the memory of a dump (scripts/kallsyms.c, kernel/kallsyms.c), and what it leads to: the map of the
-//! kernel as its build writes it, and its types.
+//! kernel as its build writes it, its types, and its lists of modules.
 #![tactic(auto)]
 
 mod bytes;
-mod cursor;
 mod fault;
 mod frame;
 mod kernel;
 mod map;
 mod marks;
+mod modules;
 mod places;
 mod reading;
 mod stop;
@@ -17,14 +17,13 @@ mod tabled;
 mod tables;
 mod walk;
 
-pub use bytes::read_bytes;
-pub use cursor::Cursor;
-pub use fault::{TableFault, TableLine};
-pub use frame::Frame;
-pub use kernel::{read_map, read_types};
+pub use fault::{ModuleList, ModuleMember, TableFault, TableLine};
+pub use frame::RowFrame;
+pub use kernel::{ListStart, read_list_start, read_map, read_types};
+pub use modules::{list_key, member_key};
 pub use places::{Places, line_key, places_in};
 pub use reading::Reading;
-pub use stop::ReadStop;
+pub use stop::TableStop;
 pub use symbol::Symbol;
 pub use tabled::read_tables;
 pub use tables::Tables;

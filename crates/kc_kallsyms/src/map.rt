@@ -4,7 +4,7 @@ ghost use Rattle.kc_kallsyms.specs.Lined.{LinesFrom, lines_none};
 ghost use Rattle.kc_kallsyms.specs.Map.{line};
 ghost use Rattle.kc_kallsyms.specs.Views.{symbol_view};
 
-use crate::frame::Frame;
+use crate::frame::RowFrame;
 use crate::symbol::Symbol;
 use crate::walk::Rows;
 use kc_text::{push, push_hex};
@@ -14,13 +14,13 @@ use kc_word::NoMemory;
 #[derive(Debug, Drop)]
 pub(crate) struct Lines {
     // What they are made by.
-    pub frame: Frame,
+    pub frame: RowFrame,
     // Their text.
     pub text: Vec<u8>,
 }
 
 // Adds the row of a symbol.
-fn push_line(text: &mut Vec<u8>, frame: &Frame, symbol: &Symbol<'_>) -> Result<(), NoMemory>
+fn push_line(text: &mut Vec<u8>, frame: &RowFrame, symbol: &Symbol<'_>) -> Result<(), NoMemory>
     ensures { OnOk result (text.new.items ≡ text.old.items ++ line frame.now (symbol_view symbol.now)) }
 {
     push_hex(text, frame.listed(symbol))?;

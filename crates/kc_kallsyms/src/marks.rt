@@ -2,9 +2,10 @@
 ghost use Rattle.std.specs.Prelude.{◌≡◌, ◌++◌, ◌∷◌, [], codes};
 ghost use Rattle.std.specs.Option.{option_or};
 ghost use Rattle.kc_kallsyms.specs.Addresses.{offset_of};
-ghost use Rattle.kc_kallsyms.specs.Marked.{MarksFrom, marks_none};
+ghost use Rattle.kc_kallsyms.specs.Marked.{MarksFrom, head_in, marks_none};
 ghost use Rattle.kc_kallsyms.specs.Views.{symbol_view};
 
+use crate::fault::ModuleList;
 use crate::symbol::Symbol;
 use crate::walk::Rows;
 use kc_word::NoMemory;
@@ -20,6 +21,10 @@ pub(crate) struct Marks {
     pub start: Option<u32>,
     // That of `__stop_BTF`.
     pub end: Option<u32>,
+    // That of `modules`.
+    pub loaded: Option<u32>,
+    // That of `btf_modules`.
+    pub typed: Option<u32>,
 }
 
 // The first offset that is there: the one so far, or that of a symbol with this name.
@@ -33,6 +38,18 @@ fn first(so_far: Option<u32>, symbol: &Symbol<'_>, name: &[u8]) -> Option<u32>
     }
 }
 
+impl Marks {
+    // The offset of a list's head.
+    pub(crate) fn head(&self, list: ModuleList) -> Option<u32>
+        ensures { result ≡ head_in self.now list }
+    {
+        match list {
+            ModuleList::Loaded => self.loaded,
+            ModuleList::Typed => self.typed,
+        }
+    }
+}
+
 impl Rows for Marks {
     ghost took = { λ first now done. MarksFrom first now done };
 
@@ -43,6 +60,8 @@ impl Rows for Marks {
         self.processors = first(self.processors, symbol, b"__per_cpu_end");
         self.start = first(self.start, symbol, b"__start_BTF");
         self.end = first(self.end, symbol, b"__stop_BTF");
+        self.loaded = first(self.loaded, symbol, b"modules");
+        self.typed = first(self.typed, symbol, b"btf_modules");
         Ok(())
     }
 }

@@ -1,18 +1,18 @@
 // Reading the tables beside the names.
 ghost use Rattle.std.specs.Prelude.{◌≡◌, ◌+◌, ◌≤◌, ◌^◌, map, vec_len, IfOk, OnOk};
 ghost use Rattle.kc_memory.specs.Stays.{SpaceStays};
-ghost use Rattle.kc_kallsyms.specs.Bytes.{IsKept, onward};
+ghost use Rattle.kc_bytes.specs.Bytes.{IsKept, onward};
 ghost use Rattle.kc_kallsyms.specs.Judged.{Judges};
 ghost use Rattle.kc_kallsyms.specs.Reading.{CountsReadFaults, ReadsAs};
 ghost use Rattle.kc_kallsyms.specs.Tables.{checked_count, tables_at, token_at, tokens_at};
 ghost use Rattle.kc_kallsyms.specs.Views.{tables_view};
 
-use crate::bytes::read_string;
-use crate::cursor::{Cursor, onward};
+use crate::bytes::{next_four, next_two, read_eight, read_string};
 use crate::fault::TableFault;
 use crate::places::Places;
-use crate::stop::ReadStop;
+use crate::stop::TableStop;
 use crate::tables::Tables;
+use kc_bytes::{Cursor, onward};
 use kc_memory::Space;
 use kc_word::Steps;
 use std::alloc::Global;
@@ -44,7 +44,7 @@ fn read_token<S: Space, L: Ledger>(
     table: u64,
     number: u16,
     steps: &mut Steps<L>,
-) -> Result<Vec<u8>, ReadStop>
+) -> Result<Vec<u8>, TableStop>
     requires { IsKept (S.image space.old) cursor.old.word }
     ensures token { ReadsAs (λ v. v.items) (λ image. token_at image table number cursor.old.at) (S.image space.old) result }
     ensures at { OnOk result (cursor.new.at ≡ onward cursor.old.at 2) }
@@ -52,7 +52,7 @@ fn read_token<S: Space, L: Ledger>(
     ensures stays { SpaceStays S.image S.files S.through S.most space.old space.new }
     ensures cause { CountsReadFaults result (S.faults space.old) (S.faults space.new) }
 {
-    let start = cursor.next_two(space, steps)?;
+    let start = next_two(cursor, space, steps)?;
     read_string(alloc, space, number, onward(table, u64::from(start)), steps)
 }
 
@@ -63,7 +63,7 @@ fn read_tokens<S: Space, L: Ledger>(
     table: u64,
     index: u64,
     steps: &mut Steps<L>,
-) -> Result<Vec<Vec<u8>>, ReadStop>
+) -> Result<Vec<Vec<u8>>, TableStop>
     ensures tokens { ReadsAs (λ ts. map (λ t. t.items) ts.items) (λ image. tokens_at image table 256 0 index) (S.image space.old) result }
     ensures count { IfOk result (λ ts. vec_len ts ≡ 256) }
     ensures stays { SpaceStays S.image S.files S.through S.most space.old space.new }
@@ -89,14 +89,15 @@ pub fn read_tables<S: Space, L: Ledger>(
     space: &mut S,
     places: &Places,
     steps: &mut Steps<L>,
-) -> Result<Tables, ReadStop>
+) -> Result<Tables, TableStop>
     ensures tables { ReadsAs tables_view (λ image. tables_at image places.now) (S.image space.old) result }
     ensures stays { SpaceStays S.image S.files S.through S.most space.old space.new }
     ensures cause { CountsReadFaults result (S.faults space.old) (S.faults space.new) }
 {
-    let told = Cursor::new(places.count).next_four(space, steps)?;
+    let mut cursor = Cursor::new(places.count);
+    let told = next_four(&mut cursor, space, steps)?;
     let count = checked_count(told)?;
-    let base = Cursor::new(places.base).next_eight(space, steps)?;
+    let base = read_eight(space, places.base, steps)?;
     let tokens = read_tokens(alloc, space, places.tokens, places.index, steps)?;
     Ok(Tables {
         count,

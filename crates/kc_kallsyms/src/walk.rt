@@ -1,17 +1,18 @@
 // The symbols of a table, one after the other.
-ghost use Rattle.std.specs.Prelude.{◌≡◌, ◌++◌, ◌∷◌, [], List, None, length, OnOk};
+ghost use Rattle.std.specs.Prelude.{◌≡◌, ◌<◌, ◌^◌, ◌++◌, ◌∷◌, [], List, None, length, OnOk};
 ghost use Rattle.kc_memory.specs.Stays.{SpaceStays};
-ghost use Rattle.kc_kallsyms.specs.Bytes.{IsKept, onward};
+ghost use Rattle.kc_bytes.specs.Bytes.{IsKept, onward};
 ghost use Rattle.kc_kallsyms.specs.Reading.{CountsReadFaults, ReadsAs};
 ghost use Rattle.kc_kallsyms.specs.Symbols.{Symbol as Listed, entry_at, length_at, name_at, symbols_in};
 ghost use Rattle.kc_kallsyms.specs.Views.{entry_view, spot_of, symbol_view, tables_view, tokens_view};
 ghost use Rattle.kc_kallsyms.specs.Walked.{WalksAs, text_from};
 
-use crate::cursor::Cursor;
+use crate::bytes::{next, next_four};
 use crate::places::Places;
-use crate::stop::ReadStop;
+use crate::stop::TableStop;
 use crate::symbol::{Symbol, symbol_of};
 use crate::tables::Tables;
+use kc_bytes::Cursor;
 use kc_memory::Space;
 use kc_word::{NoMemory, Steps};
 use std::alloc::Global;
@@ -49,22 +50,23 @@ fn read_length<S: Space, L: Ledger>(
     space: &mut S,
     cursor: &mut Cursor,
     steps: &mut Steps<L>,
-) -> Result<u16, ReadStop>
+) -> Result<u16, TableStop>
     requires { IsKept (S.image space.old) cursor.old.word }
     ensures length { ReadsAs (λ n. record { count = n; start = cursor.new.at }) (λ image. length_at image cursor.old.at) (S.image space.old) result }
+    ensures fits { OnOk result (cursor.new.at < 2 ^ 64) }
     ensures kept { IsKept (S.image space.new) cursor.new.word }
     ensures stays { SpaceStays S.image S.files S.through S.most space.old space.new }
     ensures cause { CountsReadFaults result (S.faults space.old) (S.faults space.new) }
 {
-    let low = u16::from(cursor.next(space, steps)?);
+    let low = u16::from(next(cursor, space, steps)?);
     if low < 128 {
         return Ok(low);
     }
-    let high = u16::from(cursor.next(space, steps)?);
+    let high = u16::from(next(cursor, space, steps)?);
     Ok(low % 128 + 128 * high)
 }
 
-// Adds the tokens of so many numbers to a text.
+// Adds the tokens of so many numbers to a text. The place is an address of 64 bits.
 fn push_tokens<S: Space, L: Ledger>(
     space: &mut S,
     cursor: &mut Cursor,
@@ -72,8 +74,9 @@ fn push_tokens<S: Space, L: Ledger>(
     count: u16,
     text: &mut Vec<u8>,
     steps: &mut Steps<L>,
-) -> Result<(), ReadStop>
+) -> Result<(), TableStop>
     requires kept { IsKept (S.image space.old) cursor.old.word }
+    requires fits { cursor.old.at < 2 ^ 64 }
     requires all { length tokens.now ≡ 256 }
     ensures text { ReadsAs (λ _. text.new.items) (λ image. text_from image (tokens_view tokens.now) text.old.items count cursor.old.at) (S.image space.old) result }
     ensures at { OnOk result (cursor.new.at ≡ onward cursor.old.at count) }
@@ -82,7 +85,7 @@ fn push_tokens<S: Space, L: Ledger>(
     ensures cause { CountsReadFaults result (S.faults space.old) (S.faults space.new) }
 {
     for i in 0..count {
-        let number = cursor.next(space, steps)?;
+        let number = next(cursor, space, steps)?;
         text.extend_from_slice(&tokens[usize::from(number)])?;
     }
     Ok(())
@@ -96,7 +99,7 @@ fn read_name<S: Space, L: Ledger>(
     tokens: &[Vec<u8>],
     text: &mut Vec<u8>,
     steps: &mut Steps<L>,
-) -> Result<(), ReadStop>
+) -> Result<(), TableStop>
     requires kept { IsKept (S.image space.old) cursor.old.word }
     requires all { length tokens.now ≡ 256 }
     ensures name { ReadsAs (λ _. record { text = text.new.items; next = cursor.new.at })
@@ -131,7 +134,7 @@ impl Walk {
         space: &mut S,
         tokens: &[Vec<u8>],
         steps: &mut Steps<L>,
-    ) -> Result<u32, ReadStop>
+    ) -> Result<u32, TableStop>
         requires names { IsKept (S.image space.old) self.old.names.word }
         requires offsets { IsKept (S.image space.old) self.old.offsets.word }
         requires all { length tokens.now ≡ 256 }
@@ -143,7 +146,7 @@ impl Walk {
         ensures cause { CountsReadFaults result (S.faults space.old) (S.faults space.new) }
     {
         read_name(space, &mut self.names, tokens, &mut self.text, steps)?;
-        self.offsets.next_four(space, steps)
+        next_four(&mut self.offsets, space, steps)
     }
 }
 
@@ -159,7 +162,7 @@ pub fn walk_symbols<S: Space, L: Ledger, R: Rows>(
     tables: &Tables,
     rows: &mut R,
     steps: &mut Steps<L>,
-) -> Result<(), ReadStop>
+) -> Result<(), TableStop>
     ensures symbols { WalksAs (R.took rows.old rows.new) (λ image. symbols_in image places.now (tables_view tables.now)) (S.image space.old) result }
     ensures stays { SpaceStays S.image S.files S.through S.most space.old space.new }
     ensures cause { CountsReadFaults result (S.faults space.old) (S.faults space.new) }

@@ -5,7 +5,7 @@ use Rattle.kc_kdump.specs.declared.fault.KdumpStop.{KdumpStop}
 use Rattle.kc_kdump.specs.declared.fault.KdumpStop.TheVariants.{Fault, ReadFault, NoMemory}
 use Rattle.kc_kdump.specs.declared.frame.Frame.{Frame}
 use Rattle.kc_kdump.specs.declared.layout.Layout.{Layout}
-use Rattle.kc_kdump.specs.declared.run.Run.{Run}
+use Rattle.kc_kdump.specs.declared.run.PageRun.{PageRun}
 use Rattle.kc_kdump.specs.declared.walk.Walk.{Walk}
 use Rattle.kc_kdump.specs.Answers.{IfTooMany, OnTooMany}
 use Rattle.kc_kdump.specs.Bytes.{part}
@@ -28,7 +28,7 @@ many_on X Y NoMemory P Q f is = tt
 
 -- ---- bit by bit
 
-pub bits_more : (new now : Walk) (frame : Frame) (n m d : ℕ) (all : List Frame → List Run) → 0 < n → frame ≡ frame_of (m % 2) (d % 2)
+pub bits_more : (new now : Walk) (frame : Frame) (n m d : ℕ) (all : List Frame → List PageRun) → 0 < n → frame ≡ frame_of (m % 2) (d % 2)
     → ((rest : List Frame) → runs_after new rest ≡ runs_after now (frame ∷ rest))
     → ((rest : List Frame) → runs_after now (frames_by n m d ++ rest) ≡ all rest)
     → (rest : List Frame) → runs_after new (frames_by (n - 1) (m / 2) (d / 2) ++ rest) ≡ all rest
@@ -39,7 +39,7 @@ bits_more new now frame n m d all some is step before rest =
     ∙ ap (λ (fs : List Frame). runs_after now (fs ++ rest)) (sym (frames_by-more n m d some))
     ∙ before rest
 
-pub bits_many : (now : Walk) (frame : Frame) (n m d : ℕ) (all : List Frame → List Run) → 0 < n → frame ≡ frame_of (m % 2) (d % 2)
+pub bits_many : (now : Walk) (frame : Frame) (n m d : ℕ) (all : List Frame → List PageRun) → 0 < n → frame ≡ frame_of (m % 2) (d % 2)
     → ((rest : List Frame) → runs_after now (frames_by n m d ++ rest) ≡ all rest)
     → ((rest : List Frame) → 4194304 < length (runs_after now (frame ∷ rest)))
     → (rest : List Frame) → 4194304 < length (all rest)
@@ -49,16 +49,16 @@ bits_many now frame n m d all some is before many rest =
     ap (λ (f : Frame). runs_after now (f ∷ (more ++ rest))) is
     ∙ ap (λ (fs : List Frame). runs_after now (fs ++ rest)) (sym (frames_by-more n m d some))
     ∙ before rest in
-    subst (λ (rs : List Run). 4194304 < length rs) same (many (more ++ rest))
+    subst (λ (rs : List PageRun). 4194304 < length rs) same (many (more ++ rest))
 
-pub bits_none : (now : Walk) (n m d : ℕ) (all : List Frame → List Run) → n ≤ 0
+pub bits_none : (now : Walk) (n m d : ℕ) (all : List Frame → List PageRun) → n ≤ 0
     → ((rest : List Frame) → runs_after now (frames_by n m d ++ rest) ≡ all rest)
     → (rest : List Frame) → runs_after now rest ≡ all rest
 bits_none now n m d all none before rest = sym (ap (λ (fs : List Frame). runs_after now (fs ++ rest)) (frames_by-none n m d none)) ∙ before rest
 
 -- ---- byte by byte
 
-pub bytes_more : (new now : Walk) (bits left i : ℕ) (ms ds : List ℕ) (all : List Frame → List Run) → bits ≡ min left 8 → i < length ms → length ms ≡ length ds
+pub bytes_more : (new now : Walk) (bits left i : ℕ) (ms ds : List ℕ) (all : List Frame → List PageRun) → bits ≡ min left 8 → i < length ms → length ms ≡ length ds
     → ((rest : List Frame) → runs_after new rest ≡ runs_after now (frames_by bits (get_or ms i 0) (get_or ds i 0) ++ rest))
     → ((rest : List Frame) → runs_after now (take left (all_frames (drop i ms) (drop i ds)) ++ rest) ≡ all rest)
     → (rest : List Frame) → runs_after new (take (left - bits) (all_frames (drop (i + 1) ms) (drop (i + 1) ds)) ++ rest) ≡ all rest
@@ -69,7 +69,7 @@ bytes_more new now bits left i ms ds all is here same step before rest =
     ∙ ap (λ (fs : List Frame). runs_after now fs) (sym (one_byte left i ms ds rest here same))
     ∙ before rest
 
-pub bytes_many : (now : Walk) (bits left i : ℕ) (ms ds : List ℕ) (all : List Frame → List Run) → bits ≡ min left 8 → i < length ms → length ms ≡ length ds
+pub bytes_many : (now : Walk) (bits left i : ℕ) (ms ds : List ℕ) (all : List Frame → List PageRun) → bits ≡ min left 8 → i < length ms → length ms ≡ length ds
     → ((rest : List Frame) → runs_after now (take left (all_frames (drop i ms) (drop i ds)) ++ rest) ≡ all rest)
     → ((rest : List Frame) → 4194304 < length (runs_after now (frames_by bits (get_or ms i 0) (get_or ds i 0) ++ rest)))
     → (rest : List Frame) → 4194304 < length (all rest)
@@ -79,9 +79,9 @@ bytes_many now bits left i ms ds all is here same before many rest =
     ap (λ (n : ℕ). runs_after now (frames_by n (get_or ms i 0) (get_or ds i 0) ++ more n)) is
     ∙ ap (λ (fs : List Frame). runs_after now fs) (sym (one_byte left i ms ds rest here same))
     ∙ before rest in
-    subst (λ (rs : List Run). 4194304 < length rs) whole (many (more bits))
+    subst (λ (rs : List PageRun). 4194304 < length rs) whole (many (more bits))
 
-pub bytes_none : (now : Walk) (left i : ℕ) (ms ds : List ℕ) (all : List Frame → List Run) → length ms ≤ i
+pub bytes_none : (now : Walk) (left i : ℕ) (ms ds : List ℕ) (all : List Frame → List PageRun) → length ms ≤ i
     → ((rest : List Frame) → runs_after now (take left (all_frames (drop i ms) (drop i ds)) ++ rest) ≡ all rest)
     → (rest : List Frame) → runs_after now rest ≡ all rest
 bytes_none now left i ms ds all past before rest = sym (ap (λ (fs : List Frame). runs_after now fs) (no_byte left i ms ds rest past)) ∙ before rest
@@ -130,4 +130,4 @@ block_many (Some bytes) one two now layout at left first_count second_count memo
     let first_is : memory ≡ take 4096 (drop (layout.bitmaps + at) bytes) = subst (λ (c : Option (List ℕ)). HasPart c (layout.bitmaps + at) first_count memory) is_one first ∙ ap (λ (k : ℕ). take k (drop (layout.bitmaps + at) bytes)) is_first in
     let second_is : dumped ≡ take 4096 (drop (layout.bitmaps + layout.half + at) bytes) = subst (λ (c : Option (List ℕ)). HasPart c (layout.bitmaps + layout.half + at) second_count dumped) is_two second ∙ ap (λ (k : ℕ). take k (drop (layout.bitmaps + layout.half + at) bytes)) is_second in
     let whole = ap (λ (fs : List Frame). runs_after now fs) (sym (block_whole layout at left bytes memory dumped first_is second_is long_first long_second enough)) ∙ before in
-    subst (λ (rs : List Run). 4194304 < length rs) whole (many (left_frames layout (at + 4096) (left - 32768) bytes))
+    subst (λ (rs : List PageRun). 4194304 < length rs) whole (many (left_frames layout (at + 4096) (left - 32768) bytes))

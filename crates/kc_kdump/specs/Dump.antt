@@ -4,7 +4,7 @@ use Rattle.kc_kdump.specs.declared.descriptor.Descriptor.{Descriptor}
 use Rattle.kc_kdump.specs.declared.fault.KdumpFault.{KdumpFault}
 use Rattle.kc_kdump.specs.declared.fault.KdumpFault.TheVariants.{K8, K9}
 use Rattle.kc_kdump.specs.declared.layout.Layout.{Layout}
-use Rattle.kc_kdump.specs.declared.run.Run.{Run}
+use Rattle.kc_kdump.specs.declared.run.PageRun.{PageRun}
 use Rattle.kc_kdump.specs.Bytes.{number, part}
 use Rattle.kc_kdump.specs.Frames.{frames_of}
 use Rattle.kc_kdump.specs.Header.{layout_of, table_in}
@@ -12,7 +12,7 @@ use Rattle.kc_kdump.specs.Runs.{page_count, runs_of}
 
 pub record Dump : Type 0 where
   pub layout : Layout
-  pub runs : List Run
+  pub runs : List PageRun
   -- the bytes of the PT_NOTE segment of the machine's memory image
   pub notes : List ℕ
 
@@ -22,11 +22,11 @@ abbrev pub ◌>>=◌ : {A B : Type 0} → Result A KdumpFault → (A → Result 
 (Err e) >>= f = Err e
 
 -- at most 2^22 runs
-abbrev pub few : List Run → Result (List Run) KdumpFault
+abbrev pub few : List PageRun → Result (List PageRun) KdumpFault
 few runs = if nat_le (length runs) 4194304 then Ok runs else Err K8
 
 -- the descriptors of all pages, of 24 bytes each, are inside a file of this size
-abbrev pub described : ℕ → Layout → List Run → Result (List Run) KdumpFault
+abbrev pub described : ℕ → Layout → List PageRun → Result (List PageRun) KdumpFault
 described size layout runs = if nat_le (table_in layout + 24 * page_count runs) size then Ok runs else Err K9
 
 -- what a file of this size holds, or its first fault

@@ -3,22 +3,22 @@
 use Rattle.std.specs.Prelude.{ℕ, ◌+◌, max, ◌==◌, List, [], ◌∷◌, ◌++◌, if◌then◌else◌}
 use Rattle.kc_kdump.specs.declared.frame.Frame.{Frame}
 use Rattle.kc_kdump.specs.declared.frame.Frame.TheVariants.{Dumped, LeftOut, Hole}
-use Rattle.kc_kdump.specs.declared.run.Run.{Run}
+use Rattle.kc_kdump.specs.declared.run.PageRun.{PageRun}
 
 -- the page frame after a run
-abbrev pub end_of : Run → ℕ
+abbrev pub end_of : PageRun → ℕ
 end_of run = run.first + run.dumped + run.left
 
 -- a run of no page frame, before a page frame
-abbrev pub empty_at : ℕ → Run
+abbrev pub empty_at : ℕ → PageRun
 empty_at pfn = record { first = pfn; dumped = 0; left = 0 }
 
 -- a run, unless it is empty
-abbrev pub shown : Run → List Run
+abbrev pub shown : PageRun → List PageRun
 shown run = if run.dumped + run.left == 0 then [] else run ∷ []
 
 -- the runs of a run that was begun and of the page frames after it
-abbrev pub runs_from : Run → List Frame → List Run
+abbrev pub runs_from : PageRun → List Frame → List PageRun
 runs_from run [] = shown run
 runs_from run (Dumped ∷ frames) =
     if run.left == 0 then runs_from (record run { dumped = run.dumped + 1 }) frames
@@ -27,15 +27,15 @@ runs_from run (LeftOut ∷ frames) = runs_from (record run { left = run.left + 1
 runs_from run (Hole ∷ frames) = shown run ++ runs_from (empty_at (end_of run + 1)) frames
 
 -- the runs of all page frames
-abbrev pub runs_of : List Frame → List Run
+abbrev pub runs_of : List Frame → List PageRun
 runs_of frames = runs_from (empty_at 0) frames
 
 -- the page frame after the last one of any run
-abbrev pub reach : List Run → ℕ
+abbrev pub reach : List PageRun → ℕ
 reach [] = 0
 reach (run ∷ runs) = max (end_of run) (reach runs)
 
 -- how many pages are in the dump
-abbrev pub page_count : List Run → ℕ
+abbrev pub page_count : List PageRun → ℕ
 page_count [] = 0
 page_count (run ∷ runs) = run.dumped + page_count runs

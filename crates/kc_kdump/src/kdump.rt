@@ -3,7 +3,7 @@ ghost use Rattle.std.specs.Prelude.{◌≡◌, ◌≤◌, ◌^◌, vec_len};
 ghost use Rattle.kc_kdump.specs.Runs.{page_count, reach};
 
 use crate::layout::Layout;
-use crate::run::Run;
+use crate::run::PageRun;
 
 /// What the container of a compressed dump holds.
 #[derive(Drop)]
@@ -11,7 +11,7 @@ pub struct Kdump {
     /// Where its parts are.
     pub layout: Layout,
     /// The runs of page frames, the lowest first.
-    pub runs: Vec<Run>,
+    pub runs: Vec<PageRun>,
     /// How many pages are in the dump.
     pub pages: u64,
     /// The bytes of the PT_NOTE segment of the machine's memory image.

@@ -19,4 +19,4 @@ pub use layout::{
     BLOCK_BYTES, HEADER_BYTES, Layout, SIGNATURE_BYTES, SUB_HEADER_BYTES, is_kdump, layout_in,
 };
 pub use read::read_kdump;
-pub use run::Run;
+pub use run::PageRun;

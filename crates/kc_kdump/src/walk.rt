@@ -5,7 +5,7 @@ ghost use Rattle.kc_kdump.specs.Runs.{end_of, page_count, reach, shown};
 
 use crate::fault::{KdumpFault, KdumpStop};
 use crate::frame::Frame;
-use crate::run::Run;
+use crate::run::PageRun;
 use std::alloc::Global;
 
 // At most so many runs are gathered.
@@ -15,9 +15,9 @@ const MOST_RUNS: usize = 4_194_304;
 #[derive(Drop)]
 pub(crate) struct Walk {
     // Those that are whole.
-    pub(crate) runs: Vec<Run>,
+    pub(crate) runs: Vec<PageRun>,
     // The one that was begun.
-    pub(crate) run: Run,
+    pub(crate) run: PageRun,
     // How many pages are in the dump.
     pub(crate) pages: u64,
     pub(crate) ghost counted: { pages ≡ page_count runs.items + run.dumped },
@@ -27,7 +27,7 @@ pub(crate) struct Walk {
 }
 
 // Puts a run to the others, unless it is empty.
-fn put_run(runs: &mut Vec<Run>, run: Run) -> Result<(), KdumpStop>
+fn put_run(runs: &mut Vec<PageRun>, run: PageRun) -> Result<(), KdumpStop>
     requires few { vec_len runs.old ≤ 4194304 }
     requires small { run.dumped + run.left < 2 ^ 63 }
     ensures runs { OnOk result (runs.new.items ≡ runs.old.items ++ shown run) }
@@ -59,7 +59,7 @@ impl Walk {
     {
         Walk {
             runs: Vec::new(alloc),
-            run: Run {
+            run: PageRun {
                 first: 0,
                 dumped: 0,
                 left: 0,
@@ -77,7 +77,7 @@ impl Walk {
         ensures many { IfTooMany result (4194304 < length (self.old.runs.items ++ shown self.old.run)) }
     {
         put_run(&mut self.runs, self.run)?;
-        self.run = Run {
+        self.run = PageRun {
             first,
             dumped,
             left: 0,

@@ -1,8 +1,8 @@
 -- What the words of a command line ask for.
 use Rattle.std.specs.Prelude.{ℕ, nat_eq, Bool, false, ◌||◌, if◌then◌else◌, List, [], ◌∷◌, ◌++◌, codes, length}
 use Rattle.std.specs.Str.{bytes_eq}
-use Rattle.kc_kplain.specs.declared.form.Form.{Form}
-use Rattle.kc_kplain.specs.declared.form.Form.TheVariants as code
+use Rattle.kc_kplain.specs.declared.form.PlainForm.{PlainForm}
+use Rattle.kc_kplain.specs.declared.form.PlainForm.TheVariants as code
 
 -- the plain core file of the dump of a name, a command of kaudit's, or nothing
 pub data Asks : Type 0 where
@@ -38,7 +38,7 @@ abbrev pub usage_text : List ℕ
 usage_text = codes "usage: kplain core DUMP\nusage: kplain word DUMP TABLE ADDRESS\nusage: kplain show DUMP BTF MAP SYMBOL TYPE PATH\nusage: kplain check DUMP BTF MAP PLAN\nusage: kplain check DUMP BTF MAP PLAN MODULE\nusage: kplain certify DUMP BTF MAP PLAN\nusage: kplain recheck DUMP BTF MAP PLAN CERT\n"
 
 -- as the code keeps it
-abbrev pub form_view : Form → Asks
+abbrev pub form_view : PlainForm → Asks
 form_view (code.Core name) = Core name.now
 form_view code.Audit = Audit
 form_view code.Usage = Usage

@@ -5,7 +5,7 @@ ghost use Rattle.kc_kplain.specs.Forms.{form_of, form_view, is_audit, name_form}
 
 /// What words ask for, by the first of them and by how many there are.
 #[derive(Clone, Copy)]
-pub enum Form<'w> {
+pub enum PlainForm<'w> {
     /// The plain core file of the dump of this name.
     Core(&'w str),
     /// A command of kaudit's.
@@ -29,27 +29,27 @@ fn is_audit(name: &str, count: usize) -> bool
 }
 
 // What the words after `core` ask for.
-fn name_form(words: &[String]) -> Form<'_>
+fn name_form(words: &[String]) -> PlainForm<'_>
     ensures { form_view result ≡ name_form (map string_bytes words.now) }
 {
     let [name] = words else {
-        return Form::Usage;
+        return PlainForm::Usage;
     };
-    Form::Core(name.as_str())
+    PlainForm::Core(name.as_str())
 }
 
 /// What the words after the program's name ask for.
-pub fn form_of(words: &[String]) -> Form<'_>
+pub fn form_of(words: &[String]) -> PlainForm<'_>
     ensures { form_view result ≡ form_of (map string_bytes words.now) }
 {
     let [word, words @ ..] = words else {
-        return Form::Usage;
+        return PlainForm::Usage;
     };
     if word.as_str() == "core" {
         name_form(words)
     } else if is_audit(word.as_str(), words.len()) {
-        Form::Audit
+        PlainForm::Audit
     } else {
-        Form::Usage
+        PlainForm::Usage
     }
 }

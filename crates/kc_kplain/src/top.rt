@@ -16,7 +16,7 @@ ghost use Rattle.kc_kplain.specs.Forms.{Audit, Core, Usage, form_of, usage_text}
 ghost use Rattle.kc_kplain.specs.Outcomes.{AuditEnds, CoreEnds, is_settled, is_unopened};
 
 use crate::audit::audit;
-use crate::form::{Form, form_of};
+use crate::form::{PlainForm, form_of};
 use crate::plain::write_plain;
 use kc_any_dump::{TellsCause, end_with_line};
 use kc_command::Status;
@@ -81,8 +81,8 @@ pub fn kplain<D: Store + TellsCause, O: Sink, E: Sink>(
     ensures err_later { E.faults err.old ≤ E.faults err.new }
 {
     match form_of(words) {
-        Form::Core(name) => write_plain(alloc, name, dump, out, err),
-        Form::Audit => audit(alloc, words, dump, out, err),
-        Form::Usage => end_with_line(err, Status::NoCommand, USAGE),
+        PlainForm::Core(name) => write_plain(alloc, name, dump, out, err),
+        PlainForm::Audit => audit(alloc, words, dump, out, err),
+        PlainForm::Usage => end_with_line(err, Status::NoCommand, USAGE),
     }
 }

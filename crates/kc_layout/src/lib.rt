@@ -1,5 +1,5 @@
-//! Types and paths over a kernel's type information: the type with a name, the size of a type, its members,
-//! and the place of a member that a path names.
+//! Types and paths over a kernel's type information: the type with a name, the size of a type, its members, the place
+//! of a member that a path names, and the path of the member at an offset.
 #![tactic(auto)]
 
 mod bare;

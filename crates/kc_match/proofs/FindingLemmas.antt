@@ -7,17 +7,17 @@ use Rattle.std.proofs.lemmas.List.Elements.{filter_map-append}
 use Rattle.kc_match.specs.declared.finding.Finding.{Finding as CodeFinding}
 use Rattle.kc_match.specs.Facts.{Fact, fact_in}
 use Rattle.kc_match.specs.Findings.{Finding, findings, found_in}
-use Rattle.kc_match.specs.Outcomes.{Kernel, outcome}
+use Rattle.kc_match.specs.Outcomes.{Compared, outcome}
 use Rattle.kc_match.specs.Views.{finding_view}
 
 abbrev seen : List (Bor (List ℕ)) → List (List ℕ)
 seen lines = map (λ (line : Bor (List ℕ)). line.now) lines
 
 -- what one line adds, by what it states
-abbrev added : Kernel → List ℕ → Option Fact → List Finding
+abbrev added : Compared → List ℕ → Option Fact → List Finding
 added kernel line fact = cons_option (option_map (λ f. record { line = line; outcome = outcome kernel f }) fact) []
 
-findings-more : (kernel : Kernel) (lines : List (Bor (List ℕ))) (line : Bor (List ℕ)) (fact : Option Fact) → fact_in line.now ≡ fact
+findings-more : (kernel : Compared) (lines : List (Bor (List ℕ))) (line : Bor (List ℕ)) (fact : Option Fact) → fact_in line.now ≡ fact
     → findings kernel (seen (lines ++ line ∷ [])) ≡ findings kernel (seen lines) ++ added kernel line.now fact
 findings-more kernel lines line fact is =
     ap (findings kernel) (map-append (λ (line : Bor (List ℕ)). line.now) lines (line ∷ []))
@@ -25,7 +25,7 @@ findings-more kernel lines line fact is =
     ∙ ap (λ f. findings kernel (seen lines) ++ added kernel line.now f) is
 
 -- a line that states something
-pub found_more : (kernel : Kernel) (lines : List (Bor (List ℕ))) (line : Bor (List ℕ)) (fact : Fact) (old new : List CodeFinding) (more : CodeFinding)
+pub found_more : (kernel : Compared) (lines : List (Bor (List ℕ))) (line : Bor (List ℕ)) (fact : Fact) (old new : List CodeFinding) (more : CodeFinding)
     → map finding_view old ≡ findings kernel (seen lines) → fact_in line.now ≡ Some fact
     → finding_view more ≡ record { line = line.now; outcome = outcome kernel fact } → new ≡ old ++ more ∷ []
     → map finding_view new ≡ findings kernel (seen (lines ++ line ∷ []))
@@ -35,7 +35,7 @@ found_more kernel lines line fact old new more so_far is one pushed =
     ∙ sym (findings-more kernel lines line (Some fact) is)
 
 -- and another line
-pub found_none : (kernel : Kernel) (lines : List (Bor (List ℕ))) (line : Bor (List ℕ)) (found : List CodeFinding)
+pub found_none : (kernel : Compared) (lines : List (Bor (List ℕ))) (line : Bor (List ℕ)) (found : List CodeFinding)
     → map finding_view found ≡ findings kernel (seen lines) → fact_in line.now ≡ None
     → map finding_view found ≡ findings kernel (seen (lines ++ line ∷ []))
 found_none kernel lines line found so_far is =

@@ -17,7 +17,7 @@ use Rattle.kc_match.specs.declared.outcome.Outcome.TheVariants.{Same, Differs, U
 use Rattle.kc_match.specs.Facts.{Symbol, Size, Offset}
 use Rattle.kc_match.specs.Findings.{Finding}
 use Rattle.kc_match.specs.Named.{is_type_of, types_named}
-use Rattle.kc_match.specs.Outcomes.{Kernel, byte_of, differs, either, fits, fits_named, if_direct, if_image, image_address, is_same, is_unknown, stands, symbol_outcome, together}
+use Rattle.kc_match.specs.Outcomes.{Compared, byte_of, differs, either, fits, fits_named, if_direct, if_image, image_address, is_same, is_unknown, stands, symbol_outcome, together}
 use Rattle.kc_match.specs.Laws.{CountsAddUp, OutcomesStand, Stands, TellsAddress, TellsByte, TellsSize}
 use Rattle.kc_match.proofs.TypesOfNames.{Among, among_is, is_among}
 
@@ -52,7 +52,7 @@ number_stands P (pos m) told same other =
     pick (m == told) P Same (Differs (Btf told)) (λ is. same (ap pos (eqb-true m told is))) (λ is. other (λ e. let one : m ≡ told = cc in grind (arith, nat_tests)))
 number_stands P (negsuc m) told same other = other (λ e. cc)
 
-module _ (kernel : Kernel) (name : List ℕ) where
+module _ (kernel : Compared) (name : List ℕ) where
   told_address : (address told : ℕ) → common_of kernel.kaslr (kernel.listed name) ≡ Ok told → Stands kernel (Symbol name address) (stands address (if_image told))
   told_address address told is =
       pick (nat_le 0xffffffff80000000 told) (λ o. Stands kernel (Symbol name address) (stands address o)) (Some told) None
@@ -129,7 +129,7 @@ all_say tell number [] = λ told t. t.among
 all_say tell number (x ∷ ids) = one_more tell number x ids (tell x) (together (map (λ id. fits number (tell id)) ids)) refl (all_say tell number ids)
 
 -- the size of a type of a name
-size_stands : (kernel : Kernel) (name : List ℕ) (number : ℤ) (o : Outcome) → Says (TellsSize kernel.types name) number o → Stands kernel (Size name number) o
+size_stands : (kernel : Compared) (name : List ℕ) (number : ℤ) (o : Outcome) → Says (TellsSize kernel.types name) number o → Stands kernel (Size name number) o
 size_stands kernel name number Same says = says
 size_stands kernel name number (Differs (Btf n)) says = says
 size_stands kernel name number (Differs (Map n)) says = absurd says
@@ -142,7 +142,7 @@ from_size : (types : Types) (name : List ℕ) (told : ℕ) → TellsSize types n
 from_size types name told t = record { id = t.id; among = is_among types name t.id t.of; tells = t.sized }
 
 -- and the byte at which a member begins in one
-byte_stands : (kernel : Kernel) (name member : List ℕ) (number : ℤ) (o : Outcome) → Says (TellsByte kernel.types name member) number o → Stands kernel (Offset name member number) o
+byte_stands : (kernel : Compared) (name member : List ℕ) (number : ℤ) (o : Outcome) → Says (TellsByte kernel.types name member) number o → Stands kernel (Offset name member number) o
 byte_stands kernel name member number Same says = says
 byte_stands kernel name member number (Differs (Btf n)) says = says
 byte_stands kernel name member number (Differs (Map n)) says = absurd says

@@ -11,7 +11,7 @@ use Rattle.kc_match.specs.declared.outcome.Outcome.TheVariants.{Same, Differs, U
 use Rattle.kc_match.specs.Facts.{Fact, Symbol, Size, Offset}
 use Rattle.kc_match.specs.Findings.{Finding}
 use Rattle.kc_match.specs.Named.{is_type_of}
-use Rattle.kc_match.specs.Outcomes.{Kernel, outcome}
+use Rattle.kc_match.specs.Outcomes.{Compared, outcome}
 use Rattle.kc_match.specs.Text.{differs_count, same_count, unknown_count}
 
 -- each finding is counted once
@@ -19,7 +19,7 @@ abbrev pub CountsAddUp : Type 0
 CountsAddUp = (found : List Finding) → same_count found + differs_count found + unknown_count found ≡ length found
 
 -- the rows of a name have this address in common, and it is in the kernel's image
-pub record TellsAddress (kernel : Kernel) (name : List ℕ) (address : ℕ) : Type 0 where
+pub record TellsAddress (kernel : Compared) (name : List ℕ) (address : ℕ) : Type 0 where
   pub common : common_of kernel.kaslr (kernel.listed name) ≡ Ok address
   pub image : 0xffffffff80000000 ≤ address
 
@@ -40,7 +40,7 @@ pub record TellsByte (types : Types) (name member : List ℕ) (byte : ℕ) : Typ
   pub there : place.byte ≡ byte
 
 -- the files tell this number of what a fact speaks of; they may tell several, where several types have its name
-abbrev pub Tell : Kernel → Fact → ℕ → Type 0
+abbrev pub Tell : Compared → Fact → ℕ → Type 0
 Tell kernel (Symbol name address) told = TellsAddress kernel name told
 Tell kernel (Size name stated) told = TellsSize kernel.types name told
 Tell kernel (Offset name member stated) told = TellsByte kernel.types name member told
@@ -63,11 +63,11 @@ IsCompared (Offset name member byte) = ⊤
 
 -- what an outcome says: the files tell the number that is stated; or they tell another one, and don't tell it; or they tell
 -- none that is compared
-abbrev pub Stands : Kernel → Fact → Outcome → Type 0
+abbrev pub Stands : Compared → Fact → Outcome → Type 0
 Stands kernel fact Same = (told : ℕ) × Tell kernel fact told × (stated fact ≡ pos told)
 Stands kernel fact (Differs other) =
     Tell kernel fact (number_of other) × ((told : ℕ) → Tell kernel fact told → stated fact ≢ pos told)
 Stands kernel fact Unknown = (told : ℕ) → IsCompared fact → Tell kernel fact told → ⊥
 
 abbrev pub OutcomesStand : Type 0
-OutcomesStand = (kernel : Kernel) (fact : Fact) → Stands kernel fact (outcome kernel fact)
+OutcomesStand = (kernel : Compared) (fact : Fact) → Stands kernel fact (outcome kernel fact)

@@ -17,7 +17,7 @@ use Rattle.kc_command.specs.Ends.Asked.{Asked}
 use Rattle.kc_command.specs.Ends.Output.{written_files}
 use Rattle.kc_command.specs.Ends.Written.{Written}
 use Rattle.kc_match.specs.Findings.{Finding, findings}
-use Rattle.kc_match.specs.Outcomes.{Kernel}
+use Rattle.kc_match.specs.Outcomes.{Compared}
 use Rattle.kc_match.specs.Text.{agree, match_text}
 
 -- what is shown: a note, and what is found of its lines
@@ -33,11 +33,11 @@ abbrev pub match_written : Matched → Written
 match_written m = record { out = match_text m.note m.found; err = []; status = match_status m.found }
 
 -- a kernel's types, the addresses that the rows of its map list, and how far KASLR moved it
-abbrev pub kernel_by : Types → List RowText → ℕ → Kernel
+abbrev pub kernel_by : Types → List RowText → ℕ → Compared
 kernel_by types rows kaslr = record { types = types; listed = λ name. addresses name rows; kaslr = kaslr }
 
 -- what is found of the lines of a note
-abbrev pub matched : List ℕ → Kernel → Matched
+abbrev pub matched : List ℕ → Compared → Matched
 matched note kernel = record { note = note; found = findings kernel (lines_of note) }
 
 -- and by the bytes of a map

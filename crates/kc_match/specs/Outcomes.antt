@@ -13,7 +13,7 @@ use Rattle.kc_match.specs.Named.{types_named}
 
 -- what the files tell of a kernel: its types, the addresses that the rows of a name list, and how far KASLR moved
 -- its image
-pub record Kernel : Type 0 where
+pub record Compared : Type 0 where
   pub types : Types
   pub listed : List ℕ → List ℕ
   pub kaslr : ℕ
@@ -23,7 +23,7 @@ pub record Kernel : Type 0 where
 abbrev pub if_image : ℕ → Option ℕ
 if_image address = if nat_le 0xffffffff80000000 address then Some address else None
 
-unfoldable pub image_address : Kernel → List ℕ → Option ℕ
+unfoldable pub image_address : Compared → List ℕ → Option ℕ
 image_address kernel name = option_and_then if_image (result_ok (common_of kernel.kaslr (kernel.listed name)))
 
 -- a byte that no pointer leads to
@@ -73,11 +73,11 @@ stands stated None = Unknown
 stands stated (Some told) = if stated == told then Same else Differs (Map told)
 
 -- An address is compared only where it is in the kernel's image: of some symbols the note has the pointer's value.
-unfoldable pub symbol_outcome : Kernel → List ℕ → ℕ → Outcome
+unfoldable pub symbol_outcome : Compared → List ℕ → ℕ → Outcome
 symbol_outcome kernel name address = if nat_le 0xffffffff80000000 address then stands address (image_address kernel name) else Unknown
 
 -- what comes of a fact
-abbrev pub outcome : Kernel → Fact → Outcome
+abbrev pub outcome : Compared → Fact → Outcome
 outcome kernel (Symbol name address) = symbol_outcome kernel name address
 outcome kernel (Size name stated) = fits_named kernel.types name (size kernel.types) stated
 outcome kernel (Offset name member stated) = fits_named kernel.types name (byte_of kernel.types member) stated

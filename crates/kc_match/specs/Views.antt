@@ -7,12 +7,12 @@ use Rattle.kc_syms.specs.Symbols.{symbol}
 use Rattle.kc_match.specs.declared.fact.Fact.{Fact as CodeFact}
 use Rattle.kc_match.specs.declared.fact.Fact.TheVariants as code
 use Rattle.kc_match.specs.declared.finding.Finding.{Finding as CodeFinding}
-use Rattle.kc_match.specs.declared.kernel.Kernel.{Kernel as CodeKernel}
+use Rattle.kc_match.specs.declared.kernel.Compared.{Compared as CodeKernel}
 use Rattle.kc_match.specs.declared.kernel.Measure.{Measure}
 use Rattle.kc_match.specs.declared.kernel.Measure.TheVariants as measure
 use Rattle.kc_match.specs.Facts.{Fact, Symbol, Size, Offset}
 use Rattle.kc_match.specs.Findings.{Finding}
-use Rattle.kc_match.specs.Outcomes.{Kernel, byte_of}
+use Rattle.kc_match.specs.Outcomes.{Compared, byte_of}
 
 abbrev pub parts_view : Bor (List ℕ) × Bor (List ℕ) → List ℕ × List ℕ
 parts_view p = (p.0.now, p.1.now)
@@ -25,7 +25,7 @@ fact_view (code.Offset name member byte) = Offset name.now member.now byte
 abbrev pub finding_view : CodeFinding → Finding
 finding_view f = record { line = f.line.now; outcome = f.outcome }
 
-abbrev pub kernel_view : CodeKernel → Kernel
+abbrev pub kernel_view : CodeKernel → Compared
 kernel_view k = record { types = k.types.now; listed = symbol k.symbols.now; kaslr = k.kaslr }
 
 -- what a type tells

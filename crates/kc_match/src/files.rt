@@ -17,7 +17,7 @@ ghost use Rattle.kc_match.specs.Match.{files_view, match_asked, match_asks, matc
 ghost use Rattle.kc_match.specs.Views.{kernel_view};
 
 use crate::finding::findings;
-use crate::kernel::Kernel;
+use crate::kernel::Compared;
 use crate::text::{agree, match_text};
 use kc_btf::Btf;
 use kc_command::{
@@ -104,7 +104,7 @@ fn match_map(
     ensures no_call { NotStore result }
 {
     let symbols = read_symbols(alloc, map)?;
-    let kernel = Kernel {
+    let kernel = Compared {
         types,
         symbols: &symbols,
         kaslr,
@@ -113,7 +113,7 @@ fn match_map(
 }
 
 // The answer on a note and a kernel.
-fn answer(alloc: Global, note: &[u8], kernel: Kernel<'_, '_>) -> Result<Answer, NoMemory>
+fn answer(alloc: Global, note: &[u8], kernel: Compared<'_, '_>) -> Result<Answer, NoMemory>
     ensures { IfOk result (λ answer. written_by answer ≡ match_written (matched note.now (kernel_view kernel.entry))) }
 {
     let found = findings(alloc, kernel, note)?;

@@ -5,7 +5,7 @@ ghost use Rattle.kc_match.specs.Findings.{findings};
 ghost use Rattle.kc_match.specs.Views.{finding_view, kernel_view};
 
 use crate::fact::read_fact;
-use crate::kernel::{Kernel, outcome_of};
+use crate::kernel::{Compared, outcome_of};
 use crate::outcome::Outcome;
 use kc_word::NoMemory;
 use std::alloc::Global;
@@ -23,7 +23,7 @@ pub struct Finding<'t> {
 /// one.
 pub fn findings<'t>(
     alloc: Global,
-    kernel: Kernel<'_, '_>,
+    kernel: Compared<'_, '_>,
     text: &'t [u8],
 ) -> Result<Vec<Finding<'t>>, NoMemory>
     ensures { IfOk result (λ found. map finding_view found.items

@@ -17,7 +17,7 @@ const IMAGE_START: u64 = 0xffff_ffff_8000_0000;
 
 /// What is compared with the notes.
 #[derive(Clone, Copy)]
-pub struct Kernel<'k, 'm> {
+pub struct Compared<'k, 'm> {
     /// The types.
     pub types: &'k Btf,
     /// The symbols of the map.
@@ -38,7 +38,7 @@ enum Measure<'t> {
 /// What comes of a fact. Where several types have the name that a line states a size or a byte of, one that tells the same is
 /// enough: of structs and unions, or where there is none with the name, of typedefs that lead to one. A symbol is compared only where the line and the map have it in the kernel's image: of some
 /// the note has the pointer's value, not its address.
-pub fn outcome_of(kernel: Kernel<'_, '_>, fact: Fact<'_>) -> Outcome
+pub fn outcome_of(kernel: Compared<'_, '_>, fact: Fact<'_>) -> Outcome
     ensures { result ≡ outcome (kernel_view kernel.entry) (fact_view fact.entry) }
 {
     match fact {
@@ -52,7 +52,7 @@ pub fn outcome_of(kernel: Kernel<'_, '_>, fact: Fact<'_>) -> Outcome
 
 // What comes of a symbol's address.
 #[tactic(auto, unfolding(crate::specs::Outcomes::symbol_outcome))]
-fn symbol_outcome(kernel: Kernel<'_, '_>, name: &[u8], address: u64) -> Outcome
+fn symbol_outcome(kernel: Compared<'_, '_>, name: &[u8], address: u64) -> Outcome
     ensures { result ≡ symbol_outcome (kernel_view kernel.entry) name.now address }
 {
     if address < IMAGE_START {
@@ -67,7 +67,7 @@ fn symbol_outcome(kernel: Kernel<'_, '_>, name: &[u8], address: u64) -> Outcome
 
 // The address of a symbol at run time, where its rows have one in the kernel's image.
 #[tactic(auto, unfolding(crate::specs::Outcomes::image_address))]
-fn image_address(kernel: Kernel<'_, '_>, name: &[u8]) -> Option<u64>
+fn image_address(kernel: Compared<'_, '_>, name: &[u8]) -> Option<u64>
     ensures { result ≡ image_address (kernel_view kernel.entry) name.now }
 {
     match kernel.symbols.address(name, kernel.kaslr) {

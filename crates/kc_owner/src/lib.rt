@@ -1,5 +1,5 @@
-//! What the programs share that look at single addresses of a dump: members and symbols of a kernel by their names, and texts of its
-//! memory.
+//! What an address of a dump belongs to: the object of a slab cache, or the area (module, stack, per-CPU part) that holds
+//! it; and the members, symbols and texts of a kernel by their names.
 #![tactic(auto)]
 
 mod area;

@@ -1,7 +1,7 @@
 -- The headers of runs, as they are put, and zeros after bytes.
 use Rattle.std.proofs.Common.{◌≡◌, ℕ, zero, suc, ◌+◌, ◌-◌, ◌*◌, ◌≤◌, ◌<◌, max, Bool, true, false, cond, List, [], ◌∷◌, ◌++◌, length, replicate, get_or, drop, refl, sym, ap, ◌∙◌, arith, add-one, append_assoc, append-nil, length-append}
 use Rattle.std.proofs.Math.Seq.{drop-cons}
-use Rattle.kc_kdump.specs.declared.run.Run.{Run}
+use Rattle.kc_kdump.specs.declared.run.PageRun.{PageRun}
 use Rattle.kc_kdump.specs.Runs.{end_of, page_count, reach}
 use Rattle.byteorder.specs.Numbers.{length-bytes_low_first}
 use Rattle.kc_plain.specs.declared.fields.Field.{Field}
@@ -10,16 +10,16 @@ use Rattle.kc_plain.specs.Fields.{field_bytes, spelled}
 use Rattle.kc_plain.specs.Head.{file_fields, header_count, headers_of, is_extended, load_fields, load_headers, note_fields, notes_at, padded, section_fields, section_header, start}
 
 -- a run among others
-pub reach_at : (runs : List Run) (i : ℕ) (d : Run) → i < length runs → end_of (get_or runs i d) ≤ reach runs
+pub reach_at : (runs : List PageRun) (i : ℕ) (d : PageRun) → i < length runs → end_of (get_or runs i d) ≤ reach runs
 reach_at [] i d here = absurd (omega arith)
 reach_at (r ∷ rs) zero d here = omega arith
 reach_at (r ∷ rs) (suc i) d here = let rest = reach_at rs i d (omega arith) in omega (arith, rest)
 
 -- its pages are those of the ones from it on, less those after it
-pub count_at : (runs : List Run) (i : ℕ) (d : Run) → i < length runs → page_count (drop i runs) ≡ (get_or runs i d).dumped + page_count (drop (i + 1) runs)
+pub count_at : (runs : List PageRun) (i : ℕ) (d : PageRun) → i < length runs → page_count (drop i runs) ≡ (get_or runs i d).dumped + page_count (drop (i + 1) runs)
 count_at runs i d here = ap page_count (drop-cons runs i d here) ∙ ap (λ (k : ℕ). (get_or runs i d).dumped + page_count (drop k runs)) (sym (add-one i))
 
-pub one_run : (bytes new before : List ℕ) (runs all : List Run) (offset first i : ℕ) (d : Run) → i < length runs → new ≡ bytes ++ spelled (load_fields offset (get_or runs i d))
+pub one_run : (bytes new before : List ℕ) (runs all : List PageRun) (offset first i : ℕ) (d : PageRun) → i < length runs → new ≡ bytes ++ spelled (load_fields offset (get_or runs i d))
     → bytes ++ load_headers offset (drop i runs) ≡ before ++ load_headers first all
     → new ++ load_headers (offset + 4096 * (get_or runs i d).dumped) (drop (i + 1) runs) ≡ before ++ load_headers first all
 unfolding load_headers
@@ -29,7 +29,7 @@ one_run bytes new before runs all offset first i d here is whole =
     ap (λ (k : ℕ). new ++ load_headers (offset + 4096 * run.dumped) (drop k runs)) (add-one i)
     ∙ ap (λ (bs : List ℕ). bs ++ rest) is
     ∙ append_assoc bytes (spelled (load_fields offset run)) rest
-    ∙ ap (λ (rs : List Run). bytes ++ load_headers offset rs) (sym (drop-cons runs i d here))
+    ∙ ap (λ (rs : List PageRun). bytes ++ load_headers offset rs) (sym (drop-cons runs i d here))
     ∙ whole
 
 drop_past : {X : Type 0} (xs : List X) (i : ℕ) → length xs ≤ i → drop i xs ≡ []
@@ -38,11 +38,11 @@ drop_past [] (suc i) past = refl
 drop_past (x ∷ xs) zero past = absurd (omega arith)
 drop_past (x ∷ xs) (suc i) past = drop_past xs i (omega arith)
 
-pub no_run : (bytes before : List ℕ) (runs all : List Run) (offset first i : ℕ) → length runs ≤ i
+pub no_run : (bytes before : List ℕ) (runs all : List PageRun) (offset first i : ℕ) → length runs ≤ i
     → bytes ++ load_headers offset (drop i runs) ≡ before ++ load_headers first all → bytes ≡ before ++ load_headers first all
 unfolding load_headers
 no_run bytes before runs all offset first i past whole =
-    sym (append-nil bytes) ∙ ap (λ (rs : List Run). bytes ++ load_headers offset rs) (sym (drop_past runs i past)) ∙ whole
+    sym (append-nil bytes) ∙ ap (λ (rs : List PageRun). bytes ++ load_headers offset rs) (sym (drop_past runs i past)) ∙ whole
 
 -- one zero more
 pub zero_more : (bytes new : List ℕ) (end : ℕ) → length bytes < end → new ≡ bytes ++ 0 ∷ [] → padded end new ≡ padded end bytes
@@ -90,7 +90,7 @@ note_header : (offset size : ℕ) → length (spelled (note_fields offset size))
 unfolding width
 note_header offset size = length-spelled (note_fields offset size)
 
-load_header : (offset : ℕ) (run : Run) → length (spelled (load_fields offset run)) ≡ 56
+load_header : (offset : ℕ) (run : PageRun) → length (spelled (load_fields offset run)) ≡ 56
 unfolding width
 load_header offset run = length-spelled (load_fields offset run)
 
@@ -98,7 +98,7 @@ sections : (count : ℕ) → length (spelled (section_fields count)) ≡ 64
 unfolding width
 sections count = length-spelled (section_fields count)
 
-length-load_headers : (offset : ℕ) (runs : List Run) → length (load_headers offset runs) ≡ 56 * length runs
+length-load_headers : (offset : ℕ) (runs : List PageRun) → length (load_headers offset runs) ≡ 56 * length runs
 unfolding load_headers
 length-load_headers offset [] = refl
 length-load_headers offset (run ∷ runs) =
@@ -109,7 +109,7 @@ length-either : (b : Bool) (xs : List ℕ) (n : ℕ) → length xs ≡ n → len
 length-either true xs n long = long
 length-either false xs n long = refl
 
-pub length-headers : (runs : List Run) (notes : List ℕ) → length (headers_of runs notes) ≡ notes_at (header_count runs)
+pub length-headers : (runs : List PageRun) (notes : List ℕ) → length (headers_of runs notes) ≡ notes_at (header_count runs)
 unfolding headers_of
 length-headers runs notes =
     let count = header_count runs in

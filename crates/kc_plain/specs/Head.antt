@@ -1,12 +1,12 @@
 -- What stands before the pages of a plain core file (gABI, "ELF Header" and "Program Header").
 use Rattle.std.specs.Prelude.{ℕ, ◌+◌, ◌-◌, ◌*◌, ◌/◌, ◌^◌, Bool, nat_le, List, [], ◌∷◌, ◌++◌, length, replicate, if◌then◌else◌}
-use Rattle.kc_kdump.specs.declared.run.Run.{Run}
+use Rattle.kc_kdump.specs.declared.run.PageRun.{PageRun}
 use Rattle.kc_plain.specs.declared.fields.Field.{Field}
 use Rattle.kc_plain.specs.declared.fields.Field.TheVariants.{U16, U32, U64}
 use Rattle.kc_plain.specs.Fields.{spelled}
 
 -- how many program headers there are: one of the notes, and one a run
-abbrev pub header_count : List Run → ℕ
+abbrev pub header_count : List PageRun → ℕ
 header_count runs = 1 + length runs
 
 -- From 0xffff program headers on their number stands in a section header (gABI, "ELF Header", e_phnum).
@@ -22,7 +22,7 @@ abbrev pub notes_at : ℕ → ℕ
 notes_at count = table_end count + (if is_extended count then 64 else 0)
 
 -- where the pages begin: after the notes, at a multiple of 4096
-abbrev pub start : List Run → List ℕ → ℕ
+abbrev pub start : List PageRun → List ℕ → ℕ
 start runs notes = (notes_at (header_count runs) + length notes + 4095) / 4096 * 4096
 
 -- e_ident: the magic number, ELFCLASS64, ELFDATA2LSB, EV_CURRENT, zeros; e_type ET_CORE; e_machine EM_X86_64; e_version; e_entry;
@@ -41,13 +41,13 @@ note_fields offset size = U32 4 ∷ U32 0 ∷ U64 offset ∷ U64 0 ∷ U64 0 ∷
 
 -- PT_LOAD of a run whose pages begin at a file offset: what was left out of the dump is memory without bytes in the file. No virtual
 -- address is known, and those from 2^63 on are none of x86-64.
-abbrev pub load_fields : ℕ → Run → List Field
+abbrev pub load_fields : ℕ → PageRun → List Field
 load_fields offset run =
     U32 1 ∷ U32 7 ∷ U64 offset ∷ U64 (2 ^ 63 + 4096 * run.first) ∷ U64 (4096 * run.first) ∷ U64 (4096 * run.dumped)
     ∷ U64 (4096 * (run.dumped + run.left)) ∷ U64 0 ∷ []
 
 -- PT_LOAD of each run, the pages one after another
-unfoldable pub load_headers : ℕ → List Run → List ℕ
+unfoldable pub load_headers : ℕ → List PageRun → List ℕ
 load_headers offset [] = []
 load_headers offset (run ∷ runs) = spelled (load_fields offset run) ++ load_headers (offset + 4096 * run.dumped) runs
 
@@ -63,11 +63,11 @@ abbrev pub padded : ℕ → List ℕ → List ℕ
 padded at bytes = bytes ++ replicate (at - length bytes) 0
 
 -- the headers
-unfoldable pub headers_of : List Run → List ℕ → List ℕ
+unfoldable pub headers_of : List PageRun → List ℕ → List ℕ
 headers_of runs notes =
     spelled (file_fields (header_count runs)) ++ spelled (note_fields (notes_at (header_count runs)) (length notes))
     ++ load_headers (start runs notes) runs ++ section_header (header_count runs)
 
 -- headers, notes, and zeros up to the pages
-unfoldable pub head_of : List Run → List ℕ → List ℕ
+unfoldable pub head_of : List PageRun → List ℕ → List ℕ
 head_of runs notes = padded (start runs notes) (headers_of runs notes ++ notes)

@@ -1,13 +1,13 @@
 // What stands before the pages of a plain core file.
 ghost use Rattle.std.specs.Prelude.{◌≡◌, ℕ, ◌+◌, ◌-◌, ◌*◌, ◌/◌, ◌^◌, ◌<◌, ◌≤◌, ◌++◌, List, length, vec_len, replicate, IfOk, OnOk};
-ghost use Rattle.kc_kdump.specs.declared.run.Run.{Run};
+ghost use Rattle.kc_kdump.specs.declared.run.PageRun.{PageRun};
 ghost use Rattle.kc_kdump.specs.Runs.{end_of, page_count, reach};
 ghost use Rattle.kc_plain.specs.Fields.{spelled};
 ghost use Rattle.kc_plain.specs.Head.{file_fields, head_of, header_count, headers_of, is_extended, load_fields, load_headers, note_fields, notes_at, section_fields, section_header, start, table_end};
 
 use crate::fields::{Field, push_fields};
 use crate::pad::pad;
-use kc_kdump::{Kdump, Run};
+use kc_kdump::{Kdump, PageRun};
 use kc_word::NoMemory;
 use std::alloc::Global;
 
@@ -18,7 +18,7 @@ const PAGE_BYTES: u64 = 4096;
 const NO_ADDRESS: u64 = 1 << 63;
 
 // How many program headers there are.
-fn header_count(runs: &[Run]) -> u64
+fn header_count(runs: &[PageRun]) -> u64
     requires { length runs.now ≤ 4194304 }
     ensures value { result ≡ header_count runs.now }
     ensures small { result ≤ 4194305 }
@@ -118,7 +118,7 @@ fn push_note_header(bytes: &mut Vec<u8>, offset: u64, size: u64) -> Result<(), N
 }
 
 // Puts the program header of a run whose pages begin at a file offset.
-fn push_load_header(bytes: &mut Vec<u8>, offset: u64, run: Run) -> Result<(), NoMemory>
+fn push_load_header(bytes: &mut Vec<u8>, offset: u64, run: PageRun) -> Result<(), NoMemory>
     requires { end_of run ≤ 2 ^ 47 }
     ensures { OnOk result (bytes.new.items ≡ bytes.old.items ++ spelled (load_fields offset run)) }
 {
@@ -139,7 +139,7 @@ fn push_load_header(bytes: &mut Vec<u8>, offset: u64, run: Run) -> Result<(), No
 }
 
 // Puts the program headers of runs, whose pages begin at a file offset.
-fn push_load_headers(bytes: &mut Vec<u8>, first: u64, runs: &[Run]) -> Result<(), NoMemory>
+fn push_load_headers(bytes: &mut Vec<u8>, first: u64, runs: &[PageRun]) -> Result<(), NoMemory>
     requires reach { reach runs.now ≤ 2 ^ 47 }
     requires fits { first + 4096 * page_count runs.now < 2 ^ 64 }
     ensures { OnOk result (bytes.new.items ≡ bytes.old.items ++ load_headers first runs.now) }
@@ -179,7 +179,12 @@ fn push_section_header(bytes: &mut Vec<u8>, count: u64) -> Result<(), NoMemory>
 
 // The headers.
 #[tactic(auto, unfolding(crate::specs::Head::headers_of))]
-fn headers_of(alloc: Global, runs: &[Run], notes: &[u8], first: u64) -> Result<Vec<u8>, NoMemory>
+fn headers_of(
+    alloc: Global,
+    runs: &[PageRun],
+    notes: &[u8],
+    first: u64,
+) -> Result<Vec<u8>, NoMemory>
     requires few { length runs.now ≤ 4194304 }
     requires reach { reach runs.now ≤ 2 ^ 47 }
     requires fits { first + 4096 * page_count runs.now < 2 ^ 64 }
@@ -196,7 +201,7 @@ fn headers_of(alloc: Global, runs: &[Run], notes: &[u8], first: u64) -> Result<V
 }
 
 // Does nothing. A caller learns from it how long the headers are.
-fn know_headers(runs: &[Run], notes: &[u8], bytes: &[u8])
+fn know_headers(runs: &[PageRun], notes: &[u8], bytes: &[u8])
     requires { bytes.now ≡ headers_of runs.now notes.now }
     ensures { length bytes.now ≡ notes_at (header_count runs.now) }
 {}

@@ -5,7 +5,7 @@ use Rattle.kc_outside.specs.declared.store.Slot.{Slot}
 use Rattle.kc_outside.specs.Files.{Files, slot_number}
 use Rattle.kc_kdump.specs.Header.{is_kdump}
 use Rattle.kc_plain.specs.Unpack.Plain.{plain}
-use Rattle.kc_plain_store.specs.declared.shape.Shape.{Shape}
+use Rattle.kc_plain_store.specs.declared.shape.PlainShape.{PlainShape}
 use Rattle.kc_plain_store.specs.Shapes.{shape_size}
 
 -- a file's bytes: of a compressed dump its plain core file, where it isn't refused; of another file the bytes themselves
@@ -27,16 +27,16 @@ seen_files None = None
 seen_files (Some files) = Some (λ slot name. seen_by (is_dump slot) (files slot name))
 
 -- the name that a slot holds: the dump's holds one only where its file is shown
-abbrev pub opened_by : Bool → Option Shape → Option (List ℕ) → Option (List ℕ)
+abbrev pub opened_by : Bool → Option PlainShape → Option (List ℕ) → Option (List ℕ)
 opened_by true (Some shape) name = name
 opened_by true None name = None
 opened_by false shape name = name
 
-abbrev pub seen_opened : Option Shape → (Slot → Option (List ℕ)) → Slot → Option (List ℕ)
+abbrev pub seen_opened : Option PlainShape → (Slot → Option (List ℕ)) → Slot → Option (List ℕ)
 seen_opened shape opened slot = opened_by (is_dump slot) shape (opened slot)
 
 -- the size of the dump's file, where it was learnt
-abbrev pub learnt_size : Bool → Option Shape → Option ℕ
+abbrev pub learnt_size : Bool → Option PlainShape → Option ℕ
 learnt_size true shape = option_map shape_size shape
 learnt_size false shape = None
 

@@ -1,8 +1,8 @@
-// Room for pages.
+// PageRoom for pages.
 ghost use Rattle.std.specs.Prelude.{◌≡◌, ◌≤◌, vec_len, All, IfOk};
 ghost use Rattle.kc_plain_store.specs.Kept.{IsEmpty};
 
-use crate::place::{Kept, PagePlace, Room};
+use crate::place::{KeptPages, PagePlace, PageRoom};
 use kc_inflate::Tables;
 use kc_plain::PAGE_BYTES;
 use kc_word::NoMemory;
@@ -34,18 +34,18 @@ fn new_places(alloc: Global) -> Result<Vec<PagePlace>, NoMemory>
     Ok(places)
 }
 
-impl Kept {
-    /// Room for 256 pages, of which none is kept.
+impl KeptPages {
+    /// PageRoom for 256 pages, of which none is kept.
     ///
     /// # Errors
     ///
     /// `NoMemory` where no memory is left.
-    pub(crate) fn new(alloc: Global) -> Result<Kept, NoMemory>
+    pub(crate) fn new(alloc: Global) -> Result<KeptPages, NoMemory>
         ensures { IfOk result (λ kept. All IsEmpty kept.places.items) }
     {
-        Ok(Kept {
+        Ok(KeptPages {
             places: new_places(alloc)?,
-            room: Room {
+            room: PageRoom {
                 tables: Tables::new(alloc)?,
                 packed: [0; PAGE_BYTES],
             },
@@ -62,7 +62,7 @@ fn empty_places(places: &mut [PagePlace])
     }
 }
 
-impl Kept {
+impl KeptPages {
     /// Keeps none of the pages any more.
     pub(crate) fn clear(&mut self)
         ensures { All IsEmpty self.new.places.items }

@@ -12,8 +12,8 @@ mod shown;
 mod stop;
 mod view;
 
-pub use place::{Kept, PagePlace, Room};
+pub use place::{KeptPages, PagePlace, PageRoom};
 pub use plain_core::PlainCore;
-pub use shape::Shape;
+pub use shape::PlainShape;
 pub use stop::{BadPage, ViewFault};
-pub use view::View;
+pub use view::PlainView;

@@ -10,7 +10,7 @@ ghost use Rattle.kc_plain.specs.Unpack.Plain.{plain};
 ghost use Rattle.kc_plain_store.specs.Shapes.{core_bytes, file_size, shape_bytes, shape_size};
 
 use crate::plain_core::PlainCore;
-use crate::shape::Shape;
+use crate::shape::PlainShape;
 use crate::stop::ViewFault;
 use kc_kdump::{KdumpStop, SIGNATURE_BYTES, is_kdump, read_kdump};
 use kc_outside::{Failed, Slot, Store, know_size};
@@ -61,7 +61,7 @@ fn core_of<S: Store>(alloc: Global, store: &mut S, size: u64) -> Result<PlainCor
 
 // What is shown of the file.
 #[tactic(auto, unfolding(crate::specs::Seen::seen_bytes))]
-fn shape_of<S: Store>(alloc: Global, store: &mut S, size: u64) -> Result<Shape, ViewFault>
+fn shape_of<S: Store>(alloc: Global, store: &mut S, size: u64) -> Result<PlainShape, ViewFault>
     requires learnt { S.sizes store.old Dump ≡ Some size }
     ensures told { IfOk result (λ shape. IfSome (content (S.files store.old) Dump (S.opened store.old Dump)) (λ bytes. seen_bytes bytes ≡ Some (shape_bytes shape bytes))) }
     ensures size { IfOk result (λ shape. file_size shape ≡ size) }
@@ -69,10 +69,10 @@ fn shape_of<S: Store>(alloc: Global, store: &mut S, size: u64) -> Result<Shape, 
     ensures stays { StoreStays S.opened S.sizes S.files S.may S.asked store.old store.new }
 {
     if !begins_kdump(store, size)? {
-        return Ok(Shape::Whole(size));
+        return Ok(PlainShape::Whole(size));
     }
     let core = core_of(alloc, store, size)?;
-    Ok(Shape::Plain(core))
+    Ok(PlainShape::Plain(core))
 }
 
 /// Puts the file of a name into slot Dump, and learns what is to be shown of it.
@@ -80,7 +80,7 @@ pub(crate) fn open_shape<S: Store>(
     alloc: Global,
     store: &mut S,
     name: &str,
-) -> Result<Shape, ViewFault>
+) -> Result<PlainShape, ViewFault>
     requires { S.may store.old Dump name.now }
     ensures known { IfOk result (λ shape. S.sizes store.new Dump ≡ Some (file_size shape)) }
     ensures fits { IfOk result (λ shape. shape_size shape < 2 ^ 64) }

@@ -10,7 +10,7 @@ ghost use Rattle.kc_plain.specs.Unpack.Unpacked.{unpacked};
 ghost use Rattle.kc_plain_store.specs.Kept.{IsKept};
 ghost use Rattle.kc_plain_store.specs.Shapes.{core_bytes, core_size};
 
-use crate::place::{Kept, PagePlace, Room};
+use crate::place::{KeptPages, PagePlace, PageRoom};
 use crate::plain_core::PlainCore;
 use crate::stop::{BadPage, ViewFault};
 use kc_inflate::Tables;
@@ -75,7 +75,7 @@ fn load<S: Store>(
     store: &mut S,
     core: &PlainCore,
     index: u64,
-    room: &mut Room,
+    room: &mut PageRoom,
     page: &mut [u8],
 ) -> Result<(), ViewFault>
     requires learnt { S.sizes store.old Dump ≡ Some core.now.file_size }
@@ -110,7 +110,7 @@ fn fill<S: Store>(
     store: &mut S,
     core: &PlainCore,
     index: u64,
-    room: &mut Room,
+    room: &mut PageRoom,
     place: &mut PagePlace,
 ) -> Result<(), ViewFault>
     requires learnt { S.sizes store.old Dump ≡ Some core.now.file_size }
@@ -130,7 +130,7 @@ fn keep<S: Store>(
     store: &mut S,
     core: &PlainCore,
     index: u64,
-    room: &mut Room,
+    room: &mut PageRoom,
     place: &mut PagePlace,
 ) -> Result<(), ViewFault>
     requires learnt { S.sizes store.old Dump ≡ Some core.now.file_size }
@@ -163,7 +163,7 @@ fn page_piece<S: Store>(
     core: &PlainCore,
     index: u64,
     inside: usize,
-    room: &mut Room,
+    room: &mut PageRoom,
     place: &mut PagePlace,
     piece: &mut [u8],
 ) -> Result<usize, ViewFault>
@@ -184,7 +184,7 @@ fn page_piece<S: Store>(
 fn read_piece<S: Store>(
     store: &mut S,
     core: &PlainCore,
-    kept: &mut Kept,
+    kept: &mut KeptPages,
     at: u64,
     piece: &mut [u8],
 ) -> Result<usize, ViewFault>
@@ -223,7 +223,7 @@ fn read_piece<S: Store>(
 pub(crate) fn read_core<S: Store>(
     store: &mut S,
     core: &PlainCore,
-    kept: &mut Kept,
+    kept: &mut KeptPages,
     off: u64,
     buf: &mut [u8],
 ) -> Result<(), ViewFault>

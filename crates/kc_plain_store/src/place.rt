@@ -13,9 +13,9 @@ pub struct PagePlace {
     pub(crate) ghost room: { vec_len bytes ≡ 4096 },
 }
 
-/// Room to unpack a page in.
+/// PageRoom to unpack a page in.
 #[derive(Drop)]
-pub struct Room {
+pub struct PageRoom {
     // The tables that zlib streams are unpacked by.
     pub(crate) tables: Tables,
     // The bytes that a page is packed in.
@@ -24,9 +24,9 @@ pub struct Room {
 
 /// Pages that were unpacked, and room to unpack others.
 #[derive(Drop)]
-pub struct Kept {
+pub struct KeptPages {
     // The place of a page is its number modulo how many there are.
     pub(crate) places: Vec<PagePlace>,
-    pub(crate) room: Room,
+    pub(crate) room: PageRoom,
     pub(crate) ghost many: { vec_len places ≡ 256 },
 }

@@ -4,16 +4,16 @@ ghost use Rattle.std.proofs.Props.{props};
 ghost use Rattle.kc_outside.specs.declared.store.Slot.TheVariants.{Dump};
 ghost use Rattle.kc_outside.specs.Files.{content};
 ghost use Rattle.kc_plain_store.specs.declared.plain_core.PlainCore.{PlainCore};
-ghost use Rattle.kc_plain_store.specs.declared.shape.Shape.{Shape};
-ghost use Rattle.kc_plain_store.specs.declared.shape.Shape.TheVariants.{Plain};
+ghost use Rattle.kc_plain_store.specs.declared.shape.PlainShape.{PlainShape};
+ghost use Rattle.kc_plain_store.specs.declared.shape.PlainShape.TheVariants.{Plain};
 ghost use Rattle.kc_plain_store.specs.Kept.{IsKept};
 ghost use Rattle.kc_plain_store.specs.Seen.{is_dump, seen_bytes};
 ghost use Rattle.kc_plain_store.specs.Shapes.{file_size, shape_bytes, shape_size};
 
 use crate::calls::Calls;
 use crate::opening::open_shape;
-use crate::place::Kept;
-use crate::shape::Shape;
+use crate::place::KeptPages;
+use crate::shape::PlainShape;
 use crate::shown::{read_shown, shown_size};
 use crate::stop::ViewFault;
 use kc_outside::{Failed, Slot, Store};
@@ -23,24 +23,24 @@ use std::alloc::Global;
 /// A store over a store. Slot Dump shows a compressed dump as its plain core file; every other file, and each file in another
 /// slot, is shown as it is.
 #[derive(Drop)]
-pub struct View<S: Store + Drop> {
+pub struct PlainView<S: Store + Drop> {
     alloc: Global,
     store: S,
     // What slot Dump shows.
-    shape: Option<Shape>,
+    shape: Option<PlainShape>,
     // Whether its size was told.
     is_learnt: bool,
     // Pages of it.
-    kept: Kept,
+    kept: KeptPages,
     calls: Calls,
-    ghost known: { (s : Shape) → shape ≡ Some s → S.sizes store Dump ≡ Some (file_size s) } by { Prim.hlevel props },
-    ghost fits: { (s : Shape) → shape ≡ Some s → shape_size s < 2 ^ 64 } by { Prim.hlevel props },
-    ghost told: { (s : Shape) (bytes : List ℕ) → shape ≡ Some s → content (S.files store) Dump (S.opened store Dump) ≡ Some bytes → seen_bytes bytes ≡ Some (shape_bytes s bytes) } by { Prim.hlevel props },
+    ghost known: { (s : PlainShape) → shape ≡ Some s → S.sizes store Dump ≡ Some (file_size s) } by { Prim.hlevel props },
+    ghost fits: { (s : PlainShape) → shape ≡ Some s → shape_size s < 2 ^ 64 } by { Prim.hlevel props },
+    ghost told: { (s : PlainShape) (bytes : List ℕ) → shape ≡ Some s → content (S.files store) Dump (S.opened store Dump) ≡ Some bytes → seen_bytes bytes ≡ Some (shape_bytes s bytes) } by { Prim.hlevel props },
     ghost pages: { (core : PlainCore) → shape ≡ Some (Plain core) → All (IsKept (content (S.files store) Dump (S.opened store Dump)) core.layout) kept.places.items } by { Prim.hlevel props },
-    ghost held: { (s : Shape) → shape ≡ Some s → IsSome (S.opened store Dump) } by { Prim.hlevel props },
+    ghost held: { (s : PlainShape) → shape ≡ Some s → IsSome (S.opened store Dump) } by { Prim.hlevel props },
 }
 
-impl<S: Store + Drop> View<S> {
+impl<S: Store + Drop> PlainView<S> {
     ghost use Rattle.std.specs.Prelude.{IfOk};
     ghost use Rattle.kc_outside.specs.declared.store.Slot.{Slot};
     ghost use Rattle.kc_plain_store.specs.Seen.{seen_files};
@@ -50,14 +50,14 @@ impl<S: Store + Drop> View<S> {
     /// # Errors
     ///
     /// `NoMemory` where no memory is left: it takes a little more than 1 MiB.
-    pub fn new(alloc: Global, store: S) -> Result<View<S>, NoMemory>
-        ensures files { IfOk result (λ view. ⟦<View<S> as Store>⟧.files view ≡ seen_files (S.files store)) }
-        ensures may { IfOk result (λ view. (slot : Slot) (name : List ℕ) → S.may store slot name → ⟦<View<S> as Store>⟧.may view slot name) }
-        ensures faults { IfOk result (λ view. ⟦<View<S> as Store>⟧.faults view ≡ 0) }
-        ensures asked { IfOk result (λ view. ⟦<View<S> as Store>⟧.asked view ≡ 0) }
+    pub fn new(alloc: Global, store: S) -> Result<PlainView<S>, NoMemory>
+        ensures files { IfOk result (λ view. ⟦<PlainView<S> as Store>⟧.files view ≡ seen_files (S.files store)) }
+        ensures may { IfOk result (λ view. (slot : Slot) (name : List ℕ) → S.may store slot name → ⟦<PlainView<S> as Store>⟧.may view slot name) }
+        ensures faults { IfOk result (λ view. ⟦<PlainView<S> as Store>⟧.faults view ≡ 0) }
+        ensures asked { IfOk result (λ view. ⟦<PlainView<S> as Store>⟧.asked view ≡ 0) }
     {
-        let kept = Kept::new(alloc)?;
-        Ok(View {
+        let kept = KeptPages::new(alloc)?;
+        Ok(PlainView {
             alloc,
             store,
             shape: None,
@@ -90,7 +90,7 @@ fn is_dump(slot: Slot) -> bool
     }
 }
 
-impl<S: Store + Drop> Store for View<S> {
+impl<S: Store + Drop> Store for PlainView<S> {
     ghost use Rattle.kc_plain_store.specs.Seen.{seen_files, seen_opened, seen_sizes, learnt_size};
     ghost use Rattle.kc_plain_store.specs.ViewLaws.{sizes_opened, sizes_fit, sizes_length};
 

@@ -5,8 +5,8 @@ use Rattle.kc_bytes.specs.declared.stop.BytesStop.{BytesStop}
 use Rattle.kc_bytes.specs.declared.stop.BytesStop.TheVariants as bytes
 use Rattle.kc_memory.specs.declared.space.Stop.{Stop}
 use Rattle.kc_memory.specs.declared.space.Stop.TheVariants as stops
-use Rattle.kc_printk.specs.declared.record.Entry.{Entry}
-use Rattle.kc_printk.specs.declared.record.Entry.TheVariants.{Unknown}
+use Rattle.kc_printk.specs.declared.record.LogEntry.{LogEntry}
+use Rattle.kc_printk.specs.declared.record.LogEntry.TheVariants.{Unknown}
 use Rattle.kc_printk.specs.declared.record.LogRule.TheVariants.{Memory}
 use Rattle.kc_printk.specs.declared.stop.LogStop.{LogStop}
 use Rattle.kc_printk.specs.declared.stop.LogStop.TheVariants.{Miss, Fault, Refused, NoMemory}
@@ -52,7 +52,7 @@ IsWanting (Refused fault) = ⊥
 IsWanting NoMemory = ⊤
 
 -- a stop makes a record unknown, or is a failure
-abbrev pub IsEntry : Stop → Result Entry LogStop → Type 0
+abbrev pub IsEntry : Stop → Result LogEntry LogStop → Type 0
 IsEntry (stops.Miss s) r = r ≡ Ok (Unknown (Memory s.rule) s.va)
 IsEntry stops.Fault r = r ≡ Err Fault
 

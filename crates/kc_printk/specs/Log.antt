@@ -5,8 +5,8 @@ use Rattle.kc_memory.specs.Image.{Image}
 use Rattle.kc_memory.specs.Stopped.{Stopped}
 use Rattle.kc_printk.specs.declared.fault.LogFault.{LogFault}
 use Rattle.kc_printk.specs.declared.layout.LogLayout.{LogLayout}
-use Rattle.kc_printk.specs.declared.record.Entry.{Entry}
-use Rattle.kc_printk.specs.declared.record.Entry.TheVariants.{Nothing, Record, Unknown}
+use Rattle.kc_printk.specs.declared.record.LogEntry.{LogEntry}
+use Rattle.kc_printk.specs.declared.record.LogEntry.TheVariants.{Nothing, Record, Unknown}
 use Rattle.kc_printk.specs.declared.record.Log.{Log}
 use Rattle.kc_printk.specs.declared.record.LogRule.TheVariants.{Memory}
 use Rattle.kc_printk.specs.declared.ring.Ring.{Ring}
@@ -22,7 +22,7 @@ seen_line index time (Ok bytes) = record_line time bytes
 seen_line index time (Err s) = unknown_line index (Memory s.rule) s.va
 
 -- the lines of what stands at an id
-abbrev pub line_at : Image → ℕ → Entry → List ℕ
+abbrev pub line_at : Image → ℕ → LogEntry → List ℕ
 line_at image index Nothing = []
 line_at image index (Record time at length) = seen_line index time (bytes_at image length at)
 line_at image index (Unknown rule at) = unknown_line index rule at

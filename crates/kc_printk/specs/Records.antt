@@ -9,9 +9,9 @@ use Rattle.kc_memory.specs.Image.{Image}
 use Rattle.kc_memory.specs.Stopped.{Stopped}
 use Rattle.kc_printk.specs.declared.block.Block.{Block}
 use Rattle.kc_printk.specs.declared.block.Block.TheVariants.{Empty, Filled, Wrong}
-use Rattle.kc_printk.specs.declared.block.Span.{Span}
-use Rattle.kc_printk.specs.declared.record.Entry.{Entry}
-use Rattle.kc_printk.specs.declared.record.Entry.TheVariants as entry
+use Rattle.kc_printk.specs.declared.block.TextSpan.{TextSpan}
+use Rattle.kc_printk.specs.declared.record.LogEntry.{LogEntry}
+use Rattle.kc_printk.specs.declared.record.LogEntry.TheVariants as entry
 use Rattle.kc_printk.specs.declared.record.Log.{Log}
 use Rattle.kc_printk.specs.declared.record.LogRule.{LogRule}
 use Rattle.kc_printk.specs.declared.record.LogRule.TheVariants.{Memory, Positions, Owner, Length, Room}
@@ -68,18 +68,18 @@ abbrev pub is_kept : ℕ → ℕ → Bool
 is_kept id state = nat_eq (state % 2 ^ 62) id && (nat_eq (state / 2 ^ 62) 1 || nat_eq (state / 2 ^ 62) 2)
 
 -- where a block stands
-abbrev pub text_at : Log → Span → ℕ
+abbrev pub text_at : Log → TextSpan → ℕ
 text_at log span = onward log.ring.text_data span.at
 
 -- the record in a block that begins with this id, where so many bytes of texts are left
-abbrev pub filled_by : Log → ℕ → ℕ → Span → ℕ → ℕ → ℕ → Entry
+abbrev pub filled_by : Log → ℕ → ℕ → TextSpan → ℕ → ℕ → ℕ → LogEntry
 filled_by log id room span owner length time =
     if not (nat_eq owner id) then entry.Unknown Owner (text_at log span)
     else (if nat_lt span.text length then entry.Unknown Length (length_at log id)
     else (if nat_lt room length then entry.Unknown Room (length_at log id)
     else entry.Record time (onward (text_at log span) 8) length))
 
-unfoldable pub filled_at : Image → Log → ℕ → ℕ → Span → Result Entry Stopped
+unfoldable pub filled_at : Image → Log → ℕ → ℕ → TextSpan → Result LogEntry Stopped
 filled_at image log id room span = do
   owner ← eight_at image (text_at log span)
   length ← two_at image (length_at log id)
@@ -87,33 +87,33 @@ filled_at image log id room span = do
   Ok (filled_by log id room span owner length time)
 
 -- what the positions say
-abbrev pub block_at : Image → Log → ℕ → ℕ → Block → Result Entry Stopped
+abbrev pub block_at : Image → Log → ℕ → ℕ → Block → Result LogEntry Stopped
 block_at image log id room Empty = Ok entry.Nothing
 block_at image log id room (Filled span) = filled_at image log id room span
 block_at image log id room Wrong = Ok (entry.Unknown Positions (begin_at log id))
 
-unfoldable pub bounds_at : Image → Log → ℕ → ℕ → Result Entry Stopped
+unfoldable pub bounds_at : Image → Log → ℕ → ℕ → Result LogEntry Stopped
 bounds_at image log id room = do
   begin ← eight_at image (begin_at log id)
   next ← eight_at image (next_at log id)
   block_at image log id room (block_in log.ring.size begin next)
 
 -- what stands at an id
-unfoldable pub record_at : Image → Log → ℕ → ℕ → Result Entry Stopped
+unfoldable pub record_at : Image → Log → ℕ → ℕ → Result LogEntry Stopped
 record_at image log id room = do
   state ← eight_at image (state_at log id)
   if is_kept id state then bounds_at image log id room else Ok entry.Nothing
 
 -- a word that can't be read makes it unknown
-abbrev pub seen : Result Entry Stopped → Entry
+abbrev pub seen : Result LogEntry Stopped → LogEntry
 seen (Ok e) = e
 seen (Err s) = entry.Unknown (Memory s.rule) s.va
 
-abbrev pub entry_at : Image → Log → ℕ → ℕ → Entry
+abbrev pub entry_at : Image → Log → ℕ → ℕ → LogEntry
 entry_at image log id room = seen (record_at image log id room)
 
 -- how many bytes of texts are left after it
-abbrev pub room_after : ℕ → Entry → ℕ
+abbrev pub room_after : ℕ → LogEntry → ℕ
 room_after room entry.Nothing = room
 room_after room (entry.Record time at length) = room - length
 room_after room (entry.Unknown rule at) = room

@@ -6,7 +6,7 @@ use kc_bytes::onward;
 
 /// Where a block stands in the ring of texts.
 #[derive(Clone, Copy, Debug, PartialEq, Eq)]
-pub struct Span {
+pub struct TextSpan {
     /// Where it begins, in bytes from the ring's start.
     pub at: u64,
     /// How many bytes of text it has room for, after the id of its descriptor.
@@ -19,7 +19,7 @@ pub enum Block {
     /// The record has none.
     Empty,
     /// It has this one.
-    Filled(Span),
+    Filled(TextSpan),
     /// There can be no such block.
     Wrong,
 }
@@ -50,12 +50,12 @@ pub fn block_in(size: u64, begin: u64, next: u64) -> Block
     } else if !is_aligned(begin, next) {
         Block::Wrong
     } else if begin <= last && begin / size == last / size {
-        Block::Filled(Span {
+        Block::Filled(TextSpan {
             at: begin % size,
             text: (last - begin).saturating_sub(7),
         })
     } else if onward(begin, size) / size == last / size {
-        Block::Filled(Span {
+        Block::Filled(TextSpan {
             at: 0,
             text: (last % size).saturating_sub(7),
         })

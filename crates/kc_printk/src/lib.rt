@@ -11,10 +11,10 @@ mod ring;
 mod stop;
 mod text;
 
-pub use block::{Block, Span, block_in};
+pub use block::{Block, TextSpan, block_in};
 pub use fault::{LogFault, LogLine, key_of};
 pub use layout::{DescLayout, InfoLayout, LogLayout, RingLayout, layout_of};
 pub use log::read_log;
-pub use record::{Entry, Log, LogRule, code_of, read_entry};
+pub use record::{Log, LogEntry, LogRule, code_of, read_entry};
 pub use ring::{Ring, RingWords, read_ring, ring_of};
 pub use stop::LogStop;

@@ -5,7 +5,7 @@ ghost use Rattle.kc_printk.specs.Answers.{CountsLogFaults, IsStopLine, IsWanting
 ghost use Rattle.kc_printk.specs.Log.{line_at, lines, log_of, next_id};
 
 use crate::layout::layout_of;
-use crate::record::{Entry, Log, LogRule, index_of, read_entry, room_after};
+use crate::record::{Log, LogEntry, LogRule, index_of, read_entry, room_after};
 use crate::ring::{read_ring, ring_of};
 use crate::stop::LogStop;
 use crate::text::{push_record, push_unknown};
@@ -42,7 +42,7 @@ fn push_entry<S: Space, L: Ledger>(
     text: &mut Vec<u8>,
     space: &mut S,
     index: u64,
-    entry: &Entry,
+    entry: &LogEntry,
     steps: &mut Steps<L>,
 ) -> Result<(), LogStop>
     ensures line { OnOk result (IfSome (S.image space.old) (λ image. text.new.items ≡ text.old.items ++ line_at image index entry.now)) }
@@ -51,12 +51,12 @@ fn push_entry<S: Space, L: Ledger>(
     ensures cause { CountsLogFaults result (S.faults space.old) (S.faults space.new) }
 {
     match *entry {
-        Entry::Nothing => Ok(()),
-        Entry::Unknown { rule, at } => {
+        LogEntry::Nothing => Ok(()),
+        LogEntry::Unknown { rule, at } => {
             push_unknown(text, index, rule, at)?;
             Ok(())
         }
-        Entry::Record { time, at, length } => {
+        LogEntry::Record { time, at, length } => {
             match read_bytes(alloc, space, at, usize::from(length), steps) {
                 Ok(bytes) => {
                     push_record(text, time, &bytes)?;

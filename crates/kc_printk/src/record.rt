@@ -5,7 +5,7 @@ ghost use Rattle.kc_memory.specs.Stays.{CountsFaults, SpaceStays};
 ghost use Rattle.kc_printk.specs.Answers.{CountsLogFaults, IsEntry, IsWanting, LooksAs};
 ghost use Rattle.kc_printk.specs.Records.{begin_at, bounds_at, code_of, desc_at, element, entry_at, filled_at, index_of, info_at, is_kept, length_at, next_at, record_at, room_after, rule_code, state_at, time_at};
 
-use crate::block::{Block, Span, block_in};
+use crate::block::{Block, TextSpan, block_in};
 use crate::layout::{DescLayout, InfoLayout};
 use crate::ring::Ring;
 use crate::stop::LogStop;
@@ -39,7 +39,7 @@ pub enum LogRule {
 
 /// What stands at an id.
 #[derive(Clone, Copy, Debug, PartialEq, Eq)]
-pub enum Entry {
+pub enum LogEntry {
     /// No record, or one without a text.
     Nothing,
     /// A record with its time in nanoseconds since the start, the virtual address of its text, and its length in bytes.
@@ -161,9 +161,9 @@ fn read_filled<S: Space, L: Ledger>(
     log: &Log,
     id: u64,
     room: u64,
-    span: &Span,
+    span: &TextSpan,
     steps: &mut Steps<L>,
-) -> Result<Entry, Stop>
+) -> Result<LogEntry, Stop>
     requires { 0 < log.now.ring.count }
     ensures entry { AnswersAs (λ image. filled_at image log.now id room span.now) (S.image space.old) result }
     ensures stays { SpaceStays S.image S.files S.through S.most space.old space.new }
@@ -174,24 +174,24 @@ fn read_filled<S: Space, L: Ledger>(
     let length = read_two(space, length_at(log, id), steps)?;
     let time = read_eight(space, time_at(log, id), steps)?;
     if owner != id {
-        return Ok(Entry::Unknown {
+        return Ok(LogEntry::Unknown {
             rule: LogRule::Owner,
             at,
         });
     }
     if span.text < u64::from(length) {
-        return Ok(Entry::Unknown {
+        return Ok(LogEntry::Unknown {
             rule: LogRule::Length,
             at: length_at(log, id),
         });
     }
     if room < u64::from(length) {
-        return Ok(Entry::Unknown {
+        return Ok(LogEntry::Unknown {
             rule: LogRule::Room,
             at: length_at(log, id),
         });
     }
-    Ok(Entry::Record {
+    Ok(LogEntry::Record {
         time,
         at: onward(at, 8),
         length,
@@ -206,7 +206,7 @@ fn read_bounds<S: Space, L: Ledger>(
     id: u64,
     room: u64,
     steps: &mut Steps<L>,
-) -> Result<Entry, Stop>
+) -> Result<LogEntry, Stop>
     requires count { 0 < log.now.ring.count }
     requires size { 0 < log.now.ring.size }
     ensures entry { AnswersAs (λ image. bounds_at image log.now id room) (S.image space.old) result }
@@ -216,9 +216,9 @@ fn read_bounds<S: Space, L: Ledger>(
     let begin = read_eight(space, begin_at(log, id), steps)?;
     let next = read_eight(space, next_at(log, id), steps)?;
     match block_in(log.ring.size, begin, next) {
-        Block::Empty => Ok(Entry::Nothing),
+        Block::Empty => Ok(LogEntry::Nothing),
         Block::Filled(span) => read_filled(space, log, id, room, &span, steps),
-        Block::Wrong => Ok(Entry::Unknown {
+        Block::Wrong => Ok(LogEntry::Unknown {
             rule: LogRule::Positions,
             at: begin_at(log, id),
         }),
@@ -233,7 +233,7 @@ fn read_record<S: Space, L: Ledger>(
     id: u64,
     room: u64,
     steps: &mut Steps<L>,
-) -> Result<Entry, Stop>
+) -> Result<LogEntry, Stop>
     requires count { 0 < log.now.ring.count }
     requires size { 0 < log.now.ring.size }
     ensures entry { AnswersAs (λ image. record_at image log.now id room) (S.image space.old) result }
@@ -244,16 +244,16 @@ fn read_record<S: Space, L: Ledger>(
     if is_kept(id, state) {
         read_bounds(space, log, id, room, steps)
     } else {
-        Ok(Entry::Nothing)
+        Ok(LogEntry::Nothing)
     }
 }
 
 // What a stop says of a record.
-fn entry_of(stop: Stop) -> Result<Entry, LogStop>
+fn entry_of(stop: Stop) -> Result<LogEntry, LogStop>
     ensures { IsEntry stop result }
 {
     match stop {
-        Stop::Miss(miss) => Ok(Entry::Unknown {
+        Stop::Miss(miss) => Ok(LogEntry::Unknown {
             rule: LogRule::Memory(miss.rule),
             at: miss.va,
         }),
@@ -272,7 +272,7 @@ pub fn read_entry<S: Space, L: Ledger>(
     id: u64,
     room: u64,
     steps: &mut Steps<L>,
-) -> Result<Entry, LogStop>
+) -> Result<LogEntry, LogStop>
     requires count { 0 < log.now.ring.count }
     requires size { 0 < log.now.ring.size }
     ensures entry { LooksAs (λ e. e) (λ image. entry_at image log.now id room) (S.image space.old) result }
@@ -287,11 +287,11 @@ pub fn read_entry<S: Space, L: Ledger>(
 }
 
 // How many bytes of texts are left after an entry.
-pub(crate) fn room_after(room: u64, entry: &Entry) -> u64
+pub(crate) fn room_after(room: u64, entry: &LogEntry) -> u64
     ensures { result ≡ room_after room entry.now }
 {
     match entry {
-        Entry::Record { length, .. } => room.saturating_sub(u64::from(*length)),
+        LogEntry::Record { length, .. } => room.saturating_sub(u64::from(*length)),
         _ => room,
     }
 }

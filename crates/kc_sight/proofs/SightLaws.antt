@@ -10,7 +10,7 @@ use Rattle.kc_memory.specs.Laws.{PlacesStand}
 use Rattle.kc_memory.specs.Places.{AllStandIn, places_of}
 use Rattle.kc_memory.specs.Stopped.{Stopped}
 use Rattle.kc_memory.specs.Translation.{entered, entry_address, is_canonical, levels, vword}
-use Rattle.kc_sight.specs.declared.entries.Entry.{Entry}
+use Rattle.kc_sight.specs.declared.entries.TableEntry.{TableEntry}
 use Rattle.kc_sight.specs.declared.aliases.Rules.{Rules}
 use Rattle.kc_sight.specs.Aliases.{alias_at, aliases, by_direct, direct_base, same_word}
 use Rattle.kc_sight.specs.Entries.{entries_from, entry_before, table_in}
@@ -23,12 +23,12 @@ both_stand image [] qs first rest = rest
 both_stand image (p ∷ ps) qs first rest = (first.0, both_stand image ps qs first.1 rest)
 
 -- an entry stands at its place
-entry_stands : (image : Image) (level pa : ℕ) (there : Option PWord) (rest : List Entry) → pword image.physical pa ≡ there → AllStandIn image (map entry_place rest)
+entry_stands : (image : Image) (level pa : ℕ) (there : Option PWord) (rest : List TableEntry) → pword image.physical pa ≡ there → AllStandIn image (map entry_place rest)
     → AllStandIn image (map entry_place (entry_before level pa there rest))
 entry_stands image level pa None rest is stand = tt
 entry_stands image level pa (Some word) rest is stand = (record { physically = is; virtually = tt }, stand)
 
-below_stand : (image : Image) (below : ℕ → List Entry) (next : Option ℕ) → ((table : ℕ) → AllStandIn image (map entry_place (below table)))
+below_stand : (image : Image) (below : ℕ → List TableEntry) (next : Option ℕ) → ((table : ℕ) → AllStandIn image (map entry_place (below table)))
     → AllStandIn image (map entry_place (option_map_or below next []))
 below_stand image below None stand = tt
 below_stand image below (Some table) stand = stand table

@@ -8,7 +8,7 @@ use Rattle.kc_memory.specs.Stopped.{Stopped}
 use Rattle.kc_memory.specs.Translation.{vword}
 use Rattle.kc_sight.specs.declared.aliases.Aliases.{Aliases}
 use Rattle.kc_sight.specs.declared.aliases.Rules.{Rules}
-use Rattle.kc_sight.specs.declared.entries.Entry.{Entry}
+use Rattle.kc_sight.specs.declared.entries.TableEntry.{TableEntry}
 use Rattle.kc_sight.specs.Aliases.{aliases}
 use Rattle.kc_sight.specs.Entries.{entries}
 use Rattle.kc_sight.specs.Looks.{words}
@@ -17,7 +17,7 @@ use Rattle.kc_sight.specs.Looks.{words}
 -- it between four on each side, and all words of its 4096 bytes, each as it reads
 pub record Sight : Type 0 where
   pub address : ℕ
-  pub entries : List Entry
+  pub entries : List TableEntry
   pub word : Result VWord Stopped
   pub aliases : Aliases
   pub near : List (Result VWord Stopped)
@@ -45,7 +45,7 @@ sight image rules address = record {
 }
 
 -- the places of the words that are seen
-abbrev pub entry_place : Entry → Place
+abbrev pub entry_place : TableEntry → Place
 entry_place e = record { va = None; pa = e.pa; off = e.word.off; value = e.word.value }
 
 abbrev pub seen_places : List (Result VWord Stopped) → List Place

@@ -19,7 +19,7 @@ const INDEX_BITS: u32 = 9;
 
 /// An entry of a page table on the way to a virtual address.
 #[derive(Clone, Copy, Debug, PartialEq, Eq)]
-pub struct Entry {
+pub struct TableEntry {
     /// The level of its table: 1 for a PTE, 2 for a PDE, 3 for a PDPTE, 4 for a PML4E, 5 for a PML5E.
     pub level: u8,
     /// Its physical address in bytes.
@@ -72,7 +72,7 @@ fn table_below(level: u8, entry: u64) -> Option<u64>
 
 // Adds the entries from a table of a level down.
 fn push_entries<F: Frames, L: Ledger>(
-    entries: &mut Vec<Entry>,
+    entries: &mut Vec<TableEntry>,
     frames: &mut F,
     sme: u64,
     va: u64,
@@ -99,7 +99,7 @@ fn push_entries<F: Frames, L: Ledger>(
         Err(FrameStop::Absent) => return Ok(()),
         Err(FrameStop::Fault) => return Err(ReadFailed::Fault),
     };
-    entries.push(Entry { level, pa, word })?;
+    entries.push(TableEntry { level, pa, word })?;
     match table_below(level, word.value & !sme) {
         Some(next) => push_entries(entries, frames, sme, va, level - 1, next, steps),
         None => Ok(()),
@@ -126,7 +126,7 @@ pub fn read_entries<F: Frames, L: Ledger>(
     paging: &PageCfg,
     va: u64,
     steps: &mut Steps<L>,
-) -> Result<Vec<Entry>, ReadFailed>
+) -> Result<Vec<TableEntry>, ReadFailed>
     requires aligned { paging.now.table % 4096 ≡ 0 }
     requires small { paging.now.table < 2 ^ 52 }
 

@@ -1,5 +1,5 @@
-//! What lies at an address of a dump: the entries of the page tables on the way to it, the words beside it and what they say,
-//! and the symbol that stands nearest.
+//! What lies at an address of a dump: the entries of the page tables on the way to it, the words beside it and what they
+//! say, the nearest symbol; and where a dump has the words that point to an address.
 #![tactic(auto)]
 
 mod aliases;
@@ -14,7 +14,7 @@ mod symbol;
 mod words;
 
 pub use aliases::{Aliases, Rules, read_aliases};
-pub use entries::{Entry, page_bytes, read_entries};
+pub use entries::{TableEntry, page_bytes, read_entries};
 pub use holders::find_holders;
 pub use laws::know_sights;
 pub use meaning::{Meaning, meaning_of};

@@ -7,7 +7,7 @@ ghost use Rattle.kc_sight.specs.Looks.{FaultsAfter, LooksAs, words};
 ghost use Rattle.kc_sight.specs.Sights.{near, page_start, word_start};
 
 use crate::aliases::{Aliases, Rules, read_aliases};
-use crate::entries::Entry;
+use crate::entries::TableEntry;
 use crate::words::{Seen, read_word, read_words};
 use kc_found::ReadFailed;
 use kc_memory::Space;
@@ -25,7 +25,7 @@ pub struct Sight {
     /// The address.
     pub address: u64,
     /// The entries of the page tables on the way to the word that holds it, from the top table down.
-    pub entries: Vec<Entry>,
+    pub entries: Vec<TableEntry>,
     /// That word.
     pub word: Seen,
     /// The same physical word at other addresses.
@@ -53,7 +53,7 @@ pub fn read_sight<S: Space, L: Ledger>(
     space: &mut S,
     address: u64,
     rules: &Rules,
-    entries: Result<Vec<Entry>, ReadFailed>,
+    entries: Result<Vec<TableEntry>, ReadFailed>,
     steps: &mut Steps<L>,
 ) -> Result<Sight, ReadFailed>
     ensures address { IfOk result (λ sight. sight.address ≡ address) }

@@ -32,7 +32,7 @@ use Rattle.kc_slub.specs.Laws.{FreeListsAreWalked, FreePlacesStand}
 use Rattle.kc_slab_page.specs.declared.caches.CacheSeen.{CacheSeen}
 use Rattle.kc_slab_page.specs.declared.page.SlabState.{SlabState}
 use Rattle.kc_slab_page.specs.declared.shape.PageShape.{PageShape}
-use Rattle.kc_slab_page.specs.declared.slab.Counted.{Counted}
+use Rattle.kc_slab_page.specs.declared.slab.SlabCounted.{SlabCounted}
 use Rattle.kc_slab_page.specs.declared.slab.SlabFree.{SlabFree}
 use Rattle.kc_slab_page.specs.Caches.{Caches}
 use Rattle.kc_slab_page.specs.Laws.{IsWhole, SlabsStand, WholeSlabs, page_places, state_places}
@@ -51,7 +51,7 @@ counts_show known image shape slab =
     then_shows image (read_field image asked slab shape.objects) _ (field_shows known.values image asked slab shape.objects) (λ n is.
     then_shows image (read_field image asked slab shape.inuse) _ (field_shows known.values image asked slab shape.inuse) (λ u used.
     then_shows image (read_field image asked slab shape.frozen) _ (field_shows known.values image asked slab shape.frozen) (λ f frozen.
-    unless_shows {A = Counted} image (nat_eq (value_of n) 0 || nat_lt (value_of n) (value_of u)) (breaks_at asked U3 n None) _ (number_stands known.values image asked slab shape.objects n is) tt)))
+    unless_shows {A = SlabCounted} image (nat_eq (value_of n) 0 || nat_lt (value_of n) (value_of u)) (breaks_at asked U3 n None) _ (number_stands known.values image asked slab shape.objects n is) tt)))
 
 list_shows : Known → (image : Image) (shape : SlubShape) (grid : Grid) (slab : ℕ) → Shows image (own_list image shape grid slab)
 list_shows known image shape grid slab =
@@ -63,26 +63,26 @@ list_shows known image shape grid slab =
 ok_same : {A : Type 0} (x y : A) → ◌≡◌ {A = Result A Violation} (Ok x) (Ok y) → x ≡ y
 ok_same x y e = cc
 
-pub record AreRead (image : Image) (shape : SlubShape) (slab : ℕ) (n : Counted) : Type 0 where
+pub record AreRead (image : Image) (shape : SlubShape) (slab : ℕ) (n : SlabCounted) : Type 0 where
   pub number : FieldNumber
   pub counted : read_field image (looked_at slab) slab shape.objects ≡ Ok number
   pub objects : value_of number ≡ n.objects
   pub used : read_field image (looked_at slab) slab shape.inuse ≡ Ok n.inuse
 
-are_read : (image : Image) (shape : SlubShape) (slab : ℕ) (n : Counted) → counted image shape slab ≡ Ok n → AreRead image shape slab n
+are_read : (image : Image) (shape : SlubShape) (slab : ℕ) (n : SlabCounted) → counted image shape slab ≡ Ok n → AreRead image shape slab n
 are_read image shape slab n is =
     let asked = looked_at slab in
     let one = ok_after (read_field image asked slab shape.objects) _ n is in
     let two = ok_after (read_field image asked slab shape.inuse) _ n one.2 in
     let three = ok_after (read_field image asked slab shape.frozen) _ n two.2 in
-    let made : Counted = record { objects = value_of one.0; inuse = two.0; frozen = not (nat_eq (value_of three.0) 0) } in
-    let four = unless_ok {A = Counted} (nat_eq (value_of one.0) 0 || nat_lt (value_of one.0) (value_of two.0)) (breaks_at asked U3 one.0 None) (Ok made) n three.2 in
+    let made : SlabCounted = record { objects = value_of one.0; inuse = two.0; frozen = not (nat_eq (value_of three.0) 0) } in
+    let four = unless_ok {A = SlabCounted} (nat_eq (value_of one.0) 0 || nat_lt (value_of one.0) (value_of two.0)) (breaks_at asked U3 one.0 None) (Ok made) n three.2 in
     let same : made ≡ n = ok_same made n four.1 in
     record {
       number = one.0;
       counted = one.1;
-      objects = ap (λ (c : Counted). c.objects) same;
-      used = two.1 ∙ ap (λ (c : Counted). Ok c.inuse) same;
+      objects = ap (λ (c : SlabCounted). c.objects) same;
+      used = two.1 ∙ ap (λ (c : SlabCounted). Ok c.inuse) same;
     }
 
 slab_shows : Known → (image : Image) (shape : SlubShape) (b : SlubBases) (o : SlabObjects) (slab : ℕ) (cache : FieldNumber)
@@ -160,7 +160,7 @@ whole_slabs walked image shape b o slab cache f laid is =
     let asked = looked_at slab in
     let one = unless_ok {A = SlabFree} (not (is_descriptor shape b slab)) (breaks_field asked U4 slab cache.number None) _ f is in
     let two = ok_after (counted image shape slab) _ f one.1 in
-    let n : Counted = two.0 in
+    let n : SlabCounted = two.0 in
     let grid : Grid = grid_of shape b o slab n.objects in
     let three = ok_after (own_list image shape grid slab) _ f two.2 in
     let os : List ℕ = three.0 in

@@ -15,7 +15,7 @@ use Rattle.kc_found.specs.FreeLists.{free_list}
 use Rattle.kc_found.specs.Trials.{and_then}
 use Rattle.kc_found.specs.Violations.{Violation, breaks_field}
 use Rattle.kc_owner.specs.Looked.{looked_at}
-use Rattle.kc_slab_page.specs.declared.slab.Counted.{Counted}
+use Rattle.kc_slab_page.specs.declared.slab.SlabCounted.{SlabCounted}
 use Rattle.kc_slab_page.specs.declared.slab.SlabFree.{SlabFree}
 
 -- objects have a size, in which the 8 bytes of their free pointer lie
@@ -23,7 +23,7 @@ abbrev pub is_laid : SlabObjects → Bool
 is_laid o = nat_le 1 o.size && nat_le (o.offset + 8) o.size
 
 -- how many objects a slab has: U3 of their number
-abbrev pub counted : Image → SlubShape → ℕ → Result Counted Violation
+abbrev pub counted : Image → SlubShape → ℕ → Result SlabCounted Violation
 counted image shape slab =
     and_then (read_field image (looked_at slab) slab shape.objects) (λ n.
     and_then (read_field image (looked_at slab) slab shape.inuse) (λ u.
@@ -37,7 +37,7 @@ own_list image shape grid slab =
     and_then (read_field image (looked_at slab) slab shape.freelist) (λ f. free_list image grid f.number (looked_at slab))
 
 -- which are as many as aren't in use: U6
-abbrev pub free_of : Image → SlubShape → Grid → ℕ → Counted → Result SlabFree Violation
+abbrev pub free_of : Image → SlubShape → Grid → ℕ → SlabCounted → Result SlabFree Violation
 free_of image shape grid slab n =
     and_then (own_list image shape grid slab) (λ os.
     unless (not (nat_eq (length os) (n.objects - value_of n.inuse))) (breaks_at (looked_at slab) U6 n.inuse (Some (n.objects - value_of n.inuse)))

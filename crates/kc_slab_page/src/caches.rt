@@ -158,26 +158,32 @@ fn push_cache(
     }
 }
 
+// The caches that are asked for: all, or those with a name.
+#[derive(Clone, Copy)]
+struct CachesAsked<'q> {
+    btf: &'q Btf,
+    shape: &'q PageShape,
+    wanted: Option<&'q [u8]>,
+}
+
 // Adds the cache of a node of the ring of all caches, where it is wanted.
 fn add_cache<S: Space, L: Ledger>(
     alloc: Global,
     space: &mut S,
-    btf: &Btf,
-    shape: &PageShape,
-    wanted: Option<&[u8]>,
+    asks: &CachesAsked<'_>,
     node: u64,
     caches: &mut BTreeMap<u64, CacheSeen>,
     steps: &mut Steps<L>,
 ) -> Result<(), WalkStop>
     ensures added { WalksAs (λ _. caches.new.entries)
-        (λ i. Ok (with_cache i shape.now.objects (option_copied wanted.entry) caches.old.entries node)) (S.image space.old) result }
+        (λ i. Ok (with_cache i asks.now.shape.now.objects (option_copied asks.now.wanted) caches.old.entries node)) (S.image space.old) result }
     ensures broken { OnBroken result ⊥ }
     ensures stays { SpaceStays S.image S.files S.through S.most space.old space.new }
     ensures cause { CountsWalkFaults result (S.faults space.old) (S.faults space.new) }
 {
-    let at = cache_by(shape, node);
-    let cache = read_cache(alloc, space, shape, &view_at(btf, at), steps)?;
-    if is_wanted(wanted, &cache.name) {
+    let at = cache_by(asks.shape, node);
+    let cache = read_cache(alloc, space, asks.shape, &view_at(asks.btf, at), steps)?;
+    if is_wanted(asks.wanted, &cache.name) {
         return push_cache(caches, at, cache);
     }
     Ok(())
@@ -187,29 +193,18 @@ fn add_cache<S: Space, L: Ledger>(
 fn read_nodes<S: Space, L: Ledger>(
     alloc: Global,
     space: &mut S,
-    btf: &Btf,
-    shape: &PageShape,
-    wanted: Option<&[u8]>,
+    asks: &CachesAsked<'_>,
     nodes: &Walked,
     steps: &mut Steps<L>,
 ) -> Result<BTreeMap<u64, CacheSeen>, WalkStop>
     ensures exact { WalksAs (λ c. c.entries)
-        (λ i. Ok (caches_from i shape.now.objects (option_copied wanted.entry) [] nodes.now)) (S.image space.old) result }
+        (λ i. Ok (caches_from i asks.now.shape.now.objects (option_copied asks.now.wanted) [] nodes.now)) (S.image space.old) result }
     ensures stays { SpaceStays S.image S.files S.through S.most space.old space.new }
     ensures cause { CountsWalkFaults result (S.faults space.old) (S.faults space.new) }
 {
     let mut caches = BTreeMap::new(alloc);
     for i in 0..nodes.len() {
-        add_cache(
-            alloc,
-            space,
-            btf,
-            shape,
-            wanted,
-            *nodes.get(i),
-            &mut caches,
-            steps,
-        )?;
+        add_cache(alloc, space, asks, *nodes.get(i), &mut caches, steps)?;
     }
     Ok(caches)
 }
@@ -240,6 +235,7 @@ pub fn read_caches<S: Space, L: Ledger>(
         0,
         steps,
     )?;
-    let caches = read_nodes(alloc, space, btf, shape, wanted, &nodes, steps)?;
+    let asks = CachesAsked { btf, shape, wanted };
+    let caches = read_nodes(alloc, space, &asks, &nodes, steps)?;
     Ok(SlabCaches { bases, caches })
 }

@@ -1,5 +1,5 @@
-//! A slab of a dump, found by its page's descriptor and not by a list: what is a slab's first page, how many objects the slab has, and
-//! whether its own free list is whole.
+//! A slab of a dump, found by its page's descriptor and not by a list: the dump's frames and slab caches, what is a slab's
+//! first page, how many objects the slab has, and whether its own free list is whole.
 #![tactic(auto)]
 
 mod caches;
@@ -18,4 +18,4 @@ pub use laws::know_slab_pages;
 pub use mark::Mark;
 pub use page::{PageSeen, SlabSeen, SlabState, look_at_page};
 pub use shape::PageShape;
-pub use slab::{Counted, SlabFree, is_laid, read_counts, read_list};
+pub use slab::{SlabCounted, SlabFree, is_laid, read_counts, read_list};

@@ -9,7 +9,7 @@ ghost use Rattle.kc_slab_page.specs.Pages.{IsAbsent, by_cache, by_mark, page_see
 use crate::caches::{CacheSeen, SlabCaches};
 use crate::mark::read_mark;
 use crate::shape::PageShape;
-use crate::slab::{SlabFree, is_laid, read_slab};
+use crate::slab::{NamedPage, SlabFree, is_laid, read_slab};
 use kc_btf::Btf;
 use kc_found::{Found, Space, Stop, WalkStop};
 use kc_owner::view_at;
@@ -68,12 +68,11 @@ fn state_with<S: Space, L: Ledger>(
     shape: &PageShape,
     bases: &SlubBases,
     objects: &SlabObjects,
-    slab: &View<'_>,
-    cache: &FieldNumber,
+    slab: &NamedPage<'_>,
     steps: &mut Steps<L>,
 ) -> Result<SlabState, WalkStop>
     ensures exact { WalksAs (λ s. s)
-        (λ i. Ok (state_with i shape.now.objects.slub bases.now slab.now.at cache.now objects.now)) (S.image space.old) result }
+        (λ i. Ok (state_with i shape.now.objects.slub bases.now slab.now.view.now.at slab.now.cache.now objects.now)) (S.image space.old) result }
     ensures broken { OnBroken result ⊥ }
     ensures stays { SpaceStays S.image S.files S.through S.most space.old space.new }
     ensures cause { CountsWalkFaults result (S.faults space.old) (S.faults space.new) }
@@ -82,7 +81,7 @@ fn state_with<S: Space, L: Ledger>(
         return Ok(SlabState::Untold);
     }
     let slub = &shape.objects.slub;
-    match read_slab(alloc, space, slub, bases, objects, slab, cache, steps) {
+    match read_slab(alloc, space, slub, bases, objects, slab, steps) {
         Ok(free) => Ok(SlabState::Whole(free)),
         Err(WalkStop::Broken(found)) => Ok(SlabState::Broken(found)),
         Err(WalkStop::Fault) => Err(WalkStop::Fault),
@@ -97,18 +96,17 @@ fn state_by<S: Space, L: Ledger>(
     shape: &PageShape,
     bases: &SlubBases,
     seen: &CacheSeen,
-    slab: &View<'_>,
-    cache: &FieldNumber,
+    slab: &NamedPage<'_>,
     steps: &mut Steps<L>,
 ) -> Result<SlabState, WalkStop>
     ensures exact { WalksAs (λ s. s)
-        (λ i. Ok (state_by i shape.now.objects.slub bases.now slab.now.at cache.now seen.now.objects)) (S.image space.old) result }
+        (λ i. Ok (state_by i shape.now.objects.slub bases.now slab.now.view.now.at slab.now.cache.now seen.now.objects)) (S.image space.old) result }
     ensures broken { OnBroken result ⊥ }
     ensures stays { SpaceStays S.image S.files S.through S.most space.old space.new }
     ensures cause { CountsWalkFaults result (S.faults space.old) (S.faults space.new) }
 {
     match &seen.objects {
-        Ok(objects) => state_with(alloc, space, shape, bases, objects, slab, cache, steps),
+        Ok(objects) => state_with(alloc, space, shape, bases, objects, slab, steps),
         Err(_) => Ok(SlabState::Untold),
     }
 }
@@ -120,24 +118,23 @@ fn by_mark<S: Space, L: Ledger>(
     shape: &PageShape,
     bases: &SlubBases,
     seen: &CacheSeen,
-    page: &View<'_>,
-    cache: &FieldNumber,
+    page: &NamedPage<'_>,
     steps: &mut Steps<L>,
 ) -> Result<PageSeen, WalkStop>
     ensures exact { WalksAs (λ p. p)
-        (λ i. Ok (by_mark i shape.now bases.now page.now.at cache.now seen.now)) (S.image space.old) result }
+        (λ i. Ok (by_mark i shape.now bases.now page.now.view.now.at page.now.cache.now seen.now)) (S.image space.old) result }
     ensures broken { OnBroken result ⊥ }
     ensures stays { SpaceStays S.image S.files S.through S.most space.old space.new }
     ensures cause { CountsWalkFaults result (S.faults space.old) (S.faults space.new) }
 {
-    match read_mark(alloc, space, page, &shape.mark, steps)? {
+    match read_mark(alloc, space, page.view, &shape.mark, steps)? {
         None => Ok(PageSeen::Absent),
         Some(false) => Ok(PageSeen::Unmarked),
         Some(true) => {
-            let state = state_by(alloc, space, shape, bases, seen, page, cache, steps)?;
+            let state = state_by(alloc, space, shape, bases, seen, page, steps)?;
             Ok(PageSeen::Slab(SlabSeen {
-                slab: page.at(),
-                cache: cache.value(),
+                slab: page.view.at(),
+                cache: page.cache.value(),
                 state,
             }))
         }
@@ -161,7 +158,10 @@ fn by_cache<S: Space, L: Ledger>(
     ensures cause { CountsWalkFaults result (S.faults space.old) (S.faults space.new) }
 {
     match caches.caches.get(&cache.value()) {
-        Some(seen) => by_mark(alloc, space, shape, &caches.bases, seen, page, cache, steps),
+        Some(seen) => {
+            let named = NamedPage { view: page, cache };
+            by_mark(alloc, space, shape, &caches.bases, seen, &named, steps)
+        }
         None => Ok(PageSeen::Other),
     }
 }

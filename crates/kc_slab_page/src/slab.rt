@@ -28,13 +28,20 @@ pub struct SlabFree {
 
 /// How many objects a slab has.
 #[derive(Clone, Copy, Debug, PartialEq, Eq)]
-pub struct Counted {
+pub struct SlabCounted {
     /// All of them. It isn't 0.
     pub objects: u64,
     /// Those that its own free list doesn't have: at most `objects`.
     pub inuse: FieldNumber,
     /// Whether a processor owns it.
     pub frozen: bool,
+}
+
+// A page's descriptor, and what it has as its cache.
+#[derive(Clone, Copy)]
+pub(crate) struct NamedPage<'p> {
+    pub(crate) view: &'p View<'p>,
+    pub(crate) cache: &'p FieldNumber,
 }
 
 /// Whether objects have a size, in which the 8 bytes of their free pointer lie.
@@ -55,7 +62,7 @@ pub fn read_counts<S: Space, L: Ledger>(
     shape: &SlubShape,
     slab: &View<'_>,
     steps: &mut Steps<L>,
-) -> Result<Counted, WalkStop>
+) -> Result<SlabCounted, WalkStop>
     ensures exact { WalksAs (λ n. n) (λ i. counted i shape.now slab.now.at) (S.image space.old) result }
     ensures stays { SpaceStays S.image S.files S.through S.most space.old space.new }
     ensures cause { CountsWalkFaults result (S.faults space.old) (S.faults space.new) }
@@ -67,7 +74,7 @@ pub fn read_counts<S: Space, L: Ledger>(
     if objects.value() == 0 || objects.value() < inuse.value() {
         return Err(broken_field(alloc, &asked, Rule::U3, objects.at, &objects.number, None));
     }
-    Ok(Counted {
+    Ok(SlabCounted {
         objects: objects.value(),
         inuse,
         frozen: frozen != 0,
@@ -104,7 +111,7 @@ fn read_free<S: Space, L: Ledger>(
     shape: &SlubShape,
     grid: &Grid,
     slab: &View<'_>,
-    counts: &Counted,
+    counts: &SlabCounted,
     steps: &mut Steps<L>,
 ) -> Result<SlabFree, WalkStop>
     requires { IsGrid grid.now }
@@ -140,20 +147,20 @@ pub(crate) fn read_slab<S: Space, L: Ledger>(
     shape: &SlubShape,
     bases: &SlubBases,
     objects: &SlabObjects,
-    slab: &View<'_>,
-    cache: &FieldNumber,
+    slab: &NamedPage<'_>,
     steps: &mut Steps<L>,
 ) -> Result<SlabFree, WalkStop>
     requires { IsTrue (is_laid objects.now) }
-    ensures exact { WalksAs (λ f. f) (λ i. slab_free i shape.now bases.now objects.now slab.now.at cache.now) (S.image space.old) result }
+    ensures exact { WalksAs (λ f. f) (λ i. slab_free i shape.now bases.now objects.now slab.now.view.now.at slab.now.cache.now) (S.image space.old) result }
     ensures stays { SpaceStays S.image S.files S.through S.most space.old space.new }
     ensures cause { CountsWalkFaults result (S.faults space.old) (S.faults space.new) }
 {
-    if !is_descriptor(shape, bases, slab.at()) {
-        let asked = looked_at(slab.at());
-        return Err(broken_field(alloc, &asked, Rule::U4, slab.at(), &cache.number, None));
+    let view = slab.view;
+    if !is_descriptor(shape, bases, view.at()) {
+        let asked = looked_at(view.at());
+        return Err(broken_field(alloc, &asked, Rule::U4, view.at(), &slab.cache.number, None));
     }
-    let counts = read_counts(alloc, space, shape, slab, steps)?;
-    let grid = grid_of(shape, bases, objects, slab.at(), counts.objects);
-    read_free(alloc, space, shape, &grid, slab, &counts, steps)
+    let counts = read_counts(alloc, space, shape, view, steps)?;
+    let grid = grid_of(shape, bases, objects, view.at(), counts.objects);
+    read_free(alloc, space, shape, &grid, view, &counts, steps)
 }

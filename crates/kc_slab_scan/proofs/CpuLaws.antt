@@ -34,7 +34,7 @@ use Rattle.kc_owner.specs.Object.Keys.{cache_by}
 use Rattle.kc_list.specs.Laws.{RingPlacesStand}
 use Rattle.kc_slub.specs.Laws.{FreePlacesStand}
 use Rattle.kc_slab_page.specs.declared.caches.CacheSeen.{CacheSeen}
-use Rattle.kc_slab_page.specs.declared.slab.Counted.{Counted}
+use Rattle.kc_slab_page.specs.declared.slab.SlabCounted.{SlabCounted}
 use Rattle.kc_slab_page.specs.Caches.{Caches}
 use Rattle.kc_slab_page.specs.Slabs.{counted, is_laid}
 use Rattle.kc_slab_scan.specs.declared.cpus.Cpu.{Cpu}
@@ -66,7 +66,7 @@ counts_show known image shape slab =
     then_shows image (read_field image asked slab shape.objects) _ (field_shows known.values image asked slab shape.objects) (λ n is.
     then_shows image (read_field image asked slab shape.inuse) _ (field_shows known.values image asked slab shape.inuse) (λ u used.
     then_shows image (read_field image asked slab shape.frozen) _ (field_shows known.values image asked slab shape.frozen) (λ f frozen.
-    unless_shows {A = Counted} image (nat_eq (value_of n) 0 || nat_lt (value_of n) (value_of u)) (breaks_at asked U3 n None) _ (number_stands known.values image asked slab shape.objects n is) tt)))
+    unless_shows {A = SlabCounted} image (nat_eq (value_of n) 0 || nat_lt (value_of n) (value_of u)) (breaks_at asked U3 n None) _ (number_stands known.values image asked slab shape.objects n is) tt)))
 
 or_shows : (image : Image) (asked : Asked) (first : FieldNumber) (many : ℕ) (object : Option ℕ) → Here image first → Shows image (apart_or asked first many object)
 or_shows image asked first many None here = tt

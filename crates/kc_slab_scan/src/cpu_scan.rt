@@ -10,7 +10,7 @@ ghost use Rattle.kc_slab_scan.specs.CpuScans.{cache_from, cpus_scanned, none_see
 use crate::cpu_list::{CpuBroken, CpuSeen, LaidCache, look_at_cpu};
 use crate::cpu_words::CpuShape;
 use crate::cpus::{Cpu, Cpus};
-use crate::scan::Pages;
+use crate::scan::SlabPages;
 use crate::totals::{added, push_item};
 use kc_found::{Found, Items, Space, WalkStop, Walked};
 use kc_list::ring;
@@ -157,7 +157,7 @@ fn scan_cache<S: Space, L: Ledger>(
 fn scan_node<S: Space, L: Ledger>(
     alloc: Global,
     space: &mut S,
-    pages: &Pages<'_>,
+    pages: &SlabPages<'_>,
     processors: &Processors<'_>,
     node: u64,
     scan: &mut CpuScan,
@@ -195,7 +195,7 @@ fn scan_node<S: Space, L: Ledger>(
 fn scan_nodes<S: Space, L: Ledger>(
     alloc: Global,
     space: &mut S,
-    pages: &Pages<'_>,
+    pages: &SlabPages<'_>,
     processors: &Processors<'_>,
     nodes: &Walked,
     steps: &mut Steps<L>,
@@ -227,7 +227,7 @@ fn scan_nodes<S: Space, L: Ledger>(
 pub fn scan_cpus<S: Space, L: Ledger>(
     alloc: Global,
     space: &mut S,
-    pages: &Pages<'_>,
+    pages: &SlabPages<'_>,
     processors: &Processors<'_>,
     steps: &mut Steps<L>,
 ) -> Result<CpuScan, WalkStop>

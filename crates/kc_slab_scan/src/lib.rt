@@ -15,5 +15,5 @@ pub use cpu_scan::{BrokenCpu, CpuScan, Processors, scan_cpus};
 pub use cpu_words::{CpuShape, cpu_shape};
 pub use cpus::{Cpu, Cpus, read_cpus};
 pub use laws::{know_cpus, know_scans};
-pub use scan::{Pages, scan_frames};
+pub use scan::{SlabPages, scan_frames};
 pub use totals::{BrokenSlab, Scan, Totals};

@@ -17,7 +17,7 @@ use std::sync::ledger::Ledger;
 
 /// What tells which pages of a kernel are slabs.
 #[derive(Clone, Copy)]
-pub struct Pages<'p> {
+pub struct SlabPages<'p> {
     /// The kernel's types.
     pub btf: &'p Btf,
     /// Where the words stand that tell what a page is.
@@ -30,7 +30,7 @@ pub struct Pages<'p> {
 fn scan_page<S: Space, L: Ledger>(
     alloc: Global,
     space: &mut S,
-    pages: &Pages<'_>,
+    pages: &SlabPages<'_>,
     number: u64,
     scan: &mut Scan,
     steps: &mut Steps<L>,
@@ -57,7 +57,7 @@ fn scan_page<S: Space, L: Ledger>(
 fn scan_run<S: Space, L: Ledger>(
     alloc: Global,
     space: &mut S,
-    pages: &Pages<'_>,
+    pages: &SlabPages<'_>,
     run: FrameRun,
     scan: &mut Scan,
     steps: &mut Steps<L>,
@@ -87,7 +87,7 @@ fn scan_run<S: Space, L: Ledger>(
 pub fn scan_frames<S: Space, L: Ledger>(
     alloc: Global,
     space: &mut S,
-    pages: &Pages<'_>,
+    pages: &SlabPages<'_>,
     runs: &[FrameRun],
     steps: &mut Steps<L>,
 ) -> Result<Scan, WalkStop>

@@ -1,5 +1,5 @@
-//! How walks of slab caches, of tasks and of process ids come by the lists of their chains: the nodes of rings, the objects of free
-//! lists, the nodes of hash chains.
+//! What walks of slab caches, of tasks and of process ids share: their lists (the nodes of rings, the objects of free lists,
+//! the nodes of hash chains), and members read by their fields.
 #![tactic(auto)]
 
 mod chains;

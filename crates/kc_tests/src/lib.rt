@@ -31,9 +31,9 @@ mod of_repair;
 #[cfg(test)]
 mod of_shape;
 #[cfg(test)]
-mod of_suspect;
+mod of_sight;
 #[cfg(test)]
-mod of_where;
+mod of_suspect;
 #[cfg(test)]
 mod of_word;
 #[cfg(test)]

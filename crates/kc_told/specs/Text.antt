@@ -9,7 +9,7 @@ use Rattle.kc_memory.specs.Stopped.{Stopped}
 use Rattle.kc_text.specs.Compose.{texts}
 use Rattle.kc_text.specs.Text.{hex, visible}
 use Rattle.kc_report.specs.Lines.{origin_text, place_line, rule_code}
-use Rattle.kc_sight.specs.declared.entries.Entry.{Entry}
+use Rattle.kc_sight.specs.declared.entries.TableEntry.{TableEntry}
 use Rattle.kc_sight.specs.declared.meaning.Meaning.{Meaning}
 use Rattle.kc_sight.specs.declared.meaning.Meaning.TheVariants.{Zero, Own, Unlisted, Pattern, Text, Small, Number}
 use Rattle.kc_sight.specs.declared.span.Span.{Span}
@@ -32,7 +32,7 @@ symbol_line None address = []
 symbol_line (Some s) address = codes "symbol " ++ symbol_text s address ++ codes "\n"
 
 -- an entry of a page table: its level, its physical address, its file offset or `tail`, and its value
-abbrev pub entry_line : Entry → List ℕ
+abbrev pub entry_line : TableEntry → List ℕ
 entry_line e =
     codes "entry " ++ decimal e.level ++ codes " " ++ hex e.pa ++ codes " " ++ origin_text e.word.off ++ codes " " ++ hex e.word.value ++ codes "\n"
 
@@ -50,7 +50,7 @@ abbrev pub is_mapped : Result VWord Stopped → Bool
 is_mapped (Ok w) = true
 is_mapped (Err s) = is_absent s.rule
 
-abbrev pub page_line : Result VWord Stopped → List Entry → List ℕ
+abbrev pub page_line : Result VWord Stopped → List TableEntry → List ℕ
 page_line word entries = if is_mapped word then size_line (option_and_then (λ e. page_bytes e.level) (slice_get entries (length entries - 1))) else []
 
 -- the rule that stopped the reading, the level of an entry or 0, and the physical address of the word that is absent or refused

@@ -12,7 +12,8 @@ use crate::near_text::push_lead;
 use kc_memory::{Miss, Rule, VWord, place_of};
 use kc_report::{push_origin, push_place, rule_code};
 use kc_sight::{
-    Entry, ImageMap, Meaning, Seen, Sight, Span, Symbol, is_fill, meaning_of, page_bytes, span_of,
+    ImageMap, Meaning, Seen, Sight, Span, Symbol, TableEntry, is_fill, meaning_of, page_bytes,
+    span_of,
 };
 use kc_text::{push, push_decimal, push_hex, push_name, push_numbered};
 use kc_word::NoMemory;
@@ -46,7 +47,7 @@ pub(crate) fn push_symbol_line(
 }
 
 // The line of an entry of a page table.
-fn push_entry(text: &mut Vec<u8>, entry: &Entry) -> Result<(), NoMemory>
+fn push_entry(text: &mut Vec<u8>, entry: &TableEntry) -> Result<(), NoMemory>
     ensures { OnOk result (text.new.items ≡ text.old.items ++ entry_line entry.now) }
 {
     push_numbered(text, b"entry ", u64::from(entry.level))?;
@@ -59,7 +60,7 @@ fn push_entry(text: &mut Vec<u8>, entry: &Entry) -> Result<(), NoMemory>
     push(text, b"\n")
 }
 
-fn push_entries(text: &mut Vec<u8>, entries: &[Entry]) -> Result<(), NoMemory>
+fn push_entries(text: &mut Vec<u8>, entries: &[TableEntry]) -> Result<(), NoMemory>
     ensures { OnOk result (text.new.items ≡ text.old.items ++ texts entry_line entries.now) }
 {
     for entry in entries {
@@ -97,13 +98,13 @@ fn push_size(text: &mut Vec<u8>, bytes: Option<u64>) -> Result<(), NoMemory>
 }
 
 // The number of bytes of the page that the last entry maps.
-fn last_page(entries: &[Entry]) -> Option<u64>
+fn last_page(entries: &[TableEntry]) -> Option<u64>
     ensures { result ≡ option_and_then (λ e. page_bytes e.level) (slice_get entries.now (length entries.now - 1)) }
 {
     page_bytes(entries.last()?.level)
 }
 
-fn push_page(text: &mut Vec<u8>, word: &Seen, entries: &[Entry]) -> Result<(), NoMemory>
+fn push_page(text: &mut Vec<u8>, word: &Seen, entries: &[TableEntry]) -> Result<(), NoMemory>
     ensures { OnOk result (text.new.items ≡ text.old.items ++ page_line word.now entries.now) }
 {
     if !is_mapped(word) {

@@ -20,7 +20,8 @@ use kc_found::{Found, ReadFailed, WalkStop};
 use kc_memory::Space;
 use kc_owner::{AreaShape, Areas, Cache, Held, ObjectShape, find_object, read_areas};
 use kc_sight::{
-    Entry, ImageMap, Rules, Seen, Sight, Symbol, find_holders, read_sight, read_word, word_start,
+    ImageMap, Rules, Seen, Sight, Symbol, TableEntry, find_holders, read_sight, read_word,
+    word_start,
 };
 use kc_word::Steps;
 use std::alloc::Global;
@@ -269,7 +270,7 @@ pub fn read_sighted<'m, S: Space, L: Ledger>(
     shapes: &Shapes<'m>,
     address: u64,
     rules: &Rules,
-    entries: Result<Vec<Entry>, ReadFailed>,
+    entries: Result<Vec<TableEntry>, ReadFailed>,
     steps: &mut Steps<L>,
 ) -> Result<Sighted<'m>, ReadFailed>
     requires { IfSome shapes.now.words.areas.stacks (λ shape. IsInside shape.tasks types.now) }

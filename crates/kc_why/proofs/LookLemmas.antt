@@ -8,7 +8,7 @@ use Rattle.kc_memory.specs.Translation.{vword}
 use Rattle.kc_mem.specs.Paged.{with_paging}
 use Rattle.kc_phys.specs.Stored.{stored}
 use Rattle.kc_sight.specs.declared.aliases.Rules.{Rules}
-use Rattle.kc_sight.specs.declared.entries.Entry.{Entry}
+use Rattle.kc_sight.specs.declared.entries.TableEntry.{TableEntry}
 use Rattle.kc_found.specs.declared.failed.ReadFailed.{ReadFailed}
 use Rattle.kc_sight.specs.Aliases.{aliases}
 use Rattle.kc_sight.specs.Entries.{entries}
@@ -32,8 +32,8 @@ pub record Parts (image : Option Image) (rules : Rules) (shapes : Shapes) (addre
   pub told : LooksAs (λ (s : Sighted). told_view s.told) (λ i. told_of i shapes address) image r
   pub leads : LooksAs (λ (s : Sighted). s.near.items) (λ i. near_of i shapes address) image r
 
-pub asked : (image : Option Image) (rules : Rules) (shapes : Shapes) (address : ℕ) (own : List Entry) (copy : Vec Entry) (r : Result Sighted ReadFailed) → copy.items ≡ own
-    → IfOk r (λ s. s.sight.address ≡ address) → IfOk r (λ s. ◌≡◌ {A = Result (Vec Entry) ReadFailed} (Ok copy) (Ok s.sight.entries)) → Parts image rules shapes address r
+pub asked : (image : Option Image) (rules : Rules) (shapes : Shapes) (address : ℕ) (own : List TableEntry) (copy : Vec TableEntry) (r : Result Sighted ReadFailed) → copy.items ≡ own
+    → IfOk r (λ s. s.sight.address ≡ address) → IfOk r (λ s. ◌≡◌ {A = Result (Vec TableEntry) ReadFailed} (Ok copy) (Ok s.sight.entries)) → Parts image rules shapes address r
     → IfSome image (λ i. IfOk r (IsSeen i rules shapes address own))
 asked None rules shapes address own copy r copied at way parts = tt
 asked (Some i) rules shapes address own copy (Err e) copied at way parts = tt
@@ -41,7 +41,7 @@ asked (Some i) rules shapes address own copy (Ok s) copied at way parts =
     let same : copy ≡ s.sight.entries = cc in
     record {
       address_is = at;
-      entries_are = ap (λ (v : Vec Entry). v.items) (sym same) ∙ copied;
+      entries_are = ap (λ (v : Vec TableEntry). v.items) (sym same) ∙ copied;
       word = parts.word;
       aliases_are = parts.aliases_are;
       near_are = parts.near_are;
@@ -56,14 +56,14 @@ pub record Shown (image : Option Image) (rules : Rules) (shapes : Shapes) (addre
   pub told : TellsAs image shapes address r
   pub leads : LeadsAs image shapes address r
 
-abbrev Entered : KernelAt → ℕ → Vec Entry → Option Physical → Type 0
+abbrev Entered : KernelAt → ℕ → Vec TableEntry → Option Physical → Type 0
 Entered kernel address es physical =
-    LooksAs (λ (v : Vec Entry). v.items) (λ p. entries (record { physical = p; paging = by_info kernel.told }) (word_start address)) physical (Ok es)
+    LooksAs (λ (v : Vec TableEntry). v.items) (λ p. entries (record { physical = p; paging = by_info kernel.told }) (word_start address)) physical (Ok es)
 
-abbrev Said : KernelAt → Rules → Shapes → ℕ → Vec Entry → Result Sighted ReadFailed → Option Physical → Type 0
+abbrev Said : KernelAt → Rules → Shapes → ℕ → Vec TableEntry → Result Sighted ReadFailed → Option Physical → Type 0
 Said kernel rules shapes address es r physical = IfSome (with_paging (by_info kernel.told) physical) (λ i. IfOk r (IsSeen i rules shapes address es.items))
 
-shown_of : (content : Option (List ℕ)) (kernel : KernelAt) (rules : Rules) (shapes : Shapes) (address : ℕ) (es : Vec Entry) (r : Result Sighted ReadFailed)
+shown_of : (content : Option (List ℕ)) (kernel : KernelAt) (rules : Rules) (shapes : Shapes) (address : ℕ) (es : Vec TableEntry) (r : Result Sighted ReadFailed)
     → Entered kernel address es (stored kernel.segments Tail.Absent content) → Said kernel rules shapes address es r (stored kernel.segments Tail.Absent content)
     → Shown (option_map (memory_of kernel) content) rules shapes address r
 shown_of None kernel rules shapes address es r entered said = record { sight = tt; told = tt; leads = tt }
@@ -77,7 +77,7 @@ shown_of (Some bytes) kernel rules shapes address es (Ok s) entered said =
     }
 
 -- the memory that is asked is that of the dump's bytes
-pub shown : (content : Option (List ℕ)) (kernel : KernelAt) (rules : Rules) (shapes : Shapes) (address : ℕ) (es : Vec Entry) (r : Result Sighted ReadFailed) (before after : Option Physical)
+pub shown : (content : Option (List ℕ)) (kernel : KernelAt) (rules : Rules) (shapes : Shapes) (address : ℕ) (es : Vec TableEntry) (r : Result Sighted ReadFailed) (before after : Option Physical)
     → before ≡ stored kernel.segments Tail.Absent content → after ≡ stored kernel.segments Tail.Absent content
     → Entered kernel address es before → Said kernel rules shapes address es r after → Shown (option_map (memory_of kernel) content) rules shapes address r
 shown content kernel rules shapes address es r before after is stays entered said =

@@ -7,7 +7,7 @@ use Rattle.kc_memory.specs.Translation.{vword}
 use Rattle.kc_sight.specs.declared.aliases.Rules.{Rules}
 use Rattle.kc_found.specs.declared.failed.ReadFailed.{ReadFailed}
 use Rattle.kc_found.specs.declared.failed.ReadFailed.TheVariants.{Fault, NoMemory}
-use Rattle.kc_sight.specs.declared.entries.Entry.{Entry}
+use Rattle.kc_sight.specs.declared.entries.TableEntry.{TableEntry}
 use Rattle.kc_sight.specs.Aliases.{aliases}
 use Rattle.kc_sight.specs.Looks.{words}
 use Rattle.kc_sight.specs.Sights.{near, page_start, sight, word_start}
@@ -23,7 +23,7 @@ halted Fault = Store
 halted NoMemory = Memory
 
 -- what is seen and told of an address, over these entries of the page tables
-pub record IsSeen (image : Image) (rules : Rules) (shapes : Shapes) (address : ℕ) (entries : List Entry) (s : Sighted) : Type 0 where
+pub record IsSeen (image : Image) (rules : Rules) (shapes : Shapes) (address : ℕ) (entries : List TableEntry) (s : Sighted) : Type 0 where
   pub address_is : s.sight.address ≡ address
   pub entries_are : s.sight.entries.items ≡ entries
   pub word : s.sight.word ≡ vword image (word_start address)

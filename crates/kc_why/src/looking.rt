@@ -21,7 +21,7 @@ use kc_memory::Space;
 use kc_outside::Store;
 use kc_phys::{Phys, Room};
 use kc_question::{Question, Returned, ask_over};
-use kc_sight::{Entry, Rules, read_entries, word_start};
+use kc_sight::{Rules, TableEntry, read_entries, word_start};
 use kc_told::{Shapes, Sighted, read_sighted};
 use kc_word::{Steps, Tail};
 use std::alloc::Global;
@@ -37,7 +37,7 @@ struct Looking<'l, 'm> {
     shapes: &'l Shapes<'m>,
     address: u64,
     // The entries of the page tables on the way to it.
-    entries: Vec<Entry>,
+    entries: Vec<TableEntry>,
 }
 
 impl<'l, 'm> Question for Looking<'l, 'm> {

@@ -1,4 +1,5 @@
-//! Walks of the kernel's xarrays (`struct xarray`).
+//! Walks of the kernel's xarrays (`struct xarray`): with their counts, with a list of their entries, and the test of an
+//! xarray by such a list.
 #![tactic(auto)]
 
 mod counted;

@@ -23,7 +23,7 @@ pub struct Ended {
 
 /// A case as its lines tell it.
 #[derive(Drop)]
-pub struct Case {
+pub struct ProgramCase {
     /// The words after the program's name.
     pub words: Vec<String>,
     /// The files that the program finds.
@@ -75,10 +75,10 @@ fn push_words(alloc: Global, words: &mut Vec<String>, line: &str) -> Result<(), 
     Ok(())
 }
 
-impl Case {
+impl ProgramCase {
     /// Reads the lines of a case, in which `planned` and `usage` name texts.
-    pub fn read(alloc: Global, lines: &str, texts: &Texts) -> Result<Case, AllocError> {
-        let mut case = Case {
+    pub fn read(alloc: Global, lines: &str, texts: &Texts) -> Result<ProgramCase, AllocError> {
+        let mut case = ProgramCase {
             words: Vec::new(alloc),
             files: CaseFiles::read(alloc, lines, texts)?,
             fails: 0,

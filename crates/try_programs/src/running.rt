@@ -1,5 +1,5 @@
 // A case that is run, and what came of it.
-use crate::case::{Case, Ended};
+use crate::case::{Ended, ProgramCase};
 use crate::noting::{Noting, NotingSink};
 use kc_app::kaudit;
 use kc_match::kmatch;
@@ -30,17 +30,17 @@ pub struct Ran {
 
 /// What is changed of a case before it runs.
 #[derive(Clone, Copy)]
-pub struct Limits {
+pub struct RunLimits {
     /// The number of the call that fails, or 0.
     pub fails: u64,
     /// How many bytes standard output takes.
     pub out: usize,
 }
 
-impl Case {
+impl ProgramCase {
     /// Its own limits.
-    pub fn limits(&self) -> Limits {
-        Limits {
+    pub fn limits(&self) -> RunLimits {
+        RunLimits {
             fails: self.fails,
             out: self.out_limit,
         }
@@ -51,7 +51,7 @@ impl Case {
     /// # Errors
     ///
     /// No memory was left for its files, or for what came of it.
-    pub fn run(&self, alloc: Global, program: Program, limits: Limits) -> Result<Ran, NoMemory> {
+    pub fn run(&self, alloc: Global, program: Program, limits: RunLimits) -> Result<Ran, NoMemory> {
         let mut store = Noting::new(alloc, self.files.store(alloc, limits.fails)?);
         let mut out = NotingSink::new(alloc, "out", MemSink::new(alloc, limits.out)?);
         let mut err = NotingSink::new(alloc, "err", MemSink::new(alloc, self.err_limit)?);

@@ -1,6 +1,6 @@
 // The cases of a file, one after another, and a case with each call failing and with each length of a sink.
-use crate::case::Case;
-use crate::running::{Limits, Program, Ran, front, reads_back};
+use crate::case::ProgramCase;
+use crate::running::{Program, Ran, RunLimits, front, reads_back};
 use crate::texts::Texts;
 use kc_word::NoMemory;
 use std::alloc::AllocError;
@@ -11,7 +11,12 @@ fn read_cases(rt: &HostRuntime, name: &str) -> io::Result<String> {
     fs::read_to_string(rt, file.as_str())
 }
 
-fn run(rt: &HostRuntime, case: &Case, program: Program, limits: Limits) -> io::Result<Ran> {
+fn run(
+    rt: &HostRuntime,
+    case: &ProgramCase,
+    program: Program,
+    limits: RunLimits,
+) -> io::Result<Ran> {
     match case.run(rt.alloc(), program, limits) {
         Ok(ran) => Ok(ran),
         Err(NoMemory) => Err(io::Error::from(AllocError)),
@@ -47,7 +52,7 @@ pub fn try_each(rt: &HostRuntime, texts: &Texts, name: &str, program: Program) -
             continue;
         }
         count = count.saturating_add(1);
-        let case = Case::read(rt.alloc(), lines, texts)?;
+        let case = ProgramCase::read(rt.alloc(), lines, texts)?;
         let ran = run(rt, &case, program, case.limits())?;
         let report = lines.starts_with("words check") && ran.ended.status < 2;
         if !case.is_met(&ran) || report && !reads_back(rt.alloc(), &ran.ended.out) {
@@ -60,14 +65,14 @@ pub fn try_each(rt: &HostRuntime, texts: &Texts, name: &str, program: Program) -
 /// Tries a file's one case with each call of the store failing in turn: the program ends with that call.
 pub fn try_calls(rt: &HostRuntime, texts: &Texts, name: &str, program: Program) -> io::Result<()> {
     let text = read_cases(rt, name)?;
-    let case = Case::read(rt.alloc(), text.as_str(), texts)?;
+    let case = ProgramCase::read(rt.alloc(), text.as_str(), texts)?;
     let whole = run(rt, &case, program, case.limits())?;
     for call in 1..=whole.calls.len() as u64 {
         let ran = run(
             rt,
             &case,
             program,
-            Limits {
+            RunLimits {
                 fails: call,
                 ..case.limits()
             },
@@ -90,14 +95,14 @@ pub fn try_lengths(
     program: Program,
 ) -> io::Result<()> {
     let text = read_cases(rt, name)?;
-    let case = Case::read(rt.alloc(), text.as_str(), texts)?;
+    let case = ProgramCase::read(rt.alloc(), text.as_str(), texts)?;
     let whole = run(rt, &case, program, case.limits())?;
     for out in 0..whole.ended.out.len() {
         let ran = run(
             rt,
             &case,
             program,
-            Limits {
+            RunLimits {
                 out,
                 ..case.limits()
             },

@@ -24,15 +24,15 @@ use kc_cases::try_file;
 use lists::{HashChains, Rings};
 use loops::Loops;
 use numbers::Numbers;
-use pages::Pages;
+use pages::PagesCase;
 use pids::Pids;
 use roots::RootAudits;
-use slabs::{FreeLists, SlabCaches};
+use slabs::{FreeLists, SlabCachesCase};
 use tasks::Tasks;
 use trees::Trees;
 use views::Views;
 use walk::Walk;
-use words::Words;
+use words::WordsCase;
 use xarrays::Xarrays;
 
 fn main(rt: HostRuntime) -> Result<()> {
@@ -40,7 +40,7 @@ fn main(rt: HostRuntime) -> Result<()> {
     try_file(&rt, "hash_chains", &Walk(HashChains))?;
     try_file(&rt, "trees", &Walk(Trees))?;
     try_file(&rt, "xarrays", &Walk(Xarrays))?;
-    try_file(&rt, "slab_caches", &Walk(SlabCaches))?;
+    try_file(&rt, "slab_caches", &Walk(SlabCachesCase))?;
     try_file(&rt, "free_lists", &Walk(FreeLists))?;
     try_file(&rt, "tasks", &Walk(Tasks))?;
     try_file(&rt, "pids", &Walk(Pids))?;
@@ -48,7 +48,7 @@ fn main(rt: HostRuntime) -> Result<()> {
     try_file(&rt, "root_audits", &Walk(RootAudits))?;
     try_file(&rt, "numbers", &Walk(Numbers))?;
     try_file(&rt, "views", &Walk(Views))?;
-    try_file(&rt, "pages", &Walk(Pages))?;
-    try_file(&rt, "words", &Walk(Words))?;
+    try_file(&rt, "pages", &Walk(PagesCase))?;
+    try_file(&rt, "words", &Walk(WordsCase))?;
     try_file(&rt, "loops", &Walk(Loops))
 }

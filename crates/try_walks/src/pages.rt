@@ -1,4 +1,4 @@
-// Pages that are translated in turn. The first line of a case has the page tables; the others say what memory holds, or give an
+// PagesCase that are translated in turn. The first line of a case has the page tables; the others say what memory holds, or give an
 // address, where it leads, and how many words are read for that.
 use crate::frames::{Dump, hex};
 use crate::walk::Walks;
@@ -11,9 +11,9 @@ use std::alloc::{AllocError, Global};
 use std::sync::ledger::Ledger;
 
 /// Translations of pages that are kept.
-pub struct Pages;
+pub struct PagesCase;
 
-impl Walks for Pages {
+impl Walks for PagesCase {
     fn answer<L: Ledger>(
         &self,
         alloc: Global,

@@ -13,9 +13,9 @@ use std::alloc::Global;
 use std::sync::ledger::Ledger;
 
 /// Slab caches. A case gives a kernel, and the words of its cache that are changed.
-pub struct SlabCaches;
+pub struct SlabCachesCase;
 
-impl Walks for SlabCaches {
+impl Walks for SlabCachesCase {
     fn answer<L: Ledger>(
         &self,
         alloc: Global,

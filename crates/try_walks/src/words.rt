@@ -1,4 +1,4 @@
-// Words that are asked in turn. The first line of a case has how many translations are kept; the others say what memory holds, or give
+// WordsCase that are asked in turn. The first line of a case has how many translations are kept; the others say what memory holds, or give
 // an address, the physical one and the word there, and how many words are read for that.
 use crate::frames::{Dump, hex};
 use crate::walk::Walks;
@@ -10,10 +10,10 @@ use kc_word::{PageCfg, Steps};
 use std::alloc::{AllocError, Global};
 use std::sync::ledger::Ledger;
 
-/// Words of virtual memory.
-pub struct Words;
+/// WordsCase of virtual memory.
+pub struct WordsCase;
 
-impl Walks for Words {
+impl Walks for WordsCase {
     fn answer<L: Ledger>(
         &self,
         alloc: Global,

@@ -24,7 +24,7 @@ use Rattle.kc_plan.specs.Seen.{PathEnd, EndsAt, NullAt, container_of, is_optiona
 use Rattle.kc_run.specs.Tally.{added}
 use Rattle.kc_cert.specs.Text.Drops.{drop_at}
 use Rattle.kc_cert.specs.declared.text.certificate.CertStep.{CertStep}
-use Rattle.kc_cert.specs.declared.rechecking.nest.Cursor.{Cursor}
+use Rattle.kc_cert.specs.declared.rechecking.nest.StepCursor.{StepCursor}
 use Rattle.kc_found.specs.declared.test.TestStop.{TestStop}
 use Rattle.kc_found.specs.declared.test.TestStop.TheVariants.{Unfit, Fault, NoMemory}
 use Rattle.kc_found.specs.Tests.{TellsAs}
@@ -77,7 +77,7 @@ abbrev pub elements_judged : List AuditAt → AuditAt → ℕ → Image → Judg
 elements_judged audits a element = λ i. below_judged a (under i audits) element
 
 -- no step is left for it
-pub none_left : (A : Type 0) (image : Option Image) (audits : List AuditAt) (a : AuditAt) (n start : ℕ) (steps : List CertStep) (c : Cursor) → length steps ≤ c.at →
+pub none_left : (A : Type 0) (image : Option Image) (audits : List AuditAt) (a : AuditAt) (n start : ℕ) (steps : List CertStep) (c : StepCursor) → length steps ≤ c.at →
     JudgesAs {A = A} (looked audits a n start) (progress steps c) (progress steps c) image (Err Unfit)
 none_left A None audits a n start steps c le = tt
 none_left A (Some i) audits a n start steps c le =
@@ -85,7 +85,7 @@ none_left A (Some i) audits a n start steps c le =
     ap (walk_judged i n a start (under i audits) c.counts) none ∙ ap Err (sym none)
 
 -- the step doesn't fit
-pub step_halts : (A B : Type 0) (image : Option Image) (audits : List AuditAt) (a : AuditAt) (n start : ℕ) (steps : List CertStep) (c : Cursor) (s : CertStep) (halt : TestStop) → slice_get steps c.at ≡ Some s →
+pub step_halts : (A B : Type 0) (image : Option Image) (audits : List AuditAt) (a : AuditAt) (n start : ℕ) (steps : List CertStep) (c : StepCursor) (s : CertStep) (halt : TestStop) → slice_get steps c.at ≡ Some s →
     TellsAs {A = B} (λ i. fits i n a start s) image (Err halt) → JudgesAs {A = A} (looked audits a n start) (progress steps c) (progress steps c) image (Err halt)
 step_halts A B None audits a n start steps c s halt is e = tt
 step_halts A B (Some i) audits a n start steps c s Unfit is e =
@@ -97,7 +97,7 @@ step_halts A B (Some i) audits a n start steps c s Fault is e = tt
 step_halts A B (Some i) audits a n start steps c s NoMemory is e = tt
 
 -- it does, and what lies below its nodes is left
-pub step_goes : {A : Type 0} (image : Option Image) (audits : List AuditAt) (a : AuditAt) (n start : ℕ) (steps : List CertStep) (c next : Cursor) (s : CertStep) (nodes : List ℕ) (size : ℕ) (u : A) → slice_get steps c.at ≡ Some s →
+pub step_goes : {A : Type 0} (image : Option Image) (audits : List AuditAt) (a : AuditAt) (n start : ℕ) (steps : List CertStep) (c next : StepCursor) (s : CertStep) (nodes : List ℕ) (size : ℕ) (u : A) → slice_get steps c.at ≡ Some s →
     nodes ≡ nodes_in a.kind s.lists → size ≡ length nodes → next.at ≡ c.at + 1 → next.counts ≡ added c.counts n size → TellsAs (λ i. fits i n a start s) image (Ok u) →
     Left image (progress steps c) (looked audits a n start) (progress steps next) (node_judged audits a) nodes
 step_goes None audits a n start steps c next s nodes size u is are sized on counted e = tt

@@ -25,7 +25,7 @@ use Rattle.kc_cert.specs.RunLaws.Runs.{ends_clean, tally_goes}
 use Rattle.kc_cert.specs.declared.text.certificate.CertStep.{CertStep}
 use Rattle.kc_cert.specs.declared.rechecking.against.CertAnswer.{CertAnswer}
 use Rattle.kc_cert.specs.declared.rechecking.against.CertAnswer.TheVariants.{Yes, No}
-use Rattle.kc_cert.specs.declared.rechecking.nest.Cursor.{Cursor}
+use Rattle.kc_cert.specs.declared.rechecking.nest.StepCursor.{StepCursor}
 use Rattle.kc_found.specs.declared.test.TestStop.TheVariants.{Unfit}
 use Rattle.kc_cert.specs.Rechecking.Answers.{IsRight, JudgesAs, progress}
 use Rattle.kc_cert.specs.Rechecking.Laws.{AnswersAreRight}
@@ -55,7 +55,7 @@ checks_none i asked element (check ∷ checks) e =
     let parts = wrong_parts (checked asked element check there) (checks_seen (world i) asked checks element) e in
     ap (λ es. es ++ checks_seen (world i) asked checks element) (check_none asked element check there parts.0) ∙ checks_none i asked element checks parts.1
 
-none_of : (o : Option Violation) → is_none o ≡ true → o ≡ None
+pub none_of : (o : Option Violation) → is_none o ≡ true → o ≡ None
 none_of None e = refl
 none_of (Some v) e = let none : ⊥ = cc in absurd none
 
@@ -90,7 +90,7 @@ nodes_tallied i n a start judge see (node ∷ nodes) p after further hold e = by
         tally_goes p.counts q.counts (at_element (world i) n a start see (container_of a.link node)) _ (ap (tally p.counts) here ∙ first)
         ∙ more q parts.1 e
 
-fits_parts : (i : Image) (n : ℕ) (a : AuditAt) (start : ℕ) (s : CertStep) → fits i n a start s ≡ true → (is_shape i a.kind n start s.lists ≡ true) × (all_hold i n a start (nodes_in a.kind s.lists) ≡ true)
+pub fits_parts : (i : Image) (n : ℕ) (a : AuditAt) (start : ℕ) (s : CertStep) → fits i n a start s ≡ true → (is_shape i a.kind n start s.lists ≡ true) × (all_hold i n a start (nodes_in a.kind s.lists) ≡ true)
 unfolding fits
 fits_parts i n a start s is =
     let parts = and_parts (nat_eq s.audit n && nat_eq s.start start) (is_shape i a.kind n start s.lists && all_hold i n a start (nodes_in a.kind s.lists)) is in
@@ -176,12 +176,12 @@ begin steps audits = record { left = steps; counts = zeros audits }
 pub begin_is : (steps : List CertStep) (counts : List AuditCount) (audits : List AuditAt) → counts ≡ zeros audits → progress steps (record { at = 0; counts = counts }) ≡ begin steps audits
 begin_is steps counts audits is = let with_counts : List AuditCount → Progress = λ cs. record { left = steps; counts = cs } in ap with_counts is
 
-pub answers_ok : {A : Type 0} (image : Option Image) (audits : List AuditAt) (steps : List CertStep) (start c : Cursor) (u : A) (found : CertAnswer) → progress steps start ≡ begin steps audits → found ≡ answer_by steps c.counts (drop c.at steps) →
+pub answers_ok : {A : Type 0} (image : Option Image) (audits : List AuditAt) (steps : List CertStep) (start c : StepCursor) (u : A) (found : CertAnswer) → progress steps start ≡ begin steps audits → found ≡ answer_by steps c.counts (drop c.at steps) →
     JudgesAs (λ i. roots_judged i audits) (progress steps start) (progress steps c) image (Ok u) → IfSome image (λ i. answer i audits steps ≡ found)
 answers_ok None audits steps start c u found from is e = tt
 answers_ok (Some i) audits steps start c u found from is e = ap (answer_of steps) (ap (roots_judged i audits) (sym from) ∙ e) ∙ sym is
 
-pub answers_unfit : (A : Type 0) (image : Option Image) (audits : List AuditAt) (steps : List CertStep) (start c : Cursor) (k : ℕ) → progress steps start ≡ begin steps audits → k ≡ number_of steps (drop c.at steps) →
+pub answers_unfit : (A : Type 0) (image : Option Image) (audits : List AuditAt) (steps : List CertStep) (start c : StepCursor) (k : ℕ) → progress steps start ≡ begin steps audits → k ≡ number_of steps (drop c.at steps) →
     JudgesAs {A = A} (λ i. roots_judged i audits) (progress steps start) (progress steps c) image (Err Unfit) → IfSome image (λ i. answer i audits steps ≡ No k)
 answers_unfit A None audits steps start c k from is e = tt
 answers_unfit A (Some i) audits steps start c k from is e = ap (answer_of steps) (ap (roots_judged i audits) (sym from) ∙ e) ∙ ap No (sym is)
@@ -190,7 +190,7 @@ right_by : (i : Image) (audits : List AuditAt) (steps left : List CertStep) (cou
 right_by i audits steps [] counts r = r
 right_by i audits steps (s ∷ left) counts r = tt
 
-pub ok_right : {A : Type 0} (image : Option Image) (laws : ShapesAreWalked) (clean : CleanWhereStanding) (audits : List AuditAt) (steps : List CertStep) (start c : Cursor) (u : A) (found : CertAnswer) → progress steps start ≡ begin steps audits → found ≡ answer_by steps c.counts (drop c.at steps) →
+pub ok_right : {A : Type 0} (image : Option Image) (laws : ShapesAreWalked) (clean : CleanWhereStanding) (audits : List AuditAt) (steps : List CertStep) (start c : StepCursor) (u : A) (found : CertAnswer) → progress steps start ≡ begin steps audits → found ≡ answer_by steps c.counts (drop c.at steps) →
     JudgesAs (λ i. roots_judged i audits) (progress steps start) (progress steps c) image (Ok u) → IfSome image (λ i. IsRight i audits found)
 ok_right None laws clean audits steps start c u found from is e = tt
 ok_right (Some i) laws clean audits steps start c u found from is e =

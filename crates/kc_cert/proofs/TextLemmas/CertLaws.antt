@@ -13,8 +13,8 @@ use Rattle.kc_text.specs.Readers.{decimal_below, hex16}
 use Rattle.kc_text.specs.Reading.{and_then}
 use Rattle.kc_laws.specs.Formats.{after-law, below-law, both-law, counted-law, ended-law, followed-law, hex-law, mapped-law, stop-none, stop-place}
 use Rattle.kc_cert.specs.declared.text.certificate.CertStep.{CertStep}
-use Rattle.kc_cert.specs.declared.text.read.ReadStop.{ReadStop}
-use Rattle.kc_cert.specs.declared.text.read.ReadStop.TheVariants.{At}
+use Rattle.kc_cert.specs.declared.text.read.TextStop.{TextStop}
+use Rattle.kc_cert.specs.declared.text.read.TextStop.TheVariants.{At}
 use Rattle.kc_cert.specs.Text.CertTexts.{BeginsCertificate, IsCertificate, IsList, IsNoCertificate, IsStep, TextsTold, cert_format, cert_in, cert_text, line_format, list_format, list_text, placed, step_format, step_of, step_parts, step_text, steps_format}
 use Rattle.kc_cert.specs.Text.Readings.{AddsAll}
 
@@ -144,9 +144,9 @@ pub all_more : (bytes : List ℕ) (old cert : List CertStep) (rest : Bor (List �
 all_more bytes old cert rest long adds =
     ap (λ (r : Result (List CertStep × List ℕ) (List ℕ)). and_then {B = List CertStep × List ℕ} r (λ r. ended_by r.0 r.1)) adds.1 ∙ ended_more adds.0 rest.now long
 
-pub all_stop : (bytes : List ℕ) (old cert : List CertStep) (stop : ReadStop) (rest : Bor (List ℕ)) → stop ≡ At rest → AddsAll (steps_format.read bytes) old cert (Err stop) → cert_format.read bytes ≡ Err rest.now
+pub all_stop : (bytes : List ℕ) (old cert : List CertStep) (stop : TextStop) (rest : Bor (List ℕ)) → stop ≡ At rest → AddsAll (steps_format.read bytes) old cert (Err stop) → cert_format.read bytes ≡ Err rest.now
 all_stop bytes old cert stop rest is adds =
-    let P : ReadStop → Type 0 = λ e. AddsAll (steps_format.read bytes) old cert (Err e) in
+    let P : TextStop → Type 0 = λ e. AddsAll (steps_format.read bytes) old cert (Err e) in
     ap (λ (r : Result (List CertStep × List ℕ) (List ℕ)). and_then {B = List CertStep × List ℕ} r (λ r. ended_by r.0 r.1)) (subst P is adds)
 
 pub some_left : (b : Bool) (n : ℕ) → b ≡ eqb n 0 → b ≡ false → 1 ≤ n

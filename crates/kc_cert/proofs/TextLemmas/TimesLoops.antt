@@ -7,8 +7,8 @@ use Rattle.kc_text.specs.Format.{Format}
 use Rattle.kc_text.specs.Reading.{and_then}
 use Rattle.kc_text.specs.Readers.{decimal_and}
 use Rattle.kc_text.specs.Compose.{texts}
-use Rattle.kc_cert.specs.declared.text.read.ReadStop.{ReadStop}
-use Rattle.kc_cert.specs.declared.text.read.ReadStop.TheVariants.{At, NoMemory}
+use Rattle.kc_cert.specs.declared.text.read.TextStop.{TextStop}
+use Rattle.kc_cert.specs.declared.text.read.TextStop.TheVariants.{At, NoMemory}
 use Rattle.kc_text.specs.Counted.{counted, put, times}
 use Rattle.kc_cert.specs.Text.Readings.{AddsAll, AddsOne}
 use Rattle.kc_cert.specs.Text.Drops.{drop_at}
@@ -53,7 +53,7 @@ module _ {X : Type 0} (f : Format X) where
   pub times_go : (bytes : List ℕ) (count i : ℕ) (old now new : List X) (rest : List ℕ) (next : Bor (List ℕ)) → i < count → Left bytes count old now (count - i) rest → AddsOne (f.read rest) now new (Ok next) → Left bytes count old new (count - (i + 1)) next.now
   times_go bytes count i old now new rest next lt l adds = go_on bytes count old now new (count - i) (count - (i + 1)) rest next.now adds.0 (omega (arith, lt)) l adds.1 adds.2
 
-  pub times_stop : (bytes : List ℕ) (count i : ℕ) (old now new end : List X) (rest : List ℕ) (stop : ReadStop) → i < count → Left bytes count old now (count - i) rest → AddsOne (f.read rest) now new (Err stop) → AddsAll ((times f count).read bytes) old end (Err stop)
+  pub times_stop : (bytes : List ℕ) (count i : ℕ) (old now new end : List X) (rest : List ℕ) (stop : TextStop) → i < count → Left bytes count old now (count - i) rest → AddsOne (f.read rest) now new (Err stop) → AddsAll ((times f count).read bytes) old end (Err stop)
   times_stop bytes count i old now new end rest NoMemory lt l adds = tt
   times_stop bytes count i old now new end rest (At stop) lt l adds =
       let number : count - i ≡ suc (count - (i + 1)) = omega (arith, lt) in
@@ -69,7 +69,7 @@ module _ {X : Type 0} (f : Format X) where
       (l.done, sym l.same ∙ ap (λ n. behind l.done ((times f n).read rest.now)) number ∙ ap (behind l.done) (none_more rest.now) ∙ ap (λ xs. Ok (xs, rest.now)) (append-nil l.done), l.added)
 
   -- how many there are, and then they
-  pub counted_go : (bytes mid : List ℕ) (count : ℕ) (old new : List X) (r : Result (Bor (List ℕ)) ReadStop) → (decimal_and 10).read bytes ≡ Ok (count, mid) → AddsAll ((times f count).read mid) old new r → AddsAll ((counted f).read bytes) old new r
+  pub counted_go : (bytes mid : List ℕ) (count : ℕ) (old new : List X) (r : Result (Bor (List ℕ)) TextStop) → (decimal_and 10).read bytes ≡ Ok (count, mid) → AddsAll ((times f count).read mid) old new r → AddsAll ((counted f).read bytes) old new r
   counted_go bytes mid count old new (Ok next) is adds = (
     adds.0,
     ap (λ (r : Result (ℕ × List ℕ) (List ℕ)). and_then {B = List X × List ℕ} (and_then {B = (ℕ × List X) × List ℕ} r (λ r. and_then ((times f r.0).read r.1) (λ s. Ok ((r.0, s.0), s.1)))) (λ r. Ok (r.0.1, r.1))) is

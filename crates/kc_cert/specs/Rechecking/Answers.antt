@@ -13,11 +13,11 @@ use Rattle.kc_cert.specs.declared.rechecking.against.CertAnswer.TheVariants.{Yes
 use Rattle.kc_cert.specs.declared.text.certificate.CertStep.{CertStep}
 use Rattle.kc_found.specs.declared.failed.ReadFailed.{ReadFailed}
 use Rattle.kc_found.specs.declared.failed.ReadFailed.TheVariants as stops
-use Rattle.kc_cert.specs.declared.rechecking.nest.Cursor.{Cursor}
+use Rattle.kc_cert.specs.declared.rechecking.nest.StepCursor.{StepCursor}
 use Rattle.kc_cert.specs.Rechecking.Certificates.{Judge, Progress}
 
 -- where a certificate is looked at
-abbrev pub progress : List CertStep → Cursor → Progress
+abbrev pub progress : List CertStep → StepCursor → Progress
 progress steps c = record { left = drop c.at steps; counts = c.counts }
 
 -- steps fit up to here, or the one that is looked at doesn't

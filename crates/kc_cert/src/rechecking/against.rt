@@ -11,7 +11,7 @@ ghost use Rattle.kc_cert.specs.Rechecking.Certificates.{answer, answer_by, each_
 ghost use Rattle.kc_cert.specs.Fits.Size.{size};
 ghost use Rattle.kc_found.specs.Failures.{CountsFailures};
 
-use crate::rechecking::nest::{Cursor, Known, enter};
+use crate::rechecking::nest::{Known, StepCursor, enter};
 use crate::{Certificate, know_walked};
 use kc_btf::Btf;
 use kc_found::{Asked, Counts, ReadFailed, Space, TestStop};
@@ -35,7 +35,7 @@ fn enter_root<S: Space, L: Ledger>(
     alloc: Global,
     known: &Known<'_>,
     space: &mut S,
-    cursor: &mut Cursor,
+    cursor: &mut StepCursor,
     number: u32,
     start: &Start,
     steps: &mut Steps<L>,
@@ -70,7 +70,7 @@ fn enter_roots<S: Space, L: Ledger>(
     alloc: Global,
     known: &Known<'_>,
     space: &mut S,
-    cursor: &mut Cursor,
+    cursor: &mut StepCursor,
     steps: &mut Steps<L>,
 ) -> Result<(), TestStop>
     requires types { AreInside (length known.now.btf.now.records) known.now.plan.now.audits }
@@ -104,7 +104,7 @@ fn number_of(cert: &Certificate, at: usize) -> u64
 }
 
 // The answer where the steps before this one fit, and no walk is left.
-fn answer_by(cert: &Certificate, cursor: Cursor) -> CertAnswer
+fn answer_by(cert: &Certificate, cursor: StepCursor) -> CertAnswer
     ensures { result ≡ answer_by cert.now cursor.counts (drop cursor.at cert.now) }
 {
     if cursor.at < cert.len() {
@@ -150,7 +150,7 @@ pub fn recheck<S: Space, L: Ledger>(
         Ok(counts) => counts,
         Err(NoMemory) => return Err(ReadFailed::NoMemory),
     };
-    let mut cursor = Cursor { at: 0, counts };
+    let mut cursor = StepCursor { at: 0, counts };
     match enter_roots(alloc, &known, space, &mut cursor, steps) {
         Ok(()) => Ok(answer_by(cert, cursor)),
         Err(TestStop::Unfit) => Ok(CertAnswer::No(number_of(cert, cursor.at))),

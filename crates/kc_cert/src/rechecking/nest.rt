@@ -27,7 +27,7 @@ const NO_TYPE: u32 = 0;
 // How far a recheck came: the number of the step that is looked at, counted from 0, and the counts of those before. It stays at the
 // step that doesn't fit, so the answer's number is read off it.
 #[derive(Drop)]
-pub struct Cursor {
+pub struct StepCursor {
     pub at: usize,
     pub counts: Counts,
 }
@@ -46,7 +46,7 @@ pub(crate) fn enter<S: Space, L: Ledger>(
     alloc: Global,
     known: &Known<'_>,
     space: &mut S,
-    cursor: &mut Cursor,
+    cursor: &mut StepCursor,
     base: &Asked,
     steps: &mut Steps<L>,
 ) -> Result<(), TestStop>
@@ -94,7 +94,7 @@ fn look<S: Space, L: Ledger>(
     alloc: Global,
     known: &Known<'_>,
     space: &mut S,
-    cursor: &mut Cursor,
+    cursor: &mut StepCursor,
     audit: &Audit,
     asked: &Asked,
     steps: &mut Steps<L>,
@@ -141,7 +141,7 @@ fn look_below<S: Space, L: Ledger>(
     alloc: Global,
     known: &Known<'_>,
     space: &mut S,
-    cursor: &mut Cursor,
+    cursor: &mut StepCursor,
     audit: &Audit,
     asked: &Asked,
     element: u64,

@@ -24,7 +24,7 @@ pub enum CertRead {
 
 // Where reading stopped: the bytes that are left there, or no memory was.
 #[derive(Drop)]
-pub enum ReadStop<'a> {
+pub enum TextStop<'a> {
     At(&'a [u8]),
     NoMemory,
 }
@@ -53,8 +53,8 @@ pub fn read_cert(alloc: Global, bytes: &[u8]) -> Result<Certificate, CertRead>
                 Err(CertRead::Z1((bytes.len() - rest.len()) as u64))
             }
         }
-        Err(ReadStop::At(rest)) => Err(CertRead::Z1((bytes.len() - rest.len()) as u64)),
-        Err(ReadStop::NoMemory) => Err(CertRead::NoMemory),
+        Err(TextStop::At(rest)) => Err(CertRead::Z1((bytes.len() - rest.len()) as u64)),
+        Err(TextStop::NoMemory) => Err(CertRead::NoMemory),
     }
 }
 
@@ -68,15 +68,15 @@ fn read_line(bytes: &[u8]) -> Result<(u64, &[u8]), &[u8]>
 }
 
 // Reads a number on a line, adds it, and gives the bytes after it.
-fn next_number<'a>(list: &mut Walked, bytes: &'a [u8]) -> Result<&'a [u8], ReadStop<'a>>
+fn next_number<'a>(list: &mut Walked, bytes: &'a [u8]) -> Result<&'a [u8], TextStop<'a>>
     ensures { AddsOne (line_format.read bytes.now) list.old list.new result }
 {
     match read_line(bytes) {
         Ok((n, rest)) => match list.push(n) {
             Ok(()) => Ok(rest),
-            Err(NoMemory) => Err(ReadStop::NoMemory),
+            Err(NoMemory) => Err(TextStop::NoMemory),
         },
-        Err(stop) => Err(ReadStop::At(stop)),
+        Err(stop) => Err(TextStop::At(stop)),
     }
 }
 
@@ -85,7 +85,7 @@ fn read_numbers<'a>(
     list: &mut Walked,
     count: u64,
     bytes: &'a [u8],
-) -> Result<&'a [u8], ReadStop<'a>>
+) -> Result<&'a [u8], TextStop<'a>>
     ensures { AddsAll ((times line_format count).read bytes.now) list.old list.new result }
 {
     let mut rest = bytes;
@@ -96,12 +96,12 @@ fn read_numbers<'a>(
 }
 
 // Reads how many numbers there are, and then them.
-fn counted_numbers<'a>(list: &mut Walked, bytes: &'a [u8]) -> Result<&'a [u8], ReadStop<'a>>
+fn counted_numbers<'a>(list: &mut Walked, bytes: &'a [u8]) -> Result<&'a [u8], TextStop<'a>>
     ensures { AddsAll ((counted line_format).read bytes.now) list.old list.new result }
 {
     match read_decimal(bytes, b'\n') {
         Ok((count, rest)) => read_numbers(list, count, rest),
-        Err(stop) => Err(ReadStop::At(stop)),
+        Err(stop) => Err(TextStop::At(stop)),
     }
 }
 
@@ -110,18 +110,18 @@ fn next_list<'a>(
     alloc: Global,
     lists: &mut Lists,
     bytes: &'a [u8],
-) -> Result<&'a [u8], ReadStop<'a>>
+) -> Result<&'a [u8], TextStop<'a>>
     ensures { AddsOne (list_format.read bytes.now) lists.old lists.new result }
 {
     let rest = match read_literal(bytes, b"list ") {
         Ok(rest) => rest,
-        Err(stop) => return Err(ReadStop::At(stop)),
+        Err(stop) => return Err(TextStop::At(stop)),
     };
     let mut list = Walked::new(alloc);
     let rest = counted_numbers(&mut list, rest)?;
     match lists.push(list) {
         Ok(()) => Ok(rest),
-        Err(NoMemory) => Err(ReadStop::NoMemory),
+        Err(NoMemory) => Err(TextStop::NoMemory),
     }
 }
 
@@ -131,7 +131,7 @@ fn read_lists<'a>(
     lists: &mut Lists,
     count: u64,
     bytes: &'a [u8],
-) -> Result<&'a [u8], ReadStop<'a>>
+) -> Result<&'a [u8], TextStop<'a>>
     ensures { AddsAll ((times list_format count).read bytes.now) lists.old lists.new result }
 {
     let mut rest = bytes;
@@ -146,12 +146,12 @@ fn counted_lists<'a>(
     alloc: Global,
     lists: &mut Lists,
     bytes: &'a [u8],
-) -> Result<&'a [u8], ReadStop<'a>>
+) -> Result<&'a [u8], TextStop<'a>>
     ensures { AddsAll ((counted list_format).read bytes.now) lists.old lists.new result }
 {
     match read_decimal(bytes, b'\n') {
         Ok((count, rest)) => read_lists(alloc, lists, count, rest),
-        Err(stop) => Err(ReadStop::At(stop)),
+        Err(stop) => Err(TextStop::At(stop)),
     }
 }
 
@@ -173,12 +173,12 @@ fn next_step<'a>(
     alloc: Global,
     cert: &mut Certificate,
     bytes: &'a [u8],
-) -> Result<&'a [u8], ReadStop<'a>>
+) -> Result<&'a [u8], TextStop<'a>>
     ensures { AddsOne (step_format.read bytes.now) cert.old cert.new result }
 {
     let (head, rest) = match read_head(bytes) {
         Ok(read) => read,
-        Err(stop) => return Err(ReadStop::At(stop)),
+        Err(stop) => return Err(TextStop::At(stop)),
     };
     let mut lists = Lists::new(alloc);
     let rest = counted_lists(alloc, &mut lists, rest)?;
@@ -189,7 +189,7 @@ fn next_step<'a>(
     };
     match cert.push(step) {
         Ok(()) => Ok(rest),
-        Err(NoMemory) => Err(ReadStop::NoMemory),
+        Err(NoMemory) => Err(TextStop::NoMemory),
     }
 }
 
@@ -199,7 +199,7 @@ fn read_steps<'a>(
     cert: &mut Certificate,
     count: u64,
     bytes: &'a [u8],
-) -> Result<&'a [u8], ReadStop<'a>>
+) -> Result<&'a [u8], TextStop<'a>>
     ensures { AddsAll ((times step_format count).read bytes.now) cert.old cert.new result }
 {
     let mut rest = bytes;
@@ -214,15 +214,15 @@ fn read_all<'a>(
     alloc: Global,
     cert: &mut Certificate,
     bytes: &'a [u8],
-) -> Result<&'a [u8], ReadStop<'a>>
+) -> Result<&'a [u8], TextStop<'a>>
     ensures { AddsAll (steps_format.read bytes.now) cert.old cert.new result }
 {
     let rest = match read_literal(bytes, b"certificate ") {
         Ok(rest) => rest,
-        Err(stop) => return Err(ReadStop::At(stop)),
+        Err(stop) => return Err(TextStop::At(stop)),
     };
     match read_decimal(rest, b'\n') {
         Ok((count, rest)) => read_steps(alloc, cert, count, rest),
-        Err(stop) => Err(ReadStop::At(stop)),
+        Err(stop) => Err(TextStop::At(stop)),
     }
 }

@@ -2,7 +2,7 @@ use Rattle.std.proofs.Common.{◌≡◌, ◌∙◌, refl, rules, Err}
 use Rattle.kc_outside.specs.declared.store.Slot.TheVariants as slot
 use Rattle.kc_outside.specs.Files.{content}
 use Rattle.kc_plan.specs.declared.plan.Plan.{Plan}
-use Rattle.kc_app.specs.declared.held.Held.{Held}
+use Rattle.kc_app.specs.declared.held.HeldFiles.{HeldFiles}
 use Rattle.kc_app.specs.CheckModule.{five_view}
 use Rattle.kc_app.proofs.CheckedModule.{late_stays, module_holds}
 use Rattle.kc_app.proofs.check_module.read_joined.Goals as goal
@@ -10,7 +10,7 @@ use Rattle.kc_app.proofs.check_module.read_joined.Goals as goal
 pub returns-in_err-plan-clause-unopened : goal.returns-in_err-plan-clause-unopened
 returns-in_err-plan-clause-unopened g c =
     let is : c.from_residual-in_err-plan.result ≡ Err c.in_err-plan.field-0.0 = search rules in
-    late_stays Plan Held (five_view c.args.asks.now) c.in_err-plan.field-0.0 c.from_residual-in_err-plan.result
+    late_stays Plan HeldFiles (five_view c.args.asks.now) c.in_err-plan.field-0.0 c.from_residual-in_err-plan.result
     (g.S.Store.opened c.args.store.now) (g.S.Store.opened c.read_map.new.store) (g.S.Store.opened c.find_plan.new.store)
     is (c.read_map.ensures.others_opened slot.Plan refl ∙ c.read_module.ensures.others_opened slot.Plan refl ∙ c.read_types.ensures.others_opened slot.Plan refl ∙ c.in_ok-noted.ensures.others_opened slot.Plan refl)
     c.in_err-plan.ensures.unopened

@@ -3,7 +3,7 @@ use Rattle.kc_outside.specs.declared.store.Slot.TheVariants as slot
 use Rattle.kc_outside.specs.Files.{content}
 use Rattle.kc_plan.specs.declared.plan.Plan.{Plan}
 use Rattle.kc_command.specs.declared.kernel.Kernel.{Kernel}
-use Rattle.kc_app.specs.declared.held.Held.{Held}
+use Rattle.kc_app.specs.declared.held.HeldFiles.{HeldFiles}
 use Rattle.kc_app.specs.Check.{files_view}
 use Rattle.kc_app.proofs.Checked.{late_stays}
 use Rattle.kc_app.proofs.Holding.{holds, three_stay}
@@ -12,13 +12,13 @@ use Rattle.kc_app.proofs.held.read_held.Goals as goal
 pub returns-in_err-kernel-clause-unopened : goal.returns-in_err-kernel-clause-unopened
 returns-in_err-kernel-clause-unopened g c =
     let is : c.from_residual.result ≡ Err c.in_err-kernel.field-0.0 = search rules in
-    three_stay Kernel Held c.args.asks.now c.in_err-kernel.field-0.0 c.from_residual.result
+    three_stay Kernel HeldFiles c.args.asks.now c.in_err-kernel.field-0.0 c.from_residual.result
     (g.S.Store.opened c.args.store.now) (g.S.Store.opened c.read_kernel.new.store) is c.read_kernel.ensures.plan_opened c.in_err-kernel.ensures.unopened
 
 pub returns-in_err-plan-clause-unopened : goal.returns-in_err-plan-clause-unopened
 returns-in_err-plan-clause-unopened g c =
     let is : c.from_residual-in_err-plan.result ≡ Err c.in_err-plan.field-0.0 = search rules in
-    late_stays Plan Held (files_view c.args.asks.now) c.in_err-plan.field-0.0 c.from_residual-in_err-plan.result
+    late_stays Plan HeldFiles (files_view c.args.asks.now) c.in_err-plan.field-0.0 c.from_residual-in_err-plan.result
     (g.S.Store.opened c.args.store.now) (g.S.Store.opened c.read_kernel.new.store) (g.S.Store.opened c.find_plan.new.store)
     is c.read_kernel.ensures.plan_opened c.in_err-plan.ensures.unopened
 

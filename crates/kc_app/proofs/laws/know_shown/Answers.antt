@@ -22,5 +22,11 @@ returns-clause-module_ends c = module_checks_end (checks_stand c.know_verdicts.e
 pub returns-clause-texts : goal.returns-clause-texts
 returns-clause-texts c = c.know_texts.ensures
 
+pub returns-clause-single : goal.returns-clause-single
+returns-clause-single c = c.know_single.ensures.certificates
+
 pub returns-clause-right : goal.returns-clause-right
-returns-clause-right c = c.know_answers.ensures
+returns-clause-right c = c.know_answers.ensures.right
+
+pub returns-clause-order : goal.returns-clause-order
+returns-clause-order c = c.know_answers.ensures.order

@@ -2,7 +2,7 @@ use Rattle.std.proofs.Common.{◌≡◌, List, refl, rules, Err}
 use Rattle.kc_outside.specs.declared.store.Slot.TheVariants.{Dump, Btf, Map, Plan, Report}
 use Rattle.kc_outside.specs.Files.{content}
 use Rattle.kc_cert.specs.declared.text.certificate.CertStep.{CertStep}
-use Rattle.kc_app.specs.declared.held.Held.{Held}
+use Rattle.kc_app.specs.declared.held.HeldFiles.{HeldFiles}
 use Rattle.kc_command.specs.declared.ends.answer.Answer.{Answer}
 use Rattle.kc_app.specs.Check.{audited}
 use Rattle.kc_app.specs.Recheck.{cert_files}
@@ -12,7 +12,7 @@ use Rattle.kc_app.proofs.recheck.recheck.Goals as goal
 pub returns-in_err-held-clause-unopened : goal.returns-in_err-held-clause-unopened
 returns-in_err-held-clause-unopened g c =
     let is : c.from_residual.result ≡ Err c.in_err-held.field-0.0 = search rules in
-    four_stay Held Answer (cert_files c.args.asks.now) c.in_err-held.field-0.0 c.from_residual.result
+    four_stay HeldFiles Answer (cert_files c.args.asks.now) c.in_err-held.field-0.0 c.from_residual.result
     (g.S.Store.opened c.args.store.now) (g.S.Store.opened c.read_held.new.store) is c.read_held.ensures.cert_opened c.in_err-held.ensures.unopened
 
 pub returns-in_err-cert-clause-unopened : goal.returns-in_err-cert-clause-unopened

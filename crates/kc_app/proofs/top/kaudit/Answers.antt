@@ -41,7 +41,7 @@ returns-clause-shown g c =
 
 pub returns-clause-certified : goal.returns-clause-certified
 returns-clause-certified g c =
-    answer_certifies c.know_shown.ensures.checked (map string_bytes c.args.words.now) (g.S.Store.files c.args.store.now) c.finish.result (g.O.Sink.taken c.args.out.now) (g.O.Sink.taken c.finish.new.out) (g.E.Sink.taken c.args.err.now) (g.E.Sink.taken c.finish.new.err)
+    answer_certifies c.know_shown.ensures.checked (record { only = c.know_shown.ensures.single; order = c.know_shown.ensures.order }) (map string_bytes c.args.words.now) (g.S.Store.files c.args.store.now) c.finish.result (g.O.Sink.taken c.args.out.now) (g.O.Sink.taken c.finish.new.out) (g.E.Sink.taken c.args.err.now) (g.E.Sink.taken c.finish.new.err)
     (returns-clause-told g c)
 
 pub returns-clause-rechecked : goal.returns-clause-rechecked

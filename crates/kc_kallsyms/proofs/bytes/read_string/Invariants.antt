@@ -1,6 +1,7 @@
 use Rattle.std.proofs.Common.{◌≡◌, ◌-◌}
 use Rattle.kc_memory.specs.Stays.{SpaceStays}
-use Rattle.kc_kallsyms.specs.Bytes.{IsKept, string_at}
+use Rattle.kc_bytes.specs.Bytes.{IsKept}
+use Rattle.kc_kallsyms.specs.Bytes.{string_at}
 use Rattle.kc_kallsyms.specs.Going.{GoesAs}
 use Rattle.kc_kallsyms.proofs.bytes.read_string.Given as goal
 

@@ -1,6 +1,6 @@
 use Rattle.std.proofs.Common.{◌≡◌, Err, refl, rules}
 use Rattle.kc_kallsyms.specs.declared.fault.TableFault.TheVariants.{S9}
-use Rattle.kc_kallsyms.specs.declared.stop.ReadStop.TheVariants.{Table}
+use Rattle.kc_kallsyms.specs.declared.stop.TableStop.TheVariants.{Table}
 use Rattle.kc_kallsyms.proofs.Finding.{found, no_reading, no_symbols, no_tables}
 use Rattle.kc_kallsyms.proofs.kernel.find_kernel.Goals as goal
 

@@ -1,6 +1,6 @@
 use Rattle.std.proofs.Common.{◌≡◌, ◌-◌, map, vec_len}
 use Rattle.kc_memory.specs.Stays.{SpaceStays}
-use Rattle.kc_kallsyms.specs.Bytes.{IsKept}
+use Rattle.kc_bytes.specs.Bytes.{IsKept}
 use Rattle.kc_kallsyms.specs.Going.{GoesAs}
 use Rattle.kc_kallsyms.specs.Tables.{tokens_at}
 use Rattle.kc_kallsyms.proofs.tabled.read_tokens.Given as goal

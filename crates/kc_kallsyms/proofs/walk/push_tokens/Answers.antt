@@ -1,10 +1,19 @@
 use Rattle.std.proofs.Common.{◌≡◌, ◌∙◌, List, ℕ, Err, ap, sym, ◌++◌, arith, rules}
 use Rattle.kc_memory.specs.Stays.{stays_on}
-use Rattle.kc_kallsyms.specs.Bytes.{onward}
+use Rattle.kc_bytes.specs.Bytes.{onward}
 use Rattle.kc_kallsyms.specs.Views.{tokens_view}
-use Rattle.kc_kallsyms.proofs.Loops.{text_come, text_go, text_halt}
+use Rattle.kc_kallsyms.proofs.Loops.{text_come, text_first, text_go, text_halt}
 use Rattle.kc_kallsyms.proofs.Steps.{onward_more, token_is}
 use Rattle.kc_kallsyms.proofs.walk.push_tokens.Goals as goal
+
+pub loop-i-init : goal.loop-i-init
+loop-i-init g c = record {
+  goes = text_first (g.S.Space.image c.args.space.now) (tokens_view c.args.tokens.now) c.args.count c.args.cursor.now.at c.args.text.now.items;
+  place = let fits = c.requires.fits in omega (arith, fits);
+  kept = search rules;
+  stays = search rules;
+  quiet = search rules;
+}
 
 pub loop-i-preserved : goal.loop-i-preserved
 loop-i-preserved g c =

@@ -1,7 +1,8 @@
 use Rattle.std.proofs.Common.{◌≡◌, ◌-◌, ◌++◌}
 use Rattle.std.specs.List.{flat_map}
 use Rattle.kc_memory.specs.Stays.{SpaceStays}
-use Rattle.kc_kallsyms.specs.Bytes.{IsKept, bytes_at, onward}
+use Rattle.kc_bytes.specs.Bytes.{IsKept, onward}
+use Rattle.kc_kallsyms.specs.Bytes.{bytes_at}
 use Rattle.kc_kallsyms.specs.Going.{GoesAs}
 use Rattle.kc_kallsyms.specs.Symbols.{token_of}
 use Rattle.kc_kallsyms.specs.Views.{tokens_view}

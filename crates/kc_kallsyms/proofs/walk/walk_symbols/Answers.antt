@@ -1,6 +1,6 @@
 use Rattle.std.proofs.Common.{◌≡◌, ◌∙◌, Err, arith, rules}
 use Rattle.kc_memory.specs.Stays.{stays_on}
-use Rattle.kc_kallsyms.specs.declared.stop.ReadStop.TheVariants.{Table}
+use Rattle.kc_kallsyms.specs.declared.stop.TableStop.TheVariants.{Table}
 use Rattle.kc_kallsyms.specs.Symbols.{symbols_in}
 use Rattle.kc_kallsyms.specs.Views.{entry_view, spot_of, symbol_view, tables_view, tokens_view}
 use Rattle.kc_kallsyms.proofs.Loops.{symbols_come, symbols_go, symbols_halt, symbols_refused}

@@ -1,6 +1,6 @@
 use Rattle.std.proofs.Common.{◌≡◌, ◌-◌}
 use Rattle.kc_memory.specs.Stays.{SpaceStays}
-use Rattle.kc_kallsyms.specs.Bytes.{IsKept}
+use Rattle.kc_bytes.specs.Bytes.{IsKept}
 use Rattle.kc_kallsyms.specs.Going.{GoesAs}
 use Rattle.kc_kallsyms.specs.Symbols.{symbols_at, symbols_in}
 use Rattle.kc_kallsyms.specs.Views.{spot_of, tables_view, tokens_view}

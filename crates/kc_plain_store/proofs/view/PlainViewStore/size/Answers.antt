@@ -1,7 +1,7 @@
 use Rattle.std.proofs.Common.{sym, ◌∙◌}
 use Rattle.kc_outside.specs.declared.store.Slot.TheVariants.{Dump}
 use Rattle.kc_plain_store.proofs.ViewLemmas.{size_long}
-use Rattle.kc_plain_store.proofs.view.ViewStore.size.Goals as goal
+use Rattle.kc_plain_store.proofs.view.PlainViewStore.size.Goals as goal
 
 pub returns-then-is_dump-clause-length : goal.returns-then-is_dump-clause-length
 returns-then-is_dump-clause-length g c =

@@ -1,6 +1,6 @@
 use Rattle.std.proofs.Common.{length, sym, ◌∙◌}
 use Rattle.kc_plain_store.proofs.ViewLemmas.{read_part}
-use Rattle.kc_plain_store.proofs.view.ViewStore.read_at.Goals as goal
+use Rattle.kc_plain_store.proofs.view.PlainViewStore.read_at.Goals as goal
 
 pub returns-in-Ok-clause-part : goal.returns-in-Ok-clause-part
 returns-in-Ok-clause-part g c =
