@@ -1,0 +1,2 @@
+pub mod SlabsLemmas
+pub mod SlabsLaws

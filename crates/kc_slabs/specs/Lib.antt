@@ -1,0 +1,4 @@
+pub mod Laws
+pub mod Looking
+pub mod Slabs
+pub mod Text
