@@ -37,7 +37,7 @@ fn read_places(note: &[u8]) -> Result<Places, Refusal>
 /// # Errors
 ///
 /// The first fault V1 or V2 of the notes; for the map and the types S4, where a line of VMCOREINFO is missing.
-#[tactic(auto, unfolding(crate::specs::SoughtFile::sought_in))]
+#[tactic(auto, unfolding(crate::specs::Sought::sought_in))]
 pub fn sought_by(core: &Core, wish: Wish) -> Result<SoughtFile<'_>, Refusal>
     ensures made { Tells sought_view (sought_in wish core.now.notes) result }
     ensures refused { IsAbout (Some Dump) result }

@@ -3,6 +3,7 @@ pub mod Bytes
 pub mod Dump
 pub mod Frames
 pub mod Header
+pub mod Laws
 pub mod Runs
 pub mod Stays
 pub mod Walk

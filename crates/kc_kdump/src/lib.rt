@@ -6,6 +6,7 @@ mod descriptor;
 mod fault;
 mod frame;
 mod kdump;
+mod laws;
 mod layout;
 mod read;
 mod run;
@@ -15,6 +16,7 @@ pub use descriptor::{DESCRIPTOR_BYTES, Descriptor};
 pub use fault::{KdumpFault, KdumpStop};
 pub use frame::Frame;
 pub use kdump::Kdump;
+pub use laws::know_runs;
 pub use layout::{
     BLOCK_BYTES, HEADER_BYTES, Layout, SIGNATURE_BYTES, SUB_HEADER_BYTES, is_kdump, layout_in,
 };

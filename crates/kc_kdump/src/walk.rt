@@ -46,7 +46,7 @@ fn put_run(runs: &mut Vec<PageRun>, run: PageRun) -> Result<(), KdumpStop>
 }
 
 impl Walk {
-    ghost use Rattle.std.specs.Prelude.{List, [], ◌∷◌, ◌-◌, ◌*◌, take};
+    ghost use Rattle.std.specs.Prelude.{ℕ, List, [], ◌∷◌, ◌-◌, ◌*◌, take};
     ghost use Rattle.kc_kdump.specs.declared.frame.Frame.{Frame};
     ghost use Rattle.kc_kdump.specs.Frames.{all_frames, frames_by};
     ghost use Rattle.kc_kdump.specs.Runs.{empty_at};
@@ -149,6 +149,71 @@ impl Walk {
         Ok(())
     }
 
+    // Walks over the page frames of a whole byte whose pages are all in the dump, where none was left out since the run began.
+    fn take_dumped(&mut self)
+        requires fits { end_of self.old.run + 8 < 2 ^ 63 }
+        requires none { self.old.run.left ≡ 0 }
+        ensures runs { (memory : ℕ) (rest : List Frame) → runs_after self.new rest ≡ runs_after self.old (frames_by 8 memory 255 ++ rest) }
+        ensures end { end_of self.new.run ≡ end_of self.old.run + 8 }
+    {
+        self.run.dumped += 8;
+        self.pages += 8;
+    }
+
+    // The same of a byte whose pages were all left out.
+    fn take_left(&mut self)
+        requires { end_of self.old.run + 8 < 2 ^ 63 }
+        ensures runs { (rest : List Frame) → runs_after self.new rest ≡ runs_after self.old (frames_by 8 255 0 ++ rest) }
+        ensures end { end_of self.new.run ≡ end_of self.old.run + 8 }
+    {
+        self.run.left += 8;
+    }
+
+    // The same of a byte that is no memory.
+    fn take_holes(&mut self) -> Result<(), KdumpStop>
+        requires { end_of self.old.run + 8 < 2 ^ 63 }
+        ensures runs { OnOk result ((rest : List Frame) → runs_after self.new rest ≡ runs_after self.old (frames_by 8 0 0 ++ rest)) }
+        ensures end { OnOk result (end_of self.new.run ≡ end_of self.old.run + 8) }
+        ensures many { IfTooMany result ((rest : List Frame) → 4194304 < length (runs_after self.old (frames_by 8 0 0 ++ rest))) }
+    {
+        let end = self.end();
+        self.begin(end + 8, 0)
+    }
+
+    // Walks over the page frames of a whole byte of each bitmap, at once where they are all of one kind.
+    fn take_byte(&mut self, memory: u8, dumped: u8) -> Result<(), KdumpStop>
+        requires { end_of self.old.run + 8 < 2 ^ 63 }
+        ensures runs { OnOk result ((rest : List Frame) → runs_after self.new rest ≡ runs_after self.old (frames_by 8 memory dumped ++ rest)) }
+        ensures end { OnOk result (end_of self.new.run ≡ end_of self.old.run + 8) }
+        ensures many { IfTooMany result ((rest : List Frame) → 4194304 < length (runs_after self.old (frames_by 8 memory dumped ++ rest))) }
+    {
+        if dumped == 255 && self.run.left == 0 {
+            self.take_dumped();
+            Ok(())
+        } else if dumped == 0 && memory == 255 {
+            self.take_left();
+            Ok(())
+        } else if dumped == 0 && memory == 0 {
+            self.take_holes()
+        } else {
+            self.take_bits(memory, dumped, 8)
+        }
+    }
+
+    // Walks over the first page frames of a byte of each bitmap, eight at most.
+    fn take_some(&mut self, memory: u8, dumped: u8, bits: u64) -> Result<(), KdumpStop>
+        requires fits { end_of self.old.run + bits < 2 ^ 63 }
+        ensures runs { OnOk result ((rest : List Frame) → runs_after self.new rest ≡ runs_after self.old (frames_by bits memory dumped ++ rest)) }
+        ensures end { OnOk result (end_of self.new.run ≡ end_of self.old.run + bits) }
+        ensures many { IfTooMany result ((rest : List Frame) → 4194304 < length (runs_after self.old (frames_by bits memory dumped ++ rest))) }
+    {
+        if bits == 8 {
+            self.take_byte(memory, dumped)
+        } else {
+            self.take_bits(memory, dumped, bits)
+        }
+    }
+
     // Walks over the page frames by some bytes of each bitmap, so many at most.
     pub(crate) fn take_bytes(
         &mut self,
@@ -165,7 +230,7 @@ impl Walk {
         let mut left = most;
         for i in 0..memory.len() {
             let bits = left.min(8);
-            self.take_bits(memory[i], dumped[i], bits)?;
+            self.take_some(memory[i], dumped[i], bits)?;
             left -= bits;
         }
         Ok(())

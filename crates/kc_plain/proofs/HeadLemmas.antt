@@ -1,5 +1,5 @@
 -- The headers of runs, as they are put, and zeros after bytes.
-use Rattle.std.proofs.Common.{◌≡◌, ℕ, zero, suc, ◌+◌, ◌-◌, ◌*◌, ◌≤◌, ◌<◌, max, Bool, true, false, cond, List, [], ◌∷◌, ◌++◌, length, replicate, get_or, drop, refl, sym, ap, ◌∙◌, arith, add-one, append_assoc, append-nil, length-append}
+use Rattle.std.proofs.Common.{◌≡◌, ℕ, zero, suc, ◌+◌, ◌-◌, ◌*◌, ◌≤◌, ◌<◌, max, Bool, true, false, cond, List, [], ◌∷◌, ◌++◌, length, replicate, get_or, drop, Option, Some, None, refl, sym, ap, ◌∙◌, arith, add-one, append_assoc, append-nil, length-append}
 use Rattle.std.proofs.Math.Seq.{drop-cons}
 use Rattle.kc_kdump.specs.declared.run.PageRun.{PageRun}
 use Rattle.kc_kdump.specs.Runs.{end_of, page_count, reach}
@@ -7,7 +7,8 @@ use Rattle.byteorder.specs.Numbers.{length-bytes_low_first}
 use Rattle.kc_plain.specs.declared.fields.Field.{Field}
 use Rattle.kc_plain.specs.declared.fields.Field.TheVariants.{U16, U32, U64}
 use Rattle.kc_plain.specs.Fields.{field_bytes, spelled}
-use Rattle.kc_plain.specs.Head.{file_fields, header_count, headers_of, is_extended, load_fields, load_headers, note_fields, notes_at, padded, section_fields, section_header, start}
+use Rattle.kc_plain.specs.declared.root.Root.{Root}
+use Rattle.kc_plain.specs.Head.{file_fields, header_count, headers_of, is_extended, load_fields, load_headers, note_fields, notes_at, padded, section_fields, section_header, root_count, root_fields, root_header, start}
 
 -- a run among others
 pub reach_at : (runs : List PageRun) (i : ℕ) (d : PageRun) → i < length runs → end_of (get_or runs i d) ≤ reach runs
@@ -32,7 +33,7 @@ one_run bytes new before runs all offset first i d here is whole =
     ∙ ap (λ (rs : List PageRun). bytes ++ load_headers offset rs) (sym (drop-cons runs i d here))
     ∙ whole
 
-drop_past : {X : Type 0} (xs : List X) (i : ℕ) → length xs ≤ i → drop i xs ≡ []
+pub drop_past : {X : Type 0} (xs : List X) (i : ℕ) → length xs ≤ i → drop i xs ≡ []
 drop_past [] zero past = refl
 drop_past [] (suc i) past = refl
 drop_past (x ∷ xs) zero past = absurd (omega arith)
@@ -82,11 +83,11 @@ length-spelled (field ∷ fields) =
     let rest = length-spelled fields in
     omega (arith, length-append (field_bytes field) (spelled fields), length-field field, rest)
 
-file_header : (count : ℕ) → length (spelled (file_fields count)) ≡ 64
+pub file_header : (count : ℕ) → length (spelled (file_fields count)) ≡ 64
 unfolding width
 file_header count = length-spelled (file_fields count)
 
-note_header : (offset size : ℕ) → length (spelled (note_fields offset size)) ≡ 56
+pub note_header : (offset size : ℕ) → length (spelled (note_fields offset size)) ≡ 56
 unfolding width
 note_header offset size = length-spelled (note_fields offset size)
 
@@ -98,7 +99,7 @@ sections : (count : ℕ) → length (spelled (section_fields count)) ≡ 64
 unfolding width
 sections count = length-spelled (section_fields count)
 
-length-load_headers : (offset : ℕ) (runs : List PageRun) → length (load_headers offset runs) ≡ 56 * length runs
+pub length-load_headers : (offset : ℕ) (runs : List PageRun) → length (load_headers offset runs) ≡ 56 * length runs
 unfolding load_headers
 length-load_headers offset [] = refl
 length-load_headers offset (run ∷ runs) =
@@ -109,21 +110,32 @@ length-either : (b : Bool) (xs : List ℕ) (n : ℕ) → length xs ≡ n → len
 length-either true xs n long = long
 length-either false xs n long = refl
 
-pub length-headers : (runs : List PageRun) (notes : List ℕ) → length (headers_of runs notes) ≡ notes_at (header_count runs)
+root_one : (first : ℕ) (root : Root) → length (spelled (root_fields first root)) ≡ 56
+unfolding width
+root_one first root = length-spelled (root_fields first root)
+
+pub length-root : (first : ℕ) (root : Option Root) → length (root_header first root) ≡ 56 * root_count root
+length-root first None = refl
+length-root first (Some root) = root_one first root
+
+pub length-headers : (runs : List PageRun) (root : Option Root) (notes : List ℕ) → length (headers_of runs root notes) ≡ notes_at (header_count runs root)
 unfolding headers_of
-length-headers runs notes =
-    let count = header_count runs in
+length-headers runs root notes =
+    let count = header_count runs root in
     let one = spelled (file_fields count) in
     let two = spelled (note_fields (notes_at count) (length notes)) in
-    let three = load_headers (start runs notes) runs in
+    let three = load_headers (start runs root notes) runs in
+    let four = root_header (start runs root notes) root in
     let section : length (section_header count) ≡ cond (is_extended count) 64 0 = length-either (is_extended count) (spelled (section_fields count)) 64 (sections count) in
     omega (
       arith,
-      length-append (one ++ two ++ three) (section_header count),
+      length-append (one ++ two ++ three ++ four) (section_header count),
+      length-append (one ++ two ++ three) four,
       length-append (one ++ two) three,
       length-append one two,
       file_header count,
       note_header (notes_at count) (length notes),
-      length-load_headers (start runs notes) runs,
+      length-load_headers (start runs root notes) runs,
+      length-root (start runs root notes) root,
       section,
     )

@@ -1,13 +1,19 @@
 -- What stands before the pages of a plain core file (gABI, "ELF Header" and "Program Header").
-use Rattle.std.specs.Prelude.{ℕ, ◌+◌, ◌-◌, ◌*◌, ◌/◌, ◌^◌, Bool, nat_le, List, [], ◌∷◌, ◌++◌, length, replicate, if◌then◌else◌}
+use Rattle.std.specs.Prelude.{ℕ, ◌+◌, ◌-◌, ◌*◌, ◌/◌, ◌^◌, Bool, nat_le, List, [], ◌∷◌, ◌++◌, length, replicate, Option, Some, None, if◌then◌else◌}
 use Rattle.kc_kdump.specs.declared.run.PageRun.{PageRun}
+use Rattle.kc_plain.specs.declared.root.Root.{Root}
 use Rattle.kc_plain.specs.declared.fields.Field.{Field}
 use Rattle.kc_plain.specs.declared.fields.Field.TheVariants.{U16, U32, U64}
 use Rattle.kc_plain.specs.Fields.{spelled}
+use Rattle.kc_plain.specs.Root.{root_of}
 
--- how many program headers there are: one of the notes, and one a run
-abbrev pub header_count : List PageRun → ℕ
-header_count runs = 1 + length runs
+abbrev pub root_count : Option Root → ℕ
+root_count None = 0
+root_count (Some root) = 1
+
+-- how many program headers there are: one of the notes, one a run, and one of the top page table, where it is known
+abbrev pub header_count : List PageRun → Option Root → ℕ
+header_count runs root = 1 + length runs + root_count root
 
 -- From 0xffff program headers on their number stands in a section header (gABI, "ELF Header", e_phnum).
 abbrev pub is_extended : ℕ → Bool
@@ -22,8 +28,8 @@ abbrev pub notes_at : ℕ → ℕ
 notes_at count = table_end count + (if is_extended count then 64 else 0)
 
 -- where the pages begin: after the notes, at a multiple of 4096
-abbrev pub start : List PageRun → List ℕ → ℕ
-start runs notes = (notes_at (header_count runs) + length notes + 4095) / 4096 * 4096
+abbrev pub start : List PageRun → Option Root → List ℕ → ℕ
+start runs root notes = (notes_at (header_count runs root) + length notes + 4095) / 4096 * 4096
 
 -- e_ident: the magic number, ELFCLASS64, ELFDATA2LSB, EV_CURRENT, zeros; e_type ET_CORE; e_machine EM_X86_64; e_version; e_entry;
 -- e_phoff; e_shoff; e_flags; e_ehsize; e_phentsize; e_phnum; e_shentsize; e_shnum; e_shstrndx
@@ -51,6 +57,16 @@ unfoldable pub load_headers : ℕ → List PageRun → List ℕ
 load_headers offset [] = []
 load_headers offset (run ∷ runs) = spelled (load_fields offset run) ++ load_headers (offset + 4096 * run.dumped) runs
 
+-- PT_LOAD of the top page table, where the pages begin at a file offset: its page once more, under its virtual address. Who reads by
+-- virtual addresses begins there.
+abbrev pub root_fields : ℕ → Root → List Field
+root_fields first root =
+    U32 1 ∷ U32 7 ∷ U64 (first + 4096 * root.number) ∷ U64 root.address ∷ U64 root.physical ∷ U64 4096 ∷ U64 4096 ∷ U64 0 ∷ []
+
+abbrev pub root_header : ℕ → Option Root → List ℕ
+root_header first None = []
+root_header first (Some root) = spelled (root_fields first root)
+
 -- the section header: sh_name, sh_type, sh_flags, sh_addr, sh_offset, sh_size, sh_link, sh_info, sh_addralign, sh_entsize
 abbrev pub section_fields : ℕ → List Field
 section_fields count = U32 0 ∷ U32 0 ∷ U64 0 ∷ U64 0 ∷ U64 0 ∷ U64 0 ∷ U32 0 ∷ U32 count ∷ U64 0 ∷ U64 0 ∷ []
@@ -63,11 +79,15 @@ abbrev pub padded : ℕ → List ℕ → List ℕ
 padded at bytes = bytes ++ replicate (at - length bytes) 0
 
 -- the headers
-unfoldable pub headers_of : List PageRun → List ℕ → List ℕ
-headers_of runs notes =
-    spelled (file_fields (header_count runs)) ++ spelled (note_fields (notes_at (header_count runs)) (length notes))
-    ++ load_headers (start runs notes) runs ++ section_header (header_count runs)
+unfoldable pub headers_of : List PageRun → Option Root → List ℕ → List ℕ
+headers_of runs root notes =
+    spelled (file_fields (header_count runs root)) ++ spelled (note_fields (notes_at (header_count runs root)) (length notes))
+    ++ load_headers (start runs root notes) runs ++ root_header (start runs root notes) root
+    ++ section_header (header_count runs root)
 
 -- headers, notes, and zeros up to the pages
-unfoldable pub head_of : List PageRun → List ℕ → List ℕ
-head_of runs notes = padded (start runs notes) (headers_of runs notes ++ notes)
+unfoldable pub head_by : List PageRun → Option Root → List ℕ → List ℕ
+head_by runs root notes = padded (start runs root notes) (headers_of runs root notes ++ notes)
+
+abbrev pub head_of : List PageRun → List ℕ → List ℕ
+head_of runs notes = head_by runs (root_of runs notes) notes

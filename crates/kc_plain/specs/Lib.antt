@@ -1,4 +1,6 @@
 pub mod Fields
 pub mod Head
 pub mod Pages
+pub mod ReadBack
+pub mod Root
 pub mod Unpack

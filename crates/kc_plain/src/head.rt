@@ -1,12 +1,14 @@
 // What stands before the pages of a plain core file.
-ghost use Rattle.std.specs.Prelude.{◌≡◌, ℕ, ◌+◌, ◌-◌, ◌*◌, ◌/◌, ◌^◌, ◌<◌, ◌≤◌, ◌++◌, List, length, vec_len, replicate, IfOk, OnOk};
+ghost use Rattle.std.specs.Prelude.{◌≡◌, ℕ, ◌+◌, ◌-◌, ◌*◌, ◌/◌, ◌^◌, ◌<◌, ◌≤◌, ◌++◌, List, length, vec_len, replicate, Option, IfSome, IfOk, OnOk};
 ghost use Rattle.kc_kdump.specs.declared.run.PageRun.{PageRun};
 ghost use Rattle.kc_kdump.specs.Runs.{end_of, page_count, reach};
 ghost use Rattle.kc_plain.specs.Fields.{spelled};
-ghost use Rattle.kc_plain.specs.Head.{file_fields, head_of, header_count, headers_of, is_extended, load_fields, load_headers, note_fields, notes_at, section_fields, section_header, start, table_end};
+ghost use Rattle.kc_plain.specs.Root.{IsPage};
+ghost use Rattle.kc_plain.specs.Head.{file_fields, head_by, head_of, header_count, headers_of, is_extended, load_fields, load_headers, note_fields, notes_at, root_count, root_header, section_fields, section_header, start, table_end};
 
 use crate::fields::{Field, push_fields};
 use crate::pad::pad;
+use crate::root::{Root, root_of};
 use kc_kdump::{Kdump, PageRun};
 use kc_word::NoMemory;
 use std::alloc::Global;
@@ -17,13 +19,24 @@ const PAGE_BYTES: u64 = 4096;
 // Addresses from here on are none of x86-64.
 const NO_ADDRESS: u64 = 1 << 63;
 
-// How many program headers there are.
-fn header_count(runs: &[PageRun]) -> u64
-    requires { length runs.now ≤ 4194304 }
-    ensures value { result ≡ header_count runs.now }
-    ensures small { result ≤ 4194305 }
+// How many program headers the top page table has.
+fn root_count(root: Option<Root>) -> u64
+    ensures value { result ≡ root_count root }
+    ensures small { result ≤ 1 }
 {
-    1 + runs.len() as u64
+    match root {
+        Some(_) => 1,
+        None => 0,
+    }
+}
+
+// How many program headers there are.
+fn header_count(runs: &[PageRun], root: Option<Root>) -> u64
+    requires { length runs.now ≤ 4194304 }
+    ensures value { result ≡ header_count runs.now root }
+    ensures small { result ≤ 4194306 }
+{
+    1 + runs.len() as u64 + root_count(root)
 }
 
 // Whether their number stands in a section header.
@@ -35,7 +48,7 @@ fn is_extended(count: u64) -> bool
 
 // Where the program headers end.
 fn table_end(count: u64) -> u64
-    requires { count ≤ 4194305 }
+    requires { count ≤ 4194306 }
     ensures { result ≡ table_end count }
 {
     64 + 56 * count
@@ -43,7 +56,7 @@ fn table_end(count: u64) -> u64
 
 // Where the notes begin.
 fn notes_at(count: u64) -> u64
-    requires { count ≤ 4194305 }
+    requires { count ≤ 4194306 }
     ensures value { result ≡ notes_at count }
     ensures small { result ≤ 2 ^ 28 }
 {
@@ -56,7 +69,7 @@ fn notes_at(count: u64) -> u64
 
 // Where the pages begin.
 fn start(count: u64, notes: u64) -> u64
-    requires count { count ≤ 4194305 }
+    requires count { count ≤ 4194306 }
     requires notes { notes ≤ 16777216 }
     ensures value { result ≡ (notes_at count + notes + 4095) / 4096 * 4096 }
     ensures after { notes_at count + notes ≤ result }
@@ -67,7 +80,7 @@ fn start(count: u64, notes: u64) -> u64
 
 // Puts the file header.
 fn push_file_header(bytes: &mut Vec<u8>, count: u64) -> Result<(), NoMemory>
-    requires { count ≤ 4194305 }
+    requires { count ≤ 4194306 }
     ensures { OnOk result (bytes.new.items ≡ bytes.old.items ++ spelled (file_fields count)) }
 {
     let extended = is_extended(count);
@@ -152,9 +165,32 @@ fn push_load_headers(bytes: &mut Vec<u8>, first: u64, runs: &[PageRun]) -> Resul
     Ok(())
 }
 
+// Puts the program header of the top page table, where it is known.
+fn push_root_header(bytes: &mut Vec<u8>, first: u64, root: Option<Root>) -> Result<(), NoMemory>
+    requires fits { IfSome root (λ r. first + 4096 * r.number < 2 ^ 64) }
+    ensures { OnOk result (bytes.new.items ≡ bytes.old.items ++ root_header first root) }
+{
+    let Some(root) = root else {
+        return Ok(());
+    };
+    push_fields(
+        bytes,
+        &[
+            Field::U32(1),
+            Field::U32(7),
+            Field::U64(first + PAGE_BYTES * root.number),
+            Field::U64(root.address),
+            Field::U64(root.physical),
+            Field::U64(PAGE_BYTES),
+            Field::U64(PAGE_BYTES),
+            Field::U64(0),
+        ],
+    )
+}
+
 // Puts the section header, where there is one.
 fn push_section_header(bytes: &mut Vec<u8>, count: u64) -> Result<(), NoMemory>
-    requires { count ≤ 4194305 }
+    requires { count ≤ 4194306 }
     ensures { OnOk result (bytes.new.items ≡ bytes.old.items ++ section_header count) }
 {
     if !is_extended(count) {
@@ -182,49 +218,63 @@ fn push_section_header(bytes: &mut Vec<u8>, count: u64) -> Result<(), NoMemory>
 fn headers_of(
     alloc: Global,
     runs: &[PageRun],
+    root: Option<Root>,
     notes: &[u8],
     first: u64,
 ) -> Result<Vec<u8>, NoMemory>
     requires few { length runs.now ≤ 4194304 }
     requires reach { reach runs.now ≤ 2 ^ 47 }
-    requires fits { first + 4096 * page_count runs.now < 2 ^ 64 }
-    requires place { first ≡ start runs.now notes.now }
-    ensures { IfOk result (λ bytes. bytes.items ≡ headers_of runs.now notes.now) }
+    requires pages { page_count runs.now ≤ 2 ^ 47 }
+    requires page { IfSome root (λ r. IsPage (page_count runs.now) r) }
+    requires near { first ≤ 2 ^ 29 }
+    requires place { first ≡ start runs.now root notes.now }
+    ensures { IfOk result (λ bytes. bytes.items ≡ headers_of runs.now root notes.now) }
 {
-    let count = header_count(runs);
+    let count = header_count(runs, root);
     let mut bytes = Vec::new(alloc);
     push_file_header(&mut bytes, count)?;
     push_note_header(&mut bytes, notes_at(count), notes.len() as u64)?;
     push_load_headers(&mut bytes, first, runs)?;
+    push_root_header(&mut bytes, first, root)?;
     push_section_header(&mut bytes, count)?;
     Ok(bytes)
 }
 
 // Does nothing. A caller learns from it how long the headers are.
-fn know_headers(runs: &[PageRun], notes: &[u8], bytes: &[u8])
-    requires { bytes.now ≡ headers_of runs.now notes.now }
-    ensures { length bytes.now ≡ notes_at (header_count runs.now) }
+fn know_headers(runs: &[PageRun], root: Option<Root>, notes: &[u8], bytes: &[u8])
+    requires { bytes.now ≡ headers_of runs.now root notes.now }
+    ensures { length bytes.now ≡ notes_at (header_count runs.now root) }
 {}
+
+// What stands before the pages, with the top page table if it is known.
+#[tactic(auto, unfolding(crate::specs::Head::head_by))]
+fn head_by(alloc: Global, dump: &Kdump, root: Option<Root>) -> Result<Vec<u8>, NoMemory>
+    requires notes { vec_len dump.now.notes ≤ 16777216 }
+    requires pages { dump.now.pages ≤ 2 ^ 47 }
+    requires page { IfSome root (λ r. IsPage dump.now.pages r) }
+    ensures value { IfOk result (λ head. head.items ≡ head_by dump.now.runs.items root dump.now.notes.items) }
+    ensures small { IfOk result (λ head. vec_len head ≤ 2 ^ 29) }
+{
+    let count = header_count(&dump.runs, root);
+    let notes = dump.notes.len() as u64;
+    let first = start(count, notes);
+    let mut bytes = headers_of(alloc, &dump.runs, root, &dump.notes, first)?;
+    know_headers(&dump.runs, root, &dump.notes, &bytes);
+    bytes.extend_from_slice(&dump.notes)?;
+    pad(&mut bytes, first)?;
+    Ok(bytes)
+}
 
 /// What stands before the pages of the plain core file that stands for a dump: headers and notes, up to a multiple of 4096 bytes.
 ///
 /// # Errors
 ///
 /// `NoMemory` where no memory is left: it takes 56 bytes a run, and as many as the notes have.
-#[tactic(auto, unfolding(crate::specs::Head::head_of))]
 pub fn head_of(alloc: Global, dump: &Kdump) -> Result<Vec<u8>, NoMemory>
     requires notes { vec_len dump.now.notes ≤ 16777216 }
     requires pages { dump.now.pages ≤ 2 ^ 47 }
     ensures value { IfOk result (λ head. head.items ≡ head_of dump.now.runs.items dump.now.notes.items) }
     ensures small { IfOk result (λ head. vec_len head ≤ 2 ^ 29) }
-    ensures end { IfOk result (λ head. vec_len head ≡ start dump.now.runs.items dump.now.notes.items) }
 {
-    let count = header_count(&dump.runs);
-    let notes = dump.notes.len() as u64;
-    let first = start(count, notes);
-    let mut bytes = headers_of(alloc, &dump.runs, &dump.notes, first)?;
-    know_headers(&dump.runs, &dump.notes, &bytes);
-    bytes.extend_from_slice(&dump.notes)?;
-    pad(&mut bytes, first)?;
-    Ok(bytes)
+    head_by(alloc, dump, root_of(&dump.runs, &dump.notes))
 }

@@ -6,8 +6,12 @@ mod fields;
 mod head;
 mod laws;
 mod pad;
+mod read_back;
+mod root;
 mod unpacked;
 
 pub use head::head_of;
 pub use laws::{know_head, know_pages};
+pub use read_back::know_core;
+pub use root::Root;
 pub use unpacked::{PAGE_BYTES, PageFault, descriptor_fault, know_page, unpack};

@@ -1,0 +1,7 @@
+// What the definitions say of the runs. The function does nothing.
+ghost use Rattle.kc_kdump.specs.Laws.{PagesAreMarked};
+
+/// Does nothing. A reader learns from it that the pages in a dump are those of the page frames that the second bitmap marks, in their order.
+pub fn know_runs()
+    ensures { PagesAreMarked }
+{}
