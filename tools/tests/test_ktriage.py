@@ -5,8 +5,12 @@ import importlib.util
 import io
 import json
 import os
+import signal
 import struct
+import subprocess
+import sys
 import tempfile
+import time
 import unittest
 
 TOP = os.path.dirname(os.path.dirname(os.path.dirname(os.path.realpath(__file__))))
@@ -41,9 +45,28 @@ place ffff888000001008 0000000000001008 0000000000002008 ffff888000003000
 expected ffff888000002000 found ffff888000003000 bits 1
 repair ffff888000001008 0000000000001008 0000000000002008 ffff888000003000 ffff888000002000"""
 LOG = """[    1.000000] Linux version 6.1.0-test
-[    2.000000] BUG: unable to handle page fault for address: 0000000000001122
-[    2.000001] RIP: 0010:kmem_cache_alloc+0x60/0x2b0
-[    2.000002] RAX: ffff888000001000 RBX: 0000000000000001 RCX: 0000000000000002"""
+[    1.500000] WARNING: CPU: 0 PID: 1 at fs/inode.c:1
+[    1.500001] RDX: ffff888000009000
+[    2.000000] BUG: unable to handle page fault for address: ff11000000001122
+[    2.000001][    T1] RIP: 0010:kmem_cache_alloc+0x60/0x2b0
+[    2.000002] Modules linked in: ext4
+[    2.000003] RAX: ffff888000001000 RBX: 0000000000000001 RCX: fffffffffffffff2
+[    2.000004] RSP: 0018:ff11000000002000 R08: 00007ffc00001000
+[    2.000005] Comm: \x1b[31mred
+[    2.000005]  ? doubted+0x1/0x2
+[    2.000006] ---[ end trace 0000000000000000 ]---
+[    2.000007] after it"""
+SLABS = """slab ffffea0000151880 cache ffff888000101000 dentry broken U5 at 6f6c6c6568206f6c
+place ffff888000002040 0000000000002040 0000000000003040 6f6c6c6568206f6c
+processor 1 slab ffffea0000151900 cache ffff888000101000 a name broken A at ffff888000004000 expected 0000000000000000
+place ffff888000005000 0000000000005000 0000000000006000 ffff888000004000
+slab ffffea0000151980 cache ffff888000101000 dentry broken M6 at ffff888000007000
+stop 0 0000000000007000
+processors 2 slabs 170 unread 0 broken 1 free 5578
+caches 157
+frames 49013 absent 0 unmarked 0
+slabs 3946 frozen 262 untold 0 broken 2
+objects 104397 free 2762"""
 
 
 def core_with_note(text):
@@ -116,6 +139,13 @@ class Pages(Folder):
         self.assertIn("BROKEN  tasks (plan all.toml)", out)
         self.assertIn("  " + CAUSE.split("\n")[-1], out)
 
+    def test_what_the_broken_word_looks_like(self):
+        self.program("kaudit", BAD, 1)
+        near = 'near ffff888000001008 6c6c6f2068656c6c text "lleh oll"\nspan ffff888000001008 ffff88800000101f'
+        self.script("kwhy", f"[ $# = 5 ] || {{ cat <<'T'\nnear ffff888000001000 0000000000000000 zero\n{near}\nT\nexit; }}\ncat <<'T'\n{CAUSE}\nT\n")
+        _, out, _ = self.triage()
+        self.assertIn("  " + near.replace("\n", "\n  ") + "\n\nSOUND", out)
+
     def test_one_verdict(self):
         self.program("kaudit", "broken\n" + VIOLATION, 1)
         self.program("kwhy", CAUSE)
@@ -145,12 +175,46 @@ class Pages(Folder):
         self.assertEqual(status, 0)
         self.assertIn("  RIP: 0010:kmem_cache_alloc+0x60/0x2b0", out)
         self.assertIn("  RAX ffff888000001000  cache ffff888004841c00 kmalloc-2k size 2048", out)
+        for told in ("  RSP ff11000000002000  cache", "  text ff11000000001122  cache", "  Comm: \\x1b[31mred\n", "end trace"):
+            self.assertIn(told, out)
+        for gone in ("Linux version", "WARNING", "RDX", "RCX fff", "R08 0", "Modules linked", "after it", "doubted", "\x1b"):
+            self.assertNotIn(gone, out)
 
-    def test_broken_slab(self):
-        self.program("kslab", "slab dentry broken\nslabs 10 broken 1", 1)
+    def test_broken_slabs(self):
+        self.program("kslab", SLABS, 1)
+        self.program("kwhy", "near ffff888000002040 6f6c6c6568206f6c text \"lo hello\"\nspan ffff888000002040 ffff888000002047\npage 4096")
         status, out, _ = self.triage()
         self.assertEqual(status, 1)
-        self.assertIn("slabs     broken: slabs 10 broken 1", out)
+        for told in ("slabs     2 broken: processors 2 slabs 170", "BROKEN  slab of dentry\n", "BROKEN  processor 1 slab of a name\n",
+                     "\n  span ffff888000002040 ffff888000002047\n", "  1 slabs with words that the dump doesn't hold"):
+            self.assertIn(told, out)
+        self.assertNotIn("page 4096", out)
+        _, out, _ = self.triage("--json", "-")
+        broken = json.loads(out)["slabs"]["broken"]
+        self.assertEqual([(slab["cache"], slab["owner"], slab["rule"]) for slab in broken], [("dentry", "slab", "U5"), ("a name", "processor 1 slab", "A")])
+        self.assertEqual(broken[0]["near"], [["ffff888000002040", "6f6c6c6568206f6c", 'text "lo hello"']])
+        _, out, _ = self.triage("--html", "-")
+        self.assertIn("A slab of a name is broken: rule A", out)
+
+    def test_slabs_that_are_sound_or_unknown(self):
+        for out, status, told in (("caches 157\nslabs 10 frozen 0 untold 0 broken 0", 0, "slabs     none broken: caches 157; slabs 10 "),
+                                  ("caches unknown L1 at ffff888000001000\nplace ffff888000001000 - - 0", 1, "slabs: caches unknown L1 at ffff888000001000"),
+                                  ("caches 157\nslabs 10 frozen 0 untold 3 broken 0", 1, "  3 slabs whose objects can't be laid out"),
+                                  ("", 5, "  slabs: kslab ended with 5")):
+            with self.subTest(told):
+                self.program("kslab", out, status)
+                status, page, err = self.triage()
+                self.assertEqual((status, err, told in page), (0, "", True), page)
+
+    def test_a_terminal_shows_the_work(self):
+        ours, theirs = os.openpty()
+        words = ["--programs", self.path("programs"), "--plans", self.path("plans"), "--types", self.path("btf"), "--map", self.path("System.map")]
+        done = subprocess.run([sys.executable, ktriage.__file__, *words, self.path("vmcore")], stdin=subprocess.DEVNULL, stdout=subprocess.PIPE, stderr=theirs)
+        os.close(theirs)
+        shown = os.read(ours, 65536).decode()
+        os.close(ours)
+        self.assertEqual((done.returncode, shown.endswith("\r\x1b[K"), "\n" in shown), (0, True, False))
+        self.assertIn("plan 1 of 1: all.toml", shown)
 
     def test_json(self):
         self.program("kaudit", BAD, 1)
@@ -172,6 +236,21 @@ class Pages(Folder):
     def test_keep(self):
         self.triage("--keep", self.path("kept"))
         self.assertEqual(sorted(os.listdir(self.path("kept"))), ["all.report", "all.toml"])
+
+    def test_files_out_of_the_dump(self):
+        self.script("kfiles", '[ "$2" = log ] && exit 6; echo "$2"')
+        dump, kept = self.path("vmcore"), self.path("kept")
+        _, out, _ = self.run_it("--map", self.path("System.map"), dump)
+        self.assertIn(f"GO ON\n  kfiles {dump} types > btf\n  kwhy {dump} btf {self.path('System.map')} ADDRESS ", out)
+        _, out, _ = self.run_it("--keep", kept, dump)
+        self.assertIn(f"GO ON\n  kwhy {dump} {kept}/btf {kept}/System.map ADDRESS ", out)
+        self.assertEqual(sorted(os.listdir(kept)), ["System.map", "all.report", "all.toml", "btf"])
+
+    def test_the_picture(self):
+        self.program("kaudit", BAD, 1)
+        _, out, _ = self.triage("--html", "-")
+        for told in ("task_struct ffff888000001000", ">holds<", ">should hold<", ">next<", ">ffff888000003000<", ">ffff888000002000<"):
+            self.assertIn(told, out)
 
     def test_compressed_goes_through_kplain(self):
         self.write("core", core_with_note(b"OSRELEASE=6.1.0-test\n") + bytes(1 << 23))
@@ -274,8 +353,60 @@ class BadInput(Folder):
 
     def test_no_space_left(self):
         if os.path.exists("/dev/full"):
-            status, _, err = self.triage("--keep", "/dev/full")
-            self.assertEqual((status, err.count("\n")), (3, 1))
+            for words in (("--keep", "/dev/full"), ("--json", "/dev/full"), ("--html", "/dev/full")):
+                with self.subTest(words[0]):
+                    status, out, err = self.triage(*words)
+                    self.assertEqual((status, out, err.count("\n"), "/dev/full" in err), (3, "", 1, True))
+
+    def test_no_space_for_what_is_taken_out(self):
+        self.program("kfiles", "", 4, "sink failed")
+        self.is_refused(3, "/btf: kfiles couldn't write it", self.path("vmcore"))
+
+    def test_files_that_are_refused_are_named(self):
+        for line, name in (("refused btf B2 at 0", "btf"), ("refused map S1 line 1", "System.map"), ("refused dump V2", "vmcore")):
+            with self.subTest(line):
+                self.program("kmatch", "", 2, line)
+                self.is_refused(2, f"{self.path(name)}: {line}", "--types", self.path("btf"), "--map", self.path("System.map"), self.path("vmcore"))
+
+    def test_a_plan_that_is_refused(self):
+        self.program("kaudit", "", 2, "refused plan P1")
+        self.is_refused(2, self.path("plans/all.toml") + ": refused plan P1", "--types", self.path("btf"), "--map", self.path("System.map"), self.path("vmcore"))
+
+    def test_nothing_to_look_at(self):
+        files = ["--types", self.path("btf"), "--map", self.path("System.map"), self.path("vmcore")]
+        self.program("kaudit", "", 2, "refused plan P9 audit 0 key root")
+        self.is_refused(2, "nothing was looked at", *files)
+        self.write("plans/kernels.txt", b"all.toml 6.9 - -\n")
+        self.is_refused(2, "no plan", *files)
+
+    def test_a_name_of_two_lines(self):
+        self.is_refused(2, "two\\x0alines", self.path("two\nlines"))
+
+    def test_what_fails_leaves_nothing(self):
+        self.script("kfiles", '[ "$2" = log ] && exit 6; echo "$2"')
+        self.program("kaudit", "", 3, "store failed")
+        self.write("old.json", b"old")
+        status, _, _ = self.run_it("--keep", self.path("kept"), "--json", self.path("old.json"), self.path("vmcore"))
+        with open(self.path("old.json")) as file:
+            self.assertEqual((status, os.path.exists(self.path("kept")), file.read()), (3, False, "old"))
+
+    def test_stopped(self):
+        self.script("kfiles", '[ "$2" = log ] && exit 6; echo "$2"')
+        words = ["--programs", self.path("programs"), "--plans", self.path("plans"), "--keep", self.path("kept"), "--json", self.path("one.json")]
+        for number in (signal.SIGINT, signal.SIGTERM, signal.SIGHUP):
+            with self.subTest(number):
+                began = self.path(f"began-{number}")
+                self.script("kaudit", f"echo $$ > {began}\nexec sleep 600\n")
+                run = subprocess.Popen([sys.executable, ktriage.__file__, *words, self.path("vmcore")], stdin=subprocess.DEVNULL, stdout=subprocess.PIPE,
+                                       stderr=subprocess.PIPE, text=True)
+                while run.poll() is None and not (os.path.exists(began) and os.path.getsize(began)):
+                    time.sleep(0.01)
+                run.send_signal(number)
+                out, err = run.communicate()
+                self.assertEqual((run.returncode, out, err), (3, "", "ktriage: stopped\n"))
+                with open(began) as file:
+                    self.assertFalse(os.path.exists(f"/proc/{file.read().strip()}"))
+                self.assertEqual([name for name in ("kept", "one.json") if os.path.exists(self.path(name))], [])
 
 
 class Plans(unittest.TestCase):
