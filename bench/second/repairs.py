@@ -14,7 +14,7 @@ import tempfile
 import files
 import timer
 
-REPAIR = re.compile(r"^repair \w{16} \w{16} (\w{16}) (\w{16}) (\w{16})$", re.M)
+REPAIR = re.compile(r"^(?:repair|fits) \w{16} \w{16} (\w{16}) (\w{16}) (\w{16})$", re.M)
 MOST_SECONDS, MOST_MEMORY = 1.0, 60
 
 
@@ -29,7 +29,7 @@ def tried(commands, damage, paths):
         status, out, err, seconds = timer.run([kwhy, *words, report])
         assert status == 0, (damage.name, status, err)
         memory = timer.most_memory([kwhy, *words, report])
-        line = next((line for line in out.decode().splitlines() if line.startswith("repair")), "no line")
+        line = next((line for line in out.decode().splitlines() if line.startswith(("repair", "fits"))), "no line")
         found = REPAIR.search(out.decode())
         holds, kind = True, "none"
         if found:

@@ -36,7 +36,7 @@ LINKS, TREE_LINKS, NEAR = 65536, 8192, 64
 # How each rule is suspected.
 WAYS = {
     "led": "M1 M2 M3 M4 M5 M6 N K", "met": "A", "before": "L1", "pointed": "H1", "parent": "R1", "colour": "R2 R3", "balance": "R5", "word": "R6 X3 X4 T6",
-    "byte": "X1 X2 X5 X6", "entry": "X7 X8 X9", "member": "U1 U2 U7 T1 T3 T4 T5 G1 G2", "own": "T2", "free": "U5", "shown": "R4 U3 U4 U6 T7 C",
+    "byte": "X1 X2 X6", "count": "X5", "entry": "X7 X8 X9", "member": "U1 U2 U7 T1 T3 T4 T5 G1 G2", "own": "T2", "free": "U5", "shown": "R4 U3 U4 U6 T7 C",
 }
 WAY_OF = {rule: way for way, rules in WAYS.items() for rule in rules.split()}
 
@@ -46,6 +46,7 @@ FIELDS = {
     "T1": ("task_struct", "group_leader"), "T2": ("task_struct", "pid"), "T3": ("task_struct", "signal"), "T4": ("task_struct", "tgid"),
     "T5": ("task_struct", "real_parent"), "G2": ("task_struct", "thread_pid"),
 }
+BASES = (("page_offset_base", 0xFFFF888000000000, 0xFF11000000000000), ("vmemmap_base", 0xFFFFEA0000000000, 0xFFD4000000000000))
 OF_KIND = {"slub": "U1 U2 U6 U7", "tasks": "T1 T2 T3 T4 T5", "pids": "G1 G2"}
 
 SENTENCES = {
@@ -78,12 +79,24 @@ def each(at):
     return at % TOP, lambda word: [word ^ 1 << bit for bit in range(64)]
 
 
+def each_pointer(at):
+    """Any bit, where the number is then no value of an xarray."""
+    return at % TOP, lambda word: [number for number in (word ^ 1 << bit for bit in range(64)) if number % 2 == 0]
+
+
 def recoloured(at):
     return at % TOP, lambda word: [word ^ 1]
 
 
 def shown(broken):
     return [each(place[0]) for place in broken.places if place[0] != "-"]
+
+
+def only_fits(broken, place, number):
+    """Whether others may stand as well as this number: by the rule; of a node's counts where they are changed, or a value is emptied; of a link that is 0."""
+    if broken.rule == "X5":
+        return place[0] == broken.at - broken.at % 8 or place[3] % 2 == 1
+    return broken.rule in ("C", "U3", "U6", "T2", "X6") or number == 0 and WAY_OF[broken.rule] in ("led", "met", "entry")
 
 
 class Suspects:
@@ -127,6 +140,10 @@ class Suspects:
     def by_byte(self):
         return self.filled(self.at, 0, 8, self.expected)
 
+    def by_count(self):
+        """First each slot that leads nowhere is null, and then the number of slots in use is what is expected."""
+        return self.emptied() + self.by_byte()
+
     def by_member(self):
         if self.broken.rule == "G1" and self.kind == "pids":
             bit, width, _ = self.audit.shape["nr"]
@@ -156,7 +173,7 @@ class Suspects:
         if self.kind != "rbtree" or self.expected is None:
             return []
         shape, parent = self.audit.shape, self.expected
-        found = self.filled(self.at, 2, 62, parent // 4)
+        found = [to(self.at, parent), to(self.at, parent + 1)]
         node = (self.at - shape["parent"]) % TOP
         links = [parent + shape[side] for side in ("left", "right")] if parent else [self.start + shape["root"]]
         for link in links:
@@ -174,7 +191,7 @@ class Suspects:
                     yield recoloured(place[3] + self.audit.shape["parent"])
 
     def by_entry(self):
-        return [each(self.at), to(self.at, 0)]
+        return [each_pointer(self.at), to(self.at, 0)]
 
     def by_free(self):
         return self.free() + shown(self.broken)
@@ -248,25 +265,63 @@ class Suspects:
 
     def led(self, link):
         """What a link that can't be right may have been."""
-        if link is None or self.kind not in ("ring", "hlist", "rbtree"):
+        if link is None or self.kind in ("slub", "tasks"):
             return shown(self.broken)
         if self.kind != "ring":
-            return [each(link), to(link, 0)][:: -1 if self.kind == "rbtree" else 1]
+            return [(each_pointer if self.kind in ("xarray", "pids") else each)(link), to(link, 0)]
         behind = self.node_behind((link - self.offset("next")) % TOP)
         return ([] if behind is None else [to(link, behind)]) + [each(link)]
+
+    def emptied(self):
+        """The slots of a node that lead nowhere, each as null."""
+        shape, found = self.audit.shape, []
+        if self.kind not in ("xarray", "pids"):
+            return found
+        for k in range(shape["chunk"]):
+            place = self.read((self.at - shape["count"] + shape["slots"] + 8 * k) % TOP)
+            if place and not self.read(place[3] - place[3] % 8):
+                found.append(to(place[0], 0))
+        return found
+
+    def heads(self, at):
+        """Where a slab's free list may begin, if its `freelist` stands at an address: nowhere, or at each of its objects."""
+        slab = (at - self.field("slab", "freelist")[0] // 8) % TOP
+        if self.number("slab", "slab_cache", slab) != self.start:
+            return None
+        size, pad, objects = self.number("kmem_cache", "size", self.start), self.number_or_none("red_left_pad"), self.number("slab", "objects", slab)
+        direct, vmemmap = (self.base(name, *numbers) for name, *numbers in BASES)
+        if None in (size, objects, direct, vmemmap):
+            return []
+        page = self.kernel.types.size(self.kernel.struct("page"))
+        first = direct + 4096 * ((slab - vmemmap) % TOP // page) + (pad or 0)
+        return [to(at, 0)] + [to(at, (first + k * size) % TOP) for k in range(min(objects, MOST))]
+
+    def number_or_none(self, path):
+        """A number of the cache that a kernel may not have."""
+        try:
+            return self.number("kmem_cache", path, self.start)
+        except Refused:
+            return None
+
+    def base(self, name, four, five):
+        """The word at a symbol, or what it is without one."""
+        symbol = address(self.kernel.rows, name, self.kernel.info.kaslr)
+        if symbol is None:
+            return five if self.kernel.info.levels == 5 else four
+        place = self.read(symbol)
+        return place and place[3]
 
     def free(self):
         """What a free pointer may have been: the end of its list, or an object near."""
         at = next((place[0] for place in self.broken.places if place[0] != "-"), None)
         if self.kind != "slub" or at is None:
             return []
-        size, offset = (self.number("kmem_cache", name, self.start) for name in ("size", "offset"))
+        heads = self.heads(at)
+        if heads is not None:
+            return heads
+        size, offset, random = *(self.number("kmem_cache", name, self.start) for name in ("size", "offset")), self.number_or_none("random")
         if size is None or offset is None:
             return []
-        try:
-            random = self.number("kmem_cache", "random", self.start)
-        except Refused:
-            random = None
         coded = 0 if random is None else random ^ int.from_bytes(at.to_bytes(8, "little"), "big")
         near = [(at - offset + k * size) % TOP for k in range(-NEAR, NEAR + 1)]
         return [to(at, pointer ^ coded) for pointer in [0] + near]
@@ -481,7 +536,7 @@ class Causes:
             words = "%016x %016x %016x %016x" % place + f" {number:016x}"
             found = self.judge_with(root, place, number)
             if found is None:
-                return f"repair {words}\n"
+                return f"{'fits' if only_fits(broken, place, number) else 'repair'} {words}\n"
             if not then and (found[0].rule, found[0].at) != (broken.rule, broken.at):
                 then = f"then {words} {found[0].rule} {found[0].at:016x}\n"
         more = next(suspects, None) is not None
@@ -600,7 +655,7 @@ def try_made(kwhy, count, seed, scratch):
         except AssertionError as differs:
             print(f"seed {number}\n{differs}", flush=True)
             seen["differ"] += 1
-        for found in re.finditer(r"^rule (\S+)(?:.*\n)+?repair (none)?(?:.*\n(then)?)", text, re.M):
+        for found in re.finditer(r"^rule (\S+)(?:.*\n)+?(?:repair|fits) (none)?(?:.*\n(then)?)", text, re.M):
             seen[" ".join(word for word in (found[1], found[2] or "repair", found[3]) if word)] += 1
     for what, times in sorted(seen.items()):
         print(f"{times:6} {what}")

@@ -79,7 +79,7 @@ found_number audits v = option_map_or (λ (a : AuditAt). number_lines a.kind v) 
 
 -- what repairs a violation of a kind of structure under the root audit with a number
 abbrev pub repairs_as : Explained → ℕ → Kind → Violation → List ℕ
-repairs_as e root kind v = option_map_or (λ (r : Root). repair_lines (repair_of e.image e.audits r kind v)) (root_at root e.audits) []
+repairs_as e root kind v = option_map_or (λ (r : Root). repair_lines v (repair_of e.image e.audits r kind v)) (root_at root e.audits) []
 
 -- of one as it is suspected, by the audit that found it
 abbrev pub repairs_of : Explained → ℕ → Suspected → List ℕ

@@ -1,10 +1,10 @@
 -- The lines that explain a violation.
-use Rattle.std.specs.Prelude.{ℕ, if◌then◌else◌, Bool, true, false, List, [], ◌∷◌, ◌++◌, codes, decimal, map, Option}
+use Rattle.std.specs.Prelude.{ℕ, ◌*◌, ◌/◌, ◌%◌, ◌==◌, ◌||◌, if◌then◌else◌, Bool, true, false, List, [], ◌∷◌, ◌++◌, codes, decimal, map, Option}
 use Rattle.std.specs.Option.{option_map_or}
 use Rattle.kc_btf.specs.Btf.{Types}
 use Rattle.kc_btf.specs.Readers.{name_at, type_numbered}
 use Rattle.kc_memory.specs.declared.rule.Rule.{Rule}
-use Rattle.kc_memory.specs.declared.rule.Rule.TheVariants.{C, U4}
+use Rattle.kc_memory.specs.declared.rule.Rule.TheVariants.{M1, M2, M3, M4, M5, M6, N, K, A, X5, X6, X7, X8, X9, U3, U4, U6, T2, C}
 use Rattle.kc_text.specs.Text.{hex, visible}
 use Rattle.kc_found.specs.Violations.{Violation}
 use Rattle.kc_kinds.specs.declared.kind.Kind.{Kind}
@@ -83,7 +83,35 @@ next_line n = codes "then " ++ suspect_part n.suspect ++ codes " " ++ rule_code 
 abbrev pub next_lines : Option Next → List ℕ
 next_lines next = option_map_or next_line next []
 
--- what repairs
-abbrev pub repair_lines : Repair → List ℕ
-repair_lines (Stands s) = codes "repair " ++ suspect_part s ++ codes "\n"
-repair_lines (Nothing tried more next) = codes "repair none of " ++ tried_part tried more ++ codes " tried\n" ++ next_lines next
+-- A word that repairs has a number that only fits where the rule lets others stand as well: a check, sizes and numbers of objects, and a leader's
+-- two numbers; where the numbers of a node's slots or values are made to fit what its slots hold, or an odd slot is emptied, which may be any of
+-- its values; and where a link leads nowhere, which drops what it led to.
+abbrev pub only_fits : Rule → ℕ → Suspect → Bool
+only_fits C at s = true
+only_fits U3 at s = true
+only_fits U6 at s = true
+only_fits T2 at s = true
+only_fits X5 at s = (s.va == at / 8 * 8) || (s.now % 2 == 1)
+only_fits X6 at s = true
+only_fits M1 at s = s.value == 0
+only_fits M2 at s = s.value == 0
+only_fits M3 at s = s.value == 0
+only_fits M4 at s = s.value == 0
+only_fits M5 at s = s.value == 0
+only_fits M6 at s = s.value == 0
+only_fits N at s = s.value == 0
+only_fits K at s = s.value == 0
+only_fits A at s = s.value == 0
+only_fits X7 at s = s.value == 0
+only_fits X8 at s = s.value == 0
+only_fits X9 at s = s.value == 0
+only_fits _ at s = false
+
+abbrev pub repair_label : Bool → List ℕ
+repair_label true = codes "fits "
+repair_label false = codes "repair "
+
+-- what repairs a violation
+abbrev pub repair_lines : Violation → Repair → List ℕ
+repair_lines v (Stands s) = repair_label (only_fits v.rule v.at s) ++ suspect_part s ++ codes "\n"
+repair_lines v (Nothing tried more next) = codes "repair none of " ++ tried_part tried more ++ codes " tried\n" ++ next_lines next

@@ -8,12 +8,12 @@ ghost use Rattle.kc_repair.specs.Repairs.{repair_of};
 ghost use Rattle.kc_command.specs.Paging.{IsTable};
 ghost use Rattle.kc_cause.specs.Explained.{repairs_as, repairs_found};
 ghost use Rattle.kc_cause.specs.Judged.{FitsTogether, over_plan};
-ghost use Rattle.kc_cause.specs.Lines.{next_line, next_lines, repair_lines, suspect_part, tried_part};
+ghost use Rattle.kc_cause.specs.Lines.{next_line, next_lines, only_fits, repair_label, repair_lines, suspect_part, tried_part};
 ghost use Rattle.kc_found.specs.Failures.{CountsFailures};
 
 use crate::judged::PlanOf;
 use crate::suspected::as_ring_over;
-use kc_found::{Found, ReadFailed};
+use kc_found::{Found, ReadFailed, Rule};
 use kc_kinds::Kind;
 use kc_memory::Frames;
 use kc_outside::Store;
@@ -73,13 +73,36 @@ fn push_tried(text: &mut Vec<u8>, tried: u32, more: bool) -> Result<(), NoMemory
     push_decimal(text, u64::from(tried))
 }
 
-// The lines of what repairs.
-fn push_repair(text: &mut Vec<u8>, repair: &Repair) -> Result<(), NoMemory>
-    ensures { OnOk result (text.new.items ≡ text.old.items ++ repair_lines repair.now) }
+// Whether a word that repairs has a number that only fits.
+fn only_fits(rule: Rule, at: u64, suspect: Suspect) -> bool
+    ensures { result ≡ only_fits rule at suspect }
+{
+    match rule {
+        Rule::C | Rule::U3 | Rule::U6 | Rule::T2 | Rule::X6 => true,
+        Rule::X5 => suspect.va == at / 8 * 8 || suspect.now % 2 == 1,
+        Rule::M1 | Rule::M2 | Rule::M3 | Rule::M4 | Rule::M5 | Rule::M6 => suspect.value == 0,
+        Rule::N | Rule::K | Rule::A | Rule::X7 | Rule::X8 | Rule::X9 => suspect.value == 0,
+        _ => false,
+    }
+}
+
+// The first word of such a line.
+fn push_label(text: &mut Vec<u8>, fits: bool) -> Result<(), NoMemory>
+    ensures { OnOk result (text.new.items ≡ text.old.items ++ repair_label fits) }
+{
+    if fits {
+        return push(text, b"fits ");
+    }
+    push(text, b"repair ")
+}
+
+// The lines of what repairs a violation.
+fn push_repair(text: &mut Vec<u8>, found: &Found, repair: &Repair) -> Result<(), NoMemory>
+    ensures { OnOk result (text.new.items ≡ text.old.items ++ repair_lines found.now repair.now) }
 {
     match repair {
         Repair::Stands(suspect) => {
-            push(text, b"repair ")?;
+            push_label(text, only_fits(found.rule, found.at, *suspect))?;
             push_suspect(text, *suspect)?;
             push(text, b"\n")
         }
@@ -159,7 +182,7 @@ fn push_repairs_as<F: Repairable>(
     let audit = RootAudit { plan, types, root };
     let Returned { memory, answer } = memory.repair(over.alloc, over.paging, &audit, kind, found);
     let answer = match answer {
-        Ok(repair) => match push_repair(text, &repair) {
+        Ok(repair) => match push_repair(text, found, &repair) {
             Ok(()) => Ok(()),
             Err(NoMemory) => Err(ReadFailed::NoMemory),
         },

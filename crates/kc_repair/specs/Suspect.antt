@@ -2,8 +2,10 @@ pub mod Answers
 pub mod Changes
 pub mod Fields
 pub mod FreePointers
+pub mod Heads
 pub mod Laws
 pub mod Links
+pub mod Slots
 pub mod Suspects
 pub mod Trees
 pub mod Ways

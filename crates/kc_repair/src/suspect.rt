@@ -4,10 +4,12 @@
 mod change;
 mod fields;
 mod free;
+mod heads;
 mod laws;
 mod links;
 mod made;
 mod rules;
+mod slots;
 mod suspect;
 mod suspecting;
 mod trees;

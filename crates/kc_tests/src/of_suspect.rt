@@ -163,10 +163,10 @@ fn tree() -> Kind {
 #[test]
 fn of_trees(rt: HostRuntime) -> Result<(), Fail> {
     let alloc = rt.alloc();
-    // The lowest two bits of the parent's word stay.
+    // The node is red, or black.
     let stop = broken(alloc, Rule::R1, 8000, (8200, 13), Some(8128));
     let parent = told::<Brand>(alloc, tree(), &[(8200, 13)], stop, Blank::new(1))?;
-    assert_eq!(rt; parent.as_str(), "65: 8200=8129 8144=9223372036854784008");
+    assert_eq!(rt; parent.as_str(), "66: 8200=8128 8144=9223372036854784008");
 
     let stop = broken(alloc, Rule::R2, 8000, (8128, 0), Some(1));
     let red = told::<Brand>(alloc, tree(), &[(8128, 0)], stop, Blank::new(1))?;
@@ -178,7 +178,7 @@ fn of_trees(rt: HostRuntime) -> Result<(), Fail> {
 
     let stop = broken(alloc, Rule::A, 8000, (8128, 1), None);
     let met = told::<Brand>(alloc, tree(), &[(8312, 8128)], stop, Blank::new(1))?;
-    assert_eq!(rt; met.as_str(), "65: 8312=0 8312=9223372036854783936");
+    assert_eq!(rt; met.as_str(), "65: 8312=8129 8312=0");
 
     let stop = broken(alloc, Rule::R4, 8000, (8208, 0), Some(7));
     let key = told::<Brand>(alloc, tree(), &[], stop, Blank::new(1))?;
@@ -204,14 +204,15 @@ fn xarray() -> Kind {
 #[test]
 fn of_xarrays(rt: HostRuntime) -> Result<(), Fail> {
     let alloc = rt.alloc();
-    // The byte at 9002 is the third of the word at 9000.
+    // The byte at 9002 is the third of the word at 9000. The first slot leads nowhere, and the second to a word.
+    let slots = [(9024, 0x41), (9032, 5000)];
     let stop = broken(alloc, Rule::X5, 9000, (9002, 0), Some(0x32));
-    let count = told::<Brand>(alloc, xarray(), &[], stop, Blank::new(1))?;
-    assert_eq!(rt; count.as_str(), "1: 9000=3276800 9000=3276800");
+    let count = told::<Brand>(alloc, xarray(), &slots, stop, Blank::new(1))?;
+    assert_eq!(rt; count.as_str(), "2: 9024=0 9000=3276800");
 
     let stop = broken(alloc, Rule::X7, 9000, (9000, 0x33_0000), None);
     let entry = told::<Brand>(alloc, xarray(), &[], stop, Blank::new(1))?;
-    assert_eq!(rt; entry.as_str(), "65: 9000=3342337 9000=0");
+    assert_eq!(rt; entry.as_str(), "64: 9000=3342338 9000=0");
     Ok(())
 }
 
@@ -287,5 +288,11 @@ fn of_slab_caches(rt: HostRuntime) -> Result<(), Fail> {
         free.as_str(),
         "194: 12032=13229323905422677 12032=9223372036854775817"
     );
+
+    // The descriptor at 12000 is that of page 187, whose slab has two objects of the cache.
+    let slab = [(12008, 11000), (12040, 0x2_0000)];
+    let stop = broken(alloc, Rule::U5, 11000, (12032, 9), None);
+    let head = told::<Brand>(alloc, caches(), &slab, stop, Blank::new(1))?;
+    assert_eq!(rt; head.as_str(), "67: 12032=0 12032=9223372036854775817");
     Ok(())
 }

@@ -1,6 +1,6 @@
 -- What may have stood where a word stands.
-use Rattle.std.specs.Prelude.{ℕ, ◌+◌, ◌*◌, ◌/◌, ◌%◌, ◌^◌, ◌==◌, nat_le, bit_xor, if◌then◌else◌, List, [], ◌∷◌, map, Option, Some, None}
-use Rattle.std.specs.List.{flat_map, range_with_len}
+use Rattle.std.specs.Prelude.{ℕ, ◌+◌, ◌*◌, ◌/◌, ◌%◌, ◌^◌, ◌==◌, nat_le, bit_xor, Bool, if◌then◌else◌, List, [], ◌∷◌, map, Option, Some, None}
+use Rattle.std.specs.List.{filter, flat_map, range_with_len}
 use Rattle.kc_memory.specs.declared.words.Origin.{Origin}
 use Rattle.kc_memory.specs.declared.words.Origin.TheVariants.{File, Tail}
 use Rattle.kc_memory.specs.declared.words.VWord.{VWord}
@@ -9,7 +9,7 @@ use Rattle.kc_memory.specs.Translation.{vword}
 use Rattle.kc_found.specs.Nodes.{readable}
 use Rattle.kc_repair.specs.declared.suspect.change.Change.{Change}
 use Rattle.kc_repair.specs.declared.suspect.change.How.{How}
-use Rattle.kc_repair.specs.declared.suspect.change.How.TheVariants.{Number, Lowest, Each}
+use Rattle.kc_repair.specs.declared.suspect.change.How.TheVariants.{Number, Lowest, Each, Pointer}
 use Rattle.kc_repair.specs.declared.suspect.suspect.Suspect.{Suspect}
 
 -- a word is suspected where its bytes stand in the file and another number may have stood there
@@ -28,12 +28,25 @@ flipped word bit = bit_xor word (2 ^ bit)
 unfoldable pub bits_below : ℕ → ℕ → List ℕ
 bits_below word count = map (flipped word) (range_with_len 0 count)
 
+-- a number is no value of an xarray, whose lowest bit is set. Source: the kernel's include/linux/xarray.h, `xa_mk_value`
+abbrev pub is_no_value : ℕ → Bool
+is_no_value n = n % 2 == 0
+
+-- those of them that are none
+unfoldable pub pointers_below : ℕ → ℕ → List ℕ
+pointers_below word count = filter is_no_value (bits_below word count)
+
 -- the numbers that may have stood where a word stands: this one, the word with its lowest bit changed, or the word with one bit
 -- changed, the lowest first
 abbrev pub numbers : How → ℕ → List ℕ
 numbers (Number n) word = n ∷ []
 numbers Lowest word = flipped word 0 ∷ []
 numbers Each word = bits_below word 64
+numbers Pointer word = pointers_below word 64
+
+-- a word that may have held a number which is no value of an xarray
+abbrev pub no_value_of : VWord → ℕ → List Suspect
+no_value_of w value = if is_no_value value then suspect_of w value else []
 
 -- what is suspected of a word, where it can be read
 abbrev pub made_of : Option VWord → How → List Suspect
@@ -54,6 +67,10 @@ to at n = record { at = at; how = Number n }
 -- each single bit of it changes
 abbrev pub each : ℕ → Change
 each at = record { at = at; how = Each }
+
+-- or where it is then no value of an xarray
+abbrev pub each_pointer : ℕ → Change
+each_pointer at = record { at = at; how = Pointer }
 
 -- a word gets the bits of a number, where it can be read
 abbrev pub filled : ℕ → ℕ → ℕ → Option VWord → Option Change

@@ -8,15 +8,16 @@ use Rattle.kc_memory.specs.Image.{Image}
 use Rattle.kc_found.specs.Nodes.{at_offset}
 use Rattle.kc_found.specs.Violations.{Violation}
 use Rattle.kc_kinds.specs.declared.kind.Kind.{Kind}
-use Rattle.kc_kinds.specs.declared.kind.Kind.TheVariants.{Ring, Hlist, Rbtree, Slub}
+use Rattle.kc_kinds.specs.declared.kind.Kind.TheVariants.{Ring, Hlist, Rbtree, Xarray, Slub, Pids}
 use Rattle.kc_repair.specs.declared.suspect.change.Change.{Change}
 use Rattle.kc_repair.specs.declared.suspect.suspect.Suspect.{Suspect}
 use Rattle.kc_repair.specs.declared.suspect.way.Way.{Way}
-use Rattle.kc_repair.specs.declared.suspect.way.Way.TheVariants.{Led, Met, Word, Byte, Member, Own, Before, Pointed, Parent, Colour, Balance, Entry, Free, Shown}
-use Rattle.kc_repair.specs.Suspect.Changes.{each, made, to}
+use Rattle.kc_repair.specs.declared.suspect.way.Way.TheVariants.{Led, Met, Word, Byte, Count, Member, Own, Before, Pointed, Parent, Colour, Balance, Entry, Free, Shown}
+use Rattle.kc_repair.specs.Suspect.Changes.{each, each_pointer, made, to}
 use Rattle.kc_repair.specs.Suspect.Fields.{bit_changes, member_changes, own_changes}
-use Rattle.kc_repair.specs.Suspect.FreePointers.{free_in}
+use Rattle.kc_repair.specs.Suspect.Heads.{free_at}
 use Rattle.kc_repair.specs.Suspect.Links.{chain_link, leading_to, node_behind, node_of, tree_links}
+use Rattle.kc_repair.specs.Suspect.Slots.{slots_of}
 use Rattle.kc_repair.specs.Suspect.Trees.{colours, parent_changes}
 use Rattle.kc_repair.specs.Suspect.Ways.{way_of}
 
@@ -39,12 +40,18 @@ second_link image (Hlist s) v = chain_link image s.next (at_offset v.start s.fir
 second_link image (Rbtree s) v = leading_to (node_of v.at s.parent_color) 1 (tree_links image s v.start)
 second_link image _ v = None
 
--- A link that can't be right, of a structure that starts here: in a ring it leads to the node whose `prev` leads to its own, in a chain and in
--- a tree perhaps nowhere. Of the lists inside slab caches, tasks and process ids no head is told.
+-- an entry of an xarray: any bit of it that leaves it no value, or nothing stands there
+abbrev pub entry_changes : ℕ → List Change
+entry_changes at = each_pointer at ∷ to at 0 ∷ []
+
+-- A link that can't be right, of a structure that starts here: in a ring it leads to the node whose `prev` leads to its own, in a chain, a tree or
+-- an array perhaps nowhere. Of the lists inside slab caches and tasks no head is told.
 abbrev pub relinked : Image → Kind → Violation → ℕ → List Change
 relinked image (Ring s) v link = option_to_list (option_map (to link) (node_behind image s v.start (node_of link s.next))) ++ each link ∷ []
 relinked image (Hlist s) v link = each link ∷ to link 0 ∷ []
-relinked image (Rbtree s) v link = to link 0 ∷ each link ∷ []
+relinked image (Rbtree s) v link = each link ∷ to link 0 ∷ []
+relinked image (Xarray s) v link = entry_changes link
+relinked image (Pids s) v link = entry_changes link
 relinked image _ v link = shown v.places
 
 -- where no link is told, the words that show it
@@ -67,12 +74,8 @@ before_changes image kind v = option_map_or (passed_changes image kind v) v.expe
 abbrev pub pointed_changes : Violation → List Change
 pointed_changes v = word_changes v ++ option_to_list (option_map each v.expected)
 
--- an entry of an xarray: any bit of it, or nothing stands there
-abbrev pub entry_changes : Violation → List Change
-entry_changes v = each v.at ∷ to v.at 0 ∷ []
-
 abbrev pub free_changes : Image → Kind → Violation → List Change
-free_changes image (Slub s) v = option_map_or (free_in image s v.start) (first_address v.places) []
+free_changes image (Slub s) v = option_map_or (free_at image s v.start) (first_address v.places) []
 free_changes image _ v = []
 
 -- what may have happened
@@ -81,6 +84,7 @@ by_way image kind v Led = led_by image kind v (first_address v.places)
 by_way image kind v Met = led_by image kind v (second_link image kind v)
 by_way image kind v Word = word_changes v
 by_way image kind v Byte = bit_changes image v.at 0 8 v.expected
+by_way image kind v Count = slots_of image kind v ++ bit_changes image v.at 0 8 v.expected
 by_way image kind v Member = member_changes image kind v
 by_way image kind v Own = own_changes image kind v
 by_way image kind v Before = before_changes image kind v
@@ -88,7 +92,7 @@ by_way image kind v Pointed = pointed_changes v
 by_way image kind v Parent = parent_changes image kind v
 by_way image kind v Colour = word_changes v ++ colours image kind v
 by_way image kind v Balance = colours image kind v
-by_way image kind v Entry = entry_changes v
+by_way image kind v Entry = entry_changes v.at
 by_way image kind v Free = free_changes image kind v ++ shown v.places
 by_way image kind v Shown = shown v.places
 

@@ -1,5 +1,5 @@
 -- Nodes of red-black trees whose parent or colour may be wrong.
-use Rattle.std.specs.Prelude.{ℕ, ◌/◌, ◌==◌, if◌then◌else◌, List, [], ◌∷◌, ◌++◌, Option, Some, None}
+use Rattle.std.specs.Prelude.{ℕ, ◌==◌, if◌then◌else◌, List, [], ◌∷◌, ◌++◌, Option, Some, None}
 use Rattle.std.specs.List.{flat_map}
 use Rattle.std.specs.Option.{option_map_or}
 use Rattle.kc_memory.specs.declared.words.VWord.{VWord}
@@ -12,8 +12,7 @@ use Rattle.kc_kinds.specs.declared.kind.Kind.{Kind}
 use Rattle.kc_kinds.specs.declared.kind.Kind.TheVariants.{Rbtree}
 use Rattle.kc_repair.specs.declared.suspect.change.Change.{Change}
 use Rattle.kc_repair.specs.declared.suspect.change.How.TheVariants.{Lowest}
-use Rattle.kc_repair.specs.Suspect.Changes.{each}
-use Rattle.kc_repair.specs.Suspect.Fields.{bit_changes}
+use Rattle.kc_repair.specs.Suspect.Changes.{each, to}
 use Rattle.kc_repair.specs.Suspect.Links.{node_of, tree_links}
 
 -- the links to a node at some addresses, each with any bit changed
@@ -30,9 +29,10 @@ upper_bits image s head node parent =
     if parent == 0 then link_bits image node (at_offset head s.root)
     else link_bits image node (at_offset parent s.left) ++ link_bits image node (at_offset parent s.right)
 
--- the parent word of a node with its lowest two bits kept, or the link that led to the node
+-- the parent word of a node, which is then red or black, or the link that led to the node. Source: the kernel's include/linux/rbtree_augmented.h,
+-- `rb_set_parent_color`
 abbrev pub parent_by : Image → RbShape → Violation → ℕ → List Change
-parent_by image s v parent = bit_changes image v.at 2 62 (Some (parent / 4)) ++ upper_bits image s v.start (node_of v.at s.parent_color) parent
+parent_by image s v parent = to v.at parent ∷ to v.at (at_offset parent 1) ∷ upper_bits image s v.start (node_of v.at s.parent_color) parent
 
 abbrev pub parent_changes : Image → Kind → Violation → List Change
 parent_changes image (Rbtree s) v = option_map_or (parent_by image s v) v.expected []

@@ -10,6 +10,8 @@ pub(crate) enum How {
     Lowest,
     // The word with one bit changed, each in turn, the lowest first.
     Each,
+    // The same, where the number is then no value of an xarray, whose lowest bit is set.
+    Pointer,
 }
 
 // A word that may have held something else.

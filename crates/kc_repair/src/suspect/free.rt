@@ -7,6 +7,7 @@ ghost use Rattle.kc_found.specs.Failures.{CountsFailures};
 
 use crate::suspect::change::{Change, Changes};
 use crate::suspect::fields::number_at;
+use crate::suspect::heads::push_free_at;
 use crate::suspect::links::node_of;
 use crate::suspect::rules::{first_address, to};
 use kc_found::{Found, ReadFailed, Space};
@@ -81,7 +82,7 @@ fn random_at<S: Space, L: Ledger>(
 }
 
 // Adds those of the pointer at an address in an object of a cache.
-fn push_in_cache<S: Space, L: Ledger>(
+pub(crate) fn push_in_cache<S: Space, L: Ledger>(
     changes: &mut Changes,
     shape: &SlubShape,
     cache: u64,
@@ -118,7 +119,7 @@ pub(crate) fn push_free<S: Space, L: Ledger>(
         return Ok(());
     };
     match first_address(found.places.as_slice()) {
-        Some(at) => push_in_cache(changes, shape, found.start, at, space, steps),
+        Some(at) => push_free_at(changes, shape, found.start, at, space, steps),
         None => Ok(()),
     }
 }

@@ -2,7 +2,7 @@
 ghost use Rattle.std.specs.Prelude.{◌≡◌, ◌<◌, ◌++◌, Some, OnOk, IfOk, IfSome};
 ghost use Rattle.std.specs.List.{flat_map};
 ghost use Rattle.kc_memory.specs.Stays.{SpaceStays};
-ghost use Rattle.kc_repair.specs.Suspect.Changes.{bits_below, flipped, made, made_of, suspect_of};
+ghost use Rattle.kc_repair.specs.Suspect.Changes.{bits_below, flipped, made, made_of, no_value_of, pointers_below, suspect_of};
 ghost use Rattle.kc_found.specs.Failures.{CountsFailures};
 
 use crate::suspect::change::{Change, Changes, How};
@@ -50,6 +50,26 @@ fn push_bits(suspects: &mut Suspects, word: &VWord) -> Result<(), NoMemory>
     Ok(())
 }
 
+// Adds it, where the number is no value of an xarray.
+fn push_no_value(suspects: &mut Suspects, word: &VWord, value: u64) -> Result<(), NoMemory>
+    ensures { OnOk result (suspects.new ≡ suspects.old ++ no_value_of word.now value) }
+{
+    if value % 2 == 0 {
+        return push_suspect(suspects, word, value);
+    }
+    Ok(())
+}
+
+// Adds it with each bit changed, the lowest first, where it is then no value of an xarray.
+fn push_pointers(suspects: &mut Suspects, word: &VWord) -> Result<(), NoMemory>
+    ensures { OnOk result (suspects.new ≡ suspects.old ++ flat_map (suspect_of word.now) (pointers_below word.now.value 64)) }
+{
+    for bit in 0..64u32 {
+        push_no_value(suspects, word, flipped(word.value, bit))?;
+    }
+    Ok(())
+}
+
 // Adds what is suspected of a word.
 fn push_word(suspects: &mut Suspects, word: &VWord, how: How) -> Result<(), NoMemory>
     ensures { OnOk result (suspects.new ≡ suspects.old ++ made_of (Some word.now) how) }
@@ -58,6 +78,7 @@ fn push_word(suspects: &mut Suspects, word: &VWord, how: How) -> Result<(), NoMe
         How::Number(value) => push_suspect(suspects, word, value),
         How::Lowest => push_suspect(suspects, word, flipped(word.value, 0)),
         How::Each => push_bits(suspects, word),
+        How::Pointer => push_pointers(suspects, word),
     }
 }
 

@@ -3,7 +3,7 @@ ghost use Rattle.std.specs.Prelude.{◌≡◌, ◌++◌, ◌<◌, ◌≤◌, ◌
 ghost use Rattle.std.specs.List.{flat_map};
 ghost use Rattle.std.specs.Option.{option_map_or};
 ghost use Rattle.kc_memory.specs.Stays.{SpaceStays};
-ghost use Rattle.kc_repair.specs.Suspect.Changes.{each, to};
+ghost use Rattle.kc_repair.specs.Suspect.Changes.{each, each_pointer, to};
 ghost use Rattle.kc_repair.specs.Suspect.Suspects.{before_changes, by_way, changes, entry_changes, first_address, led_by, passed_changes, place_bits, pointed_changes, relinked, second_link, shown, word_changes};
 ghost use Rattle.kc_found.specs.Failures.{CountsFailures};
 
@@ -11,6 +11,7 @@ use crate::suspect::change::{Change, Changes, How};
 use crate::suspect::fields::{push_bits, push_member, push_own, push_some};
 use crate::suspect::free::push_free;
 use crate::suspect::links::{chain_link, node_behind, node_of, second_to, tree_links};
+use crate::suspect::slots::push_slots;
 use crate::suspect::trees::{push_colours, push_parent};
 use crate::suspect::way::{Way, way_of};
 use kc_found::{Found, Place, ReadFailed, Space};
@@ -34,6 +35,16 @@ pub(crate) fn each(at: u64) -> Change
     ensures { result ≡ each at }
 {
     Change { at, how: How::Each }
+}
+
+// The same, where it is then no value of an xarray.
+fn each_pointer(at: u64) -> Change
+    ensures { result ≡ each_pointer at }
+{
+    Change {
+        at,
+        how: How::Pointer,
+    }
 }
 
 // The first place with a virtual address.
@@ -89,6 +100,14 @@ fn second_link<S: Space, L: Ledger>(
     }
 }
 
+// Adds an entry of an xarray, with any bit changed that leaves it no value, and as nothing.
+fn push_entry(changes: &mut Changes, at: u64) -> Result<(), NoMemory>
+    ensures { OnOk result (changes.new ≡ changes.old ++ entry_changes at) }
+{
+    changes.push(each_pointer(at))?;
+    changes.push(to(at, 0))
+}
+
 // Adds what a link may have held that can't be right.
 fn push_relinked<S: Space, L: Ledger>(
     changes: &mut Changes,
@@ -109,15 +128,12 @@ fn push_relinked<S: Space, L: Ledger>(
             push_some(changes, behind.map(|node| to(link, node)))?;
             changes.push(each(link))?;
         }
-        Kind::Hlist(_) => {
+        Kind::Hlist(_) | Kind::Rbtree(_) => {
             changes.push(each(link))?;
             changes.push(to(link, 0))?;
         }
-        Kind::Rbtree(_) => {
-            changes.push(to(link, 0))?;
-            changes.push(each(link))?;
-        }
-        _ => push_shown(changes, found.places.as_slice())?,
+        Kind::Xarray(_) | Kind::Pids(_) => push_entry(changes, link)?,
+        Kind::Slub(_) | Kind::Tasks(_) => push_shown(changes, found.places.as_slice())?,
     }
     Ok(())
 }
@@ -214,14 +230,6 @@ fn push_pointed(changes: &mut Changes, found: &Found) -> Result<(), NoMemory>
     push_some(changes, found.expected.map(each))
 }
 
-// Adds an entry of an xarray, with any bit changed and as nothing.
-fn push_entry(changes: &mut Changes, at: u64) -> Result<(), NoMemory>
-    ensures { OnOk result (changes.new ≡ changes.old ++ each at ∷ to at 0 ∷ []) }
-{
-    changes.push(each(at))?;
-    changes.push(to(at, 0))
-}
-
 // Adds what may have happened in a way.
 fn push_by_way<S: Space, L: Ledger>(
     alloc: Global,
@@ -247,6 +255,10 @@ fn push_by_way<S: Space, L: Ledger>(
         }
         Way::Word => Ok(push_word(changes, found)?),
         Way::Byte => push_bits(changes, found.at, 0, 8, found.expected, space, steps),
+        Way::Count => {
+            push_slots(changes, kind, found, space, steps)?;
+            push_bits(changes, found.at, 0, 8, found.expected, space, steps)
+        }
         Way::Member => push_member(changes, kind, found, space, steps),
         Way::Own => push_own(changes, kind, found, space, steps),
         Way::Before => push_before(changes, kind, found, space, steps),

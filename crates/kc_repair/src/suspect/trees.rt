@@ -5,9 +5,8 @@ ghost use Rattle.kc_repair.specs.Suspect.Trees.{bits_if, colour_of, colours, col
 ghost use Rattle.kc_found.specs.Failures.{CountsFailures};
 
 use crate::suspect::change::{Change, Changes, How};
-use crate::suspect::fields::push_bits;
 use crate::suspect::links::{node_of, tree_links};
-use crate::suspect::rules::each;
+use crate::suspect::rules::{each, to};
 use crate::suspect::words::read_word;
 use kc_found::{Found, Items, RbShape, ReadFailed, Space, VWord};
 use kc_kinds::Kind;
@@ -82,7 +81,8 @@ fn push_by_parent<S: Space, L: Ledger>(
     ensures stays { SpaceStays S.image S.files S.through S.most space.old space.new }
     ensures cause { CountsFailures result (S.faults space.old) (S.faults space.new) }
 {
-    push_bits(changes, found.at, 2, 62, Some(parent / 4), space, steps)?;
+    changes.push(to(found.at, parent))?;
+    changes.push(to(found.at, parent.wrapping_add(1)))?;
     let node = node_of(found.at, shape.parent_color);
     push_upper(changes, shape, found.start, node, parent, space, steps)
 }

@@ -15,6 +15,8 @@ pub(crate) enum Way {
     Word,
     // A byte.
     Byte,
+    // The number of slots in use of an xarray's node, or a slot.
+    Count,
     // A field of a struct.
     Member,
     // One of the two numbers of a thread group's leader.
@@ -52,7 +54,8 @@ pub(crate) fn way_of(rule: Rule) -> Way
         Rule::R2 | Rule::R3 => Way::Colour,
         Rule::R5 => Way::Balance,
         Rule::R6 | Rule::X3 | Rule::X4 | Rule::T6 => Way::Word,
-        Rule::X1 | Rule::X2 | Rule::X5 | Rule::X6 => Way::Byte,
+        Rule::X1 | Rule::X2 | Rule::X6 => Way::Byte,
+        Rule::X5 => Way::Count,
         Rule::X7 | Rule::X8 | Rule::X9 => Way::Entry,
         Rule::U1 | Rule::U2 | Rule::U7 => Way::Member,
         Rule::T1 | Rule::T3 | Rule::T4 | Rule::T5 | Rule::G1 | Rule::G2 => Way::Member,
