@@ -30,7 +30,8 @@ PINNED = {("kc_expr/specs/Machine.antt", "parsed"): ("kc_expr/specs/Spelling.ant
 # What the clause on `clean` doesn't stand on: the first violation and its text (the law `checked` says when there is none),
 # the lines of refusals, and the other commands.
 NOT_CLEAN = {"audited_shown", "refusal_line", "ShownStand", "word_form", "layout_form", "show_form", "selftest_form"}
-NOT_CLEAN |= {"certify_form", "recheck_form", "CertifyEnds", "RecheckEnds", "Proves", "cert_text", "TextsTold", "AnswersAreRight"}
+NOT_CLEAN |= {"certify_form", "recheck_form", "CertifyEnds", "RecheckEnds", "Proves", "cert_text", "TextsTold", "AnswersAreRight", "StepsAreWalks",
+              "CertificatesAreOne"}
 
 # The crates that make counters of steps: that of questions, kwhy's for the entries on the way to an address, and those of tests.
 MAKE_BLANKS = {"kc_question", "kc_why", "kc_tests", "try_walks", "try_files"}

@@ -397,12 +397,13 @@ class BadInput(Folder):
             with self.subTest(number):
                 began = self.path(f"began-{number}")
                 self.script("kaudit", f"echo $$ > {began}\nexec sleep 600\n")
+                # (who runs this in the background may have it pass the signal over)
                 run = subprocess.Popen([sys.executable, ktriage.__file__, *words, self.path("vmcore")], stdin=subprocess.DEVNULL, stdout=subprocess.PIPE,
-                                       stderr=subprocess.PIPE, text=True)
+                                       stderr=subprocess.PIPE, text=True, preexec_fn=lambda: signal.signal(number, signal.SIG_DFL))
                 while run.poll() is None and not (os.path.exists(began) and os.path.getsize(began)):
                     time.sleep(0.01)
                 run.send_signal(number)
-                out, err = run.communicate()
+                out, err = run.communicate(timeout=60)
                 self.assertEqual((run.returncode, out, err), (3, "", "ktriage: stopped\n"))
                 with open(began) as file:
                     self.assertFalse(os.path.exists(f"/proc/{file.read().strip()}"))
