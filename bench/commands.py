@@ -5,9 +5,9 @@ usage: commands PROGRAMS FOLDER [--slow] [DOCUMENT..]
 Without a DOCUMENT these are README.md, docs/guide.md, docs/reference.md and the man pages of docs/. FOLDER has vmcore, btf, System.map and
 ext4.btf, of the dump from which the examples come.
 
-Each document has a folder of its own: the files of FOLDER by links; `plans`, a copy of plans/; `data`, a copy of the made dump; and `bad`, a copy
-of vmcore in which the word at byte 0xe782008 is ffff88800485a800. All its blocks run in one bash, in their order. The word behind a fence says what
-a block is:
+Each document has a folder of its own: `vmcore` by a link, copies of the other files of FOLDER; `plans`, a copy of plans/; `data`, a copy of the made
+dump; and `bad`, a copy of vmcore in which the word at byte 0xe782008 is ffff88800485a800. All its blocks run in one bash, in their order. The word
+behind a fence says what a block is:
 
     console     a session: after `$ ` a command, after `> ` its next lines, and then what it prints, exactly; a line `..` stands for any lines
     sh          a script, which has to end with status 0
@@ -102,7 +102,8 @@ def make_folder(folder, given):
     """The files that a document's commands find."""
     for name in GIVEN:
         if os.path.exists(os.path.join(given, name)):
-            os.symlink(os.path.abspath(os.path.join(given, name)), os.path.join(folder, name))
+            # (a session may write to what it calls btf, and not to what was given)
+            (os.symlink if name == "vmcore" else shutil.copy)(os.path.abspath(os.path.join(given, name)), os.path.join(folder, name))
     shutil.copytree(os.path.join(files.TOP, "plans"), os.path.join(folder, "plans"), ignore=shutil.ignore_patterns("__pycache__"))
     shutil.copytree(files.DATA, os.path.join(folder, "data"))
     bad = os.path.join(folder, "bad")
@@ -116,7 +117,7 @@ def environment(programs, work):
     """The variables of a session: PATH begins with a folder that has the programs."""
     tools = os.path.join(work, "tools")
     os.makedirs(tools)
-    for name in ("kaudit", "kmatch", "kwhy", "kfiles", "kplain"):
+    for name in ("kaudit", "kmatch", "kwhy", "kfiles", "kplain", "kslab"):
         os.symlink(files.program(programs, name), os.path.join(tools, name))
     kept = {name: value for name, value in os.environ.items() if not name.startswith("LC_")}
     return kept | {"PATH": f"{tools}:{os.path.join(files.TOP, 'tools')}:{os.environ['PATH']}", "LC_ALL": "C", "COLUMNS": "80", "PYTHONDONTWRITEBYTECODE": "1"}

@@ -38,10 +38,11 @@ def least(commands, folder=".", runs=5):
     return [seconds_of(some) for some in measured(commands, folder, runs)]
 
 
-def processor(command):
-    """The seconds that the processors gave a command."""
+def processor(command, status=0):
+    """The seconds that the processors gave a command, which has to end with a status."""
     before = resource.getrusage(resource.RUSAGE_CHILDREN)
-    subprocess.run(command, stdout=subprocess.DEVNULL, check=True)
+    done = subprocess.run(command, stdin=subprocess.DEVNULL, stdout=subprocess.DEVNULL, stderr=subprocess.DEVNULL)
+    assert done.returncode == status, done
     after = resource.getrusage(resource.RUSAGE_CHILDREN)
     return after.ru_utime + after.ru_stime - before.ru_utime - before.ru_stime
 

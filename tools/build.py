@@ -28,17 +28,17 @@ def below(table, names):
 
 def prove(name, at, count, log):
     """Builds one program by `rt run`, which proves each crate below it that isn't proved. With no words the program prints its usage and ends with 6."""
-    run = subprocess.Popen(["rt", "run"], cwd=os.path.join(TOP, "crates", name), stdin=subprocess.DEVNULL, stdout=subprocess.PIPE,
-                           stderr=subprocess.STDOUT, text=True)
     began = time.monotonic()
-    for line in run.stdout:
-        log.write(line)
-        log.flush()
-        crate = re.match(r"rt: chose --jobs \d+ for (\w+)", line)
-        if crate and crate[1] in at:
-            number = at[crate[1]]
-            print(f"[{number}/{count}] {crate[1]}, {count - number} left, {(time.monotonic() - began) / 60:.0f} min", flush=True)
-    return run.wait()
+    with subprocess.Popen(["rt", "run"], cwd=os.path.join(TOP, "crates", name), stdin=subprocess.DEVNULL, stdout=subprocess.PIPE,
+                          stderr=subprocess.STDOUT, text=True) as run:
+        for line in run.stdout:
+            log.write(line)
+            log.flush()
+            crate = re.match(r"rt: chose --jobs \d+ for (\w+)", line)
+            if crate and crate[1] in at:
+                number = at[crate[1]]
+                print(f"[{number}/{count}] {crate[1]}, {count - number} left, {(time.monotonic() - began) / 60:.0f} min", flush=True)
+    return run.returncode
 
 
 def main():

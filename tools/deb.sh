@@ -18,6 +18,9 @@ done
 [ -z "$unproved" ] || for page in "$root"/usr/share/man/man1/k*.1.gz; do
     case $page in */ktriage.1.gz) ;; *) mv "$page" "${page%.1.gz}-unproved.1.gz" ;; esac
 done
+[ -z "$unproved" ] || for words in "$root"/usr/share/bash-completion/completions/k*; do
+    case $words in */ktriage) ;; *) mv "$words" "$words-unproved" ;; esac
+done
 cat > "$doc/copyright" <<'T'
 Format: https://www.debian.org/doc/packaging-manuals/copyright-format/1.0/
 Upstream-Name: kaudit

@@ -52,7 +52,7 @@ STOPPED = re.compile(r"broken\n" + RULE + STOP + WORDS)
 FOUND = re.compile(r"[0-9a-f]{16} [0-9a-f]{16} [0-9a-f]{16} [0-9a-f]{16}\n")
 SHOWN = re.compile(r"value -?(0|[1-9]\d*)\n(place [0-9a-f]{16} [0-9a-f]{16} [0-9a-f]{16} [0-9a-f]{16}\n){1,2}")
 LAYOUT = re.compile(r"(struct|union) \S* size (0|[1-9]\d*)\n(member \d+ (\d+|-) \S+\n)*")
-MATCHED = re.compile(r"(?s).*same (0|[1-9]\d*) differ (0|[1-9]\d*) unknown (0|[1-9]\d*)\n")
+MATCHED = re.compile(r"(?s).*types (same|unknown|differ at (0|[1-9]\d*))\nsame (0|[1-9]\d*) differ (0|[1-9]\d*) unknown (0|[1-9]\d*)\n")
 HEX = "[0-9a-f]{16}"
 CHANGED = f"{HEX} {HEX} {HEX} {HEX} {HEX}"
 # What a line of kwhy may be, by its first word.

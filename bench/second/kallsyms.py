@@ -4,115 +4,209 @@ manual, and shares nothing with the program.
     kallsyms DUMP map|types              what kfiles writes, with its status
     kallsyms try PROGRAM [COUNT [SEED]]  COUNT small dumps with made tables, most of them damaged: PROGRAM and this reader have to agree on each
 """
-import mmap, os, random, struct, subprocess, sys, tempfile
+import mmap
+import os
+import random
+import re
+import struct
+import subprocess
+import sys
+import tempfile
 
-class Refused(Exception): pass
-class Broken(Exception): pass
+from plans import reader
+from second.verdict import stopped_text
+
 IMAGE, M64 = 0xffffffff80000000, (1 << 64) - 1
+# The tables, as the note names them.
+TABLES = (b"kallsyms_num_syms", b"kallsyms_relative_base", b"kallsyms_offsets", b"kallsyms_token_index", b"kallsyms_token_table", b"kallsyms_names", b"_stext")
+VISIBLE = bytes(range(33, 127))
+MOST_SYMBOLS, MOST_TYPES, MOST_TOKEN, MOST_NAME = 1 << 22, 1 << 26, 512, 511
+
+
+class Refused(Exception):
+    """The tables are refused: the words after `refused dump`."""
+
+
+class Broken(Exception):
+    """A word can't be read: what is written of it."""
+
 
 class Dump:
-    def __init__(self, path):
-        f = open(path, 'rb'); self.m = mmap.mmap(f.fileno(), 0, access=mmap.ACCESS_READ); m = self.m
-        phoff, = struct.unpack_from('<Q', m, 32); n, = struct.unpack_from('<H', m, 56); self.loads, self.note = [], None
-        for i in range(n):
-            t, _, off, _, pa, fs, ms, _ = struct.unpack_from('<IIQQQQQQ', m, phoff + 56 * i)
-            if t == 1: self.loads.append((pa, fs, off))
-            if t == 4 and self.note is None:
-                p, e = off, off + fs
-                while p + 12 <= e:
-                    ns, ds, ty = struct.unpack_from('<III', m, p)
-                    if ns == ds == ty == 0: break
-                    d = p + 12 + (ns + 3 & ~3)
-                    if m[p + 12:p + 12 + ns] == b'VMCOREINFO\0' and ty == 0: self.note = m[d:d + ds].split(b'\0')[0]; break
-                    p = d + (ds + 3 & ~3)
-        self.keys = {}
-        for line in self.note.split(b'\n'):
-            k, s, v = line.partition(b'=')
-            if s and k not in self.keys: self.keys[k] = v
-        self.kaslr = int(self.keys.get(b'KERNELOFFSET', b'0'), 16); base = int(self.keys[b'NUMBER(phys_base)'])
-        self.five = int(self.keys.get(b'NUMBER(pgtable_l5_enabled)', b'0')); self.sme = int(self.keys.get(b'NUMBER(sme_mask)', b'0'))
-        top = self.keys.get(b'SYMBOL(init_top_pgt)') or self.keys[b'SYMBOL(swapper_pg_dir)']
-        self.top = int(top, 16) - IMAGE + base & M64; self.words = {}
-    def phys(self, pa):
-        for a, fs, off in self.loads:
-            if a <= pa and pa + 8 <= a + fs: return off + pa - a
-    def word(self, va):
-        w = self.words.get(va)
-        if w is None: w = self.words[va] = self.read(va)
-        return w
-    def read(self, va):
-        top = 56 if self.five else 47
-        if not (va >> top == 0 or va >> top == M64 >> top): raise Broken('broken\nrule M2\nat %016x\n' % va)
-        t = self.top
-        for level in range(5 if self.five else 4, 0, -1):
-            s = 12 + 9 * (level - 1); at = t + 8 * (va >> s & 511); off = self.phys(at)
-            head = 'at %016x\nstop %d %016x\n' % (va, level, at)
-            if off is None: raise Broken('broken\nrule M3\n' + head)
-            raw, = struct.unpack_from('<Q', self.m, off); e = raw & ~self.sme; place = 'place - %016x %016x %016x\n' % (at, off, raw)
-            if not e & 1: raise Broken('broken\nrule M4\n' + head + place)
-            if e & 128 and (level >= 4 or level == 3 and e >> 13 & 0x1ffff or level == 2 and e >> 13 & 0xff): raise Broken('broken\nrule M5\n' + head + place)
-            if e & 128 and level in (2, 3): t = (e & 0xffffffffff000) >> s << s; pa = t + (va & (1 << s) - 1); break
-            t = e & 0xffffffffff000; pa = t + (va & 4095)
-        off = self.phys(pa)
-        if off is None: raise Broken('broken\nrule M6\nat %016x\nstop 0 %016x\n' % (va, pa))
-        return self.m[off:off + 8]
-    def byte(self, va): return self.word(va & ~7 & M64)[va & 7]
-    def many(self, va, n): return bytes(self.byte(va + i & M64) for i in range(n))
-    def number(self, va, n): return int.from_bytes(self.many(va, n), 'little')
-    def symbol(self, name):
-        v = self.keys.get(b'SYMBOL(%s)' % name); d = v[2:] if v and v[:2] == b'0x' else v
-        if not d or len(d) > 16 or any(c not in b'0123456789abcdefABCDEF' for c in d): raise Refused('S4 key SYMBOL(%s)' % name.decode())
-        return int(d, 16)
+    """The virtual memory of a dump, and the lines of its note."""
 
-def symbols(d):
-    count, base, offsets, index, table, names, text = [d.symbol(k) for k in (b'kallsyms_num_syms', b'kallsyms_relative_base', b'kallsyms_offsets',
-        b'kallsyms_token_index', b'kallsyms_token_table', b'kallsyms_names', b'_stext')]
-    n = d.number(count, 4)
-    if not 1 <= n <= 1 << 22: raise Refused('S5 count %d' % n)
-    base = d.number(base, 8); tokens = []
-    for k in range(256):
-        at = table + d.number(index + 2 * k & M64, 2) & M64; t = b''
-        for j in range(512):
-            b = d.byte(at + j & M64)
-            if b == 0: break
-            t += bytes([b])
-        else: raise Refused('S6 token %d' % k)
-        tokens.append(t)
-    rows, at = [], names
-    for i in range(n):
-        size = d.byte(at); at = at + 1 & M64
-        if size >= 128: size = size - 128 + (d.byte(at) << 7); at = at + 1 & M64
-        t = b''.join(tokens[d.byte(at + j & M64)] for j in range(size)); at = at + size & M64
-        o = d.number(offsets + 4 * i & M64, 4)
-        if not t: raise Refused('S7 symbol %d' % i)
-        if not (chr(t[0]).isascii() and chr(t[0]).isalpha() or t[:1] == b'?'): raise Refused('S8 symbol %d' % i)
-        if not 2 <= len(t) <= 512 or any(not 33 <= c <= 126 for c in t[1:]): raise Refused('S7 symbol %d' % i)
-        rows.append((t[:1], t[1:], o))
+    def __init__(self, path):
+        with open(path, "rb") as file:
+            self.data = mmap.mmap(file.fileno(), 0, access=mmap.ACCESS_READ)
+        core = reader.Core(self.data)
+        info = reader.Info(core)
+        self.kaslr, self.memory = info.kaslr, reader.Memory(core, info.table, info.levels, info.mask)
+        self.keys, self.chunks = {}, {}
+        for line in reader.vmcoreinfo(core).split(b"\n"):
+            key, sign, value = line.partition(b"=")
+            if sign:
+                self.keys.setdefault(key, value)
+
+    def chunk(self, va):
+        """The bytes from an address to the end of its page, or to the first word that can't be read."""
+        word, page = va & ~7 & M64, va | 4095
+        if word not in self.chunks:
+            try:
+                _, pa, at, _ = self.memory.place(word)
+            except reader.Broken as stop:
+                raise Broken(stopped_text(stop)) from None
+            end = page + 1 - word
+            for offset, start, size in self.memory.core.loads:
+                if start <= pa and pa + 8 <= start + size:
+                    end = min(end, (start + size - pa) // 8 * 8)
+                    break
+            self.chunks[word] = self.data[at : at + end]
+        return self.chunks[word][va - word :] if va != word else self.chunks[word]
+
+    def many(self, va, count):
+        """So many bytes from an address on."""
+        parts, va = [], va & M64
+        while count > 0:
+            part = self.chunk(va)[:count]
+            parts.append(part)
+            va, count = va + len(part) & M64, count - len(part)
+        return b"".join(parts)
+
+    def number(self, va, count):
+        return int.from_bytes(self.many(va, count), "little")
+
+    def symbol(self, name):
+        """The address that a line of the note has."""
+        at = reader.hex_of(self.keys.get(b"SYMBOL(%s)" % name, b""))
+        if at is None:
+            raise Refused(f"S4 key SYMBOL({name.decode()})")
+        return at
+
+
+class Bytes:
+    """Bytes from an address on, of which no word is read before it is needed."""
+
+    def __init__(self, dump, va):
+        self.dump, self.va, self.held, self.at = dump, va & M64, b"", 0
+
+    def take(self, count):
+        """The next bytes."""
+        while self.at + count > len(self.held):
+            self.held, self.at = self.held[self.at :], 0
+            part = self.dump.chunk(self.va)
+            self.held, self.va = self.held + part, self.va + len(part) & M64
+        self.at += count
+        return self.held[self.at - count : self.at]
+
+
+def token(dump, at, number):
+    """The token at an address, up to its NUL."""
+    text = Bytes(dump, at)
+    found = bytearray()
+    for _ in range(MOST_TOKEN):
+        byte = text.take(1)
+        if byte == b"\0":
+            return bytes(found)
+        found += byte
+    raise Refused(f"S6 token {number}")
+
+
+def check(number, text):
+    """Whether the letter and the name of a symbol are ones."""
+    if not text:
+        raise Refused(f"S7 symbol {number}")
+    if not re.match(rb"[A-Za-z?]", text):
+        raise Refused(f"S8 symbol {number}")
+    if not 2 <= len(text) <= 1 + MOST_NAME or text[1:].translate(None, VISIBLE):
+        raise Refused(f"S7 symbol {number}")
+
+
+def rows_of(dump, places, count, tokens):
+    """The letter, the name and the offset of each symbol."""
+    names, offsets, rows = Bytes(dump, places[b"kallsyms_names"]), Bytes(dump, places[b"kallsyms_offsets"]), []
+    good = re.compile(rb"[A-Za-z?][!-~]{1,511}").fullmatch
+    for number in range(count):
+        size = names.take(1)[0]
+        if size >= 128:
+            size += (names.take(1)[0] << 7) - 128
+        text = b"".join([tokens[byte] for byte in names.take(size)])
+        offset = int.from_bytes(offsets.take(4), "little")
+        if not good(text):
+            check(number, text)
+        rows.append((text[:1], text[1:], offset))
+    return rows
+
+
+def symbols(dump):
+    """The rows, the first offset of each name, what gives an offset its address, and whether it does so with signs."""
+    places = {name: dump.symbol(name) for name in TABLES}
+    count = dump.number(places[b"kallsyms_num_syms"], 4)
+    if not 1 <= count <= MOST_SYMBOLS:
+        raise Refused(f"S5 count {count}")
+    base = dump.number(places[b"kallsyms_relative_base"], 8)
+    index, table = places[b"kallsyms_token_index"], places[b"kallsyms_token_table"]
+    tokens = [token(dump, table + dump.number(index + 2 * number, 2), number) for number in range(256)]
+    rows = rows_of(dump, places, count, tokens)
     first = {}
-    for l, name, o in rows: first.setdefault(name, o)
-    signed = lambda o: o if o < 1 << 31 else base - 1 - (o - (1 << 32)) & M64
-    upward = lambda o: base + o & M64
-    s = first.get(b'_stext'); fits = [] if s is None else [f for f in (signed, upward) if f(s) == text]
-    if len(fits) != 1: raise Refused('S9')
+    for _, name, offset in rows:
+        first.setdefault(name, offset)
+    signed = lambda offset: offset if offset < 1 << 31 else base - 1 - (offset - (1 << 32)) & M64
+    upward = lambda offset: base + offset & M64
+    text = first.get(b"_stext")
+    fits = [] if text is None else [read for read in (signed, upward) if read(text) == places[b"_stext"]]
+    if len(fits) != 1:
+        raise Refused("S9")
     return rows, first, fits[0], fits[0] is signed
 
-def answer(path, what):
-    d = Dump(path)
+
+def types_of(dump, table):
+    """The bytes of the types."""
+    _, first, address, _ = table
+    if b"__start_BTF" not in first or b"__stop_BTF" not in first:
+        raise Refused("S10")
+    start, stop = address(first[b"__start_BTF"]), address(first[b"__stop_BTF"])
+    if not 0 <= stop - start <= MOST_TYPES:
+        raise Refused("S11")
+    return dump.many(start, stop - start)
+
+
+def map_of(dump, table):
+    """The text of the map."""
+    rows, first, address, signed = table
+    out, end, kaslr = [], first.get(b"__per_cpu_end", -1) if signed else -1, dump.kaslr
+    for letter, name, offset in rows:
+        at = address(offset)
+        if letter == b"A" and offset <= end and offset < 1 << 31:
+            letter = b"D"
+        out.append(b"%016x %b %b\n" % (at - kaslr if at >= IMAGE + kaslr else at, letter, name))
+    return b"".join(out)
+
+
+def answers(path, wishes):
+    """What kfiles ends with for each wish: status, standard output and standard error."""
     try:
-        rows, first, address, absolute = symbols(d)
-        if what == 'types':
-            if b'__start_BTF' not in first or b'__stop_BTF' not in first: raise Refused('S10')
-            a, b = address(first[b'__start_BTF']), address(first[b'__stop_BTF'])
-            if not 0 <= b - a <= 1 << 26: raise Refused('S11')
-            return 0, d.many(a, b - a), b''
-        out, end = [], first.get(b'__per_cpu_end')
-        for l, name, o in rows:
-            v = address(o)
-            if absolute and l == b'A' and end is not None and o <= end and o < 1 << 31: l = b'D'
-            out.append(b'%016x %s %s\n' % (v - d.kaslr if v >= IMAGE + d.kaslr else v, l, name))
-        return 0, b''.join(out), b''
-    except Broken as e: return 1, str(e).encode(), b''
-    except Refused as e: return 2, b'', b'refused dump %s\n' % str(e).encode()
+        dump = Dump(path)
+        table = symbols(dump)
+    except Broken as stop:
+        return [(1, str(stop).encode(), b"")] * len(wishes)
+    except Refused as why:
+        return [(2, b"", b"refused dump %s\n" % str(why).encode())] * len(wishes)
+    except reader.Refused as why:
+        return [(2, b"", b"refused %s\n" % str(why).encode())] * len(wishes)
+    return [made(dump, table, wish) for wish in wishes]
+
+
+def made(dump, table, wish):
+    try:
+        return 0, (types_of if wish == "types" else map_of)(dump, table), b""
+    except Broken as stop:
+        return 1, str(stop).encode(), b""
+    except Refused as why:
+        return 2, b"", b"refused dump %s\n" % str(why).encode()
+
+
+def answer(path, wish):
+    return answers(path, [wish])[0]
+
 
 # small dumps: an image of 64 KiB at IMAGE + 16 MiB + KASLR, four or five levels, and a table of some symbols
 def make(r):
@@ -164,8 +258,11 @@ def damage(r, g, lines):
 def write(r, path):
     g = make(r); w, start = g['where'], g['start']
     lines = ['SYMBOL(kallsyms_%s)=%x' % (k, start + a) for k, (a, n) in w.items()] + ['SYMBOL(_stext)=%x' % start]
-    damage(r, g, lines)
-    phys, tables, at = 0x100000, {}, [0x200000]
+    damage(r, g, lines); put(r, path, g, lines)
+
+def put(r, path, g, lines):
+    """Writes a dump that has the memory of g, from its start on, and these lines in its note."""
+    start, phys, tables, at = g['start'], 0x100000, {}, [0x200000]
     def table():
         a = at[0]; at[0] += 4096; tables[a] = bytearray(4096); return a
     top = table(); hole = g.get('hole')

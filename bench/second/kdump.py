@@ -8,6 +8,7 @@ installed); its version is 4, 5 or 6, and it is flattened or not. Then nothing, 
 descriptor, a stream, a record, or the file's end. What is wanted is this reader's answer: the plain core, or the line of the refusal with status 2
 and nothing on standard output, or the line of the first page that can't be had with status 3 and a first part of the core.
 """
+import bisect
 import os
 import random
 import re
@@ -57,14 +58,26 @@ class Sparse:
 
     def __init__(self, data):
         self.data, self.records = data, flat.records_of(data)
+        self.size = flat.size_of(self.records)
+        order = sorted(record for record in self.records if record[1])
+        # Where no record is over another, those of a part are found by their order.
+        self.begins = [to for to, _, _ in order] if all(one[0] + one[1] <= next[0] for one, next in zip(order, order[1:])) else None
+        if self.begins:
+            self.records = order
 
     def __len__(self):
-        return flat.size_of(self.records)
+        return self.size
+
+    def near(self, begin, end):
+        """The records that may have bytes of a part, in their order."""
+        if not self.begins:
+            return self.records
+        return self.records[max(bisect.bisect_right(self.begins, begin) - 1, 0):bisect.bisect_left(self.begins, end)]
 
     def __getitem__(self, part):
         begin, end, _ = part.indices(len(self))
         out = bytearray(max(end - begin, 0))
-        for to, count, at in self.records:
+        for to, count, at in self.near(begin, end):
             first, last = max(to, begin), min(to + count, end)
             if first < last:
                 out[first - begin:last - begin] = self.data[at + first - to:at + last - to]

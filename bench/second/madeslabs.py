@@ -1,5 +1,5 @@
-"""Makes the dump on which kslab is tried in crates/kslab: slabs of three caches, whole and damaged ones, a page that only claims a cache, two
-processors, and a frame without a descriptor.
+"""Makes the dump on which kslab is tried in crates/kslab: slabs of five caches, whole and damaged ones, two of them with slub_debug, a page that
+only claims a cache, two processors, and a frame without a descriptor; and the dumps of slabcases.py.
 
 usage: madeslabs FOLDER
 
@@ -28,19 +28,27 @@ STRUCTS = (
 )
 MORE = (
     ("kmem_cache_cpu", 24, (("freelist", POINTER, 0), ("tid", WORD, 64), ("slab", POINTER, 128))),
-    ("kmem_cache", 64, (("cpu_slab", POINTER, 0), ("size", NUMBER, 64), ("offset", NUMBER, 96), ("random", WORD, 128), ("name", POINTER, 192),
-                        ("list", LIST, 256), ("node", ARRAY, 384))),
+    ("kmem_cache", 80, (("cpu_slab", POINTER, 0), ("size", NUMBER, 64), ("offset", NUMBER, 96), ("random", WORD, 128), ("name", POINTER, 192),
+                        ("list", LIST, 256), ("node", ARRAY, 384), ("flags", NUMBER, 448), ("object_size", NUMBER, 480), ("inuse", NUMBER, 512),
+                        ("red_left_pad", NUMBER, 544), ("ctor", POINTER, 576))),
     ("slab", 64, (("__page_flags", WORD, 0), ("slab_cache", POINTER, 64), ("slab_list", LIST, 128), ("freelist", POINTER, 256),
                   ("inuse", NUMBER, 320, 16), ("objects", NUMBER, 336, 15), ("frozen", NUMBER, 351, 1))),
     ("page", 64, (("flags", WORD, 0), ("compound_head", WORD, 64))),
 )
-CACHES, CACHE, NAMES, CPUS = 0xB100, (0xB200, 0xB300, 0xB400), 0xB800, (0xC000, 0xC400)
-FRAMES, SIZE, FAR, RANDOM = 0x8000, 0x14000, 0x40000, 0x1122334455667788
+CACHES, CACHE, NAMES, CPUS = 0xB100, (0xB200, 0xB300, 0xB400, 0xB500, 0xB600), 0xB800, (0xC000, 0xC400)
+FRAMES, SIZE, FAR, RANDOM = 0x8000, 0x19000, 0x40000, 0x1122334455667788
 OBJECTS, BYTES, OFFSET = 8, 512, 256
+# SLAB_RED_ZONE and SLAB_POISON, by constants and by the bits of an enumeration.
+ZONES, POISON, BITS = 0x400, 0x800, {0x400: 1 << 1, 0x800: 1 << 2, 0x80000: 1 << 9}
+# Of each cache its name, `size`, `flags`, `object_size`, `inuse` and `red_left_pad`.
+MADE = (
+    (b"made", BYTES, 0, 256, 256, 0), (b"n\x01 t", BYTES, 0, 256, 256, 0), (b"small", 8, 0, 8, 8, 0),
+    (b"zones", BYTES, ZONES | POISON, 250, 256, 64), (b"padded", BYTES, POISON, 251, 256, 0),
+)
 
 
-def btf():
-    """The types."""
+def btf(extra=(), without=()):
+    """The types: with these further structs or enumerations, and without these members."""
     names, types = bytearray(b"\0"), bytearray()
 
     def name(text):
@@ -63,8 +71,10 @@ def btf():
     put(*STRUCTS[0])
     put(*STRUCTS[1])
     types.extend(struct.pack("<IIIIII", 0, 3 << 24, 0, POINTER, NUMBER, 1))
-    for one in MORE:
-        put(*one)
+    for title, size, members in MORE:
+        put(title, size, [member for member in members if (title, member[0]) not in without])
+    for kind, title in extra:
+        types.extend(struct.pack("<III", name(title), kind << 24, 4))
     return struct.pack("<HBBIIIII", 0xEB9F, 1, 0, 24, 0, len(types), len(types), len(names)) + bytes(types) + bytes(names)
 
 
@@ -93,26 +103,42 @@ class Slabs:
         for k, node in enumerate(nodes):
             self.put(node - IMAGE, nodes[(k + 1) % len(nodes)])
             self.put(node - IMAGE + 8, nodes[k - 1])
-        for k, (cache, title, size) in enumerate(zip(CACHE, (b"made", b"n\x01 t", b"small"), (BYTES, BYTES, 8))):
+        for k, (cache, (title, size, flags, there, inuse, pad)) in enumerate(zip(CACHE, MADE)):
             struct.pack_into("<QIIQQ", self.memory, cache, IMAGE + CPUS[0] + 64 * k, size, OFFSET, RANDOM, IMAGE + NAMES + 16 * k)
+            struct.pack_into("<IIIIQ", self.memory, cache + 56, flags, there, inuse, pad, 0)
             self.memory[NAMES + 16 * k : NAMES + 16 * k + len(title)] = title
 
     def code(self, at, pointer):
         """A free pointer as it is kept."""
         return pointer ^ RANDOM ^ int.from_bytes(at.to_bytes(8, "little"), "big")
 
-    def chain(self, frame, numbers):
+    def chain(self, frame, numbers, pad=0):
         """A free list of these objects, and the address of its first."""
-        objects = [DIRECT + 4096 * frame + BYTES * number for number in numbers] + [0]
+        objects = [DIRECT + 4096 * frame + pad + BYTES * number for number in numbers] + [0]
         for one, after in zip(objects, objects[1:]):
             self.put(one - DIRECT + OFFSET, self.code(one + OFFSET, after))
         return objects[0]
 
     def slab(self, frame, cache, free, inuse, frozen=0, flags=1 << 9):
         """A page that names a cache, with a free list of its own."""
-        at, first = FRAMES + 64 * frame, self.chain(frame, free)
+        at, first = FRAMES + 64 * frame, self.chain(frame, free, MADE[cache][5])
         struct.pack_into("<QQ", self.memory, at, flags, IMAGE + CACHE[cache])
         struct.pack_into("<QI", self.memory, at + 32, first, inuse | OBJECTS << 16 | frozen << 31)
+
+    def guard(self, frame, cache, free):
+        """The bytes that slub_debug keeps at the objects of a page: red zones, padding and poison."""
+        _, _, flags, there, inuse, pad = MADE[cache]
+        for number in range(OBJECTS):
+            at, fill = 4096 * frame + pad + BYTES * number, 0xBB if number in free else 0xCC
+            if number in free and flags & POISON:
+                self.memory[at : at + there] = b"\x6b" * (there - 1) + b"\xa5"
+            self.memory[at - pad : at] = bytes([fill]) * pad
+            self.memory[at + there : at + inuse] = bytes([fill if flags & ZONES else 0x5A]) * (inuse - there)
+
+    def guarded(self, frame, cache, free):
+        """A whole slab of a cache with slub_debug."""
+        self.guard(frame, cache, free)
+        self.slab(frame, cache, free, OBJECTS - len(free))
 
     def processor(self, number, cache, frame, first):
         """A processor's slab of a cache, and the first object of its list."""
@@ -120,14 +146,14 @@ class Slabs:
         self.put(at, first)
         self.put(at + 16, VMEMMAP + 64 * frame)
 
-    def core(self):
-        """The file: a note, the memory, and a page whose descriptor isn't mapped."""
+    def core(self, text=NOTE):
+        """The file: a note with this text, the memory, and a page whose descriptor isn't mapped."""
         head = bytearray(0x400)
         head[:7] = b"\x7fELF\x02\x01\x01"
         struct.pack_into("<HHI", head, 16, 4, 62, 1)
         struct.pack_into("<QQ", head, 32, 64, 0)
         struct.pack_into("<HHH", head, 54, 56, 3, 0)
-        note = struct.pack("<III", 11, len(NOTE), 0) + b"VMCOREINFO\0\0" + NOTE + b"\0" * (-len(NOTE) % 4)
+        note = struct.pack("<III", 11, len(text), 0) + b"VMCOREINFO\0\0" + text + b"\0" * (-len(text) % 4)
         head[0x200 : 0x200 + len(note)] = note
         for k, (kind, at, pa, size) in enumerate(((4, 0x200, 0, len(note)), (1, 0x400, 0, SIZE), (1, 0x400 + SIZE, FAR, 4096))):
             struct.pack_into("<IIQQQQQQ", head, 64 + 56 * k, kind, 0, at, 0, pa, size, size, 0)
@@ -150,6 +176,13 @@ def damaged():
     made.slab(0xF, 1, (0, 3), 6)
     # text over the second free object
     made.memory[0x10000 + BYTES + OFFSET : 0x10000 + BYTES + OFFSET + 8] = b"AAAAAAAA"
+    # slabs with slub_debug: whole ones, the last byte of a free object, the red zones around one in use, and its padding
+    for frame, cache, free, harmed in (
+        (0x14, 3, (1, 4), None), (0x15, 3, (1, 4), 64 + BYTES + 249), (0x16, 3, (0, 7), 64 + 3 * BYTES - 1), (0x17, 4, (2,), None), (0x18, 4, (2, 5), 6 * BYTES + 253),
+    ):
+        made.guarded(frame, cache, free)
+        if harmed is not None:
+            made.memory[4096 * frame + harmed] ^= 1
     return made
 
 

@@ -2,9 +2,10 @@
 
 usage: match PROGRAMS FOLDER
 
-With its own files nothing may differ, and 60 lines or more have to be the same; a second reader, below, counts the symbols and the sizes that have
-to be among them. Then the row of one symbol is changed, and then the size of one struct: each time that line alone has to differ. It runs five
-times; the time is the least in seconds, and the memory the greatest, in MiB.
+With its own files nothing may differ and the types have to be the dump's, and 60 lines or more have to be the same; a second reader, below, counts
+the symbols and the sizes that have to be among them. Then the row of one symbol is changed, and then the size of one struct: each time that line
+alone has to differ, and the types from the byte on that is changed; then a byte is added to them. It runs five times; the time is the least in
+seconds, and the memory the greatest, in MiB.
 """
 import re
 import struct
@@ -67,12 +68,12 @@ def second_reader(lines, rows, types):
 
 
 def matched(kmatch, folder, btf, map_):
-    """The status of a run, the lines that differ, the counts and the seconds."""
-    status, out, err, seconds = timer.run([kmatch, "vmcore", btf, map_], folder)
+    """The status of a run, the lines that differ, the counts, and the line of the types."""
+    status, out, err, _ = timer.run([kmatch, "vmcore", btf, map_], folder)
     assert err == b"", err
     lines = out.decode().splitlines()
     counts = re.fullmatch(r"same (\d+) differ (\d+) unknown (\d+)", lines[-1])
-    return status, [line for line in lines if line.startswith("differ ")], [int(n) for n in counts.groups()], seconds
+    return status, [line for line in lines if line.startswith("differ ")], [int(n) for n in counts.groups()], lines[-2]
 
 
 def main(words):
@@ -82,9 +83,9 @@ def main(words):
     btf = open(f"{folder}/btf", "rb").read()
     rows, types = addresses(f"{folder}/System.map"), sizes(btf)
 
-    status, differ, counts, _ = matched(kmatch, folder, "btf", "System.map")
-    print("own files:", *counts)
-    assert (status, differ, counts[1]) == (0, [], 0) and counts[0] >= 60
+    status, differ, counts, told = matched(kmatch, folder, "btf", "System.map")
+    print("own files:", *counts, told)
+    assert (status, differ, counts[1], told) == (0, [], 0, "types same") and counts[0] >= 60
     assert sum(counts) == sum(re.match(r"(SYMBOL|SIZE|OFFSET)\(.*\)=", line) is not None for line in lines)
     assert counts[0] >= second_reader(lines, rows, types)
 
@@ -94,16 +95,22 @@ def main(words):
         text = text.replace(f"{row:016x} D init_uts_ns\n", f"{row + 64:016x} D init_uts_ns\n")
         with open(f"{changed}/map", "w", encoding="ascii") as file:
             file.write(text)
-        status, differ, _, _ = matched(kmatch, folder, "btf", f"{changed}/map")
-        print(*differ)
-        assert status == 1 and len(differ) == 1 and differ[0].startswith("differ SYMBOL(init_uts_ns)=")
+        status, differ, _, told = matched(kmatch, folder, "btf", f"{changed}/map")
+        print(*differ, told)
+        assert status == 1 and told == "types same" and len(differ) == 1 and differ[0].startswith("differ SYMBOL(init_uts_ns)=")
 
         size, at = types["page"]
         with open(f"{changed}/btf", "wb") as file:
             file.write(btf[:at] + struct.pack("<I", size - 8) + btf[at + 4 :])
-        status, differ, _, _ = matched(kmatch, folder, f"{changed}/btf", "System.map")
-        print(*differ)
-        assert (status, differ) == (1, [f"differ SIZE(page)={size} btf {size - 8}"])
+        status, differ, _, told = matched(kmatch, folder, f"{changed}/btf", "System.map")
+        print(*differ, told)
+        assert (status, differ, told) == (1, [f"differ SIZE(page)={size} btf {size - 8}"], f"types differ at {at}")
+
+        with open(f"{changed}/btf", "wb") as file:
+            file.write(btf + b"\0")
+        status, differ, _, told = matched(kmatch, folder, f"{changed}/btf", "System.map")
+        print(*differ, told)
+        assert (status, differ, told) == (1, [], f"types differ at {len(btf)}")
 
     command = [kmatch, *files.NAMES]
     print(f"{timer.least([command], folder)[0]:.3f} s {timer.most_memory(command, folder):.1f} MiB")

@@ -8,7 +8,7 @@ makedumpfile packs FOLDER/vmcore by zlib, by LZO, not at all, and flattened (`-c
     plans     for each plan of FOLDER, of its plans and of this repository `kplain check` says of the packed dump what `kaudit check` says of the core,
               byte for byte; and at the levels 0 and 1 what it says of the original but for file offsets (at 31 how many plans differ is counted)
     certify   the certificates of some plans are those of the core, and `recheck` takes them
-    kmatch, kwhy, kfiles     say of the packed dump what they say of the core, byte for byte
+    kmatch, kwhy, kfiles, kslab     say of the packed dump what they say of the core, byte for byte
     drgn      reads physical and virtual addresses in the core as in the original, where it is installed
     crash     prints the same for the core as for the original, with --vmlinux, where it is installed
 
@@ -91,7 +91,7 @@ class Compared:
 
 class Folder:
     def __init__(self, programs, folder, work, vmlinux):
-        self.program = {name: files.program(programs, name) for name in ('kplain', 'kaudit', 'kmatch', 'kwhy', 'kfiles')}
+        self.program = {name: files.program(programs, name) for name in ('kplain', 'kaudit', 'kmatch', 'kwhy', 'kfiles', 'kslab')}
         self.vmcore, self.btf, self.map = (os.path.join(folder, name) for name in files.NAMES)
         self.work, self.vmlinux, self.seen = work, vmlinux, Compared()
         own = glob.glob(os.path.join(folder, '*.toml')) + glob.glob(os.path.join(folder, 'plans', '*.toml'))
@@ -135,7 +135,7 @@ class Folder:
 
     def others(self, dump):
         """What the other programs say of a dump."""
-        told = {'kmatch': run(self.program['kmatch'], dump, self.btf, self.map)}
+        told = {name: run(self.program[name], dump, self.btf, self.map) for name in ('kmatch', 'kslab')}
         for word in ('map', 'types', 'log'):
             told['kfiles', word] = run(self.program['kfiles'], dump, word)
         for address in self.addresses():

@@ -3,7 +3,8 @@
 usage: slabs PROGRAMS FOLDER [COUNT [SEED]]
 
 The dump is copied, damaged word by word and mended. Each damage is one word: a free pointer, a slab's `freelist`, its counts, its `slab_cache`, at a
-slab that is taken at random, or what a processor has of a cache. The texts and the statuses have to be the same, also where a damage does no harm.
+slab that is taken at random, what a processor has of a cache, a pointer of the ring of all caches, or a byte that slub_debug keeps: of a red zone, of the padding, of the poison of a free
+object. The texts and the statuses have to be the same, also where a damage does no harm.
 It ends with 1 where one differs.
 """
 import collections
@@ -19,6 +20,17 @@ import files
 from plans.reader import TOP, Broken, Core, Info, Memory, Refused, Types, address, dec_of, symbols, vmcoreinfo
 from second.areas import shown
 from second.verdict import Kernel, free_list, place_line
+
+
+# What slub_debug keeps at free objects and at those in use: red zones, padding, poison and its last byte.
+RED, PADDING, POISON, POISON_END = (0xBB, 0xCC), (0x5A, 0x5A), (0x6B, None), (0xA5, None)
+
+
+class Spoiled(Exception):
+    """A byte that slub_debug keeps is another one."""
+
+    def __init__(self, rule, at, expected, place, thing):
+        self.rule, self.at, self.expected, self.place, self.object = rule, at, expected, place, thing
 
 
 class Cached(Memory):
@@ -64,12 +76,48 @@ class Slabs:
             self.bases.append((five if info.levels == 5 else four) if symbol is None else memory.place(symbol)[3])
         self.page = kernel.types.size(kernel.struct("page"))
         self.field, self.marked = mark_of(kernel, note)
+        kinds = {(kind, kernel.types.name(name)) for kind, name, *_ in kernel.types.records[1:] if kind in (4, 6)}
+        self.kasan = (4, b"kasan_cache") in kinds
+        # SLAB_RED_ZONE, SLAB_POISON, SLAB_TYPESAFE_BY_RCU
+        self.flags = (1 << 1, 1 << 2, 1 << 9) if (6, b"_slab_flag_bits") in kinds else (0x400, 0x800, 0x80000)
         self.caches = {}
-        for node in kernel.ring(address(kernel.rows, "slab_caches", info.kaslr)):
+        self.nodes, self.ring = self.reached(address(kernel.rows, "slab_caches", info.kaslr))
+        for node in self.nodes:
             cache = (node - kernel.byte("kmem_cache", "list")) % TOP
             name = self.text(self.value(cache, "kmem_cache", "name"))
             if wanted is None or name == wanted:
-                self.caches[cache] = name, self.laid(cache)
+                laid = self.laid(cache)
+                self.caches[cache] = name, laid, self.runs(cache, laid)
+
+    def reached(self, head):
+        """The nodes of the ring of all caches, and the rule that it breaks: of a broken one those that are reached from either end."""
+        try:
+            return self.kernel.ring(head), None
+        except Broken as broken:
+            after, before = (self.kernel.byte("list_head", name) for name in ("next", "prev"))
+            first = self.along(head, after, before, (head,))
+            return first + self.along(head, before, after, (head, first[-1] if first else head)), broken
+
+    def along(self, node, on, back, ends):
+        """The nodes that one pointer leads to, while the other leads back."""
+        found, memory = [], self.kernel.memory
+        try:
+            while len(found) < 65536:
+                then = memory.place((node + on) % TOP)[3]
+                if memory.place((then + back) % TOP)[3] != node or then in ends:
+                    break
+                found.append(then)
+                node = then
+        except Broken:
+            pass
+        return found
+
+    def word(self, at):
+        """The 64 bits at an address, or none where they can't be read."""
+        try:
+            return self.kernel.memory.number(at, 0, 64)[0]
+        except Broken:
+            return None
 
     def value(self, at, struct, path, usual=None):
         try:
@@ -97,21 +145,70 @@ class Slabs:
             return None
         return (size, offset, self.value(cache, "kmem_cache", "random"), self.value(cache, "kmem_cache", "red_left_pad", 0)) if offset + 8 <= size else None
 
-    def judge(self, slab, number, size, offset, key, pad):
+    def runs(self, cache, laid):
+        """The bytes that a cache keeps at each object: the rule, where they begin, how many, and what they are at a free object and at one in use."""
+        there, inuse, flags, made = (self.value(cache, "kmem_cache", name) for name in ("object_size", "inuse", "flags", "ctor"))
+        if self.kasan or laid is None or None in (there, inuse, flags, made):
+            return []
+        size, _, _, pad = laid
+        if not 1 <= there <= inuse <= size - pad:
+            return []
+        zones, poison, by_rcu = (flags & bit != 0 for bit in self.flags)
+        runs = []
+        if zones:
+            runs += [("Z1", -pad, pad, RED), ("Z2", there, inuse - there, RED)]
+        elif poison:
+            runs += [("Z3", there, inuse - there, PADDING)]
+        if poison and not by_rcu and made == 0:
+            runs += [("Z4", 0, there - 1, POISON), ("Z4", there - 1, 1, POISON_END)]
+        return runs
+
+    def guard(self, base, size, objects, free, runs):
+        """Looks at the bytes that are kept at each object."""
+        free = set(free)
+        for number in range(objects):
+            thing = (base + size * number) % TOP
+            for rule, start, count, wanted in runs:
+                byte = wanted[thing not in free]
+                if byte is not None:
+                    self.same(rule, thing, thing + start, count, byte)
+
+    def same(self, rule, thing, at, count, byte):
+        """Each of these bytes is the same one."""
+        memory, end = self.kernel.memory, at + count
+        while at < end:
+            held, start = memory.places(at % TOP, 0, 8)
+            most = min(8 - start // 8, end - at)
+            text = held[0][3].to_bytes(8, "little")[start // 8 : start // 8 + most]
+            for k, found in enumerate(text):
+                if found != byte:
+                    raise Spoiled(rule, (at + k) % TOP, byte, held[0], thing)
+            at += most
+
+    def judge(self, slab, number, runs, size, offset, key, pad):
         objects, objects_at, objects_places = self.kernel.field(slab, "slab", "objects")
         inuse, inuse_at, inuse_places = self.kernel.field(slab, "slab", "inuse")
         frozen = self.kernel.field(slab, "slab", "frozen")[0]
         if objects == 0 or inuse > objects:
             raise Broken("U3", objects_at, places=objects_places)
-        free = free_list(self.kernel, slab, objects, (self.bases[1] + 4096 * number + pad) % TOP, size, offset, key)
+        base = (self.bases[1] + 4096 * number + pad) % TOP
+        free = free_list(self.kernel, slab, objects, base, size, offset, key)
         if len(free) != objects - inuse:
             raise Broken("U6", inuse_at, objects - inuse, places=inuse_places)
-        return objects, free, frozen
+        guarded = runs != [] and not frozen and size * objects <= 1 << 22
+        if guarded:
+            self.guard(base, size, objects, free, runs)
+        return objects, free, frozen, guarded
 
     def processors(self):
-        """The numbers of the processors that there may be, with their offsets."""
+        """The numbers of the processors that there may be, with their offsets, or none where the kernel lacks what tells them."""
         memory, rows, info = self.kernel.memory, self.kernel.rows, self.kernel.info
-        possible, offsets, count = (address(rows, name, info.kaslr) for name in ("__cpu_possible_mask", "__per_cpu_offset", "nr_cpu_ids"))
+        try:
+            possible, offsets, count = places = [address(rows, name, info.kaslr) for name in ("__cpu_possible_mask", "__per_cpu_offset", "nr_cpu_ids")]
+        except Refused:
+            return None
+        if None in places:
+            return None
         numbers = range(min(memory.number(count, 0, 32)[0], 8192))
         return [(k, memory.place(offsets + 8 * k)[3]) for k in numbers if memory.place(possible + k // 64 * 8)[3] >> k % 64 & 1]
 
@@ -158,9 +255,11 @@ class Slabs:
     def look_at_processors(self, lines):
         seen = collections.Counter()
         processors = self.processors()
-        for node in self.kernel.ring(address(self.kernel.rows, "slab_caches", self.kernel.info.kaslr)):
+        if processors is None:
+            return 0
+        for node in self.nodes:
             cache = (node - self.kernel.byte("kmem_cache", "list")) % TOP
-            name, laid = self.caches.get(cache, (b"", None))
+            name, laid, _ = self.caches.get(cache, (b"", None, []))
             if laid is None:
                 continue
             base = self.value(cache, "kmem_cache", "cpu_slab")
@@ -174,50 +273,68 @@ class Slabs:
                 seen["free"] += len(found)
                 if broken:
                     seen["broken"] += 1
-                    wanted = "" if broken.expected is None else " expected %016x" % broken.expected
-                    lines.append("processor %d slab %016x cache %016x %s broken %s at %016x%s\n" % (number, slab, cache, (shown(name) or "-"), broken.rule, broken.at, wanted))
+                    lines.append("processor %d slab %016x cache %016x %s broken %s\n" % (number, slab, cache, (shown(name) or "-"), self.told(broken)))
                     lines += [place_line(place) for place in broken.places]
                 elif slab is not None:
-                    self.lists.append((at, found, laid[1]))
+                    self.lists.append((at, found, laid[1], (slab - self.bases[0]) % TOP // self.page))
         lines.append("processors %d slabs %d unread %d broken %d free %d\n" % (len(processors), *(seen[k] for k in ("slabs", "unread", "broken", "free"))))
         return seen["broken"]
 
-    def look(self):
-        """What kslab prints, its status, and the slabs with their free objects."""
-        seen, lines, slabs = collections.Counter(), [], []
-        for number in frames(self.kernel.memory.core):
-            seen["frames"] += 1
-            slab = (self.bases[0] + self.page * number) % TOP
-            cache = self.value(slab, "slab", "slab_cache")
-            if cache not in self.caches:
-                seen["absent"] += cache is None
-                continue
-            mark = self.value(slab, "page", self.field)
-            if mark is None or not self.marked(mark):
-                seen["absent" if mark is None else "unmarked"] += 1
-                continue
-            seen["slabs"] += 1
-            name, laid = self.caches[cache]
-            if laid is None:
-                seen["untold"] += 1
-                continue
-            try:
-                objects, free, frozen = self.judge(slab, number, *laid)
-                seen["objects"] += objects
-                seen["free"] += len(free)
-                seen["frozen"] += frozen
-                slabs.append((slab, free, laid[1]))
-            except Broken as broken:
-                seen["broken"] += 1
-                wanted = "" if broken.expected is None else " expected %016x" % broken.expected
-                lines.append("slab %016x cache %016x %s broken %s at %016x%s\n" % (slab, cache, (shown(name) or "-"), broken.rule, broken.at, wanted))
-                lines += [place_line(place) for place in broken.places]
+    def told(self, broken):
+        """A rule that is broken, with its address."""
+        if isinstance(broken, Spoiled):
+            return "%s at %016x expected %016x object %016x" % (broken.rule, broken.at, broken.expected, broken.object)
+        return "%s at %016x" % (broken.rule, broken.at) + ("" if broken.expected is None else " expected %016x" % broken.expected)
+
+    def frame(self, number, seen, lines, slabs):
+        """Adds what a page frame is."""
+        seen["frames"] += 1
+        slab = (self.bases[0] + self.page * number) % TOP
+        cache = self.word(slab + self.kernel.byte("slab", "slab_cache"))
+        if cache not in self.caches:
+            seen["absent"] += cache is None
+            return
+        mark = self.value(slab, "page", self.field)
+        if mark is None or not self.marked(mark):
+            seen["absent" if mark is None else "unmarked"] += 1
+            return
+        seen["slabs"] += 1
+        name, laid, runs = self.caches[cache]
+        if laid is None:
+            seen["untold"] += 1
+            return
+        try:
+            objects, free, frozen, guarded = self.judge(slab, number, runs, *laid)
+            seen.update(objects=objects, free=len(free), frozen=frozen, guarded=guarded)
+            slabs.append((number, slab, free, laid, guarded and runs, objects))
+        except (Broken, Spoiled) as broken:
+            seen["broken"] += 1
+            lines.append("slab %016x cache %016x %s broken %s\n" % (slab, cache, (shown(name) or "-"), self.told(broken)))
+            lines += [place_line(place) for place in ([broken.place] if isinstance(broken, Spoiled) else broken.places)]
+
+    def look(self, before=None, changed=None):
+        """What kslab prints, its status, and the slabs with their free objects. Where all but one page frame are as they were, they aren't looked at again."""
+        if before is None:
+            self.each = {}
+            for number in frames(self.kernel.memory.core):
+                self.each[number] = one = collections.Counter(), [], []
+                self.frame(number, *one)
+            self.all = sum((one[0] for one in self.each.values()), collections.Counter())
+            seen, told = self.all, self.each
+        else:
+            one = collections.Counter(), [], []
+            self.frame(changed, *one)
+            seen, told = before.all - before.each[changed][0] + one[0], {changed: one}
+        lines, slabs = [line for _, found, _ in told.values() for line in found], [slab for *_, found in told.values() for slab in found]
         self.lists = []
         owned = self.look_at_processors(lines)
+        if self.ring:
+            lines.append("caches broken %s\n" % self.told(self.ring))
+            lines += [place_line(place) for place in self.ring.places]
         lines.append("caches %d\nframes %d absent %d unmarked %d\n" % (len(self.caches), *(seen[k] for k in ("frames", "absent", "unmarked"))))
-        lines.append("slabs %d frozen %d untold %d broken %d\n" % tuple(seen[k] for k in ("slabs", "frozen", "untold", "broken")))
+        lines.append("slabs %d frozen %d untold %d guarded %d broken %d\n" % tuple(seen[k] for k in ("slabs", "frozen", "untold", "guarded", "broken")))
         lines.append("objects %d free %d\n" % (seen["objects"], seen["free"]))
-        sound = self.caches and not seen["broken"] and not seen["untold"] and not owned
+        sound = self.caches and not seen["broken"] and not seen["untold"] and not owned and not self.ring
         return "".join(lines), 0 if sound else 1, slabs
 
 
@@ -227,11 +344,23 @@ def run(kslab, folder, dump):
 
 
 def harm(slabs, picked, chance):
-    """The virtual address of a word, and what it is overwritten with."""
-    slab, free, offset = picked
+    """What is damaged, the virtual address of a word, what it is overwritten with, and the page frame that this changes, or none where it may change more."""
+    number, slab, free, (size, offset, _, pad), guarded, objects = picked
     kernel = slabs.kernel
-    if chance.randrange(3) == 0:
-        at, found, offset = chance.choice(slabs.lists)
+    if chance.randrange(12) == 0:
+        node = chance.choice(slabs.nodes)
+        at = node + kernel.byte("list_head", chance.choice(("next", "prev")))
+        old = kernel.memory.place(at)[3]
+        return "ring of caches", at, chance.choice([0, old ^ 1 << chance.randrange(64), chance.choice(slabs.nodes), node, chance.getrandbits(64)]) % TOP, None
+    if guarded and chance.randrange(2) == 0:
+        rule, start, count, _ = chance.choice([run for run in guarded if run[2]])
+        base = (slabs.bases[1] + 4096 * number + pad) % TOP
+        thing = chance.choice(free) if rule == "Z4" and free else base + size * chance.randrange(objects)
+        byte = (thing + start + chance.choice((0, count - 1, chance.randrange(count)))) % TOP
+        old = kernel.memory.place(byte // 8 * 8)[3]
+        return rule, byte // 8 * 8, old ^ chance.choice((1 << chance.randrange(8), 1 + chance.randrange(255))) << byte % 8 * 8, number
+    if slabs.lists and chance.randrange(3) == 0:
+        at, found, offset, number = chance.choice(slabs.lists)
         kind = chance.choice(["processor's slab", "processor's freelist"] + ["processor's pointer"] * bool(found))
         if kind == "processor's pointer":
             at = (chance.choice(found) + offset) // 8 * 8
@@ -239,7 +368,7 @@ def harm(slabs, picked, chance):
             at += kernel.byte("kmem_cache_cpu", kind.split()[1])
         old = kernel.memory.place(at)[3]
         others = found + free + [old ^ 1 << chance.randrange(64), chance.getrandbits(64), 0, old + 8, slab]
-        return kind, at, chance.choice(others) % TOP
+        return kind, at, chance.choice(others) % TOP, number
     kinds = ["freelist", "counts", "slab_cache"] + ["pointer"] * 3 * bool(free)
     kind = chance.choice(kinds)
     if kind == "pointer":
@@ -248,7 +377,7 @@ def harm(slabs, picked, chance):
         at = kernel.field(slab, "slab", "inuse" if kind == "counts" else kind)[1] // 8 * 8
     old = kernel.memory.place(at)[3]
     new = chance.choice([old ^ 1 << chance.randrange(64), chance.getrandbits(64), 0, old + 8, old ^ chance.getrandbits(16), int.from_bytes(b"AAAAAAAA", "little")])
-    return kind, at, new % TOP
+    return kind, at, new % TOP, number
 
 
 def second(data, btf, rows):
@@ -276,12 +405,12 @@ def compare(kslab, folder, dump, data, count, seed):
     print("the dump as it is:", "differs" if wrong else "same")
     chance, kinds, noticed = random.Random(seed), collections.Counter(), collections.Counter()
     for _ in range(count):
-        kind, at, new = harm(kept, chance.choice(sound), chance)
+        kind, at, new, number = harm(kept, chance.choice(sound), chance)
         where = kept.kernel.memory.place(at)[2]
         old = data[where : where + 8]
         data[where : where + 8] = new.to_bytes(8, "little")
         data.flush()
-        text, status, _ = again(kept, data).look()
+        text, status, _ = again(kept, data).look(kept if number else None, number)
         told = run(kslab, folder, dump)
         kinds[kind] += 1
         noticed[kind] += status

@@ -35,8 +35,8 @@ LINKS, TREE_LINKS, NEAR = 65536, 8192, 64
 
 # How each rule is suspected.
 WAYS = {
-    "led": "M1 M2 M3 M4 M5 M6 N K", "met": "A", "before": "L1", "pointed": "H1", "parent": "R1", "colour": "R2 R3", "balance": "R5", "word": "R6 X3 X4 T6",
-    "byte": "X1 X2 X6", "count": "X5", "entry": "X7 X8 X9", "member": "U1 U2 U7 T1 T3 T4 T5 G1 G2", "own": "T2", "free": "U5", "shown": "R4 U3 U4 U6 T7 C",
+    "led": "M1 M2 M3 M4 M5 M6 N K", "met": "A", "before": "L1", "pointed": "H1", "parent": "R1", "top": "R2", "colour": "R3", "balance": "R5", "word": "R6 X3 X4 T6",
+    "bytes": "X1", "byte": "X2 X6", "count": "X5", "entry": "X7 X8 X9", "member": "U1 U2 U7 T1 T3 T4 T5 G2", "own": "T2", "free": "U5", "laid": "U4", "check": "C", "process": "G1", "shown": "R4 U3 U6 T7",
 }
 WAY_OF = {rule: way for way, rules in WAYS.items() for rule in rules.split()}
 
@@ -140,6 +140,9 @@ class Suspects:
     def by_byte(self):
         return self.filled(self.at, 0, 8, self.expected)
 
+    def by_bytes(self):
+        return self.by_byte() + self.first_words()
+
     def by_count(self):
         """First each slot that leads nowhere is null, and then the number of slots in use is what is expected."""
         return self.emptied() + self.by_byte()
@@ -173,16 +176,24 @@ class Suspects:
         if self.kind != "rbtree" or self.expected is None:
             return []
         shape, parent = self.audit.shape, self.expected
-        found = [to(self.at, parent), to(self.at, parent + 1)]
+        found = []
         node = (self.at - shape["parent"]) % TOP
         links = [parent + shape[side] for side in ("left", "right")] if parent else [self.start + shape["root"]]
         for link in links:
             place = self.read(link % TOP)
             found += [each(link)] if place and place[3] == node else []
-        return found
+        words, own = [to(self.at, parent), to(self.at, parent + 1)], self.read(self.at)
+        above = [self.read(((own[3] & ~3) + shape[side]) % TOP) for side in ("left", "right")] if own else []
+        return found + words if any(place and place[3] == node for place in above) else words + found
 
     def by_colour(self):
         return itertools.chain(self.by_word(), self.by_balance())
+
+    def by_top(self):
+        head = (self.start + self.audit.shape["root"]) % TOP
+        place = self.read(head) if self.kind == "rbtree" else None
+        leads = place and place[3] == (self.at - self.audit.shape["parent"]) % TOP
+        return itertools.chain([each(head)] if leads else [], self.by_colour())
 
     def by_balance(self):
         if self.kind == "rbtree":
@@ -194,7 +205,28 @@ class Suspects:
         return [each_pointer(self.at), to(self.at, 0)]
 
     def by_free(self):
-        return self.free() + shown(self.broken)
+        return self.free() + self.by_laid()
+
+    def by_laid(self):
+        found = shown(self.broken)
+        if self.kind != "slub":
+            return found
+        for name, *numbers in [*reversed(BASES), ("nr_node_ids",)]:
+            symbol = address(self.kernel.rows, name, self.kernel.info.kaslr)
+            found += [] if symbol is None else [each(symbol)] + [to(symbol, number) for number in numbers]
+        return found + [each((self.start + self.kernel.types.located(self.kernel.struct("kmem_cache"), "node")[1]) % TOP)]
+
+    def by_check(self):
+        return shown(self.broken) + [to(place[0], 0) for place in self.broken.places if place[0] != "-"]
+
+    def by_process(self):
+        """The number of a process id, first with nothing beside it in its word."""
+        found = []
+        if self.kind == "pids" and self.expected is not None:
+            bit, width, _ = self.audit.shape["nr"]
+            start = self.at % 8 * 8 + bit % 8
+            found = [to(self.at - self.at % 8, self.expected % (1 << width) << start)] if start + width <= 64 else []
+        return found + self.by_member()
 
     def by_shown(self):
         return shown(self.broken)
@@ -266,7 +298,7 @@ class Suspects:
     def led(self, link):
         """What a link that can't be right may have been."""
         if link is None or self.kind in ("slub", "tasks"):
-            return shown(self.broken)
+            return self.by_laid()
         if self.kind != "ring":
             return [(each_pointer if self.kind in ("xarray", "pids") else each)(link), to(link, 0)]
         behind = self.node_behind((link - self.offset("next")) % TOP)
@@ -282,6 +314,33 @@ class Suspects:
             if place and not self.read(place[3] - place[3] % 8):
                 found.append(to(place[0], 0))
         return found
+
+    def slots(self, node):
+        """The words in a node's slots that can be read."""
+        shape = self.audit.shape
+        places = [self.read((node + shape["slots"] + 8 * k) % TOP) for k in range(shape["chunk"])]
+        return [place[3] for place in places if place]
+
+    def first_words(self):
+        """The first word of the node that has a wrong shift, from its slots and its parent's: one for each shift that it may have."""
+        shape = self.audit.shape
+        if self.kind not in ("xarray", "pids"):
+            return []
+        node = (self.at - shape["shift"]) % TOP
+        parent, slots = self.read((node + shape["parent"]) % TOP), self.slots(node)
+        above = self.slots(parent[3]) if parent and parent[3] else []
+        entry = (node + 2) % TOP
+        numbers = {"offset": above.index(entry) if entry in above else 0, "count": sum(slot != 0 for slot in slots), "nr_values": sum(slot & 1 for slot in slots)}
+        bits = 6 if shape["chunk"] == 64 else 4
+        shifts = range(0, 61, bits) if self.expected is None else [self.expected]
+        return [to(self.at - self.at % 8, self.word_of(node, {**numbers, "shift": shift})) for shift in shifts]
+
+    def word_of(self, node, numbers):
+        """The word that has these bytes of a node, and no others."""
+        word = bytearray(8)
+        for name in ("nr_values", "count", "offset", "shift"):
+            word[(node + self.audit.shape[name]) % 8] = numbers[name] % 256
+        return int.from_bytes(word, "little")
 
     def heads(self, at):
         """Where a slab's free list may begin, if its `freelist` stands at an address: nowhere, or at each of its objects."""

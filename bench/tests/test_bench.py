@@ -1,7 +1,9 @@
 """Tests of the scripts that the repository leans on: planted/ taken apart, clauses compared, heads.py, and how commands are read out of documents."""
+import collections
 import contextlib
 import io
 import os
+import random
 import shutil
 import sys
 import tempfile
@@ -17,6 +19,8 @@ import files
 import heads
 import planted
 import reader
+from hostile import tables
+from second import kallsyms
 
 MADE = [os.path.join(files.DATA, name) for name in ("z.core", "z.btf", "z.map")]
 
@@ -227,6 +231,72 @@ class Files(unittest.TestCase):
             with files.changed(os.path.join(folder, "vmcore"), first):
                 self.assertEqual(files.read(folder, "vmcore")[16:18], b"\xff\0")
             self.assertEqual(files.read(folder, "vmcore")[16:18], b"\x01\0")
+
+
+class Held:
+    """Virtual memory that is a string from address 0 on, in chunks of 16 bytes; the words from `end` on can't be read."""
+
+    def __init__(self, data, end):
+        self.data, self.end, self.asked = data, end, []
+
+    def chunk(self, va):
+        self.asked.append(va)
+        if va >= self.end:
+            raise kallsyms.Broken(str(va))
+        return self.data[va : min(va // 16 * 16 + 16, self.end)]
+
+
+class Damaged:
+    """What tables.py damages, of a file of 4096 bytes: addresses are places of the file."""
+
+    note, lines = (0, 100), [10, 20]
+
+    def __init__(self):
+        self.memory = self
+        self.of_log = lambda rng: (rng.randrange(1000, 1100), rng.choice((1, 8)))
+        self.of_tables = lambda rng: (rng.randrange(2000, 2100), rng.choice((2, 4, 600)))
+        self.entry = lambda va, rng: 3000
+
+    def place(self, va):
+        assert va % 8 == 0
+        return va, va, va, 0
+
+
+class Tables(unittest.TestCase):
+    """Tables of symbols, as they are read and damaged."""
+
+    def test_bytes_are_read_when_they_are_needed(self):
+        held = Held(bytes(range(64)), 40)
+        text = kallsyms.Bytes(held, 13)
+        self.assertEqual((text.take(2), held.asked), (b"\x0d\x0e", [13]))
+        self.assertEqual((text.take(3), held.asked), (b"\x0f\x10\x11", [13, 16]))
+        self.assertEqual(text.take(22), bytes(range(18, 40)))
+        with self.assertRaises(kallsyms.Broken):
+            text.take(1)
+
+    def test_names(self):
+        for name in (b"Tx", b"?x", b"T" + b"x" * 511):
+            kallsyms.check(1, name)
+        for name, code in ((b"", "S7"), (b"T", "S7"), (b"T" + b"x" * 512, "S7"), (b"Ta b", "S7"), (b"1x", "S8"), (b"1", "S8"), (b"\xe4x", "S8")):
+            with self.assertRaises(kallsyms.Refused) as why:
+                kallsyms.check(1, name)
+            self.assertEqual(str(why.exception), code + " symbol 1")
+
+    def test_the_map_of_the_small_dump(self):
+        small = os.path.join(files.CRATES, "kfiles")
+        self.assertEqual(kallsyms.answer(os.path.join(small, "data", "z.core"), "map"), (0, files.read(small, "stdout"), b""))
+
+    def test_what_is_damaged_is_put_back(self):
+        whole, kinds = bytes(k * k % 251 for k in range(4096)), collections.Counter()
+        for seed in range(300):
+            data = bytearray(whole)
+            with tables.damaged(Damaged(), data, random.Random(seed)) as names:
+                kinds.update(name.split()[0] for name in names)
+                self.assertEqual(len(data), 4096)
+                changed = {k // 1000 for k in range(4096) if data[k] != whole[k]}
+                self.assertLessEqual(changed, {{"note": 0, "log": 1, "tables": 2, "entry": 3}[name.split()[0]] for name in names})
+            self.assertEqual(data, whole)
+        self.assertEqual(set(kinds), {"note", "log", "tables", "entry"})
 
 
 class Commands(unittest.TestCase):

@@ -5,6 +5,7 @@ import importlib.util
 import io
 import json
 import os
+import re
 import signal
 import struct
 import subprocess
@@ -12,6 +13,7 @@ import sys
 import tempfile
 import time
 import unittest
+import unittest.mock
 
 TOP = os.path.dirname(os.path.dirname(os.path.dirname(os.path.realpath(__file__))))
 
@@ -28,6 +30,7 @@ ktriage = load("ktriage", os.path.join(TOP, "tools", "ktriage"))
 KMATCH = """OSRELEASE 6.1.0-test
 BUILD-ID 00112233445566778899aabbccddeeff00112233
 KERNELOFFSET 0
+types same
 same 79 differ 0 unknown 3"""
 CLEAN = "roots 2\nroot tasks clean\naudit tasks walks 1 elements 227\nroot keys clean\naudit keys walks 1 elements 0"
 VIOLATION = """audit tasks
@@ -127,9 +130,9 @@ class Pages(Folder):
     def test_sound(self):
         status, out, err = self.triage()
         self.assertEqual((status, err), (0, ""))
-        self.assertIn("verdict   2 roots: 2 sound, 0 broken, 0 not in the dump", out)
-        self.assertIn("  tasks: tasks 227\n", out)
-        self.assertIn("  without an element: keys\n", out)
+        self.assertTrue(out.startswith("verdict   nothing broken was found: 2 of 2 roots are sound\n"), out)
+        self.assertIn("  tasks 227\n", out)
+        self.assertIn("  keys 0\n", out)
         self.assertIn("kslab isn't installed", out)
 
     def test_broken(self):
@@ -144,7 +147,7 @@ class Pages(Folder):
         near = 'near ffff888000001008 6c6c6f2068656c6c text "lleh oll"\nspan ffff888000001008 ffff88800000101f'
         self.script("kwhy", f"[ $# = 5 ] || {{ cat <<'T'\nnear ffff888000001000 0000000000000000 zero\n{near}\nT\nexit; }}\ncat <<'T'\n{CAUSE}\nT\n")
         _, out, _ = self.triage()
-        self.assertIn("  " + near.replace("\n", "\n  ") + "\n\nSOUND", out)
+        self.assertIn("  " + near.replace("\n", "\n  ") + "\n\nNOT LOOKED AT", out)
 
     def test_one_verdict(self):
         self.program("kaudit", "broken\n" + VIOLATION, 1)
@@ -154,11 +157,20 @@ class Pages(Folder):
         self.assertIn("BROKEN  all (plan all.toml)", out)
         self.assertIn("repair ffff888000001008", out)
 
+    def test_the_same_word_stands_once(self):
+        self.program("kaudit", "roots 2\nroot tasks broken\n" + VIOLATION + "\nroot keys broken\n" + VIOLATION, 1)
+        self.program("kwhy", "root tasks\nrepair none of 1 tried\n" + CAUSE.replace("root tasks", "root keys"))
+        _, out, _ = self.triage()
+        self.assertIn("verdict   broken: tasks, keys; 0 of 2 roots are sound", out)
+        self.assertIn("BROKEN  keys (plan all.toml), tasks (plan all.toml)\n  audit tasks\n", out)
+        self.assertEqual(out.count("BROKEN"), 1)
+        self.assertNotIn("none of 1", out)
+
     def test_absent_memory_is_no_damage(self):
         self.program("kaudit", BAD.replace("rule L1", "rule M6"), 1)
         status, out, _ = self.triage()
         self.assertEqual(status, 0)
-        self.assertIn("1 sound, 0 broken, 1 not in the dump", out)
+        self.assertIn("verdict   nothing broken was found: 1 of 2 roots are sound, 1 aren't in the dump\n", out)
         self.assertIn("  tasks (plan all.toml): rule M6 at ffff888000001008", out)
 
     def test_an_audit_that_the_map_lacks_is_left_out(self):
@@ -167,6 +179,19 @@ class Pages(Folder):
         self.assertEqual(status, 0)
         self.assertIn("all.toml, audit tasks: the map has no such symbol", out)
         self.assertIn("all.toml, audit threads: it lies below tasks", out)
+
+    def test_checks_that_the_types_lack_are_left_out(self):
+        self.write("plans/all.toml", b'version = 2\n\n[[audit]]\nname = "tasks"\ncheck = ["a[1] != 0", "b"]\n\n[[audit]]\nname = "keys"\n')
+        self.script("kaudit", f'if grep -q check "$5"; then echo "refused plan P12 audit 0 key check" >&2; exit 2; fi\ncat <<T\n{CLEAN}\nT\n')
+        status, out, err = self.triage()
+        self.assertEqual((status, err), (0, ""))
+        self.assertIn("all.toml, audit tasks: without its checks: they name what these types don't have", out)
+        self.script("kaudit", 'echo "refused plan P12 audit 0 key check" >&2; exit 2\n')
+        self.is_refused_here("nothing was looked at: all.toml: no audit is left")
+
+    def is_refused_here(self, told):
+        status, out, err = self.triage()
+        self.assertEqual((status, out, told in err), (2, "", True), err)
 
     def test_log_and_registers(self):
         self.program("kfiles", LOG)
@@ -180,12 +205,48 @@ class Pages(Folder):
         for gone in ("Linux version", "WARNING", "RDX", "RCX fff", "R08 0", "Modules linked", "after it", "doubted", "\x1b"):
             self.assertNotIn(gone, out)
 
+    def test_what_the_log_says_of_a_crash(self):
+        log = ["check: Scanning 1 areas for low memory corruption", "Command line: panic=30", "general protection fault: 0000 [#1] PREEMPT SMP",
+               "RAX: ffff888000001000", " <TASK>", "RIP: 0033:0x47fbe9", "Code: 08 89", "RSP: 002b:00007ffc", "R13: 0000", " </TASK>", "here",
+               "---[ end trace 0 ]---", "eth0: up", "Kernel panic - not syncing: Fatal exception"]
+        heads = ("BUG kmalloc-96 (Not tainted): Poison overwritten", "kernel BUG at lib/list_debug.c:51!", "list_del corruption. next->prev should be 1",
+                 "BUG: TASK stack guard page was hit at 1", "traps: PANIC: double fault", "divide error: 0000 [#2] SMP", "sysrq: Trigger a crash")
+        for lines, wanted in ((log[:2], []), (log, [*log[2:4], *log[10:12], log[13]]), *(([head, "x"], [head, "x"]) for head in heads)):
+            with self.subTest(wanted[:1]):
+                self.assertEqual(ktriage.crash_lines("".join(f"[    1.000000] {line}\n" for line in lines)), wanted)
+
+    def test_the_answer_comes_first(self):
+        self.program("kaudit", BAD, 1)
+        self.program("kfiles", LOG)
+        self.script("kwhy", f"[ $# = 5 ] || {{ echo 'cache ffff888004841c00 kmalloc-2k size 2048'; exit; }}\ncat <<'T'\n{CAUSE}\nT\n")
+        _, out, _ = self.triage()
+        self.assertIn("\n  at ffff888000002000: cache ffff888004841c00 kmalloc-2k size 2048\n", out)
+        heads = [line.split("  ")[0] for line in out.split("\n") if line[:1].isalpha()]
+        self.assertEqual(heads, ["verdict", "dump", "kernel", "BROKEN", "PANIC", "ADDRESSES IN IT", "NOT LOOKED AT", "FILES", "GO ON", "SOUND"])
+
+    def test_whose_stack_is_broken(self):
+        end = "ffffc90000010000"
+        task = "broken\naudit leaders\nstart ffffffff82a10000\nrule C\nat ffff888000001000\nexpected none\nplace ffff888000001020 - - " + end
+        words = {"8a8": "0000000700000007", "9e8": "6168006d78746d69"}
+        self.script("kaudit", f'case $1 in layout) echo "struct task_struct size 9000"; echo "member 17760 32 pid"; echo "member 17792 32 tgid"; echo "member 20288 128 comm";;'
+                              f' word) case $4 in *8a8) echo "- - - {words["8a8"]}";; *9e8) echo "- - - {words["9e8"]}";; *) echo "- - - 0000000000000000";; esac;;'
+                              f' *) if grep -q "stack != 0x{end}" "$5"; then cat <<T\n{task}\nT\nelse cat <<T\n{BAD.replace("L1", "T6").replace("ffff888000001008", end)}\nT\nfi;; esac\nexit 1\n')
+        self.program("kwhy", f"root tasks\nrule T6 the magic number at the end of the stack is gone\nstack unknown T6 {end}")
+        _, out, _ = self.triage()
+        self.assertIn("stack is gone\n  stack 7 imtxm+0\n  task ffff888000001000\n", out)
+
+    def test_a_guard_page(self):
+        self.program("kfiles", "[    1.0] BUG: x\n[    1.0] RSP: 0018:ffffc90000007e38\n")
+        self.script("kwhy", 'case $4 in ffffc90000007e38) echo "stopped M4 1 0000000000001000";; ffffc90000008000) echo "stack 7 a task+0";; esac\n')
+        _, out, _ = self.triage()
+        self.assertIn("  RSP ffffc90000007e38  stopped M4 1 0000000000001000; the page after it: stack 7 a task+0\n", out)
+
     def test_broken_slabs(self):
         self.program("kslab", SLABS, 1)
         self.program("kwhy", "near ffff888000002040 6f6c6c6568206f6c text \"lo hello\"\nspan ffff888000002040 ffff888000002047\npage 4096")
         status, out, _ = self.triage()
         self.assertEqual(status, 1)
-        for told in ("slabs     2 broken: processors 2 slabs 170", "BROKEN  slab of dentry\n", "BROKEN  processor 1 slab of a name\n",
+        for told in ("verdict   broken: slab of dentry, processor 1 slab of a name; 2 of 2 roots are sound, 2 slabs are broken\n", "\n  slabs: processors 2 slabs 170", "BROKEN  slab of dentry\n", "BROKEN  processor 1 slab of a name\n",
                      "\n  span ffff888000002040 ffff888000002047\n", "  1 slabs with words that the dump doesn't hold"):
             self.assertIn(told, out)
         self.assertNotIn("page 4096", out)
@@ -194,10 +255,36 @@ class Pages(Folder):
         self.assertEqual([(slab["cache"], slab["owner"], slab["rule"]) for slab in broken], [("dentry", "slab", "U5"), ("a name", "processor 1 slab", "A")])
         self.assertEqual(broken[0]["near"], [["ffff888000002040", "6f6c6c6568206f6c", 'text "lo hello"']])
         _, out, _ = self.triage("--html", "-")
-        self.assertIn("A slab of a name is broken: rule A", out)
+        self.assertIn("Processor 1 slab ffffea0000151900 of a name is broken: rule A a word is met twice in one walk", out)
+
+    def test_a_slab_that_a_root_shows_stands_once(self):
+        self.program("kaudit", BAD.replace("ffff888000001008 0", "ffff888000002040 0"), 1)
+        self.program("kwhy", CAUSE.replace("place ffff888000001008", "place ffff888000002040"))
+        self.program("kslab", SLABS, 1)
+        _, out, _ = self.triage()
+        self.assertEqual((out.count("BROKEN  slab of dentry"), out.count("BROKEN  processor 1 slab of a name"), "2 slabs are broken" in out), (0, 1, True))
+
+    def test_the_rules_of_slabs_are_said_as_kwhy_says_them(self):
+        with open(os.path.join(TOP, "crates", "kc_cause", "src", "sentences.rt")) as file:
+            said = dict(re.findall(r'Rule::(\w+) => b"([^"]*)"', file.read()))
+        rules = {rule: text for rule, text in ktriage.SLAB_RULES.items() if rule[0] != "Z"}
+        self.assertEqual({rule: said[rule] for rule in rules}, rules)
+
+    def test_bytes_of_slub_debug_and_the_ring_of_caches(self):
+        place = "\nplace ffff888000002040 0000000000002040 0000000000003040 bbbbbbbb00bbbbbb"
+        for line, told in (("slab ffffea0000151880 cache ffff888000101000 dentry broken Z1 at ffff888000002043 expected 00000000000000bb object ffff888000002048",
+                            "BROKEN  slab of dentry\n  rule Z1 a byte of the red zone before"),
+                           ("caches broken L1 at ffff888000002040 expected ffff888000003000", "BROKEN  ring of slab caches\n  caches broken L1 "),
+                           ("slab ffffea0000151880 cache ffff888000101000 dentry broken M4 at ffff888000002043", "BROKEN  slab of dentry\n  slab ffffea")):
+            with self.subTest(line):
+                self.program("kslab", line + place + "\ncaches 157\nslabs 10 frozen 0 untold 0 guarded 10 broken 1", 1)
+                status, out, _ = self.triage("--html", self.path("page.html"))
+                self.assertEqual((status, told in out, "1 slab is broken" in out), (1, True, True), out)
+        self.program("kslab", "another line\nslabs 10 frozen 0 untold 0 broken 1", 1)
+        self.assertEqual(self.triage()[0], 3)
 
     def test_slabs_that_are_sound_or_unknown(self):
-        for out, status, told in (("caches 157\nslabs 10 frozen 0 untold 0 broken 0", 0, "slabs     none broken: caches 157; slabs 10 "),
+        for out, status, told in (("caches 157\nslabs 10 frozen 0 untold 0 broken 0", 0, "are sound, no slab is broken\n"),
                                   ("caches unknown L1 at ffff888000001000\nplace ffff888000001000 - - 0", 1, "slabs: caches unknown L1 at ffff888000001000"),
                                   ("caches 157\nslabs 10 frozen 0 untold 3 broken 0", 1, "  3 slabs whose objects can't be laid out"),
                                   ("", 5, "  slabs: kslab ended with 5")):
@@ -245,6 +332,24 @@ class Pages(Folder):
         _, out, _ = self.run_it("--keep", kept, dump)
         self.assertIn(f"GO ON\n  kwhy {dump} {kept}/btf {kept}/System.map ADDRESS ", out)
         self.assertEqual(sorted(os.listdir(kept)), ["System.map", "all.report", "all.toml", "btf"])
+
+    def test_types_of_the_build_that_the_dump_holds_otherwise(self):
+        self.script("kfiles", '[ "$2" = log ] && exit 6; echo "$2"')
+        self.program("kmatch", KMATCH.replace("types same", "types differ at 16"), 1)
+        with unittest.mock.patch.object(ktriage, "installed_types", lambda *words: (self.path("btf"), "vmlinux")):
+            status, out, err = self.run_it("--map", self.path("System.map"), self.path("vmcore"))
+        self.assertEqual((status, err, "unknown; THE DUMP'S OWN TYPES WERE WRITTEN TO: they differ at 16\n" in out), (0, "", True))
+        status, _, err = self.triage()
+        self.assertEqual((status, err.endswith(": types differ at 16\n")), (2, True))
+        self.program("kmatch", KMATCH)
+        self.assertIn("3 unknown; the types are those that the dump holds\n", self.triage()[1])
+
+    def test_a_map_of_the_release_that_is_of_another_build(self):
+        self.script("kfiles", '[ "$2" = log ] && exit 6; echo "$2"')
+        self.script("kmatch", f'[ "$3" = {self.path("System.map")} ] && {{ echo "SYMBOL(x)=1 differs 2"; exit 1; }}\ncat <<T\n{KMATCH}\nT\n')
+        with unittest.mock.patch.object(ktriage, "installed_map", lambda release: self.path("System.map")):
+            status, out, err = self.run_it("--types", self.path("btf"), self.path("vmcore"))
+        self.assertEqual((status, err, "  map       from the dump\n" in out), (0, "", True))
 
     def test_the_picture(self):
         self.program("kaudit", BAD, 1)
@@ -313,8 +418,14 @@ class BadInput(Folder):
         self.is_refused(2, "give them by --types", self.path("vmcore"))
 
     def test_files_of_another_kernel(self):
-        self.program("kmatch", "SIZE(page)=64 differs 56\nOSRELEASE 6.1.0-test\nBUILD-ID 00\nKERNELOFFSET 0\nsame 78 differ 1 unknown 3", 1)
-        self.is_refused(2, "SIZE(page)=64", "--types", self.path("btf"), "--map", self.path("System.map"), self.path("vmcore"))
+        facts = "OSRELEASE 6.1.0-test\nBUILD-ID 00\nKERNELOFFSET 0\n"
+        for text, told in [
+            (f"differ SIZE(page)=64 btf 56\n{facts}types same\nsame 78 differ 1 unknown 3", "differ SIZE(page)=64 btf 56"),
+            (f"{facts}types differ at 1024\nsame 79 differ 0 unknown 3", "types differ at 1024"),
+            (f"{facts}types unknown\nsame 0 differ 0 unknown 3", "not of the kernel"),
+        ]:
+            self.program("kmatch", text, 1)
+            self.is_refused(2, told, "--types", self.path("btf"), "--map", self.path("System.map"), self.path("vmcore"))
 
     def test_a_dump_that_kmatch_refuses(self):
         self.program("kmatch", "", 2, "refused dump E9 index 3")
@@ -427,6 +538,16 @@ class Plans(unittest.TestCase):
             self.assertEqual(plan.text(), text)
             self.assertEqual(len(plan.audits), text.count("\nname = ") + text.count("{ name = "), name)
             self.assertTrue(all(plan.names()), name)
+
+    def test_plans_without_checks(self):
+        import tomllib
+        for name in self.names():
+            plan, whole = ktriage.Plan(name, self.read(name)), tomllib.loads(self.read(name))
+            for audit in plan.names():
+                plan.leave_out_checks(audit)
+            for audit in whole["audit"]:
+                audit.pop("check", None)
+            self.assertEqual(tomllib.loads(plan.text()), whole)
 
     def test_changes_of_the_table(self):
         import tomllib

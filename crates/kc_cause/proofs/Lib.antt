@@ -2,4 +2,5 @@ mod FileLemmas
 mod Fits
 mod ItemLemmas
 mod PlannedLemmas
+mod PrintedLaws
 mod RepairLemmas

@@ -7,7 +7,8 @@ use Rattle.kc_found.specs.declared.verdict.RootVerdict.{RootVerdict}
 use Rattle.kc_plan.specs.Planned.{AuditAt}
 use Rattle.kc_plan.specs.Roots.{broken_in, root_verdicts}
 use Rattle.kc_plan.specs.Verdicts.{verdict, verdict_places}
-use Rattle.kc_cause.specs.Explained.{Explained, is_broken}
+use Rattle.kc_cause.specs.Explained.{Explained, explained_text, is_broken}
+use Rattle.kc_cause.specs.Printed.{IsExplanation}
 
 -- each word that shows a violation of a root audit stands in the dump, at the place that is shown
 abbrev pub WordsStand : Explained → Type 0
@@ -21,3 +22,7 @@ abbrev pub FirstIsReported : Type 0
 FirstIsReported =
     (image : Image) (audits : List AuditAt)
     → broken_in (verdict image audits) ≡ option_and_then (λ (r : RootVerdict). broken_in r.verdict) (find is_broken (root_verdicts image audits))
+
+-- What the text says of repairs holds: it names the root audit that was tried, and with the number that it prints in the word's place that one stands.
+abbrev pub ExplanationsHold : Type 0
+ExplanationsHold = (e : Explained) → IsExplanation e (explained_text e)

@@ -3,6 +3,7 @@ pub mod Files
 pub mod Judged
 pub mod Laws
 pub mod Lines
+pub mod Printed
 pub mod Rings
 pub mod Sentences
 pub mod Suspected

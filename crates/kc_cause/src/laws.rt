@@ -1,19 +1,22 @@
 // What the definitions say.
 ghost use Rattle.kc_repair.specs.Laws.{RepairWordsStand, RepairsStand};
-ghost use Rattle.kc_cause.specs.Laws.{CausesStand, FirstIsReported};
+ghost use Rattle.kc_cause.specs.Laws.{CausesStand, ExplanationsHold, FirstIsReported};
 
-use kc_repair::know_repairs;
+use kc_repair::{know_repairs, know_suspects};
 use kc_run::know_verdicts;
 
 /// Does nothing. Each word that shows a violation of a root audit stands in the dump, and the violation that is explained of a plan with one
 /// verdict is the one that its report tells. With a word that is shown as a repair the structures of the root audit stand, and where none
-/// is, they stand with none that is tried. The word of a repair, and the one after which another violation comes, stand in the dump too.
+/// is, they stand with none that is tried. The word of a repair, and the one after which another violation comes, stand in the dump too. The text says so of
+/// the root audit that it names, with the columns of that word.
 pub fn know_causes()
     ensures stand { CausesStand }
     ensures first { FirstIsReported }
     ensures repairs { RepairsStand }
     ensures repair_words { RepairWordsStand }
+    ensures text { ExplanationsHold }
 {
     know_repairs();
+    know_suspects();
     know_verdicts();
 }

@@ -37,7 +37,7 @@ stepped : {A B : Type 0} (r : Result A Stopped) (f : A → Result B Stopped) (b 
 stepped (Ok a) f b is = record { first = a; was = refl; then_was = is }
 stepped (Err s) f b is = absurd (let none : ⊥ = cc in none)
 
-not_missed : {A : Type 0} (r : Result A Stopped) (a : A) → missed r ≡ Ok a → r ≡ Ok a
+pub not_missed : {A : Type 0} (r : Result A Stopped) (a : A) → missed r ≡ Ok a → r ≡ Ok a
 not_missed (Ok x) a is = cc
 not_missed (Err s) a is = absurd (let none : ⊥ = cc in none)
 
@@ -59,7 +59,7 @@ read a = Ok a
 same_bytes : (xs ys : List ℕ) → read xs ≡ Ok ys → xs ≡ ys
 same_bytes xs ys is = cc
 
-bytes_are : (image : Image) (count at : ℕ) (bytes : List ℕ) → memory.bytes_at image count at ≡ Ok bytes → Bytes image count at bytes
+pub bytes_are : (image : Image) (count at : ℕ) (bytes : List ℕ) → memory.bytes_at image count at ≡ Ok bytes → Bytes image count at bytes
 unfolding memory.bytes_at
 bytes_are image zero at bytes is =
     subst (λ (l : List ℕ). Bytes image 0 at l) (same_bytes [] bytes is) (record { long = refl; stand = tt })

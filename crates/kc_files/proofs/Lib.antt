@@ -3,4 +3,5 @@ mod Converting
 mod FileLaws
 mod LineLaws
 mod MapLaws
+mod ModuleLaws
 mod Told

@@ -10,9 +10,13 @@ use Rattle.kc_syms.specs.Spelling.{SpellAll}
 use Rattle.kc_kallsyms.specs.declared.frame.RowFrame.{RowFrame}
 use Rattle.kc_kallsyms.specs.declared.places.Places.{Places}
 use Rattle.kc_kallsyms.specs.Addresses.{linked, offset_of}
+use Rattle.kc_kallsyms.specs.Bytes.{eight_at, four_at}
 use Rattle.kc_kallsyms.specs.Map.{Kernel, kernel_at, listed, map_at}
 use Rattle.kc_kallsyms.specs.Symbols.{Symbol}
 use Rattle.kc_kallsyms.specs.Types.{address_by, types_at}
+use Rattle.kc_modules.specs.declared.shape.TypedShape.{TypedShape}
+use Rattle.kc_modules.specs.Parts.{back}
+use Rattle.kc_modules.specs.Typed.{module_types_at, named_at}
 
 -- a byte is that of the word that holds it, and this word stands in the dump
 pub record ByteStands (image : Image) (at byte : ℕ) : Type 0 where
@@ -39,6 +43,23 @@ abbrev pub TypesLieBetween : Type 0
 TypesLieBetween =
     (image : Image) (kaslr : ℕ) (places : Places) (bytes : List ℕ) → types_at image kaslr places ≡ Ok bytes
     → (kernel : Kernel) × (kernel_at image kaslr places ≡ Ok kernel) × LieBetween image kernel (codes "__start_BTF") (codes "__stop_BTF") bytes
+
+-- The bytes are those that the `struct btf` of a module with the name leads to, as many as it says, and each is one of the dump's memory.
+pub record LieWhereSaid (image : Image) (shape : TypedShape) (name bytes : List ℕ) : Type 0 where
+  pub node : ℕ
+  pub types : ℕ
+  pub start : ℕ
+  pub named : named_at image shape node ≡ Ok name
+  pub leads : eight_at image (onward (back node shape.list) shape.btf) ≡ Ok types
+  pub starts : eight_at image (onward types shape.data_at) ≡ Ok start
+  pub long : four_at image (onward types shape.size) ≡ Ok (length bytes)
+  pub stand : BytesStand image start bytes
+
+-- so do the types of a module
+abbrev pub ModuleTypesLie : Type 0
+ModuleTypesLie =
+    (image : Image) (kaslr : ℕ) (places : Places) (name bytes : List ℕ) → module_types_at image kaslr places name ≡ Ok bytes
+    → (shape : TypedShape) × LieWhereSaid image shape name bytes
 
 -- An address of the kernel's image that a map lists as linked is that address again at run time.
 abbrev pub LinkedRuns : Type 0

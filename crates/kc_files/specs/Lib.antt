@@ -4,5 +4,6 @@ pub mod Made
 pub mod Reading
 pub mod Sought
 pub mod Wished
+pub mod Wishes
 pub use Rattle.kc_command.specs.Ends.Ends
 pub use Rattle.kc_command.specs.Ends.Status

@@ -1,6 +1,5 @@
--- kfiles: the map, the types and the log of a kernel out of its dump.
-use Rattle.std.specs.Prelude.{ℕ, if◌then◌else◌, List, [], ◌∷◌, codes, Option, Some, None, option_map, Result, Ok, Err}
-use Rattle.std.specs.Str.{bytes_eq}
+-- kfiles: the map, the types, the log and the modules of a kernel out of its dump.
+use Rattle.std.specs.Prelude.{ℕ, List, [], ◌∷◌, codes, Option, Some, None, option_map, Result, Ok, Err}
 use Rattle.kc_outside.specs.declared.store.Slot.TheVariants.{Dump}
 use Rattle.kc_outside.specs.Files.{Files}
 use Rattle.kc_memory.specs.Stopped.{Stopped}
@@ -15,11 +14,10 @@ use Rattle.kc_command.specs.Ends.Asked.{Asked}
 use Rattle.kc_command.specs.Ends.Output.{written_files}
 use Rattle.kc_command.specs.Ends.Written.{Written}
 use Rattle.kc_files.specs.declared.files.Asks.{Asks}
-use Rattle.kc_files.specs.declared.wish.Wish.{Wish}
-use Rattle.kc_files.specs.declared.wish.Wish.TheVariants.{Map, Types, Log}
 use Rattle.kc_files.specs.Reading.{Why, Missed, BadTable, BadLog}
 use Rattle.kc_files.specs.Sought.{sought_in}
 use Rattle.kc_files.specs.Wished.{wished}
+use Rattle.kc_files.specs.Wishes.{WishAt, wish_of, wish_of_two, wish_view}
 
 -- what is shown: the bytes of a file, or where reading memory stopped
 pub data Shown : Type 0 where
@@ -38,36 +36,31 @@ shown_by (Err (BadTable fault)) = refuses (refusals.Tables fault)
 shown_by (Err (BadLog fault)) = refuses (refusals.Log fault)
 
 -- what is made of a dump's bytes, its segments and its notes
-abbrev pub wish_made : Wish → List ℕ → NotedAt → Made Shown
+abbrev pub wish_made : WishAt → List ℕ → NotedAt → Made Shown
 wish_made wish bytes noted = do
   sought ← sought_in wish noted.parts.notes
   shown_by (wished sought (bare_image bytes noted.parts.segments (by_info noted.told)) noted.told.kaslr)
 
-abbrev pub files_made : Wish → Option (List ℕ) → Made Shown
+abbrev pub files_made : WishAt → Option (List ℕ) → Made Shown
 files_made wish dump = do
   noted ← noted_in dump
   wish_made wish (bytes_of dump) noted
 
--- the word of a wish
-abbrev pub wish_of : List ℕ → Option Wish
-wish_of word =
-    if bytes_eq word (codes "map") then Some Map
-    else (if bytes_eq word (codes "types") then Some Types
-    else (if bytes_eq word (codes "log") then Some Log else None))
-
-abbrev pub files_asked : List ℕ → Wish → Asked Shown
+abbrev pub files_asked : List ℕ → WishAt → Asked Shown
 files_asked dump wish = record {
   named = record { slot = Dump; name = dump } ∷ [];
   made = λ files. files_made wish (files Dump);
 }
 
--- the words after the program's name: the name of the dump, and `map`, `types` or `log`
+-- the words after the program's name: the name of the dump, and what is wished
 abbrev pub files_asks : List (List ℕ) → Option (Asked Shown)
 files_asks (dump ∷ word ∷ []) = option_map (files_asked dump) (wish_of word)
+files_asks (dump ∷ word ∷ name ∷ []) = option_map (files_asked dump) (wish_of_two word name)
 files_asks _ = None
 
 abbrev pub usage_text : List ℕ
-usage_text = codes "usage: kfiles DUMP map\n       kfiles DUMP types\n       kfiles DUMP log\n"
+usage_text =
+    codes "usage: kfiles DUMP map\n       kfiles DUMP types\n       kfiles DUMP log\n       kfiles DUMP modules\n       kfiles DUMP module NAME\n"
 
 -- what is written of words over a store's files
 abbrev pub written_of : List (List ℕ) → Files → Option Written
@@ -75,4 +68,4 @@ written_of words files = written_files usage_text files_written (files_asks word
 
 -- as the code keeps them
 abbrev pub files_view : Asks → Asked Shown
-files_view a = files_asked a.dump.now a.wish
+files_view a = files_asked a.dump.now (wish_view a.wish)

@@ -17,11 +17,12 @@ ghost use Rattle.kc_files.specs.Answered.{IsAnswer, IsStopped};
 ghost use Rattle.kc_files.specs.Made.{files_asks, files_made, files_view, files_written, shown_by};
 ghost use Rattle.kc_files.specs.Sought.{sought_view};
 ghost use Rattle.kc_files.specs.Wished.{wished};
+ghost use Rattle.kc_files.specs.Wishes.{wish_view};
 
 use crate::memory::read_file;
 use crate::sought::{SoughtFile, sought_by};
 use crate::unread::Unread;
-use crate::wish::{Wish, wish_of};
+use crate::wish::{Wish, wish_of, wish_of_two};
 use kc_command::{Answer, Halt, Noted, Refusal, read_noted};
 use kc_outside::Store;
 use kc_report::broken_text;
@@ -33,20 +34,24 @@ pub struct Asks<'w> {
     /// The name of the dump.
     pub dump: &'w str,
     /// What is wished of it.
-    pub wish: Wish,
+    pub wish: Wish<'w>,
 }
 
 // What the words ask.
 fn read(words: &[String]) -> Option<Asks<'_>>
     ensures asked { option_map files_view result ≡ files_asks (map string_bytes words.now) }
 {
-    let [dump, word] = words else {
-        return None;
-    };
-    Some(Asks {
-        dump: dump.as_str(),
-        wish: wish_of(word.as_str())?,
-    })
+    match words {
+        [dump, word] => Some(Asks {
+            dump: dump.as_str(),
+            wish: wish_of(word.as_str())?,
+        }),
+        [dump, word, name] => Some(Asks {
+            dump: dump.as_str(),
+            wish: wish_of_two(word.as_str(), name.as_str())?,
+        }),
+        _ => None,
+    }
 }
 
 /// Runs kfiles on the words after its name: the first fault of the dump, of its symbols' tables or of its log, the first word that can't be
@@ -71,7 +76,7 @@ fn file<S: Store>(alloc: Global, store: &mut S, asks: Asks<'_>) -> Result<Answer
     requires may { S.may store.old Dump asks.dump.now }
 
     ensures output { PrintsOf files_written
-        (λ files. files_made asks.entry.wish (files Dump asks.entry.dump.now)) (S.files store.old) result }
+        (λ files. files_made (wish_view asks.entry.wish) (files Dump asks.entry.dump.now)) (S.files store.old) result }
     ensures unopened { StayBehind (files_view asks.entry).named result (S.opened store.old) (S.opened store.new) }
     ensures files { S.files store.new ≡ S.files store.old }
     ensures later { S.faults store.old ≤ S.faults store.new }

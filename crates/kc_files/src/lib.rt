@@ -1,4 +1,4 @@
-//! kfiles: the map, the types and the log of a kernel out of the memory of its dump.
+//! kfiles: the map, the types, the log and the modules of a kernel out of the memory of its dump.
 #![tactic(auto)]
 
 mod files;

@@ -14,6 +14,7 @@ use crate::unread::{Unread, log_answer, tables_answer};
 use kc_command::{Noted, paging_by};
 use kc_kallsyms::{read_map, read_types};
 use kc_memory::Space;
+use kc_modules::{read_module_types, read_modules};
 use kc_outside::Store;
 use kc_printk::read_log;
 use kc_question::{Question, ask_dump};
@@ -52,6 +53,12 @@ impl<'p> Question for WishedFile<'p> {
                 tables_answer(read_types(self.alloc, memory, places, self.kaslr, steps))
             }
             SoughtFile::Log(note) => log_answer(read_log(self.alloc, memory, note, steps)),
+            SoughtFile::Modules(places) => {
+                tables_answer(read_modules(self.alloc, memory, places, self.kaslr, steps))
+            }
+            SoughtFile::Module(places, name) => tables_answer(read_module_types(
+                self.alloc, memory, places, self.kaslr, name, steps,
+            )),
         }
     }
 }

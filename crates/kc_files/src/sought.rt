@@ -6,6 +6,7 @@ ghost use Rattle.kc_command.specs.declared.refusal.Refusal.TheVariants.{Tables};
 ghost use Rattle.kc_command.specs.Made.{Tells, checked};
 ghost use Rattle.kc_command.specs.Slots.{IsAbout};
 ghost use Rattle.kc_files.specs.Sought.{sought_in, sought_view};
+ghost use Rattle.kc_files.specs.Wishes.{wish_view};
 
 use crate::wish::Wish;
 use kc_command::Refusal;
@@ -22,6 +23,10 @@ pub enum SoughtFile<'n> {
     Types(Places),
     /// The log, by the text of VMCOREINFO.
     Log(&'n [u8]),
+    /// The modules, by where the tables of the kernel's symbols lie.
+    Modules(Places),
+    /// The types of the module with this name, by the same.
+    Module(Places, &'n [u8]),
 }
 
 // Where the tables lie, by the text of VMCOREINFO.
@@ -36,10 +41,10 @@ fn read_places(note: &[u8]) -> Result<Places, Refusal>
 ///
 /// # Errors
 ///
-/// The first fault V1 or V2 of the notes; for the map and the types S4, where a line of VMCOREINFO is missing.
+/// The first fault V1 or V2 of the notes; but for the log S4, where a line of VMCOREINFO is missing.
 #[tactic(auto, unfolding(crate::specs::Sought::sought_in))]
-pub fn sought_by(core: &Core, wish: Wish) -> Result<SoughtFile<'_>, Refusal>
-    ensures made { Tells sought_view (sought_in wish core.now.notes) result }
+pub fn sought_by<'n>(core: &'n Core, wish: Wish<'n>) -> Result<SoughtFile<'n>, Refusal>
+    ensures made { Tells sought_view (sought_in (wish_view wish.entry) core.now.notes) result }
     ensures refused { IsAbout (Some Dump) result }
 {
     let note = vmcoreinfo(core)?;
@@ -47,5 +52,7 @@ pub fn sought_by(core: &Core, wish: Wish) -> Result<SoughtFile<'_>, Refusal>
         Wish::Map => Ok(SoughtFile::Map(read_places(note)?)),
         Wish::Types => Ok(SoughtFile::Types(read_places(note)?)),
         Wish::Log => Ok(SoughtFile::Log(note)),
+        Wish::Modules => Ok(SoughtFile::Modules(read_places(note)?)),
+        Wish::Module(name) => Ok(SoughtFile::Module(read_places(note)?, name.as_bytes())),
     }
 }

@@ -1,21 +1,25 @@
 // What is wished of a dump.
-ghost use Rattle.std.specs.Prelude.{◌≡◌};
-ghost use Rattle.kc_files.specs.Made.{wish_of};
+ghost use Rattle.std.specs.Prelude.{◌≡◌, option_map};
+ghost use Rattle.kc_files.specs.Wishes.{wish_of, wish_of_two, wish_view};
 
 /// What is wished of a dump.
-#[derive(Clone, Copy, Debug, PartialEq, Eq)]
-pub enum Wish {
+#[derive(Clone, Copy)]
+pub enum Wish<'w> {
     /// The map of its kernel.
     Map,
     /// The types of its kernel.
     Types,
     /// The log of its kernel.
     Log,
+    /// The modules of its kernel, a line each.
+    Modules,
+    /// The types of the module with this name.
+    Module(&'w str),
 }
 
 /// The wish of a word.
-pub fn wish_of(word: &str) -> Option<Wish>
-    ensures { result ≡ wish_of word.now }
+pub fn wish_of(word: &str) -> Option<Wish<'_>>
+    ensures { option_map wish_view result ≡ wish_of word.now }
 {
     if word == "map" {
         Some(Wish::Map)
@@ -23,6 +27,19 @@ pub fn wish_of(word: &str) -> Option<Wish>
         Some(Wish::Types)
     } else if word == "log" {
         Some(Wish::Log)
+    } else if word == "modules" {
+        Some(Wish::Modules)
+    } else {
+        None
+    }
+}
+
+/// The wish of two words.
+pub fn wish_of_two<'w>(word: &str, name: &'w str) -> Option<Wish<'w>>
+    ensures { option_map wish_view result ≡ wish_of_two word.now name.now }
+{
+    if word == "module" {
+        Some(Wish::Module(name))
     } else {
         None
     }

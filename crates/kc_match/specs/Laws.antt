@@ -1,13 +1,16 @@
--- What findings, facts and outcomes say.
-use Rattle.std.specs.Prelude.{◌≡◌, ◌≢◌, ⊤, ℕ, ◌+◌, ◌≤◌, ℤ, pos, IsTrue, List, [], length, Some, Ok}
+-- What findings, facts and outcomes say, and what is said of the types.
+use Rattle.std.specs.Prelude.{◌≡◌, ◌≢◌, ⊤, ℕ, ◌+◌, ◌≤◌, ℤ, pos, IsTrue, List, [], length, take, slice_get, Option, Some, None, Ok}
 use Rattle.kc_btf.specs.Btf.{Types}
 use Rattle.kc_layout.specs.Ends.{ByteAt, located}
 use Rattle.kc_layout.specs.Size.{size}
 use Rattle.kc_syms.specs.Addresses.{common_of}
+use Rattle.kc_match.specs.declared.beside.TypesBeside.{TypesBeside}
+use Rattle.kc_match.specs.declared.beside.TypesBeside.TheVariants as types
 use Rattle.kc_match.specs.declared.outcome.Other.{Other}
 use Rattle.kc_match.specs.declared.outcome.Other.TheVariants.{Map, Btf}
 use Rattle.kc_match.specs.declared.outcome.Outcome.{Outcome}
 use Rattle.kc_match.specs.declared.outcome.Outcome.TheVariants.{Same, Differs, Unknown}
+use Rattle.kc_match.specs.Beside.{beside}
 use Rattle.kc_match.specs.Facts.{Fact, Symbol, Size, Offset}
 use Rattle.kc_match.specs.Findings.{Finding}
 use Rattle.kc_match.specs.Named.{is_type_of}
@@ -71,3 +74,17 @@ Stands kernel fact Unknown = (told : ℕ) → IsCompared fact → Tell kernel fa
 
 abbrev pub OutcomesStand : Type 0
 OutcomesStand = (kernel : Compared) (fact : Fact) → Stands kernel fact (outcome kernel fact)
+
+-- two files have the same bytes before this one, and not this one: it is another, or one of them ends there
+pub record DifferAt (file own : List ℕ) (at : ℕ) : Type 0 where
+  pub before : take at file ≡ take at own
+  pub here : slice_get file at ≢ slice_get own at
+
+-- what is said of a file of types: it is what the dump holds, byte for byte; or it differs first at this byte; or the dump's aren't found
+abbrev pub BesideStands : List ℕ → Option (List ℕ) → TypesBeside → Type 0
+BesideStands file own types.Same = own ≡ Some file
+BesideStands file own (types.Differs at) = (held : List ℕ) × (own ≡ Some held) × DifferAt file held at
+BesideStands file own types.Unknown = own ≡ None
+
+abbrev pub TypesStand : Type 0
+TypesStand = (file : List ℕ) (own : Option (List ℕ)) → BesideStands file own (beside file own)

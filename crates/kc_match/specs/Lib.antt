@@ -1,9 +1,12 @@
+pub mod Beside
+pub mod Checked
 pub mod Facts
 pub mod Findings
 pub mod Laws
 pub mod Match
 pub mod Named
 pub mod Outcomes
+pub mod Own
 pub mod Spelling
 pub mod Text
 pub mod Views

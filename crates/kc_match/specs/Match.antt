@@ -2,56 +2,62 @@
 use Rattle.std.specs.Prelude.{ℕ, if◌then◌else◌, List, [], ◌∷◌, codes, Option, Some, None}
 use Rattle.kc_outside.specs.declared.store.Slot.TheVariants as slot
 use Rattle.kc_outside.specs.Files.{Files as Told}
-use Rattle.kc_btf.specs.Btf.{Types}
+use Rattle.kc_btf.specs.Btf.{Types, btf as btf_types}
 use Rattle.kc_notes.specs.Notes.{text_in}
 use Rattle.kc_notes.specs.Values.{lines_of}
 use Rattle.kc_syms.specs.Rows.{RowText, addresses}
 use Rattle.kc_command.specs.declared.refusal.Refusal.TheVariants.{Notes}
+use Rattle.kc_command.specs.declared.refusal.Refusal.TheVariants as refusals
 use Rattle.kc_command.specs.declared.kernel.KernelFiles.{KernelFiles}
-use Rattle.kc_command.specs.Inputs.{map_in, rows_in, types_in}
+use Rattle.kc_command.specs.Inputs.{map_in, rows_in}
 use Rattle.kc_command.specs.Kernels.{noted_in}
-use Rattle.kc_command.specs.Made.{◌>>=◌, Made, checked, gives}
+use Rattle.kc_command.specs.Made.{◌>>=◌, Made, checked, gives, short_file}
 use Rattle.kc_command.specs.declared.ends.status.Status.{Status}
 use Rattle.kc_command.specs.declared.ends.status.Status.TheVariants.{Done, Broken}
 use Rattle.kc_command.specs.Ends.Asked.{Asked}
 use Rattle.kc_command.specs.Ends.Output.{written_files}
 use Rattle.kc_command.specs.Ends.Written.{Written}
+use Rattle.kc_question.specs.Memory.{bytes_of}
+use Rattle.kc_match.specs.declared.beside.TypesBeside.{TypesBeside}
+use Rattle.kc_match.specs.Beside.{beside, own_types}
 use Rattle.kc_match.specs.Findings.{Finding, findings}
 use Rattle.kc_match.specs.Outcomes.{Compared}
 use Rattle.kc_match.specs.Text.{agree, match_text}
 
--- what is shown: a note, and what is found of its lines
+-- what is shown: a note, what is found of its lines, and the types beside those that the dump holds
 pub record Matched : Type 0 where
   pub note : List ℕ
   pub found : List Finding
+  pub types : TypesBeside
 
 -- what is written of it: the status says whether the files agree with the note
-abbrev pub match_status : List Finding → Status
-match_status found = if agree found then Done else Broken
+abbrev pub match_status : List Finding → TypesBeside → Status
+match_status found types = if agree found types then Done else Broken
 
 abbrev pub match_written : Matched → Written
-match_written m = record { out = match_text m.note m.found; err = []; status = match_status m.found }
+match_written m = record { out = match_text m.note m.found m.types; err = []; status = match_status m.found m.types }
 
 -- a kernel's types, the addresses that the rows of its map list, and how far KASLR moved it
 abbrev pub kernel_by : Types → List RowText → ℕ → Compared
 kernel_by types rows kaslr = record { types = types; listed = λ name. addresses name rows; kaslr = kaslr }
 
 -- what is found of the lines of a note
-abbrev pub matched : List ℕ → Compared → Matched
-matched note kernel = record { note = note; found = findings kernel (lines_of note) }
+abbrev pub matched : List ℕ → Compared → TypesBeside → Matched
+matched note kernel types = record { note = note; found = findings kernel (lines_of note); types = types }
 
 -- and by the bytes of a map
-abbrev pub matched_in : List ℕ → Types → ℕ → List ℕ → Made Matched
-matched_in note types kaslr map = rows_in map >>= (λ rows. gives (matched note (kernel_by types rows kaslr)))
+abbrev pub matched_in : List ℕ → Types → ℕ → TypesBeside → List ℕ → Made Matched
+matched_in note types kaslr told map = rows_in map >>= (λ rows. gives (matched note (kernel_by types rows kaslr) told))
 
 -- the faults come in the order dump, types and map
 abbrev pub match_made : Option (List ℕ) → Option (List ℕ) → Option (List ℕ) → Made Matched
 match_made dump btf map = do
   noted ← noted_in dump
   note ← checked Notes (text_in noted.parts.notes)
-  types ← types_in btf
+  file ← short_file slot.Btf btf
+  types ← checked refusals.Types (btf_types file)
   listed ← map_in map
-  matched_in note types noted.told.kaslr listed
+  matched_in note types noted.told.kaslr (beside file (own_types (bytes_of dump) noted note)) listed
 
 -- what is asked: three files by their names
 pub record Files : Type 0 where

@@ -1,7 +1,9 @@
 -- What is printed.
-use Rattle.std.specs.Prelude.{ℕ, ◌==◌, ◌&&◌, nat_lt, List, [], ◌∷◌, ◌++◌, codes, count_by, decimal, map, unwrap_or, Bool}
+use Rattle.std.specs.Prelude.{ℕ, ◌==◌, ◌&&◌, nat_lt, List, [], ◌∷◌, ◌++◌, codes, count_by, decimal, map, unwrap_or, Bool, true, false}
 use Rattle.kc_notes.specs.Values.{value_of}
 use Rattle.kc_text.specs.Text.{hex, name_text, visible}
+use Rattle.kc_match.specs.declared.beside.TypesBeside.{TypesBeside}
+use Rattle.kc_match.specs.declared.beside.TypesBeside.TheVariants as beside
 use Rattle.kc_match.specs.declared.outcome.Other.{Other}
 use Rattle.kc_match.specs.declared.outcome.Other.TheVariants.{Map, Btf}
 use Rattle.kc_match.specs.declared.outcome.Outcome.{Outcome}
@@ -46,12 +48,24 @@ count_line found =
     codes "same " ++ decimal (same_count found) ++ codes " differ " ++ decimal (differs_count found)
     ++ codes " unknown " ++ decimal (unknown_count found) ++ codes "\n"
 
--- what is found of a note's lines, its kernel's release and build and how far KASLR moved it, and the counts
-abbrev pub match_text : List ℕ → List Finding → List ℕ
-match_text note found =
-    finding_lines found ++ key_line (codes "OSRELEASE") note ++ key_line (codes "BUILD-ID") note ++ key_line (codes "KERNELOFFSET") note
-    ++ count_line found
+-- the line of the types beside those that the dump holds
+abbrev pub types_line : TypesBeside → List ℕ
+types_line beside.Same = codes "types same\n"
+types_line (beside.Differs at) = codes "types differ at " ++ decimal at ++ codes "\n"
+types_line beside.Unknown = codes "types unknown\n"
 
--- the files agree with the note: something is the same, and nothing differs
-abbrev pub agree : List Finding → Bool
-agree found = nat_lt 0 (same_count found) && (differs_count found == 0)
+-- what is found of a note's lines, its kernel's release and build and how far KASLR moved it, the types beside the dump's, and the counts
+abbrev pub match_text : List ℕ → List Finding → TypesBeside → List ℕ
+match_text note found types =
+    finding_lines found ++ key_line (codes "OSRELEASE") note ++ key_line (codes "BUILD-ID") note ++ key_line (codes "KERNELOFFSET") note
+    ++ types_line types ++ count_line found
+
+-- the types are those of the dump, or these aren't found
+abbrev pub fits : TypesBeside → Bool
+fits beside.Same = true
+fits (beside.Differs at) = false
+fits beside.Unknown = true
+
+-- the files agree with the dump: something is the same, and nothing differs
+abbrev pub agree : List Finding → TypesBeside → Bool
+agree found types = nat_lt 0 (same_count found) && (differs_count found == 0) && fits types

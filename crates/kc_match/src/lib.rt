@@ -1,7 +1,8 @@
 //! The program kmatch: whether a map and a file of types are those of the kernel that crashed, by what the dump's
-//! VMCOREINFO states of it.
+//! VMCOREINFO states of it, and by the types that the dump holds.
 #![tactic(auto)]
 
+mod beside;
 mod fact;
 mod files;
 mod finding;

@@ -1,8 +1,10 @@
 // What is printed.
 ghost use Rattle.std.specs.Prelude.{◌≡◌, ◌++◌, map, IfOk, OnOk};
-ghost use Rattle.kc_match.specs.Text.{agree, count_line, differs_count, finding_lines, finding_text, key_line, match_text, other_text, same_count, unknown_count};
+ghost use Rattle.kc_match.specs.Text.{agree, count_line, differs_count, finding_lines, finding_text, fits, key_line, match_text, other_text, same_count, types_line, unknown_count};
+ghost use Rattle.kc_match.specs.declared.beside.TypesBeside.TheVariants.{Differs};
 ghost use Rattle.kc_match.specs.Views.{finding_view};
 
+use crate::beside::TypesBeside;
 use crate::finding::Finding;
 use crate::outcome::{Other, Outcome};
 use kc_notes::value;
@@ -86,23 +88,54 @@ fn push_counts(text: &mut Vec<u8>, findings: &[Finding<'_>]) -> Result<(), NoMem
     push(text, b"\n")
 }
 
-/// The text of what is found of a note: the lines that differ, the kernel's release, its build and how far KASLR moved it, and
-/// the counts.
-pub fn match_text(alloc: Global, note: &[u8], findings: &[Finding<'_>]) -> Result<Vec<u8>, NoMemory>
-    ensures { IfOk result (λ text. text.items ≡ match_text note.now (map finding_view findings.now)) }
+// The line of the types beside those that the dump holds.
+fn push_types(text: &mut Vec<u8>, types: TypesBeside) -> Result<(), NoMemory>
+    ensures { OnOk result (text.new.items ≡ text.old.items ++ types_line types) }
+{
+    match types {
+        TypesBeside::Same => push(text, b"types same\n"),
+        TypesBeside::Differs(at) => push_difference(text, at),
+        TypesBeside::Unknown => push(text, b"types unknown\n"),
+    }
+}
+
+fn push_difference(text: &mut Vec<u8>, at: u64) -> Result<(), NoMemory>
+    ensures { OnOk result (text.new.items ≡ text.old.items ++ types_line (Differs at)) }
+{
+    push_numbered(text, b"types differ at ", at)?;
+    push(text, b"\n")
+}
+
+/// The text of what is found of a note: the lines that differ, the kernel's release, its build and how far KASLR moved it, the types
+/// beside those of the dump, and the counts.
+pub fn match_text(
+    alloc: Global,
+    note: &[u8],
+    findings: &[Finding<'_>],
+    types: TypesBeside,
+) -> Result<Vec<u8>, NoMemory>
+    ensures { IfOk result (λ text. text.items ≡ match_text note.now (map finding_view findings.now) types) }
 {
     let mut text = Vec::new(alloc);
     push_findings(&mut text, findings)?;
     push_key(&mut text, note, b"OSRELEASE")?;
     push_key(&mut text, note, b"BUILD-ID")?;
     push_key(&mut text, note, b"KERNELOFFSET")?;
+    push_types(&mut text, types)?;
     push_counts(&mut text, findings)?;
     Ok(text)
 }
 
-/// Whether the files agree with the note: something is the same, and nothing differs.
-pub fn agree(findings: &[Finding<'_>]) -> bool
-    ensures { result ≡ agree (map finding_view findings.now) }
+// Whether the types are those of the dump, or these aren't found.
+fn fits(types: TypesBeside) -> bool
+    ensures { result ≡ fits types }
 {
-    count_same(findings) > 0 && count_differs(findings) == 0
+    !matches!(types, TypesBeside::Differs(_))
+}
+
+/// Whether the files agree with the dump: something is the same, and nothing differs.
+pub fn agree(findings: &[Finding<'_>], types: TypesBeside) -> bool
+    ensures { result ≡ agree (map finding_view findings.now) types }
+{
+    count_same(findings) > 0 && count_differs(findings) == 0 && fits(types)
 }

@@ -3,7 +3,7 @@ ghost use Rattle.std.specs.Prelude.{◌≡◌, ℕ, ◌+◌, ◌-◌, ◌*◌, �
 ghost use Rattle.kc_kdump.specs.declared.run.PageRun.{PageRun};
 ghost use Rattle.kc_kdump.specs.Runs.{end_of, page_count, reach};
 ghost use Rattle.kc_plain.specs.Fields.{spelled};
-ghost use Rattle.kc_plain.specs.Root.{IsPage};
+ghost use Rattle.kc_plain.specs.Root.{IsPage, root_of};
 ghost use Rattle.kc_plain.specs.Head.{file_fields, head_by, head_of, header_count, headers_of, is_extended, load_fields, load_headers, note_fields, notes_at, root_count, root_header, section_fields, section_header, start, table_end};
 
 use crate::fields::{Field, push_fields};
@@ -254,6 +254,7 @@ fn head_by(alloc: Global, dump: &Kdump, root: Option<Root>) -> Result<Vec<u8>, N
     requires page { IfSome root (λ r. IsPage dump.now.pages r) }
     ensures value { IfOk result (λ head. head.items ≡ head_by dump.now.runs.items root dump.now.notes.items) }
     ensures small { IfOk result (λ head. vec_len head ≤ 2 ^ 29) }
+    ensures end { IfOk result (λ head. vec_len head ≡ start dump.now.runs.items root dump.now.notes.items) }
 {
     let count = header_count(&dump.runs, root);
     let notes = dump.notes.len() as u64;
@@ -275,6 +276,7 @@ pub fn head_of(alloc: Global, dump: &Kdump) -> Result<Vec<u8>, NoMemory>
     requires pages { dump.now.pages ≤ 2 ^ 47 }
     ensures value { IfOk result (λ head. head.items ≡ head_of dump.now.runs.items dump.now.notes.items) }
     ensures small { IfOk result (λ head. vec_len head ≤ 2 ^ 29) }
+    ensures end { IfOk result (λ head. vec_len head ≡ start dump.now.runs.items (root_of dump.now.runs.items dump.now.notes.items) dump.now.notes.items) }
 {
     head_by(alloc, dump, root_of(&dump.runs, &dump.notes))
 }

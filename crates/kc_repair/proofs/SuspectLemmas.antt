@@ -1,4 +1,5 @@
 pub mod BitLemmas
 pub mod LinkLemmas
 pub mod MadeLemmas
+pub mod SlotLemmas
 pub mod StandLaws

@@ -12,13 +12,19 @@ use Rattle.kc_repair.specs.Suspect.Suspects.{suspects}
 use Rattle.kc_repair.specs.declared.outcome.Next.{Next}
 use Rattle.kc_repair.specs.declared.outcome.Repair.{Repair}
 use Rattle.kc_repair.specs.declared.outcome.Repair.TheVariants.{Stands, Nothing}
-use Rattle.kc_repair.specs.Repairs.{StandsAs, repair_of}
+use Rattle.kc_repair.specs.Repairs.{IsRepair, StandsAs, breach_of, repair_of, verdict_with}
 
 -- With a suspect that repairs a violation the root audit's structures stand, and where none does, they stand with none that is tried.
 abbrev pub RepairsStand : Type 0
 RepairsStand =
     (image : Image) (audits : List AuditAt) (root : Root) (kind : Kind) (v : Violation)
     → StandsAs image audits root (suspects image kind v) (repair_of image audits root kind v)
+
+-- the answer is about these suspects
+abbrev pub RepairsAreExact : Type 0
+RepairsAreExact =
+    (image : Image) (audits : List AuditAt) (root : Root) (kind : Kind) (v : Violation)
+    → IsRepair (verdict_with image audits root) (breach_of v) (suspects image kind v) (repair_of image audits root kind v)
 
 -- the suspects that an answer tells
 abbrev pub next_suspects : Option Next → List Suspect

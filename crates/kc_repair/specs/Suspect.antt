@@ -1,10 +1,12 @@
 pub mod Answers
+pub mod Bases
 pub mod Changes
 pub mod Fields
 pub mod FreePointers
 pub mod Heads
 pub mod Laws
 pub mod Links
+pub mod NodeBytes
 pub mod Slots
 pub mod Suspects
 pub mod Trees

@@ -1,5 +1,5 @@
 -- What shows what a slab breaks stands in the dump, and a slab that is whole has a finite free list.
-use Rattle.std.proofs.Common.{◌≡◌, ℕ, ◌+◌, ◌-◌, ◌≤◌, Bool, true, false, not, nat_eq, nat_le, nat_lt, ◌&&◌, ◌||◌, IsTrue, List, length, Option, Some, None, option_map, refl, sym, ap, ◌∙◌, subst}
+use Rattle.std.proofs.Common.{◌≡◌, ℕ, ◌+◌, ◌-◌, Bool, true, false, not, nat_eq, nat_le, nat_lt, ◌&&◌, ◌||◌, IsTrue, List, length, Option, Some, None, option_map, refl, sym, ap, ◌∙◌, subst, true≢false}
 use Rattle.std.specs.Prelude.{Result, Ok, Err, if◌then◌else◌}
 use Rattle.std.specs.BTreeMap.{is_at}
 use Rattle.std.specs.Map.{lookup}
@@ -30,12 +30,18 @@ use Rattle.kc_owner.specs.Looked.{looked_at}
 use Rattle.kc_owner.specs.Object.Pages.{descriptor_of}
 use Rattle.kc_slub.specs.Laws.{FreeListsAreWalked, FreePlacesStand}
 use Rattle.kc_slab_page.specs.declared.caches.CacheSeen.{CacheSeen}
-use Rattle.kc_slab_page.specs.declared.page.SlabState.{SlabState}
+use Rattle.kc_guard.specs.declared.guards.GuardRun.{GuardRun}
+use Rattle.kc_guard.specs.declared.object.Spoiled.{Spoiled}
+use Rattle.kc_guard.specs.Laws.{GuardsHold, Shown, SpoiledStand}
+use Rattle.kc_guard.specs.Objects.{objects_checked}
+use Rattle.kc_slab_page.specs.declared.guarding.SlabState.{SlabState}
+use Rattle.kc_slab_page.specs.declared.guarding.SlabState.TheVariants.{Whole, Untold}
 use Rattle.kc_slab_page.specs.declared.shape.PageShape.{PageShape}
 use Rattle.kc_slab_page.specs.declared.slab.SlabCounted.{SlabCounted}
 use Rattle.kc_slab_page.specs.declared.slab.SlabFree.{SlabFree}
 use Rattle.kc_slab_page.specs.Caches.{Caches}
-use Rattle.kc_slab_page.specs.Laws.{IsWhole, SlabsStand, WholeSlabs, page_places, state_places}
+use Rattle.kc_slab_page.specs.Guarding.{guarded_by, guards_checked, is_guarded}
+use Rattle.kc_slab_page.specs.Laws.{AreKept, GuardsAreKept, IsWhole, SlabsStand, WholeSlabs, page_places, state_places}
 use Rattle.kc_slab_page.specs.Marks.{marked}
 use Rattle.kc_slab_page.specs.Pages.{by_cache, by_mark, by_read, by_seen, page_seen, state_by, state_of, state_with, with_mark}
 use Rattle.kc_slab_page.specs.Slabs.{counted, free_of, is_laid, own_list, slab_free}
@@ -44,6 +50,7 @@ use Rattle.kc_slab_page.specs.Slabs.{counted, free_of, is_laid, own_list, slab_f
 pub record Known : Type 0 where
   pub values : ValuesStand
   pub frees : FreePlacesStand
+  pub spoiled : SpoiledStand
 
 counts_show : Known → (image : Image) (shape : SlubShape) (slab : ℕ) → Shows image (counted image shape slab)
 counts_show known image shape slab =
@@ -94,19 +101,38 @@ slab_shows known image shape b o slab cache here =
     unless_shows {A = SlabFree} image (not (nat_eq (length os) (n.objects - value_of n.inuse))) (breaks_at (looked_at slab) U6 n.inuse (Some (n.objects - value_of n.inuse))) _
     (number_stands known.values image (looked_at slab) slab shape.inuse n.inuse (are_read image shape slab n is).used) tt)))
 
-state_stands : (image : Image) (r : Result SlabFree Violation) → Shows image r → AllStandIn image (state_places (state_of r))
-state_stands image (Ok f) here = tt
-state_stands image (Err v) here = here
+-- the bytes that are kept at its objects
+list_then : Known → (image : Image) (asked : Asked) (runs : List GuardRun) (grid : Grid) (r : Result (List ℕ) Violation) → Shows image r
+    → Shown image (and_then r (λ os. objects_checked image asked runs grid os))
+list_then known image asked runs grid (Ok os) here = known.spoiled image asked runs grid os
+list_then known image asked runs grid (Err v) here = here
 
-laid_stands : (image : Image) (laid : Bool) (r : Result SlabFree Violation) (untold : SlabState) → AllStandIn image (state_places untold) → Shows image r
-    → AllStandIn image (state_places (if laid then state_of r else untold))
-laid_stands image true r untold none here = state_stands image r here
-laid_stands image false r untold none here = none
+guards_show : Known → (image : Image) (shape : SlubShape) (grid : Grid) (slab : ℕ) (runs : List GuardRun) → Shown image (guards_checked image shape grid slab runs)
+guards_show known image shape grid slab runs = list_then known image (looked_at slab) runs grid (own_list image shape grid slab) (list_shows known image shape grid slab)
 
-by_stands : Known → (image : Image) (shape : SlubShape) (b : SlubBases) (slab : ℕ) (cache : FieldNumber) (objects : Result SlabObjects Violation)
-    → AllStandIn image (breaks_field (looked_at slab) U4 slab cache.number None).places → AllStandIn image (state_places (state_by image shape b slab cache objects))
-by_stands known image shape b slab cache (Ok o) here = laid_stands image (is_laid o) (slab_free image shape b o slab cache) _ tt (slab_shows known image shape b o slab cache here)
-by_stands known image shape b slab cache (Err v) here = tt
+guarded_stands : (image : Image) (f : SlabFree) (r : Result (Option Spoiled) Violation) → Shown image r → AllStandIn image (state_places (guarded_by f r))
+guarded_stands image f (Ok None) here = tt
+guarded_stands image f (Ok (Some s)) here = here.place
+guarded_stands image f (Err v) here = here
+
+if_stands : (image : Image) (looked : Bool) (one two : SlabState) → AllStandIn image (state_places one) → AllStandIn image (state_places two) → AllStandIn image (state_places (if looked then one else two))
+if_stands image true one two here there = here
+if_stands image false one two here there = there
+
+state_stands : Known → (image : Image) (shape : SlubShape) (b : SlubBases) (slab : ℕ) (o : SlabObjects) (runs : List GuardRun) (r : Result SlabFree Violation) → Shows image r
+    → AllStandIn image (state_places (state_of image shape b slab o runs r))
+state_stands known image shape b slab o runs (Ok f) here =
+    let grid = grid_of shape b o slab f.objects in
+    if_stands image (is_guarded runs o f) (guarded_by f (guards_checked image shape grid slab runs)) (Whole f)
+    (guarded_stands image f (guards_checked image shape grid slab runs) (guards_show known image shape grid slab runs)) tt
+state_stands known image shape b slab o runs (Err v) here = here
+
+by_stands : Known → (image : Image) (shape : SlubShape) (b : SlubBases) (slab : ℕ) (cache : FieldNumber) (runs : List GuardRun) (objects : Result SlabObjects Violation)
+    → AllStandIn image (breaks_field (looked_at slab) U4 slab cache.number None).places → AllStandIn image (state_places (state_by image shape b slab cache runs objects))
+by_stands known image shape b slab cache runs (Ok o) here =
+    if_stands image (is_laid o) (state_of image shape b slab o runs (slab_free image shape b o slab cache)) Untold
+    (state_stands known image shape b slab o runs (slab_free image shape b o slab cache) (slab_shows known image shape b o slab cache here)) tt
+by_stands known image shape b slab cache runs (Err v) here = tt
 
 mark_stands : (image : Image) (state : SlabState) (page cache : ℕ) (mark : Option Bool) → AllStandIn image (state_places state) → AllStandIn image (page_places (with_mark state page cache mark))
 mark_stands image state page cache None here = tt
@@ -117,8 +143,8 @@ seen_stands : Known → (image : Image) (shape : PageShape) (b : SlubBases) (pag
     → AllStandIn image (breaks_field (looked_at page) U4 page cache.number None).places → AllStandIn image (page_places (by_seen image shape b page cache seen))
 seen_stands known image shape b page cache None here = tt
 seen_stands known image shape b page cache (Some seen) here =
-    mark_stands image (state_by image shape.objects.slub b page cache seen.objects) page (value_of cache) (marked image shape.mark page)
-    (by_stands known image shape.objects.slub b page cache seen.objects here)
+    mark_stands image (state_by image shape.objects.slub b page cache seen.runs seen.objects) page (value_of cache) (marked image shape.mark page)
+    (by_stands known image shape.objects.slub b page cache seen.runs seen.objects here)
 
 -- what was read is what the field gives
 was_read : (asked : Asked) (r : Result FieldNumber Stopped) (n : FieldNumber) → readable r ≡ Some n → or_missed asked r ≡ Ok n
@@ -164,7 +190,7 @@ whole_slabs walked image shape b o slab cache f laid is =
     let grid : Grid = grid_of shape b o slab n.objects in
     let three = ok_after (own_list image shape grid slab) _ f two.2 in
     let os : List ℕ = three.0 in
-    let made : SlabFree = record { objects = n.objects; free = length os; frozen = n.frozen } in
+    let made : SlabFree = record { objects = n.objects; free = length os; frozen = n.frozen; guarded = false } in
     let four = unless_ok {A = SlabFree} (not (nat_eq (length os) (n.objects - value_of n.inuse))) (breaks_at asked U6 n.inuse (Some (n.objects - value_of n.inuse))) (Ok made) f three.2 in
     let same : made ≡ f = ok_same made f four.1 in
     let five = ok_after (read_field image asked slab shape.freelist) _ os three.1 in
@@ -184,3 +210,55 @@ whole_slabs walked image shape b o slab cache f laid is =
       many = sym free;
       rest = sym free ∙ rest ∙ ap (λ (k : ℕ). k - value_of n.inuse) objects;
     }
+
+-- a slab's own counts don't say that the bytes at its objects were looked at
+unguarded : (image : Image) (shape : SlubShape) (b : SlubBases) (o : SlabObjects) (slab : ℕ) (cache : FieldNumber) (f : SlabFree) → slab_free image shape b o slab cache ≡ Ok f → f.guarded ≡ false
+unguarded image shape b o slab cache f is =
+    let asked = looked_at slab in
+    let one = unless_ok {A = SlabFree} (not (is_descriptor shape b slab)) (breaks_field asked U4 slab cache.number None) _ f is in
+    let two = ok_after (counted image shape slab) _ f one.1 in
+    let n : SlabCounted = two.0 in
+    let three = ok_after (own_list image shape (grid_of shape b o slab n.objects) slab) _ f two.2 in
+    let os : List ℕ = three.0 in
+    let made : SlabFree = record { objects = n.objects; free = length os; frozen = n.frozen; guarded = false } in
+    let four = unless_ok {A = SlabFree} (not (nat_eq (length os) (n.objects - value_of n.inuse))) (breaks_at asked U6 n.inuse (Some (n.objects - value_of n.inuse))) (Ok made) f three.2 in
+    sym (ap (λ (s : SlabFree). s.guarded) (ok_same made f four.1))
+
+-- where they were, each is what it has to be
+list_kept : GuardsHold → (image : Image) (shape : SlubShape) (b : SlubBases) (o : SlabObjects) (slab : ℕ) (runs : List GuardRun) (objects : ℕ)
+    → guards_checked image shape (grid_of shape b o slab objects) slab runs ≡ Ok None → AreKept image shape b o slab runs objects
+list_kept hold image shape b o slab runs objects none =
+    let grid = grid_of shape b o slab objects in
+    let made = ok_after (own_list image shape grid slab) (λ os. objects_checked image (looked_at slab) runs grid os) None none in
+    record { free = made.0; listed = made.1; kept = hold image (looked_at slab) runs grid made.0 made.2 }
+
+whole_same : (f g : SlabFree) → ◌≡◌ {A = SlabState} (Whole f) (Whole g) → f ≡ g
+whole_same f g is = cc
+
+by_kept : GuardsHold → (image : Image) (shape : SlubShape) (b : SlubBases) (o : SlabObjects) (slab : ℕ) (runs : List GuardRun) (f g : SlabFree) (r : Result (Option Spoiled) Violation)
+    → guards_checked image shape (grid_of shape b o slab f.objects) slab runs ≡ r → guarded_by f r ≡ Whole g → AreKept image shape b o slab runs g.objects
+by_kept hold image shape b o slab runs f g (Ok None) none is =
+    let same : f.objects ≡ g.objects = ap (λ (s : SlabFree). s.objects) (whole_same (record f { guarded = true }) g is) in
+    subst (λ (n : ℕ). AreKept image shape b o slab runs n) same (list_kept hold image shape b o slab runs f.objects none)
+by_kept hold image shape b o slab runs f g (Ok (Some s)) none is = absurd (let none : ⊥ = cc in none)
+by_kept hold image shape b o slab runs f g (Err v) none is = absurd (let none : ⊥ = cc in none)
+
+if_kept : GuardsHold → (image : Image) (shape : SlubShape) (b : SlubBases) (o : SlabObjects) (slab : ℕ) (runs : List GuardRun) (f g : SlabFree) (looked : Bool) → f.guarded ≡ false → g.guarded ≡ true
+    → (if looked then guarded_by f (guards_checked image shape (grid_of shape b o slab f.objects) slab runs) else Whole f) ≡ Whole g → AreKept image shape b o slab runs g.objects
+if_kept hold image shape b o slab runs f g true before told is = by_kept hold image shape b o slab runs f g (guards_checked image shape (grid_of shape b o slab f.objects) slab runs) refl is
+if_kept hold image shape b o slab runs f g false before told is =
+    absurd (true≢false (sym told ∙ sym (ap (λ (s : SlabFree). s.guarded) (whole_same f g is)) ∙ before))
+
+state_kept : GuardsHold → (image : Image) (shape : SlubShape) (b : SlubBases) (o : SlabObjects) (slab : ℕ) (cache : FieldNumber) (runs : List GuardRun) (g : SlabFree) (r : Result SlabFree Violation) → g.guarded ≡ true
+    → slab_free image shape b o slab cache ≡ r → state_of image shape b slab o runs r ≡ Whole g → AreKept image shape b o slab runs g.objects
+state_kept hold image shape b o slab cache runs g (Ok f) told is whole =
+    if_kept hold image shape b o slab runs f g (is_guarded runs o f) (unguarded image shape b o slab cache f is) told whole
+state_kept hold image shape b o slab cache runs g (Err v) told is whole = absurd (let none : ⊥ = cc in none)
+
+laid_kept : GuardsHold → (image : Image) (shape : SlubShape) (b : SlubBases) (o : SlabObjects) (slab : ℕ) (cache : FieldNumber) (runs : List GuardRun) (g : SlabFree) (laid : Bool) → g.guarded ≡ true
+    → (if laid then state_of image shape b slab o runs (slab_free image shape b o slab cache) else Untold) ≡ Whole g → AreKept image shape b o slab runs g.objects
+laid_kept hold image shape b o slab cache runs g true told whole = state_kept hold image shape b o slab cache runs g (slab_free image shape b o slab cache) told refl whole
+laid_kept hold image shape b o slab cache runs g false told whole = absurd (let none : ⊥ = cc in none)
+
+pub guards_are_kept : GuardsHold → GuardsAreKept
+guards_are_kept hold image shape b o slab cache runs f whole told = laid_kept hold image shape b o slab cache runs f (is_laid o) told whole

@@ -1,7 +1,10 @@
 pub mod Caches
+pub mod Guarding
+pub mod Guards
 pub mod Laws
 pub mod Marks
 pub mod Pages
+pub mod Rings
 pub mod Shapes
 pub mod Slabs
 pub mod Frames

@@ -1,6 +1,6 @@
 -- What a page of a dump is, by its descriptor. Source: the kernel's mm/slab.h, `struct slab` (`slab_folio`, `folio_slab`), whose `slab_cache` names
 -- its cache.
-use Rattle.std.specs.Prelude.{◌≡◌, ℕ, Bool, true, false, if◌then◌else◌, Option, Some, None, Result, Ok, Err}
+use Rattle.std.specs.Prelude.{◌≡◌, ℕ, Bool, true, false, if◌then◌else◌, List, Option, Some, None, Result, Ok, Err}
 use Rattle.std.specs.BTreeMap.{is_at}
 use Rattle.std.specs.Ordering.{nat_cmp}
 use Rattle.std.specs.Map.{lookup}
@@ -17,29 +17,32 @@ use Rattle.kc_found.specs.declared.found.WalkStop.TheVariants as ends
 use Rattle.kc_found.specs.Nodes.{readable}
 use Rattle.kc_found.specs.Violations.{Violation}
 use Rattle.kc_owner.specs.Object.Pages.{descriptor_of}
+use Rattle.kc_guard.specs.declared.guards.GuardRun.{GuardRun}
 use Rattle.kc_slab_page.specs.declared.caches.CacheSeen.{CacheSeen}
 use Rattle.kc_slab_page.specs.declared.page.PageSeen.{PageSeen}
 use Rattle.kc_slab_page.specs.declared.page.PageSeen.TheVariants.{Absent, Other, Unmarked, Slab}
-use Rattle.kc_slab_page.specs.declared.page.SlabState.{SlabState}
-use Rattle.kc_slab_page.specs.declared.page.SlabState.TheVariants.{Whole, Broken, Untold}
+use Rattle.kc_slab_page.specs.declared.guarding.SlabFault.TheVariants.{Words}
+use Rattle.kc_slab_page.specs.declared.guarding.SlabState.{SlabState}
+use Rattle.kc_slab_page.specs.declared.guarding.SlabState.TheVariants.{Broken, Untold}
 use Rattle.kc_slab_page.specs.declared.shape.PageShape.{PageShape}
 use Rattle.kc_slab_page.specs.declared.slab.SlabFree.{SlabFree}
 use Rattle.kc_slab_page.specs.Caches.{Caches}
+use Rattle.kc_slab_page.specs.Guarding.{with_guards}
 use Rattle.kc_slab_page.specs.Marks.{marked}
 use Rattle.kc_slab_page.specs.Slabs.{is_laid, slab_free}
 
--- what a slab is, by its first violation
-abbrev pub state_of : Result SlabFree Violation → SlabState
-state_of (Ok free) = Whole free
-state_of (Err v) = Broken v
+-- what a slab is, by its first violation: where its list is whole, by the bytes that its cache keeps at its objects
+abbrev pub state_of : Image → SlubShape → SlubBases → ℕ → SlabObjects → List GuardRun → Result SlabFree Violation → SlabState
+state_of image shape b slab o runs (Ok free) = with_guards image shape b slab o runs free
+state_of image shape b slab o runs (Err v) = Broken (Words v)
 
 -- where its cache's objects lie so, and where that can't be told
-abbrev pub state_with : Image → SlubShape → SlubBases → ℕ → FieldNumber → SlabObjects → SlabState
-state_with image shape b slab cache o = if is_laid o then state_of (slab_free image shape b o slab cache) else Untold
+abbrev pub state_with : Image → SlubShape → SlubBases → ℕ → FieldNumber → List GuardRun → SlabObjects → SlabState
+state_with image shape b slab cache runs o = if is_laid o then state_of image shape b slab o runs (slab_free image shape b o slab cache) else Untold
 
-abbrev pub state_by : Image → SlubShape → SlubBases → ℕ → FieldNumber → Result SlabObjects Violation → SlabState
-state_by image shape b slab cache (Ok o) = state_with image shape b slab cache o
-state_by image shape b slab cache (Err v) = Untold
+abbrev pub state_by : Image → SlubShape → SlubBases → ℕ → FieldNumber → List GuardRun → Result SlabObjects Violation → SlabState
+state_by image shape b slab cache runs (Ok o) = state_with image shape b slab cache runs o
+state_by image shape b slab cache runs (Err v) = Untold
 
 -- a page whose descriptor names a cache, by its mark: a slab's first page has it
 abbrev pub with_mark : SlabState → ℕ → ℕ → Option Bool → PageSeen
@@ -49,7 +52,7 @@ with_mark state page cache (Some true) = Slab (record { slab = page; cache = cac
 
 abbrev pub by_mark : Image → PageShape → SlubBases → ℕ → FieldNumber → CacheSeen → PageSeen
 by_mark image shape b page cache seen =
-    with_mark (state_by image shape.objects.slub b page cache seen.objects) page (value_of cache) (marked image shape.mark page)
+    with_mark (state_by image shape.objects.slub b page cache seen.runs seen.objects) page (value_of cache) (marked image shape.mark page)
 
 -- a page, by what its descriptor has as its cache
 abbrev pub by_seen : Image → PageShape → SlubBases → ℕ → FieldNumber → Option CacheSeen → PageSeen

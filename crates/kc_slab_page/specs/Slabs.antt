@@ -1,7 +1,7 @@
 -- A slab, by its page's descriptor. Source: the kernel's mm/slab.h, `struct slab`, which overlays its first page's descriptor, and mm/slub.c:
 -- `freelist` and `inuse` are changed together (`slab_update_freelist`), also where a processor owns the slab, so the slab's own free list has
 -- as many objects as aren't in use. The order is this project's.
-use Rattle.std.specs.Prelude.{ℕ, ◌+◌, ◌-◌, Bool, ◌&&◌, ◌||◌, nat_eq, nat_le, nat_lt, not, List, length, Some, None, Result, Ok}
+use Rattle.std.specs.Prelude.{ℕ, ◌+◌, ◌-◌, Bool, ◌&&◌, ◌||◌, nat_eq, nat_le, nat_lt, not, false, List, length, Some, None, Result, Ok}
 use Rattle.kc_memory.specs.declared.rule.Rule.TheVariants.{U3, U4, U6}
 use Rattle.kc_memory.specs.Image.{Image}
 use Rattle.kc_view.specs.declared.fields.FieldNumber.{FieldNumber}
@@ -41,7 +41,7 @@ abbrev pub free_of : Image → SlubShape → Grid → ℕ → SlabCounted → Re
 free_of image shape grid slab n =
     and_then (own_list image shape grid slab) (λ os.
     unless (not (nat_eq (length os) (n.objects - value_of n.inuse))) (breaks_at (looked_at slab) U6 n.inuse (Some (n.objects - value_of n.inuse)))
-    (Ok (record { objects = n.objects; free = length os; frozen = n.frozen })))
+    (Ok (record { objects = n.objects; free = length os; frozen = n.frozen; guarded = false })))
 
 -- a slab of the cache that a number of its descriptor names: U4 of the descriptor, and then the counts and the list
 abbrev pub slab_free : Image → SlubShape → SlubBases → SlabObjects → ℕ → FieldNumber → Result SlabFree Violation

@@ -12,10 +12,12 @@ ghost use Rattle.kc_owner.specs.Object.Keys.{cache_by};
 ghost use Rattle.kc_owner.specs.Object.Pages.{bases_at};
 ghost use Rattle.kc_slab_page.specs.Caches.{cache_seen, caches_from, caches_in, caches_view, is_wanted, with_cache};
 
+use crate::guards::read_runs;
+use crate::ring::read_ring;
 use crate::shape::PageShape;
 use kc_btf::Btf;
 use kc_found::{Found, Name, Space, WalkStop, Walked};
-use kc_list::ring;
+use kc_guard::GuardRuns;
 use kc_owner::{looked_at, read_known, read_text, view_at};
 use kc_slub::{read_base, read_objects};
 use kc_view::{SlabObjects, SlubBases, View};
@@ -34,6 +36,8 @@ pub struct CacheSeen {
     pub name: Name,
     /// How its objects lie in a slab, or why that can't be told.
     pub objects: Result<SlabObjects, Found>,
+    /// The bytes that slub_debug keeps at each object.
+    pub runs: GuardRuns,
 }
 
 /// The slab caches of a kernel, by their virtual addresses.
@@ -41,6 +45,10 @@ pub struct CacheSeen {
 pub struct SlabCaches {
     /// Where page descriptors and physical memory begin.
     pub bases: SlubBases,
+    /// The nodes of the ring of all caches that were reached, in the order in which they were.
+    pub nodes: Walked,
+    /// The rule that this ring breaks, where it does.
+    pub broken: Option<Found>,
     /// The caches.
     pub caches: BTreeMap<u64, CacheSeen>,
 }
@@ -121,7 +129,7 @@ fn read_cache<S: Space, L: Ledger>(
     cache: &View<'_>,
     steps: &mut Steps<L>,
 ) -> Result<CacheSeen, WalkStop>
-    ensures exact { WalksAs (λ c. c) (λ i. Ok (cache_seen i shape.now.objects cache.now.at)) (S.image space.old) result }
+    ensures exact { WalksAs (λ c. c) (λ i. Ok (cache_seen i shape.now cache.now.at)) (S.image space.old) result }
     ensures broken { OnBroken result ⊥ }
     ensures stays { SpaceStays S.image S.files S.through S.most space.old space.new }
     ensures cause { CountsWalkFaults result (S.faults space.old) (S.faults space.new) }
@@ -129,7 +137,12 @@ fn read_cache<S: Space, L: Ledger>(
     let pointer = read_known(alloc, space, cache, &shape.objects.name, steps)?;
     let name = read_name(alloc, space, pointer, steps)?;
     let objects = tell_objects(alloc, space, shape, cache, steps)?;
-    Ok(CacheSeen { name, objects })
+    let runs = read_runs(alloc, space, &shape.guards, &objects, cache, steps)?;
+    Ok(CacheSeen {
+        name,
+        objects,
+        runs,
+    })
 }
 
 // A cache is wanted: all are, or those with a name.
@@ -176,7 +189,7 @@ fn add_cache<S: Space, L: Ledger>(
     steps: &mut Steps<L>,
 ) -> Result<(), WalkStop>
     ensures added { WalksAs (λ _. caches.new.entries)
-        (λ i. Ok (with_cache i asks.now.shape.now.objects (option_copied asks.now.wanted) caches.old.entries node)) (S.image space.old) result }
+        (λ i. Ok (with_cache i asks.now.shape.now (option_copied asks.now.wanted) caches.old.entries node)) (S.image space.old) result }
     ensures broken { OnBroken result ⊥ }
     ensures stays { SpaceStays S.image S.files S.through S.most space.old space.new }
     ensures cause { CountsWalkFaults result (S.faults space.old) (S.faults space.new) }
@@ -198,7 +211,7 @@ fn read_nodes<S: Space, L: Ledger>(
     steps: &mut Steps<L>,
 ) -> Result<BTreeMap<u64, CacheSeen>, WalkStop>
     ensures exact { WalksAs (λ c. c.entries)
-        (λ i. Ok (caches_from i asks.now.shape.now.objects (option_copied asks.now.wanted) [] nodes.now)) (S.image space.old) result }
+        (λ i. Ok (caches_from i asks.now.shape.now (option_copied asks.now.wanted) [] nodes.now)) (S.image space.old) result }
     ensures stays { SpaceStays S.image S.files S.through S.most space.old space.new }
     ensures cause { CountsWalkFaults result (S.faults space.old) (S.faults space.new) }
 {
@@ -209,11 +222,12 @@ fn read_nodes<S: Space, L: Ledger>(
     Ok(caches)
 }
 
-/// The slab caches of the ring `slab_caches`, by their addresses: all of them, or those with a name.
+/// The slab caches of the ring `slab_caches`, by their addresses: all of them, or those with a name. Of a broken ring they are those that are
+/// reached from its head, by `next` and by `prev`.
 ///
 /// # Errors
 ///
-/// A violation of the ring, or a word that can't be read; a failure of the space, whose count of faults then rose; or out of memory.
+/// The violation by a word that can't be read, of those that tell where page descriptors and physical memory begin; a failure of the space, whose count of faults then rose; or out of memory.
 pub fn read_caches<S: Space, L: Ledger>(
     alloc: Global,
     space: &mut S,
@@ -222,20 +236,19 @@ pub fn read_caches<S: Space, L: Ledger>(
     wanted: Option<&[u8]>,
     steps: &mut Steps<L>,
 ) -> Result<SlabCaches, WalkStop>
-    ensures exact { WalksAs caches_view (λ i. caches_in i shape.now.objects (option_copied wanted.entry)) (S.image space.old) result }
+    ensures exact { WalksAs caches_view (λ i. caches_in i shape.now (option_copied wanted.entry)) (S.image space.old) result }
     ensures stays { SpaceStays S.image S.files S.through S.most space.old space.new }
     ensures cause { CountsWalkFaults result (S.faults space.old) (S.faults space.new) }
 {
     let bases = read_bases(alloc, space, shape, steps)?;
-    let nodes = ring(
-        alloc,
-        space,
-        &shape.objects.slub.list,
-        shape.objects.caches,
-        0,
-        steps,
-    )?;
+    let list = &shape.objects.slub.list;
+    let ring = read_ring(alloc, space, list, shape.objects.caches, steps)?;
     let asks = CachesAsked { btf, shape, wanted };
-    let caches = read_nodes(alloc, space, &asks, &nodes, steps)?;
-    Ok(SlabCaches { bases, caches })
+    let caches = read_nodes(alloc, space, &asks, &ring.nodes, steps)?;
+    Ok(SlabCaches {
+        bases,
+        nodes: ring.nodes,
+        broken: ring.broken,
+        caches,
+    })
 }

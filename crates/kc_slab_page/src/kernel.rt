@@ -3,6 +3,7 @@ ghost use Rattle.std.specs.Prelude.{◌≡◌};
 ghost use Rattle.kc_kinds.specs.Kernels.{kernel};
 ghost use Rattle.kc_slab_page.specs.Shapes.{page_shape};
 
+use crate::guards::guard_shape;
 use crate::mark::mark_of;
 use crate::shape::PageShape;
 use kc_kinds::Known;
@@ -14,5 +15,9 @@ pub fn page_shape(known: &Known<'_>, note: &[u8]) -> Option<PageShape>
 {
     let objects = object_shape(known)?;
     let mark = mark_of(known.btf, struct_named(known, b"page"), note)?;
-    Some(PageShape { objects, mark })
+    Some(PageShape {
+        objects,
+        mark,
+        guards: guard_shape(known),
+    })
 }

@@ -1,21 +1,27 @@
 //! A slab of a dump, found by its page's descriptor and not by a list: the dump's frames and slab caches, what is a slab's
-//! first page, how many objects the slab has, and whether its own free list is whole.
+//! first page, how many objects the slab has, whether its own free list is whole, and whether the bytes are that slub_debug keeps.
 #![tactic(auto)]
 
 mod caches;
 mod frames;
+mod guarding;
+mod guards;
 mod kernel;
 mod laws;
 mod mark;
 mod page;
+mod ring;
 mod shape;
 mod slab;
 
 pub use caches::{CacheSeen, SlabCaches, read_caches};
 pub use frames::{FrameRun, frame_runs};
+pub use guarding::{SlabFault, SlabState};
+pub use guards::{FlagBits, GuardShape};
 pub use kernel::page_shape;
 pub use laws::know_slab_pages;
 pub use mark::Mark;
-pub use page::{PageSeen, SlabSeen, SlabState, look_at_page};
+pub use page::{PageSeen, SlabSeen, look_at_page};
+pub use ring::RingNodes;
 pub use shape::PageShape;
 pub use slab::{SlabCounted, SlabFree, is_laid, read_counts, read_list};

@@ -7,27 +7,18 @@ ghost use Rattle.kc_slab_page.specs.Caches.{caches_view};
 ghost use Rattle.kc_slab_page.specs.Pages.{IsAbsent, by_cache, by_mark, page_seen, state_by, state_with};
 
 use crate::caches::{CacheSeen, SlabCaches};
+use crate::guarding::{Guards, SlabFault, SlabState, with_guards};
 use crate::mark::read_mark;
 use crate::shape::PageShape;
-use crate::slab::{NamedPage, SlabFree, is_laid, read_slab};
+use crate::slab::{NamedPage, is_laid, read_slab};
 use kc_btf::Btf;
-use kc_found::{Found, Space, Stop, WalkStop};
+use kc_found::{Space, Stop, WalkStop};
+use kc_guard::GuardRuns;
 use kc_owner::view_at;
 use kc_view::{FieldNumber, SlabObjects, SlubBases, View, field_of};
 use kc_word::Steps;
 use std::alloc::Global;
 use std::sync::ledger::Ledger;
-
-/// What a slab is.
-#[derive(Drop)]
-pub enum SlabState {
-    /// Its counts are whole, and so is its own free list, which has as many objects as aren't in use.
-    Whole(SlabFree),
-    /// It breaks a rule, which is the first one.
-    Broken(Found),
-    /// It can't be told how the objects of its cache lie.
-    Untold,
-}
 
 /// A slab.
 #[derive(Drop)]
@@ -68,11 +59,12 @@ fn state_with<S: Space, L: Ledger>(
     shape: &PageShape,
     bases: &SlubBases,
     objects: &SlabObjects,
+    runs: &GuardRuns,
     slab: &NamedPage<'_>,
     steps: &mut Steps<L>,
 ) -> Result<SlabState, WalkStop>
     ensures exact { WalksAs (λ s. s)
-        (λ i. Ok (state_with i shape.now.objects.slub bases.now slab.now.view.now.at slab.now.cache.now objects.now)) (S.image space.old) result }
+        (λ i. Ok (state_with i shape.now.objects.slub bases.now slab.now.view.now.at slab.now.cache.now runs.now objects.now)) (S.image space.old) result }
     ensures broken { OnBroken result ⊥ }
     ensures stays { SpaceStays S.image S.files S.through S.most space.old space.new }
     ensures cause { CountsWalkFaults result (S.faults space.old) (S.faults space.new) }
@@ -82,8 +74,13 @@ fn state_with<S: Space, L: Ledger>(
     }
     let slub = &shape.objects.slub;
     match read_slab(alloc, space, slub, bases, objects, slab, steps) {
-        Ok(free) => Ok(SlabState::Whole(free)),
-        Err(WalkStop::Broken(found)) => Ok(SlabState::Broken(found)),
+        Ok(free) => {
+            let guards = Guards { free, runs };
+            with_guards(
+                alloc, space, slub, bases, objects, slab.view, &guards, steps,
+            )
+        }
+        Err(WalkStop::Broken(found)) => Ok(SlabState::Broken(SlabFault::Words(found))),
         Err(WalkStop::Fault) => Err(WalkStop::Fault),
         Err(WalkStop::NoMemory) => Err(WalkStop::NoMemory),
     }
@@ -100,13 +97,13 @@ fn state_by<S: Space, L: Ledger>(
     steps: &mut Steps<L>,
 ) -> Result<SlabState, WalkStop>
     ensures exact { WalksAs (λ s. s)
-        (λ i. Ok (state_by i shape.now.objects.slub bases.now slab.now.view.now.at slab.now.cache.now seen.now.objects)) (S.image space.old) result }
+        (λ i. Ok (state_by i shape.now.objects.slub bases.now slab.now.view.now.at slab.now.cache.now seen.now.runs seen.now.objects)) (S.image space.old) result }
     ensures broken { OnBroken result ⊥ }
     ensures stays { SpaceStays S.image S.files S.through S.most space.old space.new }
     ensures cause { CountsWalkFaults result (S.faults space.old) (S.faults space.new) }
 {
     match &seen.objects {
-        Ok(objects) => state_with(alloc, space, shape, bases, objects, slab, steps),
+        Ok(objects) => state_with(alloc, space, shape, bases, objects, &seen.runs, slab, steps),
         Err(_) => Ok(SlabState::Untold),
     }
 }

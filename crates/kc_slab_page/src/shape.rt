@@ -1,4 +1,5 @@
 // Where the words stand that tell what a page is.
+use crate::guards::GuardShape;
 use crate::mark::Mark;
 use kc_owner::ObjectShape;
 
@@ -9,4 +10,6 @@ pub struct PageShape {
     pub objects: ObjectShape,
     /// The mark of a slab's first page.
     pub mark: Mark,
+    /// Which bytes slub_debug keeps at objects, where that can be told.
+    pub guards: Option<GuardShape>,
 }

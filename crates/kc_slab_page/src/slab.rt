@@ -24,6 +24,8 @@ pub struct SlabFree {
     pub free: u64,
     /// Whether a processor owns it, and keeps further free objects in a list of its own.
     pub frozen: bool,
+    /// Whether the bytes that slub_debug keeps at its objects were looked at.
+    pub guarded: bool,
 }
 
 /// How many objects a slab has.
@@ -137,6 +139,7 @@ fn read_free<S: Space, L: Ledger>(
         objects: counts.objects,
         free,
         frozen: counts.frozen,
+        guarded: false,
     })
 }
 

@@ -25,13 +25,11 @@ use Rattle.kc_found.specs.declared.asked.Asked.{Asked}
 use Rattle.kc_found.specs.declared.free.Grid.{Grid}
 use Rattle.kc_found.specs.FreeLists.{free_list}
 use Rattle.kc_found.specs.Nodes.{at_offset, readable}
-use Rattle.kc_found.specs.Rings.{ring_walk}
 use Rattle.kc_found.specs.Trials.{and_then}
 use Rattle.kc_found.specs.Violations.{Violation, breaks_field}
 use Rattle.kc_owner.specs.Looked.{looked_at}
 use Rattle.kc_owner.specs.declared.object.shape.ObjectShape.{ObjectShape}
 use Rattle.kc_owner.specs.Object.Keys.{cache_by}
-use Rattle.kc_list.specs.Laws.{RingPlacesStand}
 use Rattle.kc_slub.specs.Laws.{FreePlacesStand}
 use Rattle.kc_slab_page.specs.declared.caches.CacheSeen.{CacheSeen}
 use Rattle.kc_slab_page.specs.declared.slab.SlabCounted.{SlabCounted}
@@ -43,17 +41,16 @@ use Rattle.kc_slab_scan.specs.declared.cpu_list.CpuSeen.TheVariants.{Unread, Emp
 use Rattle.kc_slab_scan.specs.declared.cpu_scan.BrokenCpu.{BrokenCpu}
 use Rattle.kc_slab_scan.specs.declared.cpu_scan.CpuScan.{CpuScan}
 use Rattle.kc_slab_scan.specs.declared.cpu_words.CpuShape.{CpuShape}
-use Rattle.kc_slab_scan.specs.CpuLaws.{AllStand, CpusStand, NumbersShow, Stands, seen_places}
+use Rattle.kc_slab_scan.specs.CpuLaws.{CpusStand, NumbersShow, Stands, seen_places}
 use Rattle.kc_slab_scan.specs.CpuLists.{again, apart, apart_or, cpu_list, cpu_seen, lists_apart, own_or_none, seen_at, seen_by, seen_first, seen_of, seen_slab, seen_with, taken_all}
 use Rattle.kc_slab_scan.specs.Cpus.{count_of, cpu_at, cpus_from, is_possible, with_cpu, word_in}
 use Rattle.kc_slab_scan.specs.CpuScans.{cache_from, cpus_scanned, nodes_from, none_seen, with_cache, with_laid, with_node, with_seen}
 
--- what is known of the words, fields, rings and free lists of a dump
+-- what is known of the words, fields and free lists of a dump
 pub record Known : Type 0 where
   pub places : PlacesStand
   pub numbers : NumbersStand
   pub values : ValuesStand
-  pub rings : RingPlacesStand
   pub frees : FreePlacesStand
 
 -- the words of a number
@@ -172,15 +169,8 @@ nodes_stand known image c shape caches cpus s (n ∷ ns) all =
     nodes_stand known image c shape caches cpus (with_node image c shape caches cpus s n) ns
     (found_stands known image c shape.slub caches.bases (cache_by shape n) cpus s (lookup (is_at (nat_cmp (cache_by shape n))) caches.entries) all)
 
-ring_stands : Known → (image : Image) (c : CpuShape) (shape : ObjectShape) (caches : Caches) (cpus : List Cpu) (r : Result (List ℕ) Violation) → Shows image r
-    → AllStand image (and_then r (λ nodes. Ok (nodes_from image c shape caches cpus none_seen nodes)))
-ring_stands known image c shape caches cpus (Ok nodes) here = nodes_stand known image c shape caches cpus none_seen nodes tt
-ring_stands known image c shape caches cpus (Err v) here = here
-
 pub cpus_stand : Known → CpusStand
-cpus_stand known image c shape caches cpus =
-    ring_stands known image c shape caches cpus (ring_walk image shape.slub.list 0 shape.caches)
-    (shows_all image (ring_walk image shape.slub.list 0 shape.caches) (λ v e. known.rings image shape.slub.list 0 shape.caches v e))
+cpus_stand known image c shape caches cpus = nodes_stand known image c shape caches cpus none_seen caches.nodes tt
 
 -- the processors
 number_by : (image : Image) (asked : Asked) (r : Result Number Stopped) → AllStandIn image (number_places r) → Shows image (or_missed asked r)

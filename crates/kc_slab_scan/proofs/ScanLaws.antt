@@ -7,8 +7,8 @@ use Rattle.kc_memory.specs.Places.{AllStandIn}
 use Rattle.kc_slab_page.specs.declared.page.PageSeen.{PageSeen}
 use Rattle.kc_slab_page.specs.declared.page.PageSeen.TheVariants.{Absent, Other, Unmarked, Slab}
 use Rattle.kc_slab_page.specs.declared.page.SlabSeen.{SlabSeen}
-use Rattle.kc_slab_page.specs.declared.page.SlabState.{SlabState}
-use Rattle.kc_slab_page.specs.declared.page.SlabState.TheVariants.{Whole, Broken, Untold}
+use Rattle.kc_slab_page.specs.declared.guarding.SlabState.{SlabState}
+use Rattle.kc_slab_page.specs.declared.guarding.SlabState.TheVariants.{Whole, Broken, Untold}
 use Rattle.kc_slab_page.specs.declared.shape.PageShape.{PageShape}
 use Rattle.kc_slab_page.specs.Caches.{Caches}
 use Rattle.kc_slab_page.specs.Laws.{SlabsStand, page_places, state_places}

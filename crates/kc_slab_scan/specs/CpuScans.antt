@@ -7,8 +7,6 @@ use Rattle.kc_memory.specs.Image.{Image}
 use Rattle.kc_view.specs.declared.slub.SlabObjects.{SlabObjects}
 use Rattle.kc_view.specs.declared.slub.SlubBases.{SlubBases}
 use Rattle.kc_view.specs.declared.slub.SlubShape.{SlubShape}
-use Rattle.kc_found.specs.Rings.{ring_walk}
-use Rattle.kc_found.specs.Trials.{and_then}
 use Rattle.kc_found.specs.Violations.{Violation}
 use Rattle.kc_owner.specs.declared.object.shape.ObjectShape.{ObjectShape}
 use Rattle.kc_owner.specs.Object.Keys.{cache_by}
@@ -59,6 +57,5 @@ unfoldable pub nodes_from : Image → CpuShape → ObjectShape → Caches → Li
 nodes_from image c shape caches cpus s [] = s
 nodes_from image c shape caches cpus s (n ∷ ns) = nodes_from image c shape caches cpus (with_node image c shape caches cpus s n) ns
 
-abbrev pub cpus_scanned : Image → CpuShape → ObjectShape → Caches → List Cpu → Result CpuScan Violation
-cpus_scanned image c shape caches cpus =
-    and_then (ring_walk image shape.slub.list 0 shape.caches) (λ nodes. Ok (nodes_from image c shape caches cpus none_seen nodes))
+abbrev pub cpus_scanned : Image → CpuShape → ObjectShape → Caches → List Cpu → CpuScan
+cpus_scanned image c shape caches cpus = nodes_from image c shape caches cpus none_seen caches.nodes

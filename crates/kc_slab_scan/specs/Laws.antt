@@ -5,17 +5,18 @@ use Rattle.kc_memory.specs.Image.{Image}
 use Rattle.kc_memory.specs.Places.{AllStandIn}
 use Rattle.kc_slab_page.specs.declared.page.PageSeen.{PageSeen}
 use Rattle.kc_slab_page.specs.declared.page.PageSeen.TheVariants.{Absent, Other, Unmarked, Slab}
-use Rattle.kc_slab_page.specs.declared.page.SlabState.{SlabState}
-use Rattle.kc_slab_page.specs.declared.page.SlabState.TheVariants.{Whole, Broken, Untold}
+use Rattle.kc_slab_page.specs.declared.guarding.SlabState.{SlabState}
+use Rattle.kc_slab_page.specs.declared.guarding.SlabState.TheVariants.{Whole, Broken, Untold}
 use Rattle.kc_slab_page.specs.declared.shape.PageShape.{PageShape}
 use Rattle.kc_slab_page.specs.Caches.{Caches}
+use Rattle.kc_slab_page.specs.Laws.{fault_places}
 use Rattle.kc_slab_page.specs.Pages.{page_seen}
 use Rattle.kc_slab_scan.specs.declared.totals.BrokenSlab.{BrokenSlab}
 use Rattle.kc_slab_scan.specs.Scans.{scanned}
 
 -- the words that show what a slab breaks stand in the dump, at the places that are shown
 abbrev pub Stands : Image → BrokenSlab → Type 0
-Stands image b = AllStandIn image b.found.places
+Stands image b = AllStandIn image (fault_places b.found)
 
 abbrev pub BrokenStand : Type 0
 BrokenStand =

@@ -5,8 +5,8 @@ use Rattle.kc_found.specs.Violations.{Violation}
 use Rattle.kc_slab_page.specs.declared.page.PageSeen.{PageSeen}
 use Rattle.kc_slab_page.specs.declared.page.PageSeen.TheVariants.{Absent, Other, Unmarked, Slab}
 use Rattle.kc_slab_page.specs.declared.page.SlabSeen.{SlabSeen}
-use Rattle.kc_slab_page.specs.declared.page.SlabState.{SlabState}
-use Rattle.kc_slab_page.specs.declared.page.SlabState.TheVariants.{Whole, Broken, Untold}
+use Rattle.kc_slab_page.specs.declared.guarding.SlabState.{SlabState}
+use Rattle.kc_slab_page.specs.declared.guarding.SlabState.TheVariants.{Whole, Broken, Untold}
 use Rattle.kc_slab_page.specs.declared.shape.PageShape.{PageShape}
 use Rattle.kc_slab_page.specs.declared.slab.SlabFree.{SlabFree}
 use Rattle.kc_slab_page.specs.Caches.{Caches}
@@ -20,7 +20,7 @@ abbrev pub added : ℕ → ℕ → ℕ
 added count more = min (count + more) (2 ^ 64 - 1)
 
 abbrev pub none_seen : Totals
-none_seen = record { frames = 0; absent = 0; unmarked = 0; slabs = 0; frozen = 0; objects = 0; free = 0; untold = 0 }
+none_seen = record { frames = 0; absent = 0; unmarked = 0; slabs = 0; frozen = 0; objects = 0; free = 0; untold = 0; guarded = 0 }
 
 -- the counts with one page more
 abbrev pub with_absent : Totals → Totals
@@ -37,14 +37,19 @@ with_slab t = record t { frames = added t.frames 1; slabs = added t.slabs 1 }
 
 -- and with what a slab has
 abbrev pub with_whole : Totals → SlabFree → Totals
-with_whole t f = record t { frozen = added t.frozen (if f.frozen then 1 else 0); objects = added t.objects f.objects; free = added t.free f.free }
+with_whole t f = record t {
+  frozen = added t.frozen (if f.frozen then 1 else 0);
+  objects = added t.objects f.objects;
+  free = added t.free f.free;
+  guarded = added t.guarded (if f.guarded then 1 else 0);
+}
 
 abbrev pub with_untold : Totals → Totals
 with_untold t = record t { untold = added t.untold 1 }
 
 abbrev pub with_broken : Scan → SlabSeen → SlabState → Scan
 with_broken s seen (Whole f) = record { totals = with_whole (with_slab s.totals) f; broken = s.broken }
-with_broken s seen (Broken v) = record { totals = with_slab s.totals; broken = s.broken ++ record { slab = seen.slab; cache = seen.cache; found = v } ∷ [] }
+with_broken s seen (Broken fault) = record { totals = with_slab s.totals; broken = s.broken ++ record { slab = seen.slab; cache = seen.cache; found = fault } ∷ [] }
 with_broken s seen Untold = record { totals = with_untold (with_slab s.totals); broken = s.broken }
 
 abbrev pub with_state : Scan → SlabSeen → Scan

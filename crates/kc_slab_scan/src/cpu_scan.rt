@@ -13,7 +13,6 @@ use crate::cpus::{Cpu, Cpus};
 use crate::scan::SlabPages;
 use crate::totals::{added, push_item};
 use kc_found::{Found, Items, Space, WalkStop, Walked};
-use kc_list::ring;
 use kc_slab_page::is_laid;
 use kc_word::Steps;
 use std::alloc::Global;
@@ -203,6 +202,7 @@ fn scan_nodes<S: Space, L: Ledger>(
     ensures exact { WalksAs (λ s. s)
         (λ i. Ok (nodes_from i processors.now.shape.now pages.now.shape.now.objects (caches_view pages.now.caches.now) processors.now.all.now none_seen nodes.now))
         (S.image space.old) result }
+    ensures broken { OnBroken result ⊥ }
     ensures stays { SpaceStays S.image S.files S.through S.most space.old space.new }
     ensures cause { CountsWalkFaults result (S.faults space.old) (S.faults space.new) }
 {
@@ -219,11 +219,11 @@ fn scan_nodes<S: Space, L: Ledger>(
     Ok(scan)
 }
 
-/// What these processors have of each of these caches, in the order of the ring of all caches.
+/// What these processors have of each of these caches, in the order in which the ring's nodes were reached.
 ///
 /// # Errors
 ///
-/// A violation of the ring; a failure of the space, whose count of faults then rose; or out of memory.
+/// A failure of the space, whose count of faults then rose; or out of memory.
 pub fn scan_cpus<S: Space, L: Ledger>(
     alloc: Global,
     space: &mut S,
@@ -232,12 +232,11 @@ pub fn scan_cpus<S: Space, L: Ledger>(
     steps: &mut Steps<L>,
 ) -> Result<CpuScan, WalkStop>
     ensures exact { WalksAs (λ s. s)
-        (λ i. cpus_scanned i processors.now.shape.now pages.now.shape.now.objects (caches_view pages.now.caches.now) processors.now.all.now)
+        (λ i. Ok (cpus_scanned i processors.now.shape.now pages.now.shape.now.objects (caches_view pages.now.caches.now) processors.now.all.now))
         (S.image space.old) result }
+    ensures broken { OnBroken result ⊥ }
     ensures stays { SpaceStays S.image S.files S.through S.most space.old space.new }
     ensures cause { CountsWalkFaults result (S.faults space.old) (S.faults space.new) }
 {
-    let shape = &pages.shape.objects;
-    let nodes = ring(alloc, space, &shape.slub.list, shape.caches, 0, steps)?;
-    scan_nodes(alloc, space, pages, processors, &nodes, steps)
+    scan_nodes(alloc, space, pages, processors, &pages.caches.nodes, steps)
 }

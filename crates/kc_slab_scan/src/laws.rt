@@ -3,7 +3,6 @@ ghost use Rattle.kc_slab_scan.specs.CpuLaws.{CpusStand, NumbersShow};
 ghost use Rattle.kc_slab_scan.specs.Laws.{BrokenStand, FramesAreCounted, SoundIsOfAll};
 
 use kc_found::{know_numbers, know_places};
-use kc_list::know_lists;
 use kc_slab_page::know_slab_pages;
 use kc_slub::know_free_lists;
 use kc_view::know_values;
@@ -19,7 +18,7 @@ pub fn know_scans()
 }
 
 /// Does nothing. Each word that shows what a processor's slab breaks stands in the dump, at the place that is shown; and so do the words that
-/// show why the caches or the processors can't be told.
+/// show why the processors can't be told.
 pub fn know_cpus()
     ensures stand { CpusStand }
     ensures told { NumbersShow }
@@ -27,6 +26,5 @@ pub fn know_cpus()
     know_places();
     know_numbers();
     know_values();
-    know_lists();
     know_free_lists();
 }

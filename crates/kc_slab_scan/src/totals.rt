@@ -3,8 +3,8 @@ ghost use Rattle.std.specs.Prelude.{◌≡◌, ◌∷◌, ◌++◌, [], OnOk};
 ghost use Rattle.kc_found.specs.Walks.{OnBroken, OnWalkFault};
 ghost use Rattle.kc_slab_scan.specs.Scans.{added, none_seen, with_absent, with_other, with_page, with_slab, with_state, with_unmarked, with_untold, with_whole};
 
-use kc_found::{Found, Items, WalkStop};
-use kc_slab_page::{PageSeen, SlabFree, SlabSeen, SlabState};
+use kc_found::{Items, WalkStop};
+use kc_slab_page::{PageSeen, SlabFault, SlabFree, SlabSeen, SlabState};
 use kc_word::NoMemory;
 use std::alloc::Global;
 
@@ -27,6 +27,8 @@ pub struct Totals {
     pub free: u64,
     /// Slabs of caches of which it can't be told how their objects lie.
     pub untold: u64,
+    /// Of those that break no rule, the ones at whose objects slub_debug keeps bytes that were looked at.
+    pub guarded: u64,
 }
 
 /// A slab that breaks a rule.
@@ -37,7 +39,7 @@ pub struct BrokenSlab {
     /// The virtual address of its cache.
     pub cache: u64,
     /// The first rule that it breaks.
-    pub found: Found,
+    pub found: SlabFault,
 }
 
 /// What was seen of a dump's page frames.
@@ -63,6 +65,7 @@ impl Totals {
             objects: 0,
             free: 0,
             untold: 0,
+            guarded: 0,
         }
     }
 }
@@ -125,6 +128,7 @@ fn with_whole(totals: Totals, free: SlabFree) -> Totals
         frozen: added(totals.frozen, u64::from(free.frozen)),
         objects: added(totals.objects, free.objects),
         free: added(totals.free, free.free),
+        guarded: added(totals.guarded, u64::from(free.guarded)),
         ..totals
     }
 }

@@ -121,3 +121,15 @@ prints_made cache None dump btf map noted note types listed content r is told ty
 prints_made cache (Some files) dump btf map noted note types listed content r is told typed mapped same prints =
     made_of cache (files slot.Dump dump) (files slot.Btf btf) (files slot.Map map) (noted_view noted) note types listed.items r is told typed mapped
     (subst (λ (c : Option (List ℕ)). PrintsOfBytes slabs_written (λ bytes. seen_made cache bytes noted.core.segments noted.info note types listed.items) c r) same prints)
+
+-- a text that is put after another one
+pub text_after : {A E : Type 0} (r : Result A E) (old first mid rest new : List ℕ) → mid ≡ old ++ first → OnOk r (new ≡ mid ++ rest) → OnOk r (new ≡ old ++ (first ++ rest))
+text_after (Err e) old first mid rest new one two = tt
+text_after (Ok a) old first mid rest new one two = two ∙ ap (λ (l : List ℕ). l ++ rest) one ∙ append_assoc old first rest
+
+-- four texts, one after the other
+pub four_texts : (old a b c d one two three four : List ℕ) → one ≡ old ++ a → two ≡ one ++ b → three ≡ two ++ c → four ≡ three ++ d → four ≡ old ++ (a ++ b ++ c ++ d)
+four_texts old a b c d one two three four first second third fourth =
+    let both : two ≡ old ++ (a ++ b) = second ∙ ap (λ (l : List ℕ). l ++ b) first ∙ append_assoc old a b in
+    let more : three ≡ old ++ (a ++ b ++ c) = third ∙ ap (λ (l : List ℕ). l ++ c) both ∙ append_assoc old (a ++ b) c in
+    fourth ∙ ap (λ (l : List ℕ). l ++ d) more ∙ append_assoc old (a ++ b ++ c) d

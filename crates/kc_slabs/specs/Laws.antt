@@ -18,9 +18,14 @@ OwnedStand image None = ⊤
 OwnedStand image (Some (Ok s)) = AllByRecursion (CpuStands image) s.scan.broken
 OwnedStand image (Some (Err v)) = AllStandIn image v.places
 
--- and so do those that show what each slab breaks, or why the caches can't be told
+-- so do those that show what the ring of all caches breaks
+abbrev pub RingStands : Image → Option Violation → Type 0
+RingStands image None = ⊤
+RingStands image (Some v) = AllStandIn image v.places
+
+-- and those that show what each slab breaks, or why the caches can't be told
 abbrev pub SlabsStand : Image → Result Seen Violation → Type 0
-SlabsStand image (Ok s) = AllByRecursion (Stands image) s.scan.broken × OwnedStand image s.cpus
+SlabsStand image (Ok s) = AllByRecursion (Stands image) s.scan.broken × OwnedStand image s.cpus × RingStands image s.caches.broken
 SlabsStand image (Err v) = AllStandIn image v.places
 
 abbrev pub ShownStand : Type 0

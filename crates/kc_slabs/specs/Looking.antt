@@ -17,9 +17,7 @@ use Rattle.kc_slabs.specs.declared.looking.SlabsSeen.{SlabsSeen}
 -- what processors have of some caches
 abbrev pub owned_in : Image → PageShape → CpuShape → Caches → Result CpusSeen Violation
 owned_in image shape c caches =
-    and_then (cpus_in image c) (λ cpus.
-    and_then (cpus_scanned image c shape.objects caches cpus) (λ s.
-    Ok (record { count = length cpus; scan = s })))
+    and_then (cpus_in image c) (λ cpus. Ok (record { count = length cpus; scan = cpus_scanned image c shape.objects caches cpus }))
 
 -- where the kernel has the words that tell it
 abbrev pub owned_by : Image → PageShape → Caches → Option CpuShape → Option (Result CpusSeen Violation)
@@ -42,5 +40,5 @@ told_view (Err v) = Err v
 -- of a memory and these page frames, or why the caches can't be told
 abbrev pub seen_in : Image → SlabShapes → Option (List ℕ) → List ℕ → Result Seen Violation
 seen_in image shapes wanted frames =
-    and_then (caches_in image shapes.pages.objects wanted) (λ c.
+    and_then (caches_in image shapes.pages wanted) (λ c.
     Ok (record { caches = c; scan = scanned image shapes.pages c frames; cpus = owned_by image shapes.pages c shapes.cpus }))

@@ -3,12 +3,13 @@ ghost use Rattle.std.specs.Prelude.{◌≡◌, ◌++◌, IfOk, OnOk};
 ghost use Rattle.kc_text.specs.Compose.{texts};
 ghost use Rattle.kc_slab_page.specs.Caches.{caches_view};
 ghost use Rattle.kc_slabs.specs.Looking.{seen_view, told_view};
-ghost use Rattle.kc_slabs.specs.Text.{are_sound, count_text, cpu_text, expected_text, frames_line, name_in, objects_line, own_free_text, own_sound, own_text, owned_text, rule_text, seen_text, slab_text, slabs_line, told_text, totals_lines};
+ghost use Rattle.kc_slabs.specs.Text.{are_sound, broken_ring_text, byte_text, caches_text, count_text, cpu_text, expected_text, fault_text, frames_line, guard_code, name_in, objects_line, own_free_text, own_sound, own_text, owned_text, ring_text, rule_text, seen_text, slab_text, slabs_line, spoiled_text, told_text, totals_lines};
 
 use crate::looking::{CpusSeen, SlabsSeen};
 use kc_found::Found;
+use kc_guard::{GuardRule, Spoiled};
 use kc_report::{push_places, rule_code};
-use kc_slab_page::SlabCaches;
+use kc_slab_page::{SlabCaches, SlabFault};
 use kc_slab_scan::{BrokenCpu, BrokenSlab, CpuScan, Totals};
 use kc_text::{push, push_hex, push_name_or_dash, push_numbered};
 use kc_word::NoMemory;
@@ -37,6 +38,50 @@ fn push_rule(text: &mut Vec<u8>, found: &Found) -> Result<(), NoMemory>
     push_places(text, found.places.as_slice())
 }
 
+// The letters of a rule of the bytes that slub_debug keeps.
+fn guard_code(rule: GuardRule) -> &'static [u8]
+    ensures { result.now ≡ guard_code rule }
+{
+    match rule {
+        GuardRule::Z1 => b"Z1",
+        GuardRule::Z2 => b"Z2",
+        GuardRule::Z3 => b"Z3",
+        GuardRule::Z4 => b"Z4",
+    }
+}
+
+// A byte that isn't as slub_debug keeps it.
+fn push_byte(text: &mut Vec<u8>, spoiled: &Spoiled) -> Result<(), NoMemory>
+    ensures { OnOk result (text.new.items ≡ text.old.items ++ byte_text spoiled.now) }
+{
+    push(text, guard_code(spoiled.rule))?;
+    push(text, b" at ")?;
+    push_hex(text, spoiled.at)?;
+    push(text, b" expected ")?;
+    push_hex(text, u64::from(spoiled.expected))
+}
+
+// The same with its object, and the word where it stands.
+fn push_spoiled(text: &mut Vec<u8>, spoiled: &Spoiled) -> Result<(), NoMemory>
+    ensures { OnOk result (text.new.items ≡ text.old.items ++ spoiled_text spoiled.now) }
+{
+    push_byte(text, spoiled)?;
+    push(text, b" object ")?;
+    push_hex(text, spoiled.object)?;
+    push(text, b"\n")?;
+    push_places(text, &[spoiled.place])
+}
+
+// What a slab breaks.
+fn push_fault(text: &mut Vec<u8>, fault: &SlabFault) -> Result<(), NoMemory>
+    ensures { OnOk result (text.new.items ≡ text.old.items ++ fault_text fault.now) }
+{
+    match fault {
+        SlabFault::Words(found) => push_rule(text, found),
+        SlabFault::Bytes(spoiled) => push_spoiled(text, spoiled),
+    }
+}
+
 // The name of a cache, by its address.
 fn name_in(caches: &SlabCaches, cache: u64) -> &[u8]
     ensures { result.now ≡ name_in (caches_view caches.now) cache }
@@ -58,7 +103,7 @@ fn push_slab(text: &mut Vec<u8>, caches: &SlabCaches, broken: &BrokenSlab) -> Re
     push(text, b" ")?;
     push_name_or_dash(text, name_in(caches, broken.cache))?;
     push(text, b" broken ")?;
-    push_rule(text, &broken.found)
+    push_fault(text, &broken.found)
 }
 
 fn push_broken(
@@ -160,6 +205,7 @@ fn push_slabs(text: &mut Vec<u8>, totals: &Totals, broken: u64) -> Result<(), No
     push_numbered(text, b"slabs ", totals.slabs)?;
     push_numbered(text, b" frozen ", totals.frozen)?;
     push_numbered(text, b" untold ", totals.untold)?;
+    push_numbered(text, b" guarded ", totals.guarded)?;
     push_numbered(text, b" broken ", broken)?;
     push(text, b"\n")
 }
@@ -182,14 +228,40 @@ fn push_totals(text: &mut Vec<u8>, totals: &Totals, broken: u64) -> Result<(), N
     push_objects(text, totals)
 }
 
+// What a ring of all caches that is broken breaks.
+fn push_broken_ring(text: &mut Vec<u8>, found: &Found) -> Result<(), NoMemory>
+    ensures { OnOk result (text.new.items ≡ text.old.items ++ broken_ring_text found.now) }
+{
+    push(text, b"caches broken ")?;
+    push_rule(text, found)
+}
+
+// What the ring of all caches breaks.
+fn push_ring(text: &mut Vec<u8>, broken: &Option<Found>) -> Result<(), NoMemory>
+    ensures { OnOk result (text.new.items ≡ text.old.items ++ ring_text broken.now) }
+{
+    match broken {
+        None => Ok(()),
+        Some(found) => push_broken_ring(text, found),
+    }
+}
+
+// The same, and how many caches there are.
+fn push_caches(text: &mut Vec<u8>, caches: &SlabCaches) -> Result<(), NoMemory>
+    ensures { OnOk result (text.new.items ≡ text.old.items ++ caches_text (caches_view caches.now)) }
+{
+    push_ring(text, &caches.broken)?;
+    push_numbered(text, b"caches ", caches.caches.len() as u64)?;
+    push(text, b"\n")
+}
+
 // The lines of what was seen.
 fn push_seen(text: &mut Vec<u8>, seen: &SlabsSeen) -> Result<(), NoMemory>
     ensures { OnOk result (text.new.items ≡ text.old.items ++ seen_text (seen_view seen.now)) }
 {
     push_broken(text, &seen.caches, seen.scan.broken.as_slice())?;
     push_owned(text, &seen.caches, &seen.cpus)?;
-    push_numbered(text, b"caches ", seen.caches.caches.len() as u64)?;
-    push(text, b"\n")?;
+    push_caches(text, &seen.caches)?;
     push_totals(text, &seen.scan.totals, seen.scan.broken.len() as u64)
 }
 
@@ -219,7 +291,7 @@ fn own_sound(cpus: &Option<Result<CpusSeen, Found>>) -> bool
     }
 }
 
-/// Whether a dump's slabs are sound: at least one cache was looked at, and no slab breaks a rule or is left out.
+/// Whether a dump's slabs are sound: at least one cache was looked at, their ring is whole, and no slab breaks a rule or is left out.
 pub(crate) fn are_sound(seen: &Result<SlabsSeen, Found>) -> bool
     ensures { result ≡ are_sound (told_view seen.now) }
 {
@@ -229,6 +301,7 @@ pub(crate) fn are_sound(seen: &Result<SlabsSeen, Found>) -> bool
                 && seen.scan.totals.untold == 0
                 && seen.caches.caches.len() != 0
                 && own_sound(&seen.cpus)
+                && seen.caches.broken.is_none()
         }
         Err(_) => false,
     }

@@ -23,8 +23,8 @@ use std::alloc::Global;
 /// The lines that say how the program is called.
 const USAGE: &[u8] = b"usage: kslab DUMP BTF MAP\n       kslab DUMP BTF MAP CACHE\n";
 
-/// The program. It answers the status that it ends with: done where at least one cache was looked at, and none of the slabs breaks a rule
-/// or is left out; and broken where not. Its text is made whole before a byte of it is put.
+/// The program. It answers the status that it ends with: done where at least one cache was looked at, their ring is whole, and none of the
+/// slabs breaks a rule or is left out; and broken where not. Its text is made whole before a byte of it is put.
 pub fn kslab<S: Store, O: Sink, E: Sink>(
     alloc: Global,
     words: &[String],

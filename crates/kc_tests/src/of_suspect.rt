@@ -163,14 +163,19 @@ fn tree() -> Kind {
 #[test]
 fn of_trees(rt: HostRuntime) -> Result<(), Fail> {
     let alloc = rt.alloc();
-    // The node is red, or black.
+    // The node is red, or black, or the link to it has another bit; that comes first where the node hangs below another one.
     let stop = broken(alloc, Rule::R1, 8000, (8200, 13), Some(8128));
     let parent = told::<Brand>(alloc, tree(), &[(8200, 13)], stop, Blank::new(1))?;
     assert_eq!(rt; parent.as_str(), "66: 8200=8128 8144=9223372036854784008");
 
+    let stop = broken(alloc, Rule::R1, 8000, (8200, 8304), Some(8128));
+    let changed = [(8200, 8304), (8312, 8200)];
+    let link = told::<Brand>(alloc, tree(), &changed, stop, Blank::new(1))?;
+    assert_eq!(rt; link.as_str(), "66: 8144=8201 8200=8129");
+
     let stop = broken(alloc, Rule::R2, 8000, (8128, 0), Some(1));
     let red = told::<Brand>(alloc, tree(), &[(8128, 0)], stop, Blank::new(1))?;
-    assert_eq!(rt; red.as_str(), "4: 8128=1 8304=8129");
+    assert_eq!(rt; red.as_str(), "68: 8000=8129 8304=8129");
 
     let stop = broken(alloc, Rule::R5, 8000, (8312, 0), Some(2));
     let balance = told::<Brand>(alloc, tree(), &[], stop, Blank::new(1))?;
@@ -209,6 +214,15 @@ fn of_xarrays(rt: HostRuntime) -> Result<(), Fail> {
     let stop = broken(alloc, Rule::X5, 9000, (9002, 0), Some(0x32));
     let count = told::<Brand>(alloc, xarray(), &slots, stop, Blank::new(1))?;
     assert_eq!(rt; count.as_str(), "2: 9024=0 9000=3276800");
+
+    // The byte, and the whole word: of a node below another with this shift, and of the top node with each.
+    let stop = broken(alloc, Rule::X1, 9000, (9000, 0x33_0000), Some(6));
+    let below = told::<Brand>(alloc, xarray(), &slots, stop, Blank::new(1))?;
+    assert_eq!(rt; below.as_str(), "2: 9000=3342342 9000=16908294");
+
+    let stop = broken(alloc, Rule::X1, 9000, (9000, 0x33_0000), None);
+    let top = told::<Brand>(alloc, xarray(), &slots, stop, Blank::new(1))?;
+    assert_eq!(rt; top.as_str(), "16: 9000=16908288 9000=16908348");
 
     let stop = broken(alloc, Rule::X7, 9000, (9000, 0x33_0000), None);
     let entry = told::<Brand>(alloc, xarray(), &[], stop, Blank::new(1))?;
@@ -251,10 +265,10 @@ fn of_tasks(rt: HostRuntime) -> Result<(), Fail> {
     Ok(())
 }
 
-fn caches() -> Kind {
+fn caches(direct: Base) -> Kind {
     Kind::Slub(SlubShape {
         vmemmap: Base::Is(0),
-        direct: Base::Is(0),
+        direct,
         page_size: 64,
         cache: 0,
         size: field(0, 32, true),
@@ -283,7 +297,7 @@ fn of_slab_caches(rt: HostRuntime) -> Result<(), Fail> {
     let alloc = rt.alloc();
     // The last bytes of the pointer's address are the first of what it is encoded with: 12032 is 0x2f00.
     let stop = broken(alloc, Rule::U5, 11000, (12032, 9), None);
-    let free = told::<Brand>(alloc, caches(), &[], stop, Blank::new(1))?;
+    let free = told::<Brand>(alloc, caches(Base::Is(0)), &[], stop, Blank::new(1))?;
     assert_eq!(rt;
         free.as_str(),
         "194: 12032=13229323905422677 12032=9223372036854775817"
@@ -292,7 +306,12 @@ fn of_slab_caches(rt: HostRuntime) -> Result<(), Fail> {
     // The descriptor at 12000 is that of page 187, whose slab has two objects of the cache.
     let slab = [(12008, 11000), (12040, 0x2_0000)];
     let stop = broken(alloc, Rule::U5, 11000, (12032, 9), None);
-    let head = told::<Brand>(alloc, caches(), &slab, stop, Blank::new(1))?;
+    let head = told::<Brand>(alloc, caches(Base::Is(0)), &slab, stop, Blank::new(1))?;
     assert_eq!(rt; head.as_str(), "67: 12032=0 12032=9223372036854775817");
+
+    // The word at 1008 says where physical memory begins.
+    let stop = broken(alloc, Rule::U4, 11000, (12032, 9), None);
+    let base = told::<Brand>(alloc, caches(Base::At(1008)), &[], stop, Blank::new(1))?;
+    assert_eq!(rt; base.as_str(), "130: 12032=8 1008=18379471554275704832");
     Ok(())
 }

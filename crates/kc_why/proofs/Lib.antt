@@ -3,3 +3,4 @@ pub mod WhyLemmas
 pub mod WrittenLaws
 pub mod LookLemmas
 pub mod SearchLemmas
+pub mod TakenLemmas

@@ -8,7 +8,9 @@ use Rattle.kc_sight.specs.declared.refs.place.FoundWord.{FoundWord}
 use Rattle.kc_sight.specs.Refs.Writings.{Sought, writing}
 use Rattle.kc_sight.specs.Sights.{places, sight}
 use Rattle.kc_word.specs.declared.plain.Segment.{Segment}
+use Rattle.kc_cause.specs.Explained.{explained_text}
 use Rattle.kc_cause.specs.Laws.{WordsStand}
+use Rattle.kc_cause.specs.Printed.{IsExplanation}
 use Rattle.kc_why.specs.Searching.{sought_by}
 use Rattle.kc_why.specs.Why.{Shown, Sees, Finds, Tells}
 
@@ -27,11 +29,12 @@ abbrev pub IsWrittenIn : List ℕ → Sought → List Segment → FoundWord → 
 IsWrittenIn bytes sought [] f = ⊥
 IsWrittenIn bytes sought (s ∷ others) f = IsWritten bytes sought f s ⊎ IsWrittenIn bytes sought others f
 
--- each word that is shown of an address, as one that holds it, or of a violation, stands in its memory, or in its dump, at the place that is shown
+-- Each word that is shown of an address, as one that holds it, or of a violation, stands in its memory, or in its dump, at the place that is shown; and
+-- what an explanation says of repairs holds.
 abbrev pub Stand : Shown → Type 0
 Stand (Sees l) = AllStandIn l.image (places (sight l.image l.rules l.address))
 Stand (Finds s) = AllByRecursion (IsWrittenIn s.bytes (sought_by s.value s.keys) s.segments) (in_segments (sought_by s.value s.keys) s.bytes s.segments)
-Stand (Tells e) = WordsStand e
+Stand (Tells e) = WordsStand e × IsExplanation e (explained_text e)
 
 abbrev pub ShownStand : Type 0
 ShownStand = (s : Shown) → Stand s

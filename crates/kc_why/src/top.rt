@@ -1,5 +1,5 @@
 // The program: its words, its files, and where its text goes.
-ghost use Rattle.std.specs.Prelude.{◌≡◌, ◌-◌, ◌^◌, ◌<◌, ◌≤◌, ◌⊎◌, ◌||◌, nat_eq, map, None, IsTrue};
+ghost use Rattle.std.specs.Prelude.{◌≡◌, ◌-◌, ◌^◌, ◌<◌, ◌≤◌, ◌⊎◌, ◌||◌, nat_eq, map, None, IfSome, IsTrue};
 ghost use Rattle.std.specs.Bool.{OnTrue};
 ghost use Rattle.std.specs.Option.{ForSome};
 ghost use Rattle.std.specs.String.{string_bytes};
@@ -13,9 +13,11 @@ ghost use Rattle.kc_command.specs.Ends.Failures.{store_failed, memory_refused, s
 ghost use Rattle.kc_command.specs.Ends.Last.{StopsAtFailure};
 ghost use Rattle.kc_command.specs.Ends.Status.{At, is_answer, is_silent, is_sink_quiet, is_store_quiet, number};
 ghost use Rattle.kc_command.specs.Ends.Unopened.{AskedStay};
+ghost use Rattle.kc_why.specs.Taken.{TookTrue, out_of};
 ghost use Rattle.kc_why.specs.Why.{why_asks, usage_text, written_of};
 
 use crate::files::run;
+use crate::laws::know_why;
 use kc_command::{Status, finish};
 use kc_outside::{Sink, Store};
 use std::alloc::Global;
@@ -39,6 +41,12 @@ pub fn kwhy<S: Store, O: Sink, E: Sink>(
     ensures told { OnTrue (is_answer result)
         (IsTold (written_of (map string_bytes words.now)) (S.files store.old) result (O.taken out.old) (O.taken out.new)
         (E.taken err.old) (E.taken err.new)) }
+
+    // What standard output took is true of the dump: each word that it shows stands at the printed place. Under `repair` and `fits` the
+    // dump has OLD at the printed place, and with NEW there the root audit that the part names stands; under `repair none of N`
+    // it stands with none of N words that were tried.
+    ensures shown { OnTrue (is_answer result) (IfSome (S.files store.old)
+        (λ files. TookTrue (out_of (map string_bytes words.now) files) (O.taken out.old) (O.taken out.new))) }
 
     // Where nothing failed, there is an answer or want of memory.
     ensures complete { (Rose (S.faults store.old) (S.faults store.new) → ⊥)
@@ -93,6 +101,7 @@ pub fn kwhy<S: Store, O: Sink, E: Sink>(
     ensures out_later { O.faults out.old ≤ O.faults out.new }
     ensures err_later { E.faults err.old ≤ E.faults err.new }
 {
+    know_why();
     let outcome = run(alloc, store, words);
     finish(alloc, outcome, USAGE, out, err)
 }

@@ -1,5 +1,5 @@
-//! Tries kaudit, kmatch and kwhy on the cases of data/, over a store and sinks in memory that write down each call, and prints how many cases each file has. A case
-//! that ends otherwise than its file says is printed with what came in its place.
+//! Tries kaudit, kmatch, kwhy and kfiles on the cases of data/, over a store and sinks in memory that write down each call, and prints how many
+//! cases each file has. A case that ends otherwise than its file says is printed with what came in its place.
 //!
 //! A case is a paragraph; one that begins with `#` is a comment. Its lines give the words, what is changed of the usual files, and how the
 //! program is to end. Numbers are in hex.
@@ -67,10 +67,13 @@ const KAUDIT: [&str; 29] = [
 ];
 
 // Those of kmatch.
-const KMATCH: [&str; 2] = ["facts", "endings"];
+const KMATCH: [&str; 3] = ["facts", "own_types", "endings"];
 
 // Those of kwhy.
 const KWHY: [&str; 3] = ["sights", "written", "why_endings"];
+
+// Those of kfiles.
+const KFILES: [&str; 2] = ["tables", "logs"];
 
 fn main(rt: HostRuntime) -> io::Result<()> {
     let texts = Texts::read(&rt)?;
@@ -88,6 +91,9 @@ fn main(rt: HostRuntime) -> io::Result<()> {
         try_each(&rt, &texts, name, Program::Kwhy)?;
     }
     try_each(&rt, &texts, "why_calls", Program::Kwhy)?;
+    for name in KFILES {
+        try_each(&rt, &texts, name, Program::Kfiles)?;
+    }
     for name in ["whole", "kin", "five"] {
         try_calls(&rt, &texts, name, Program::Kaudit)?;
         try_lengths(&rt, &texts, name, Program::Kaudit)?;

@@ -2,6 +2,7 @@
 use crate::case::{Ended, ProgramCase};
 use crate::noting::{Noting, NotingSink};
 use kc_app::kaudit;
+use kc_files::kfiles;
 use kc_match::kmatch;
 use kc_outside::MemSink;
 use kc_report::{read_report, text};
@@ -15,6 +16,7 @@ pub enum Program {
     Kaudit,
     Kmatch,
     Kwhy,
+    Kfiles,
 }
 
 /// How a run ended, and the calls that it made.
@@ -63,6 +65,9 @@ impl ProgramCase {
                 u8::from(kmatch(alloc, &self.words, &mut store, &mut out, &mut err))
             }
             Program::Kwhy => { u8::from(kwhy(alloc, &self.words, &mut store, &mut out, &mut err)) }
+            Program::Kfiles => {
+                u8::from(kfiles(alloc, &self.words, &mut store, &mut out, &mut err))
+            }
         };
         let (out, mut puts) = out.parts();
         let (err, lines) = err.parts();

@@ -1,6 +1,6 @@
 -- What is suspected of a violation, by its rule and the kind of its audit: words of the dump that may hold a wrong number, in the order in which they
 -- are to be tried.
-use Rattle.std.specs.Prelude.{ℕ, List, [], ◌∷◌, ◌++◌, Option, Some, None, option_map, option_to_list}
+use Rattle.std.specs.Prelude.{ℕ, ◌+◌, ◌*◌, ◌/◌, ◌%◌, nat_le, if◌then◌else◌, List, [], ◌∷◌, ◌++◌, Option, Some, None, option_map, option_to_list}
 use Rattle.std.specs.List.{flat_map}
 use Rattle.std.specs.Option.{option_map_or}
 use Rattle.kc_memory.specs.declared.words.Place.{Place}
@@ -12,13 +12,15 @@ use Rattle.kc_kinds.specs.declared.kind.Kind.TheVariants.{Ring, Hlist, Rbtree, X
 use Rattle.kc_repair.specs.declared.suspect.change.Change.{Change}
 use Rattle.kc_repair.specs.declared.suspect.suspect.Suspect.{Suspect}
 use Rattle.kc_repair.specs.declared.suspect.way.Way.{Way}
-use Rattle.kc_repair.specs.declared.suspect.way.Way.TheVariants.{Led, Met, Word, Byte, Count, Member, Own, Before, Pointed, Parent, Colour, Balance, Entry, Free, Shown}
-use Rattle.kc_repair.specs.Suspect.Changes.{each, each_pointer, made, to}
+use Rattle.kc_repair.specs.declared.suspect.way.Way.TheVariants.{Led, Met, Word, Byte, Bytes, Count, Member, Own, Before, Pointed, Parent, Top, Colour, Balance, Entry, Free, Laid, Check, Process, Shown}
+use Rattle.kc_repair.specs.Suspect.Bases.{bases_of}
+use Rattle.kc_repair.specs.Suspect.Changes.{each, each_pointer, made, to, with_bits}
 use Rattle.kc_repair.specs.Suspect.Fields.{bit_changes, member_changes, own_changes}
 use Rattle.kc_repair.specs.Suspect.Heads.{free_at}
 use Rattle.kc_repair.specs.Suspect.Links.{chain_link, leading_to, node_behind, node_of, tree_links}
+use Rattle.kc_repair.specs.Suspect.NodeBytes.{whole_words}
 use Rattle.kc_repair.specs.Suspect.Slots.{slots_of}
-use Rattle.kc_repair.specs.Suspect.Trees.{colours, parent_changes}
+use Rattle.kc_repair.specs.Suspect.Trees.{colours, parent_changes, top_bits}
 use Rattle.kc_repair.specs.Suspect.Ways.{way_of}
 
 -- the words that show a violation, each with any bit changed
@@ -44,6 +46,10 @@ second_link image _ v = None
 abbrev pub entry_changes : ℕ → List Change
 entry_changes at = each_pointer at ∷ to at 0 ∷ []
 
+-- the words that show it, or those by which the kernel finds its memory, and a cache its slabs
+abbrev pub laid_changes : Kind → Violation → List Change
+laid_changes kind v = shown v.places ++ bases_of kind v.start
+
 -- A link that can't be right, of a structure that starts here: in a ring it leads to the node whose `prev` leads to its own, in a chain, a tree or
 -- an array perhaps nowhere. Of the lists inside slab caches and tasks no head is told.
 abbrev pub relinked : Image → Kind → Violation → ℕ → List Change
@@ -52,11 +58,12 @@ relinked image (Hlist s) v link = each link ∷ to link 0 ∷ []
 relinked image (Rbtree s) v link = each link ∷ to link 0 ∷ []
 relinked image (Xarray s) v link = entry_changes link
 relinked image (Pids s) v link = entry_changes link
+relinked image (Slub s) v link = laid_changes (Slub s) v
 relinked image _ v link = shown v.places
 
--- where no link is told, the words that show it
+-- and where no link is told
 abbrev pub led_by : Image → Kind → Violation → Option ℕ → List Change
-led_by image kind v link = option_map_or (relinked image kind v) link (shown v.places)
+led_by image kind v link = option_map_or (relinked image kind v) link (laid_changes kind v)
 
 -- the word at the violation's address becomes what is expected there
 abbrev pub word_changes : Violation → List Change
@@ -78,22 +85,56 @@ abbrev pub free_changes : Image → Kind → Violation → List Change
 free_changes image (Slub s) v = option_map_or (free_at image s v.start) (first_address v.places) []
 free_changes image _ v = []
 
+-- the words that show it, each with any bit changed, or as zero
+abbrev pub place_zero : Place → List Change
+place_zero p = option_to_list (option_map (λ va. to va 0) p.va)
+
+abbrev pub zeroed : List Place → List Change
+zeroed places = flat_map place_zero places
+
+abbrev pub check_changes : Violation → List Change
+check_changes v = shown v.places ++ zeroed v.places
+
+-- the word of a process id's number, with nothing beside it, or the number. Source: the kernel's include/linux/pid.h, `struct upid`
+abbrev pub alone_from : ℕ → ℕ → ℕ → ℕ → List Change
+alone_from word from width n = if nat_le (from + width) 64 then to word (with_bits from width n 0) ∷ [] else []
+
+abbrev pub alone : Kind → Violation → ℕ → List Change
+alone (Pids s) v n = alone_from (v.at / 8 * 8) (v.at % 8 * 8 + s.nr.bits.bit % 8) s.nr.bits.width n
+alone _ v n = []
+
+abbrev pub number_changes : Image → Kind → Violation → List Change
+number_changes image kind v = option_map_or (alone kind v) v.expected [] ++ member_changes image kind v
+
+-- the byte at the violation's address becomes what is expected there
+abbrev pub byte_changes : Image → Violation → List Change
+byte_changes image v = bit_changes image v.at 0 8 v.expected
+
+-- the colour of a red node, or of any other node
+abbrev pub red_changes : Image → Kind → Violation → List Change
+red_changes image kind v = word_changes v ++ colours image kind v
+
 -- what may have happened
 abbrev pub by_way : Image → Kind → Violation → Way → List Change
 by_way image kind v Led = led_by image kind v (first_address v.places)
 by_way image kind v Met = led_by image kind v (second_link image kind v)
 by_way image kind v Word = word_changes v
-by_way image kind v Byte = bit_changes image v.at 0 8 v.expected
-by_way image kind v Count = slots_of image kind v ++ bit_changes image v.at 0 8 v.expected
+by_way image kind v Byte = byte_changes image v
+by_way image kind v Bytes = byte_changes image v ++ whole_words image kind v
+by_way image kind v Count = slots_of image kind v ++ byte_changes image v
 by_way image kind v Member = member_changes image kind v
 by_way image kind v Own = own_changes image kind v
 by_way image kind v Before = before_changes image kind v
 by_way image kind v Pointed = pointed_changes v
 by_way image kind v Parent = parent_changes image kind v
-by_way image kind v Colour = word_changes v ++ colours image kind v
+by_way image kind v Top = top_bits image kind v ++ red_changes image kind v
+by_way image kind v Colour = red_changes image kind v
 by_way image kind v Balance = colours image kind v
 by_way image kind v Entry = entry_changes v.at
-by_way image kind v Free = free_changes image kind v ++ shown v.places
+by_way image kind v Free = free_changes image kind v ++ laid_changes kind v
+by_way image kind v Laid = laid_changes kind v
+by_way image kind v Check = check_changes v
+by_way image kind v Process = number_changes image kind v
 by_way image kind v Shown = shown v.places
 
 unfoldable pub changes : Image → Kind → Violation → List Change

@@ -1,5 +1,5 @@
 -- Nodes of red-black trees whose parent or colour may be wrong.
-use Rattle.std.specs.Prelude.{ℕ, ◌==◌, if◌then◌else◌, List, [], ◌∷◌, ◌++◌, Option, Some, None}
+use Rattle.std.specs.Prelude.{ℕ, ◌*◌, ◌/◌, ◌==◌, ◌||◌, Bool, false, if◌then◌else◌, List, [], ◌∷◌, ◌++◌, Option, Some, None}
 use Rattle.std.specs.List.{flat_map}
 use Rattle.std.specs.Option.{option_map_or}
 use Rattle.kc_memory.specs.declared.words.VWord.{VWord}
@@ -29,14 +29,36 @@ upper_bits image s head node parent =
     if parent == 0 then link_bits image node (at_offset head s.root)
     else link_bits image node (at_offset parent s.left) ++ link_bits image node (at_offset parent s.right)
 
--- the parent word of a node, which is then red or black, or the link that led to the node. Source: the kernel's include/linux/rbtree_augmented.h,
--- `rb_set_parent_color`
+-- the link at an address leads to a node
+abbrev pub leads_to : Image → ℕ → ℕ → Bool
+leads_to image node at = option_map_or (λ (w : VWord). w.value == node) (readable (vword image at)) false
+
+-- the parent that a word names has a node as its child. Source: the kernel's include/linux/rbtree_augmented.h, `rb_parent`
+abbrev pub has_child : Image → RbShape → ℕ → VWord → Bool
+has_child image s node w = leads_to image node (at_offset (w.value / 4 * 4) s.left) || leads_to image node (at_offset (w.value / 4 * 4) s.right)
+
+-- a node hangs where its own parent word says
+abbrev pub hangs_there : Image → RbShape → Violation → Bool
+hangs_there image s v = option_map_or (has_child image s (node_of v.at s.parent_color)) (readable (vword image v.at)) false
+
+-- the parent word of a node becomes red or black. Source: the same file, `rb_set_parent_color`
+abbrev pub parent_words : Violation → ℕ → List Change
+parent_words v parent = to v.at parent ∷ to v.at (at_offset parent 1) ∷ []
+
+-- the parent word, or the link that led to the node: where the node hangs as that word says, in another tree perhaps, the link comes first
 abbrev pub parent_by : Image → RbShape → Violation → ℕ → List Change
-parent_by image s v parent = to v.at parent ∷ to v.at (at_offset parent 1) ∷ upper_bits image s v.start (node_of v.at s.parent_color) parent
+parent_by image s v parent =
+    if hangs_there image s v then upper_bits image s v.start (node_of v.at s.parent_color) parent ++ parent_words v parent
+    else parent_words v parent ++ upper_bits image s v.start (node_of v.at s.parent_color) parent
 
 abbrev pub parent_changes : Image → Kind → Violation → List Change
 parent_changes image (Rbtree s) v = option_map_or (parent_by image s v) v.expected []
 parent_changes image _ v = []
+
+-- the link in a tree's head that leads to its top node, with any bit changed
+abbrev pub top_bits : Image → Kind → Violation → List Change
+top_bits image (Rbtree s) v = link_bits image (node_of v.at s.parent_color) (at_offset v.start s.root)
+top_bits image _ v = []
 
 -- each single colour of a tree's nodes, in preorder
 abbrev pub colour_of : RbShape → VWord → List Change

@@ -1,21 +1,25 @@
 // What may have happened, by the rule that is broken.
-ghost use Rattle.std.specs.Prelude.{◌≡◌, ◌++◌, ◌<◌, ◌≤◌, ◌∷◌, [], option_to_list, OnOk, IfOk, IfSome};
+ghost use Rattle.std.specs.Prelude.{◌≡◌, ◌+◌, ◌*◌, ◌/◌, ◌%◌, ◌++◌, ◌<◌, ◌≤◌, ◌∷◌, [], option_to_list, OnOk, IfOk, IfSome};
 ghost use Rattle.std.specs.List.{flat_map};
 ghost use Rattle.std.specs.Option.{option_map_or};
 ghost use Rattle.kc_memory.specs.Stays.{SpaceStays};
 ghost use Rattle.kc_repair.specs.Suspect.Changes.{each, each_pointer, to};
-ghost use Rattle.kc_repair.specs.Suspect.Suspects.{before_changes, by_way, changes, entry_changes, first_address, led_by, passed_changes, place_bits, pointed_changes, relinked, second_link, shown, word_changes};
+ghost use Rattle.kc_repair.specs.Suspect.Suspects.{alone, alone_from, before_changes, by_way, byte_changes, changes, check_changes, entry_changes, first_address, laid_changes, led_by, number_changes, passed_changes, place_bits, pointed_changes, red_changes, relinked, second_link, shown, word_changes, zeroed};
 ghost use Rattle.kc_found.specs.Failures.{CountsFailures};
 
+use crate::suspect::bases::push_bases;
 use crate::suspect::change::{Change, Changes, How};
 use crate::suspect::fields::{push_bits, push_member, push_own, push_some};
 use crate::suspect::free::push_free;
 use crate::suspect::links::{chain_link, node_behind, node_of, second_to, tree_links};
+use crate::suspect::node_bytes::push_first_word;
 use crate::suspect::slots::push_slots;
-use crate::suspect::trees::{push_colours, push_parent};
+use crate::suspect::trees::{push_colours, push_parent, push_top};
 use crate::suspect::way::{Way, way_of};
+use crate::suspect::words::with_bits;
 use kc_found::{Found, Place, ReadFailed, Space};
 use kc_kinds::Kind;
+use kc_view::PidShape;
 use kc_word::{NoMemory, Steps};
 use std::alloc::Global;
 use std::sync::ledger::Ledger;
@@ -28,6 +32,13 @@ pub(crate) fn to(at: u64, number: u64) -> Change
         at,
         how: How::Number(number),
     }
+}
+
+// It becomes zero.
+fn zero(at: u64) -> Change
+    ensures { result ≡ to at 0 }
+{
+    to(at, 0)
 }
 
 // Each single bit of it changes.
@@ -67,6 +78,24 @@ fn push_shown(changes: &mut Changes, places: &[Place]) -> Result<(), NoMemory>
         push_some(changes, place.va.map(each))?;
     }
     Ok(())
+}
+
+// Adds the words that show a violation, each as zero.
+fn push_zeroed(changes: &mut Changes, places: &[Place]) -> Result<(), NoMemory>
+    ensures { OnOk result (changes.new ≡ changes.old ++ zeroed places.now) }
+{
+    for place in places {
+        push_some(changes, place.va.map(zero))?;
+    }
+    Ok(())
+}
+
+// Adds the words that show a violation, and those by which the kernel finds its memory, and a cache its slabs.
+fn push_laid(changes: &mut Changes, kind: &Kind, found: &Found) -> Result<(), NoMemory>
+    ensures { OnOk result (changes.new ≡ changes.old ++ laid_changes kind.now found.now) }
+{
+    push_shown(changes, found.places.as_slice())?;
+    push_bases(changes, kind, found.start)
 }
 
 // The second link that leads to the node of a word that was met before.
@@ -133,7 +162,8 @@ fn push_relinked<S: Space, L: Ledger>(
             changes.push(to(link, 0))?;
         }
         Kind::Xarray(_) | Kind::Pids(_) => push_entry(changes, link)?,
-        Kind::Slub(_) | Kind::Tasks(_) => push_shown(changes, found.places.as_slice())?,
+        Kind::Slub(_) => push_laid(changes, kind, found)?,
+        Kind::Tasks(_) => push_shown(changes, found.places.as_slice())?,
     }
     Ok(())
 }
@@ -153,10 +183,7 @@ fn push_led<S: Space, L: Ledger>(
 {
     match link {
         Some(link) => push_relinked(changes, kind, found, link, space, steps),
-        None => {
-            push_shown(changes, found.places.as_slice())?;
-            Ok(())
-        }
+        None => Ok(push_laid(changes, kind, found)?),
     }
 }
 
@@ -230,6 +257,83 @@ fn push_pointed(changes: &mut Changes, found: &Found) -> Result<(), NoMemory>
     push_some(changes, found.expected.map(each))
 }
 
+// Adds the words that show a violation, each with any bit changed, and as zero.
+fn push_check(changes: &mut Changes, found: &Found) -> Result<(), NoMemory>
+    ensures { OnOk result (changes.new ≡ changes.old ++ check_changes found.now) }
+{
+    push_shown(changes, found.places.as_slice())?;
+    push_zeroed(changes, found.places.as_slice())
+}
+
+// Adds a process id's number with nothing beside it in its word.
+fn push_alone(changes: &mut Changes, shape: &PidShape, at: u64, number: u64) -> Result<(), NoMemory>
+    ensures { OnOk result (changes.new ≡ changes.old ++ alone_from (at / 8 * 8) (at % 8 * 8 + shape.now.nr.bits.bit % 8) shape.now.nr.bits.width number) }
+{
+    let from = (at % 8 * 8 + shape.nr.bits.bit % 8) as u32;
+    let width = u32::from(shape.nr.bits.width);
+    if from + width > 64 {
+        return Ok(());
+    }
+    changes.push(to(at / 8 * 8, with_bits(from, width, number, 0)))
+}
+
+// Adds the word of a process id's number, where it is told.
+fn push_process(changes: &mut Changes, kind: &Kind, found: &Found) -> Result<(), NoMemory>
+    ensures { OnOk result (changes.new ≡ changes.old ++ option_map_or (alone kind.now found.now) found.now.expected []) }
+{
+    match (kind, found.expected) {
+        (Kind::Pids(shape), Some(number)) => push_alone(changes, shape, found.at, number),
+        _ => Ok(()),
+    }
+}
+
+// Adds it, and the number.
+fn push_number<S: Space, L: Ledger>(
+    changes: &mut Changes,
+    kind: &Kind,
+    found: &Found,
+    space: &mut S,
+    steps: &mut Steps<L>,
+) -> Result<(), ReadFailed>
+    ensures added { OnOk result (IfSome (S.image space.old) (λ image. changes.new ≡ changes.old ++ number_changes image kind.now found.now)) }
+    ensures stays { SpaceStays S.image S.files S.through S.most space.old space.new }
+    ensures cause { CountsFailures result (S.faults space.old) (S.faults space.new) }
+{
+    push_process(changes, kind, found)?;
+    push_member(changes, kind, found, space, steps)
+}
+
+// Adds the byte at the violation's address, as it is expected.
+fn push_byte<S: Space, L: Ledger>(
+    changes: &mut Changes,
+    found: &Found,
+    space: &mut S,
+    steps: &mut Steps<L>,
+) -> Result<(), ReadFailed>
+    ensures added { OnOk result (IfSome (S.image space.old) (λ image. changes.new ≡ changes.old ++ byte_changes image found.now)) }
+    ensures stays { SpaceStays S.image S.files S.through S.most space.old space.new }
+    ensures cause { CountsFailures result (S.faults space.old) (S.faults space.new) }
+{
+    push_bits(changes, found.at, 0, 8, found.expected, space, steps)
+}
+
+// Adds the colour of a red node, and those of all nodes.
+fn push_red<S: Space, L: Ledger>(
+    alloc: Global,
+    changes: &mut Changes,
+    kind: &Kind,
+    found: &Found,
+    space: &mut S,
+    steps: &mut Steps<L>,
+) -> Result<(), ReadFailed>
+    ensures added { OnOk result (IfSome (S.image space.old) (λ image. changes.new ≡ changes.old ++ red_changes image kind.now found.now)) }
+    ensures stays { SpaceStays S.image S.files S.through S.most space.old space.new }
+    ensures cause { CountsFailures result (S.faults space.old) (S.faults space.new) }
+{
+    push_word(changes, found)?;
+    push_colours(alloc, changes, kind, found, space, steps)
+}
+
 // Adds what may have happened in a way.
 fn push_by_way<S: Space, L: Ledger>(
     alloc: Global,
@@ -254,26 +358,34 @@ fn push_by_way<S: Space, L: Ledger>(
             push_led(changes, kind, found, link, space, steps)
         }
         Way::Word => Ok(push_word(changes, found)?),
-        Way::Byte => push_bits(changes, found.at, 0, 8, found.expected, space, steps),
+        Way::Byte => push_byte(changes, found, space, steps),
+        Way::Bytes => {
+            push_byte(changes, found, space, steps)?;
+            push_first_word(alloc, changes, kind, found, space, steps)
+        }
         Way::Count => {
             push_slots(changes, kind, found, space, steps)?;
-            push_bits(changes, found.at, 0, 8, found.expected, space, steps)
+            push_byte(changes, found, space, steps)
         }
         Way::Member => push_member(changes, kind, found, space, steps),
         Way::Own => push_own(changes, kind, found, space, steps),
         Way::Before => push_before(changes, kind, found, space, steps),
         Way::Pointed => Ok(push_pointed(changes, found)?),
         Way::Parent => push_parent(changes, kind, found, space, steps),
-        Way::Colour => {
-            push_word(changes, found)?;
-            push_colours(alloc, changes, kind, found, space, steps)
+        Way::Top => {
+            push_top(changes, kind, found, space, steps)?;
+            push_red(alloc, changes, kind, found, space, steps)
         }
+        Way::Colour => push_red(alloc, changes, kind, found, space, steps),
         Way::Balance => push_colours(alloc, changes, kind, found, space, steps),
         Way::Entry => Ok(push_entry(changes, found.at)?),
         Way::Free => {
             push_free(changes, kind, found, space, steps)?;
-            Ok(push_shown(changes, found.places.as_slice())?)
+            Ok(push_laid(changes, kind, found)?)
         }
+        Way::Laid => Ok(push_laid(changes, kind, found)?),
+        Way::Check => Ok(push_check(changes, found)?),
+        Way::Process => push_number(changes, kind, found, space, steps),
         Way::Shown => Ok(push_shown(changes, found.places.as_slice())?),
     }
 }

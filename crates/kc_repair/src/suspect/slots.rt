@@ -48,7 +48,7 @@ fn push_emptied<S: Space, L: Ledger>(
 }
 
 // The address of a slot of a node.
-fn slot_at(shape: &XaShape, node: u64, k: u64) -> u64
+pub(crate) fn slot_at(shape: &XaShape, node: u64, k: u64) -> u64
     ensures { result ≡ slot_at shape.now node k }
 {
     let first = node.wrapping_add(shape.slots);

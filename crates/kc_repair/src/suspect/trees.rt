@@ -1,7 +1,7 @@
 // Nodes of red-black trees whose parent or colour may be wrong.
 ghost use Rattle.std.specs.Prelude.{◌≡◌, ◌++◌, Some, OnOk, IfOk, IfSome};
 ghost use Rattle.kc_memory.specs.Stays.{SpaceStays};
-ghost use Rattle.kc_repair.specs.Suspect.Trees.{bits_if, colour_of, colours, colours_of, link_bits, parent_by, parent_changes, upper_bits};
+ghost use Rattle.kc_repair.specs.Suspect.Trees.{bits_if, colour_of, colours, colours_of, hangs_there, has_child, leads_to, link_bits, parent_by, parent_changes, parent_words, top_bits, upper_bits};
 ghost use Rattle.kc_found.specs.Failures.{CountsFailures};
 
 use crate::suspect::change::{Change, Changes, How};
@@ -68,7 +68,68 @@ fn push_upper<S: Space, L: Ledger>(
     )
 }
 
-// Adds the parent word of a node, and the link that led to the node.
+// Whether the link at an address leads to a node.
+fn leads_to<S: Space, L: Ledger>(
+    node: u64,
+    at: u64,
+    space: &mut S,
+    steps: &mut Steps<L>,
+) -> Result<bool, ReadFailed>
+    ensures leads { IfOk result (λ leads. IfSome (S.image space.old) (λ image. leads ≡ leads_to image node at)) }
+    ensures stays { SpaceStays S.image S.files S.through S.most space.old space.new }
+    ensures cause { CountsFailures result (S.faults space.old) (S.faults space.new) }
+{
+    match read_word(space, at, steps)? {
+        Some(link) => Ok(link.value == node),
+        None => Ok(false),
+    }
+}
+
+// Whether the parent that a word names has a node as its child.
+fn has_child<S: Space, L: Ledger>(
+    shape: &RbShape,
+    node: u64,
+    word: &VWord,
+    space: &mut S,
+    steps: &mut Steps<L>,
+) -> Result<bool, ReadFailed>
+    ensures child { IfOk result (λ child. IfSome (S.image space.old) (λ image. child ≡ has_child image shape.now node word.now)) }
+    ensures stays { SpaceStays S.image S.files S.through S.most space.old space.new }
+    ensures cause { CountsFailures result (S.faults space.old) (S.faults space.new) }
+{
+    let parent = word.value / 4 * 4;
+    let left = leads_to(node, parent.wrapping_add(shape.left), space, steps)?;
+    let right = leads_to(node, parent.wrapping_add(shape.right), space, steps)?;
+    Ok(left || right)
+}
+
+// Whether a node hangs where its own parent word says.
+fn hangs_there<S: Space, L: Ledger>(
+    shape: &RbShape,
+    found: &Found,
+    space: &mut S,
+    steps: &mut Steps<L>,
+) -> Result<bool, ReadFailed>
+    ensures there { IfOk result (λ there. IfSome (S.image space.old) (λ image. there ≡ hangs_there image shape.now found.now)) }
+    ensures stays { SpaceStays S.image S.files S.through S.most space.old space.new }
+    ensures cause { CountsFailures result (S.faults space.old) (S.faults space.new) }
+{
+    let node = node_of(found.at, shape.parent_color);
+    match read_word(space, found.at, steps)? {
+        Some(word) => has_child(shape, node, &word, space, steps),
+        None => Ok(false),
+    }
+}
+
+// Adds the parent word of a node, red and black.
+fn push_parent_words(changes: &mut Changes, found: &Found, parent: u64) -> Result<(), NoMemory>
+    ensures { OnOk result (changes.new ≡ changes.old ++ parent_words found.now parent) }
+{
+    changes.push(to(found.at, parent))?;
+    changes.push(to(found.at, parent.wrapping_add(1)))
+}
+
+// Adds the parent word of a node and the link that led to it, first the one that is likelier.
 fn push_by_parent<S: Space, L: Ledger>(
     changes: &mut Changes,
     shape: &RbShape,
@@ -81,9 +142,12 @@ fn push_by_parent<S: Space, L: Ledger>(
     ensures stays { SpaceStays S.image S.files S.through S.most space.old space.new }
     ensures cause { CountsFailures result (S.faults space.old) (S.faults space.new) }
 {
-    changes.push(to(found.at, parent))?;
-    changes.push(to(found.at, parent.wrapping_add(1)))?;
     let node = node_of(found.at, shape.parent_color);
+    if hangs_there(shape, found, space, steps)? {
+        push_upper(changes, shape, found.start, node, parent, space, steps)?;
+        return Ok(push_parent_words(changes, found, parent)?);
+    }
+    push_parent_words(changes, found, parent)?;
     push_upper(changes, shape, found.start, node, parent, space, steps)
 }
 
@@ -106,6 +170,26 @@ pub(crate) fn push_parent<S: Space, L: Ledger>(
         Some(parent) => push_by_parent(changes, shape, found, parent, space, steps),
         None => Ok(()),
     }
+}
+
+// Adds the link in a tree's head that leads to its top node.
+pub(crate) fn push_top<S: Space, L: Ledger>(
+    changes: &mut Changes,
+    kind: &Kind,
+    found: &Found,
+    space: &mut S,
+    steps: &mut Steps<L>,
+) -> Result<(), ReadFailed>
+    ensures added { OnOk result (IfSome (S.image space.old) (λ image. changes.new ≡ changes.old ++ top_bits image kind.now found.now)) }
+    ensures stays { SpaceStays S.image S.files S.through S.most space.old space.new }
+    ensures cause { CountsFailures result (S.faults space.old) (S.faults space.new) }
+{
+    let Kind::Rbtree(shape) = kind else {
+        return Ok(());
+    };
+    let node = node_of(found.at, shape.parent_color);
+    let top = found.start.wrapping_add(shape.root);
+    push_link(changes, node, top, space, steps)
 }
 
 // Adds the colour of the node that a link leads to.

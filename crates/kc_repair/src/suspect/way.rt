@@ -15,6 +15,8 @@ pub(crate) enum Way {
     Word,
     // A byte.
     Byte,
+    // A byte of an xarray's node, or all of them.
+    Bytes,
     // The number of slots in use of an xarray's node, or a slot.
     Count,
     // A field of a struct.
@@ -27,14 +29,22 @@ pub(crate) enum Way {
     Pointed,
     // The parent of a tree's node, or the link to it.
     Parent,
+    // The link to a tree's top node, its colour, or that of another node.
+    Top,
     // A red node's colour, or that of another node.
     Colour,
     // The colour of any node of a tree.
     Balance,
     // An entry of an xarray.
     Entry,
-    // A free pointer.
+    // A free pointer, or what a cache's walk goes by.
     Free,
+    // The words that show the violation, or what a cache's walk goes by.
+    Laid,
+    // The words that show the violation, also as zero.
+    Check,
+    // The number of a process id.
+    Process,
     // The words that show the violation.
     Shown,
 }
@@ -51,16 +61,21 @@ pub(crate) fn way_of(rule: Rule) -> Way
         Rule::L1 => Way::Before,
         Rule::H1 => Way::Pointed,
         Rule::R1 => Way::Parent,
-        Rule::R2 | Rule::R3 => Way::Colour,
+        Rule::R2 => Way::Top,
+        Rule::R3 => Way::Colour,
         Rule::R5 => Way::Balance,
         Rule::R6 | Rule::X3 | Rule::X4 | Rule::T6 => Way::Word,
-        Rule::X1 | Rule::X2 | Rule::X6 => Way::Byte,
+        Rule::X1 => Way::Bytes,
+        Rule::X2 | Rule::X6 => Way::Byte,
         Rule::X5 => Way::Count,
         Rule::X7 | Rule::X8 | Rule::X9 => Way::Entry,
         Rule::U1 | Rule::U2 | Rule::U7 => Way::Member,
-        Rule::T1 | Rule::T3 | Rule::T4 | Rule::T5 | Rule::G1 | Rule::G2 => Way::Member,
+        Rule::T1 | Rule::T3 | Rule::T4 | Rule::T5 | Rule::G2 => Way::Member,
+        Rule::U4 => Way::Laid,
         Rule::U5 => Way::Free,
         Rule::T2 => Way::Own,
-        Rule::R4 | Rule::U3 | Rule::U4 | Rule::U6 | Rule::T7 | Rule::C => Way::Shown,
+        Rule::C => Way::Check,
+        Rule::G1 => Way::Process,
+        Rule::R4 | Rule::U3 | Rule::U6 | Rule::T7 => Way::Shown,
     }
 }

@@ -40,7 +40,7 @@ pub(crate) fn read_word<S: Space, L: Ledger>(
 }
 
 // A word with so many bits from one on replaced by those of a number.
-fn with_bits(from: u32, width: u32, number: u64, word: u64) -> u64
+pub(crate) fn with_bits(from: u32, width: u32, number: u64, word: u64) -> u64
     requires { from + width ≤ 64 }
     ensures { result ≡ with_bits from width number word }
 {

@@ -13,6 +13,7 @@ use Rattle.kc_plan.specs.Seen.{roots}
 use Rattle.kc_plan.specs.Verdicts.{verdict_places}
 use Rattle.kc_run.specs.Laws.{RootVerdictsStand}
 use Rattle.kc_cause.specs.Explained.{is_broken}
+use Rattle.kc_cause.proofs.PrintedLaws.{explanations_hold}
 use Rattle.kc_cause.proofs.laws.know_causes.Goals as goal
 
 -- the words of each root audit
@@ -37,4 +38,10 @@ returns c = record {
   first = λ image audits. (c.know_verdicts.ensures.first image audits).0 ∙ first_found (root_verdicts image audits);
   repairs = c.know_repairs.ensures.stand;
   repair_words = c.know_repairs.ensures.words;
+  text = explanations_hold (record {
+    exact = c.know_repairs.ensures.exact;
+    stand = c.know_repairs.ensures.stand;
+    words = c.know_repairs.ensures.words;
+    suspects = c.know_suspects.ensures;
+  });
 }

@@ -11,5 +11,6 @@ returns c = record {
   stand = λ image audits root kind v.
       stands_as c.know_verdicts.ensures.roots image audits root (breach_of v) (suspects image kind v) (repair_of image audits root kind v)
       (gives (verdict_with image audits root) (breach_of v) (suspects image kind v));
+  exact = λ image audits root kind v. gives (verdict_with image audits root) (breach_of v) (suspects image kind v);
   words = λ image audits root kind v. all_told (IsSuspect image) (verdict_with image audits root) (breach_of v) (suspects image kind v) (c.know_suspects.ensures image kind v);
 }

@@ -6,7 +6,7 @@ use Rattle.kc_slab_page.proofs.caches.read_nodes.Given as goal
 
 abbrev pub invariant-loop-i : goal.invariant-loop-i
 invariant-loop-i g l = record {
-  far : Far (g.S.Space.image l.fn.space) l.asks.shape.now.objects (option_copied l.asks.wanted) l.nodes l.i l.caches.entries;
+  far : Far (g.S.Space.image l.fn.space) l.asks.shape.now (option_copied l.asks.wanted) l.nodes l.i l.caches.entries;
   stays : SpaceStays g.S.Space.image g.S.Space.files g.S.Space.through g.S.Space.most l.fn.space l.space;
   quiet : g.S.Space.faults l.space ≡ g.S.Space.faults l.fn.space;
 }

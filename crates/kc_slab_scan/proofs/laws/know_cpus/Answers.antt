@@ -7,7 +7,6 @@ returns c =
       places = c.know_places.ensures;
       numbers = c.know_numbers.ensures.stand;
       values = c.know_values.ensures.values;
-      rings = c.know_lists.ensures.ring_places;
       frees = c.know_free_lists.ensures.places;
     } in
     record { stand = cpus_stand known; told = numbers_show known }

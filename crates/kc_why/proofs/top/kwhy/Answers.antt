@@ -2,12 +2,18 @@ use Rattle.std.proofs.Common.{map}
 use Rattle.std.specs.String.{string_bytes}
 use Rattle.kc_command.specs.Ends.Ending.{fails, parts, tells}
 use Rattle.kc_why.specs.Why.{why_asks, why_written, usage_text}
+use Rattle.kc_why.proofs.TakenLemmas.{answer_true}
 use Rattle.kc_why.proofs.top.kwhy.Goals as goal
 
 pub returns-clause-told : goal.returns-clause-told
 returns-clause-told g c =
     tells usage_text why_written (why_asks (map string_bytes c.args.words.now)) (g.S.Store.files c.args.store.now) c.run-outcome.result _ _ c.finish.result (g.O.Sink.taken c.args.out.now) (g.O.Sink.taken c.finish.new.out) (g.E.Sink.taken c.args.err.now) (g.E.Sink.taken c.finish.new.err)
     c.run-outcome.ensures.output c.finish.ensures.told
+
+pub returns-clause-shown : goal.returns-clause-shown
+returns-clause-shown g c =
+    answer_true c.know_why.ensures.stand (map string_bytes c.args.words.now) (g.S.Store.files c.args.store.now) c.finish.result (g.O.Sink.taken c.args.out.now) (g.O.Sink.taken c.finish.new.out) (g.E.Sink.taken c.args.err.now) (g.E.Sink.taken c.finish.new.err)
+    (returns-clause-told g c)
 
 pub returns-clause-err_failed : goal.returns-clause-err_failed
 returns-clause-err_failed g c =

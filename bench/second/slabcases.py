@@ -1,0 +1,176 @@
+"""Tries kslab on small made dumps, a case for each rule, each mark of a slab and each thing that a kernel may lack, against the second reader of slabs.py.
+
+usage: slabcases PROGRAMS
+
+Each case says what kslab has to tell, by the definition; the second reader's text and status have to be the same. It ends with 1 where one differs.
+"""
+import os
+import struct
+import tempfile
+
+import files
+from second import madeslabs, slabs
+from second.made import IMAGE
+from second.madeslabs import BITS, BYTES, CACHE, CACHES, FRAMES, MADE, MAP, NOTE, OBJECTS, Slabs, btf
+
+REFUSED = object()
+PLAIN = NOTE.replace(b"NUMBER(PG_slab)=9\n", b"")
+PAGE_TYPE = ("page", 64, (("flags", 1, 0), ("compound_head", 1, 64), ("page_type", 2, 384)))
+ZONES, PADDED = 3, 4
+
+
+def whole(free=(1, 4), cache=ZONES, frame=0x14, frozen=0):
+    """A kernel with one slab of a cache."""
+    made = Slabs()
+    made.guard(frame, cache, free)
+    made.slab(frame, cache, free, OBJECTS - len(free), frozen)
+    return made
+
+
+def wrong(number, byte, **words):
+    """The same, with a wrong byte, counted from an object's address."""
+    made = whole(**words)
+    pad = MADE[words.get("cache", ZONES)][5]
+    made.memory[0x14000 + pad + BYTES * number + byte] ^= 0x10
+    return made
+
+
+def numbers(cache=ZONES, slab=wrong(0, 250), **fields):
+    """The same, where the cache says something else of itself: `flags`, `object_size`, `inuse`, `red_left_pad`, `ctor`."""
+    places = {"flags": ("<I", 56), "object_size": ("<I", 60), "inuse": ("<I", 64), "red_left_pad": ("<I", 68), "ctor": ("<Q", 72)}
+    made = Slabs()
+    made.memory[:] = slab.memory
+    for name, value in fields.items():
+        form, at = places[name]
+        struct.pack_into(form, made.memory, CACHE[cache] + at, value)
+    return made
+
+
+def enumerated(made):
+    """The same, with flags by the bits of an enumeration."""
+    for cache, (_, _, flags, *_) in zip(CACHE, MADE):
+        struct.pack_into("<I", made.memory, cache + 56, sum(BITS[bit] for bit in BITS if flags & bit))
+    return made
+
+
+def with_type(value, made=None):
+    """The same, where the slab's page has a page type in place of a flag."""
+    made = made or wrong(0, 250)
+    struct.pack_into("<Q", made.memory, FRAMES + 64 * 0x14, 0)
+    struct.pack_into("<I", made.memory, FRAMES + 64 * 0x14 + 48, value)
+    return made
+
+
+def with_page(extra=(), without=()):
+    """The types with `page_type`."""
+    kept = madeslabs.MORE
+    madeslabs.MORE = kept[:-1] + (PAGE_TYPE,)
+    try:
+        return btf(extra, without)
+    finally:
+        madeslabs.MORE = kept
+
+
+def ring(at, value):
+    """A kernel whose ring of caches has another word."""
+    made = whole()
+    made.put(at, value)
+    return made
+
+
+def cases():
+    """The name of each case, its dump, types and map, and the text that has to be told, or that kslab refuses it."""
+    same = dict(types=btf(), rows=MAP, note=NOTE)
+    yield "whole", whole(), same, "slabs 1 frozen 0 untold 0 guarded 1 broken 0"
+    # each rule, at a free object and at one in use, at the first byte of its run and at the last
+    for number, free in ((0, 0), (1, 1), (7, 0), (4, 1)):
+        for byte, rule in ((-64, "Z1"), (-1, "Z1"), (250, "Z2"), (255, "Z2"), (0, "Z4"), (248, "Z4"), (249, "Z4")):
+            told = f" broken {rule} at " if rule != "Z4" or free else "guarded 1 broken 0"
+            yield f"{rule} byte {byte} of object {number}", wrong(number, byte), same, told
+        for byte in (251, 255):
+            yield f"Z3 byte {byte} of object {number}", wrong(number, byte, cache=PADDED), same, " broken Z3 at "
+        yield f"free pointer's word of object {number}", wrong(number, 264), same, "guarded 1 broken 0"
+    yield "expected bb", wrong(1, 250), same, "expected 00000000000000bb"
+    yield "expected cc", wrong(0, 250), same, "expected 00000000000000cc"
+    yield "expected 6b", wrong(4, 248), same, "expected 000000000000006b"
+    yield "expected a5", wrong(4, 249), same, "expected 00000000000000a5"
+    yield "after the last object", wrong(7, 256), same, "guarded 1 broken 0"
+    # an object that is free for the list alone
+    made = whole()
+    made.guard(0x14, ZONES, (1,))
+    yield "free, filled as in use", made, same, " broken Z1 at "
+    made = whole(free=(1,))
+    made.guard(0x14, ZONES, (1, 4))
+    yield "in use, filled as free", made, same, " broken Z1 at "
+    yield "a processor's slab", wrong(0, 250, frozen=1), same, "slabs 1 frozen 1 untold 0 guarded 0 broken 0"
+    # what a cache says of itself
+    for name, fields, told in (
+        ("no flag", dict(flags=0), "guarded 0 broken 0"), ("red zones alone", dict(flags=0x400), " broken Z2 at "), ("poison alone", dict(flags=0x800), " broken Z3 at "),
+        ("no object", dict(object_size=0), "guarded 0 broken 0"), ("inuse below the object", dict(inuse=249), "guarded 0 broken 0"),
+        ("inuse after the next object", dict(inuse=449), "guarded 0 broken 0"), ("inuse up to the next object", dict(inuse=448), " broken Z2 at "),
+        ("no byte after the object", dict(inuse=250), "guarded 1 broken 0"),
+    ):
+        yield name, numbers(**fields), same, told
+    for name, fields in (("a constructor", dict(ctor=8)), ("freed by RCU", dict(flags=0x80C00))):
+        yield name, numbers(slab=wrong(4, 5), **fields), same, "guarded 1 broken 0"
+        yield name + ", red zone", numbers(slab=wrong(4, 250), **fields), same, " broken Z2 at "
+    yield "larger than a slab", numbers(slab=numbers(), inuse=256), same, " broken Z2 at "
+    # what a kernel lacks
+    for member in ("object_size", "inuse", "flags", "ctor"):
+        yield "no " + member, wrong(0, 250), same | dict(types=btf(without={("kmem_cache", member)})), "guarded 0 broken 0"
+    yield "no red_left_pad", whole(), same | dict(types=btf(without={("kmem_cache", "red_left_pad")})), " broken U5 at "
+    yield "KASAN", wrong(0, 250), same | dict(types=btf(((4, "kasan_cache"),))), "guarded 0 broken 0"
+    yield "flags by an enumeration", enumerated(wrong(0, 250)), same | dict(types=btf(((6, "_slab_flag_bits"),))), " broken Z2 at "
+    yield "flags by constants, an enumeration", wrong(0, 250), same | dict(types=btf(((6, "_slab_flag_bits"),))), "guarded 0 broken 0"
+    yield "a struct of that name", wrong(0, 250), same | dict(types=btf(((4, "_slab_flag_bits"),))), " broken Z2 at "
+    yield "an enumeration of another name", wrong(0, 250), same | dict(types=btf(((6, "_slab_flag_bit"),))), " broken Z2 at "
+    for name in (b"nr_cpu_ids", b"__cpu_possible_mask", b"__per_cpu_offset"):
+        rows = b"".join(row + b"\n" for row in MAP.splitlines() if name not in row)
+        yield "no " + name.decode(), whole(), same | dict(rows=rows), "caches 5\nframes"
+        yield "two of " + name.decode(), whole(), same | dict(rows=MAP + b"ffffffff8000b0f0 D " + name + b"\n"), "caches 5\nframes"
+    rows = b"".join(row + b"\n" for row in MAP.splitlines() if b"slab_caches" not in row)
+    yield "no slab_caches", whole(), same | dict(rows=rows), REFUSED
+    # the mark of a slab
+    yield "no mark", whole(), same | dict(note=PLAIN), REFUSED
+    yield "another flag", whole(), same | dict(note=PLAIN + b"NUMBER(PG_slab)=8\n"), "unmarked 1\nslabs 0"
+    yield "a flag too far", whole(), same | dict(note=PLAIN + b"NUMBER(PG_slab)=64\n"), REFUSED
+    yield "a flag below 0", whole(), same | dict(note=PLAIN + b"NUMBER(PG_slab)=-1\n"), REFUSED
+    typed = same | dict(types=with_page(), note=PLAIN + b"NUMBER(PAGE_SLAB_MAPCOUNT_VALUE)=-161\n")
+    yield "a page type", with_type(0xFFFFFF5F), typed, " broken Z2 at "
+    yield "another page type", with_type(0xFFFFFF5E), typed, "unmarked 1\nslabs 0"
+    yield "a page type of 6.12", with_type(0xF5000000), typed | dict(note=PLAIN + b"NUMBER(PAGE_SLAB_MAPCOUNT_VALUE)=-184549376\n"), " broken Z2 at "
+    yield "a flag first", wrong(0, 250), typed | dict(note=NOTE + b"NUMBER(PAGE_SLAB_MAPCOUNT_VALUE)=-161\n"), " broken Z2 at "
+    yield "no page_type", with_type(0xFFFFFF5F), typed | dict(types=btf()), "absent 2 unmarked 0\nslabs 0"
+    # the ring of all caches
+    nodes = [CACHES] + [cache + 32 for cache in CACHE]
+    for k, node in enumerate(nodes):
+        for at in (node, node + 8):
+            for value in (0, IMAGE + nodes[k], IMAGE + nodes[(k + 3) % 6], 0xDEAD000000000100, 0x1234, IMAGE + 0x7000000):
+                yield f"ring of caches {at:x} {value:x}", ring(at, value), same, "caches broken "
+    made = ring(nodes[2], 0)
+    yield "a break reached from both ends", made, same, "caches 5\nframes"
+    made.put(nodes[4] + 8, 0)
+    yield "two breaks", made, same, "caches 4\nframes"
+    # slabs of the other rules
+    yield "all of them", madeslabs.damaged(), same, "guarded 2 broken 5"
+
+
+def main(words):
+    kslab, differ, count = files.program(words[0], "kslab"), 0, 0
+    with tempfile.TemporaryDirectory() as folder:
+        for name, made, kernel, told in cases():
+            for file, data in (("vmcore", made.core(kernel["note"])), ("btf", kernel["types"]), ("System.map", kernel["rows"])):
+                with open(os.path.join(folder, file), "wb") as handle:
+                    handle.write(data)
+            status, text, error = slabs.run(kslab, folder, f"{folder}/vmcore")
+            count += 1
+            if told is REFUSED:
+                good, wanted = status == 2 and text == "" and error != "", "a refusal"
+            else:
+                wanted, answer, _ = slabs.second(made.core(kernel["note"]), kernel["types"], kernel["rows"]).look()
+                good = (status, text, error) == (answer, wanted, "") and told in text
+            if not good:
+                differ += 1
+                print("differs", name, repr(told) if told is not REFUSED else "", wanted, (status, text, error), sep="\n")
+    print("cases", count, "differ", differ)
+    return 1 if differ else 0

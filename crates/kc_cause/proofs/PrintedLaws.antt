@@ -1,0 +1,241 @@
+-- What the text that explains a report says of repairs holds of the dump.
+use Rattle.std.proofs.Common.{◌≡◌, ℕ, zero, suc, ◌+◌, nat_eq, Bool, true, false, if◌then◌else◌, List, [], ◌∷◌, ◌++◌, length, take, map, find, slice_get, Option, Some, None, ◌⊎◌, inl, inr, refl, sym, ap, ◌∙◌, subst, cond, append_assoc, append-nil, arith}
+use Rattle.std.specs.Prelude.{codes, decimal, min, IfSome, All, option_to_list}
+use Rattle.std.specs.Option.{option_map_or}
+use Rattle.std.specs.List.{AllByRecursion, AllZip, concat}
+use Rattle.std.proofs.lemmas.List.{length-take}
+use Rattle.kc_memory.specs.Image.{Image}
+use Rattle.kc_found.specs.declared.verdict.RootVerdict.{RootVerdict}
+use Rattle.kc_found.specs.declared.verdict.Verdict.{Verdict}
+use Rattle.kc_found.specs.declared.verdict.Verdict.TheVariants.{Clean, Broken}
+use Rattle.kc_found.specs.Violations.{Violation}
+use Rattle.kc_kinds.specs.declared.kind.Kind.{Kind}
+use Rattle.kc_plan.specs.Planned.{AuditAt, StartAt}
+use Rattle.kc_plan.specs.Planned.StartAt.{RootAt, FromAt}
+use Rattle.kc_plan.specs.Roots.{Root, broken_in, root_verdict, root_verdicts}
+use Rattle.kc_plan.specs.Seen.{root_of, roots}
+use Rattle.kc_run.specs.Each.{root_at, root_from}
+use Rattle.kc_repair.specs.declared.suspect.suspect.Suspect.{Suspect}
+use Rattle.kc_repair.specs.declared.outcome.Breach.{Breach}
+use Rattle.kc_repair.specs.declared.outcome.Next.{Next}
+use Rattle.kc_repair.specs.declared.outcome.Repair.{Repair}
+use Rattle.kc_repair.specs.declared.outcome.Repair.TheVariants.{Stands, Nothing}
+use Rattle.kc_repair.specs.Laws.{RepairWordsStand, RepairsAreExact, RepairsStand, told_suspects}
+use Rattle.kc_repair.specs.Repairs.{IsElsewhere, IsFirstNext, IsNext, IsRepair, StandsAs, breach_of, most, repair_of, verdict_with, with_suspect}
+use Rattle.kc_repair.specs.Suspect.Laws.{IsSuspect, SuspectsStand}
+use Rattle.kc_repair.specs.Suspect.Suspects.{suspects}
+use Rattle.kc_report.specs.Lines.{rule_code}
+use Rattle.kc_text.specs.Compose.{texts}
+use Rattle.kc_text.specs.Text.{hex}
+use Rattle.kc_cause.specs.Explained.{Explained, causes_text, cause_lines, explained_text, fault_lines, first_lines, found_named, found_number, is_broken, or_clean, repairs_found, root_line, shown_lines}
+use Rattle.kc_cause.specs.Lines.{bytes_line, next_lines, only_fits, repair_label, repair_lines, suspect_part}
+use Rattle.kc_cause.specs.Printed.{IsExplanation, IsPart, IsPartBy, IsPartOf, IsRepaired, IsThen, IsUnrepaired, IsWhole, columns, explained_roots}
+use Rattle.kc_cause.specs.Suspected.{Suspected, suspected}
+
+-- ---- the lines on a repair
+
+abbrev IsSaid : Explained → Root → List ℕ → Type 0
+IsSaid e root text = IsRepaired e root text ⊎ IsUnrepaired e root text
+
+label_one : (fits : Bool) → (repair_label fits ≡ codes "repair ") ⊎ (repair_label fits ≡ codes "fits ")
+label_one true = inr refl
+label_one false = inl refl
+
+all_taken : (P : Suspect → Type 0) (n : ℕ) (xs : List Suspect) → AllByRecursion P xs → AllByRecursion P (take n xs)
+all_taken P zero xs all = tt
+all_taken P (suc n) [] all = tt
+all_taken P (suc n) (x ∷ xs) all = (all.0, all_taken P n xs all.1)
+
+-- where an answer tells what comes after a word, it comes
+record Breaks (judge : Suspect → Verdict) (n : Next) : Type 0 where
+  v : Violation
+  rule : n.rule ≡ v.rule
+  at : n.at ≡ v.at
+  comes : broken_in (judge n.suspect) ≡ Some v
+
+breaks_here : (judge : Suspect → Verdict) (s : Suspect) (verdict : Verdict) (next : Option Next) (n : Next) → judge s ≡ verdict → IsNext s verdict next → next ≡ Some n → Breaks judge n
+breaks_here judge s (Clean counts) next n is none some = absurd none
+breaks_here judge s (Broken v) next n is one some =
+    let same : n ≡ record { suspect = s; rule = v.rule; at = v.at } = cc in
+    rw same (record { v = v; rule = refl; at = refl; comes = ap broken_in is })
+
+breaks : (judge : Suspect → Verdict) (found : Breach) (xs : List Suspect) (next : Option Next) (n : Next) → IsFirstNext judge found xs next → next ≡ Some n → Breaks judge n
+breaks judge found [] next n is some = let none : ⊥ = cc in absurd none
+breaks judge found (s ∷ later) next n (inl here) some = breaks_here judge s (judge s) next n refl here.1 some
+breaks judge found (s ∷ later) next n (inr is) some = breaks judge found later next n is.1 some
+
+then_line : (rule_a at_a : List ℕ) (rule_b at_b word : List ℕ) → rule_a ≡ rule_b → at_a ≡ at_b
+    → codes "then " ++ word ++ codes " " ++ rule_a ++ codes " " ++ at_a ++ codes "\n" ≡ codes "then " ++ word ++ codes " " ++ rule_b ++ codes " " ++ at_b ++ codes "\n"
+then_line rule_a at_a rule_b at_b word rule at = rw (rule, at) refl
+
+next_said : (e : Explained) (root : Root) (next : Option Next) → ((n : Next) → next ≡ Some n → Breaks (verdict_with e.image e.audits root) n × IsSuspect e.image n.suspect)
+    → (next_lines next ≡ []) ⊎ IsThen e root (next_lines next)
+next_said e root None holds = inl refl
+next_said e root (Some n) holds =
+    let both = holds n refl in
+    inr (record {
+      word = n.suspect;
+      v = both.0.v;
+      line = then_line (rule_code n.rule) (hex n.at) (rule_code both.0.v.rule) (hex both.0.v.at) (suspect_part n.suspect) (ap rule_code both.0.rule) (ap hex both.0.at);
+      there = both.1;
+      breaks = both.0.comes;
+    })
+
+first_told : (image : Image) (next : Option Next) (tried : ℕ) (more : Bool) → AllByRecursion (IsSuspect image) (told_suspects (Nothing tried more next)) → (n : Next) → next ≡ Some n → IsSuspect image n.suspect
+first_told image None tried more words n is = let none : ⊥ = cc in absurd none
+first_told image (Some m) tried more words n is = let same : n ≡ m = cc in rw same words.0
+
+none_said : (e : Explained) (root : Root) (found : Breach) (of : List Suspect) (tried : ℕ) (more : Bool) (next : Option Next) (v : Violation)
+    → AllByRecursion (IsSuspect e.image) of → IsRepair (verdict_with e.image e.audits root) found of (Nothing tried more next)
+    → StandsAs e.image e.audits root of (Nothing tried more next) → AllByRecursion (IsSuspect e.image) (told_suspects (Nothing tried more next))
+    → IsUnrepaired e root (repair_lines v (Nothing tried more next))
+none_said e root found of tried true next v all is fails words = record {
+  tried = take most of;
+  label = codes "repair none of the first ";
+  one = inr refl;
+  next = next_lines next;
+  line = ap (λ (n : ℕ). codes "repair none of the first " ++ decimal n ++ codes " tried\n" ++ next_lines next) (is.number ∙ sym (length-take most of));
+  there = all_taken (IsSuspect e.image) most of all;
+  fails = fails;
+  goes_on = next_said e root next (λ n some. (breaks (verdict_with e.image e.audits root) found (take most of) next n is.goes_on some, first_told e.image next tried true words n some));
+}
+none_said e root found of tried false next v all is fails words = record {
+  tried = take most of;
+  label = codes "repair none of ";
+  one = inl refl;
+  next = next_lines next;
+  line = ap (λ (n : ℕ). codes "repair none of " ++ decimal n ++ codes " tried\n" ++ next_lines next) (is.number ∙ sym (length-take most of));
+  there = all_taken (IsSuspect e.image) most of all;
+  fails = fails;
+  goes_on = next_said e root next (λ n some. (breaks (verdict_with e.image e.audits root) found (take most of) next n is.goes_on some, first_told e.image next tried false words n some));
+}
+
+repair_said : (e : Explained) (root : Root) (found : Breach) (of : List Suspect) (r : Repair) (v : Violation)
+    → AllByRecursion (IsSuspect e.image) of → IsRepair (verdict_with e.image e.audits root) found of r
+    → StandsAs e.image e.audits root of r → AllByRecursion (IsSuspect e.image) (told_suspects r) → IsSaid e root (repair_lines v r)
+repair_said e root found of (Stands s) v all is stands words =
+    inl (record { label = repair_label (only_fits v.rule v.at s); one = label_one (only_fits v.rule v.at s); word = s; line = refl; there = words.0; stands = stands })
+repair_said e root found of (Nothing tried more next) v all is fails words = inr (none_said e root found of tried more next v all is fails words)
+
+-- what is known of repairs
+pub record Known : Type 0 where
+  pub exact : RepairsAreExact
+  pub stand : RepairsStand
+  pub words : RepairWordsStand
+  pub suspects : SuspectsStand
+
+kind_said : Known → (e : Explained) (root : Root) (kind : Kind) (v : Violation) → IsSaid e root (repair_lines v (repair_of e.image e.audits root kind v))
+kind_said law e root kind v =
+    repair_said e root (breach_of v) (suspects e.image kind v) (repair_of e.image e.audits root kind v) v (law.suspects e.image kind v)
+    (law.exact e.image e.audits root kind v) (law.stand e.image e.audits root kind v) (law.words e.image e.audits root kind v)
+
+root_said : Known → (e : Explained) (number : ℕ) (at : Option Root) (root : Root) (s : Suspected) → at ≡ Some root
+    → IsSaid e root (option_map_or (λ (r : Root). repair_lines s.violation (repair_of e.image e.audits r s.kind s.violation)) at [])
+root_said law e number at root s is = rw is (kind_said law e root s.kind s.violation)
+
+audit_said : Known → (e : Explained) (number : ℕ) (root : Root) (v : Violation) (audit : Option AuditAt) → root_at number e.audits ≡ Some root → slice_get e.audits v.audit ≡ audit
+    → IfSome audit (λ _. IsSaid e root (repairs_found e number v))
+audit_said law e number root v None is same = tt
+audit_said law e number root v (Some a) is same = rw same (root_said law e number (root_at number e.audits) root (suspected e.image v a.kind) is)
+
+-- ---- the part of a root audit
+
+joined : (r f s n ending : List ℕ) → ((r ++ f) ++ s) ++ n ++ ending ≡ r ++ ((f ++ s) ++ n) ++ ending
+joined r f s n ending = ap (λ (l : List ℕ). l ++ ending) (ap (λ (l : List ℕ). l ++ n) (append_assoc r f s) ∙ append_assoc r (f ++ s) n)
+
+-- an audit with the number of a root audit
+record IsRootOf (audits : List AuditAt) (root : Root) : Type 0 where
+  audit : AuditAt
+  named : slice_get audits root.0 ≡ Some audit
+  is : root_at root.0 audits ≡ Some root
+
+part_broken : Known → (e : Explained) (root : Root) (v : Violation) → IsRootOf e.audits root → IsPart e root.0 v (fault_lines e root.0 (Some v))
+part_broken law e root v there = record {
+  audit = there.audit;
+  named = there.named;
+  root = root;
+  is = there.is;
+  middle = (found_named e.types e.audits v ++ shown_lines e v) ++ found_number e.audits v;
+  ending = repairs_found e root.0 v;
+  text =
+      ap (λ (l : List ℕ). (l ++ found_named e.types e.audits v) ++ shown_lines e v ++ found_number e.audits v ++ repairs_found e root.0 v)
+      (ap (λ (a : Option AuditAt). option_map_or (λ (a : AuditAt). bytes_line (codes "root ") a.name) a []) there.named)
+      ∙ joined (bytes_line (codes "root ") there.audit.name) (found_named e.types e.audits v) (shown_lines e v) (found_number e.audits v) (repairs_found e root.0 v);
+  said = audit_said law e root.0 root v (slice_get e.audits v.audit) there.is refl;
+}
+
+part_by : Known → (e : Explained) (root : Root) (v : Option Violation) → IsRootOf e.audits root → IsPartBy e root.0 v (fault_lines e root.0 v)
+part_by law e root None there = refl
+part_by law e root (Some v) there = part_broken law e root v there
+
+part_of : Known → (e : Explained) (root : Root) → IsRootOf e.audits root → IsPartOf e (root_verdict e.image e.audits root) (cause_lines e (root_verdict e.image e.audits root))
+part_of law e root there = part_by law e root (broken_in (root_verdict e.image e.audits root).verdict) there
+
+-- ---- the root audits
+
+root_with : (audits : List AuditAt) (k : ℕ) (a : AuditAt) (start : StartAt) → a.start ≡ start → slice_get audits k ≡ Some a → AllByRecursion (IsRootOf audits) (root_of k start)
+root_with audits k a (RootAt symbol ty to) starts there = (record { audit = a; named = there; is = rw (there, starts) refl }, tt)
+root_with audits k a (FromAt to optional) starts there = tt
+
+both_all : (audits : List AuditAt) (xs ys : List Root) → AllByRecursion (IsRootOf audits) xs → AllByRecursion (IsRootOf audits) ys → AllByRecursion (IsRootOf audits) (xs ++ ys)
+both_all audits [] ys one two = two
+both_all audits (x ∷ xs) ys one two = (one.0, both_all audits xs ys one.1 two)
+
+roots_from : (audits later : List AuditAt) (k : ℕ) → ((i : ℕ) → slice_get later i ≡ slice_get audits (k + i)) → AllByRecursion (IsRootOf audits) (roots k later)
+roots_from audits [] k same = tt
+roots_from audits (a ∷ later) k same =
+    let here : slice_get audits k ≡ Some a = subst (λ (n : ℕ). slice_get audits n ≡ Some a) (omega arith) (sym (same 0)) in
+    both_all audits (root_of k a.start) (roots (suc k) later) (root_with audits k a a.start refl here)
+    (roots_from audits later (suc k) (λ i. same (suc i) ∙ ap (slice_get audits) (omega arith)))
+
+all_roots : (audits : List AuditAt) → AllByRecursion (IsRootOf audits) (roots 0 audits)
+all_roots audits = roots_from audits audits 0 (λ i. ap (slice_get audits) (omega arith))
+
+-- ---- the whole
+
+zip_parts : Known → (e : Explained) (rs : List Root) → AllByRecursion (IsRootOf e.audits) rs
+    → AllZip (IsPartOf e) (map (root_verdict e.image e.audits) rs) (map (cause_lines e) (map (root_verdict e.image e.audits) rs))
+zip_parts law e [] all = tt
+zip_parts law e (r ∷ rs) all = (part_of law e r all.0, zip_parts law e rs all.1)
+
+parts_text : (e : Explained) (rs : List RootVerdict) → concat (map (cause_lines e) rs) ≡ texts (cause_lines e) rs
+parts_text e [] = refl
+parts_text e (r ∷ rs) = ap (λ (l : List ℕ). cause_lines e r ++ l) (parts_text e rs)
+
+whole_by : (text : List ℕ) → IsWhole text (or_clean text)
+whole_by [] = refl
+whole_by (c ∷ cs) = refl
+
+-- a root audit is found among all
+found_at : (e : Explained) (P : RootVerdict → Type 0) (f : RootVerdict → Bool) (r : RootVerdict) (rs : List RootVerdict) (b : Bool) → f r ≡ b → P r → IfSome (find f rs) P → IfSome (cond b (Some r) (find f rs)) P
+found_at e P f r rs true is here later = here
+found_at e P f r rs false is here later = later
+
+find_part : Known → (e : Explained) (rs : List Root) → AllByRecursion (IsRootOf e.audits) rs
+    → IfSome (find is_broken (map (root_verdict e.image e.audits) rs)) (λ r. IsPartOf e r (cause_lines e r))
+find_part law e [] all = tt
+find_part law e (r ∷ rs) all =
+    found_at e (λ r. IsPartOf e r (cause_lines e r)) is_broken (root_verdict e.image e.audits r) (map (root_verdict e.image e.audits) rs) (is_broken (root_verdict e.image e.audits r)) refl
+    (part_of law e r all.0) (find_part law e rs all.1)
+
+first_parts : (e : Explained) (first : Option RootVerdict) → IfSome first (λ r. IsPartOf e r (cause_lines e r))
+    → (parts : List (List ℕ)) × AllZip (IsPartOf e) (option_to_list first) parts × IsWhole (concat parts) (or_clean (first_lines e first))
+first_parts e None all = ([], tt, refl)
+first_parts e (Some r) all = (cause_lines e r ∷ [], (all, tt), rw (append-nil (cause_lines e r)) (whole_by (cause_lines e r)))
+
+abbrev roots_by : Bool → Explained → List RootVerdict
+roots_by each e = if each then root_verdicts e.image e.audits else option_to_list (find is_broken (root_verdicts e.image e.audits))
+
+abbrev text_by : Bool → Explained → List ℕ
+text_by each e = if each then texts (cause_lines e) (root_verdicts e.image e.audits) else first_lines e (find is_broken (root_verdicts e.image e.audits))
+
+explained_by : Known → (e : Explained) (each : Bool) → (parts : List (List ℕ)) × AllZip (IsPartOf e) (roots_by each e) parts × IsWhole (concat parts) (or_clean (text_by each e))
+explained_by law e true = (
+  map (cause_lines e) (root_verdicts e.image e.audits),
+  zip_parts law e (roots 0 e.audits) (all_roots e.audits),
+  rw (parts_text e (root_verdicts e.image e.audits)) (whole_by (texts (cause_lines e) (root_verdicts e.image e.audits))),
+)
+explained_by law e false = first_parts e (find is_broken (root_verdicts e.image e.audits)) (find_part law e (roots 0 e.audits) (all_roots e.audits))
+
+pub explanations_hold : Known → (e : Explained) → IsExplanation e (explained_text e)
+explanations_hold law e = let by = explained_by law e (nat_eq e.version 2) in record { parts = by.0; are = by.1; whole = by.2 }

@@ -1,0 +1,83 @@
+-- What the text that explains a report says of repairs: each line against the dump, and against the root audit that its part names.
+use Rattle.std.specs.Prelude.{◌≡◌, ℕ, nat_eq, ◌⊎◌, if◌then◌else◌, List, [], ◌∷◌, ◌++◌, codes, decimal, find, length, slice_get, Option, Some, None, option_to_list, IfSome, All}
+use Rattle.std.specs.List.{AllByRecursion, AllZip, concat}
+use Rattle.kc_text.specs.Text.{hex}
+use Rattle.kc_found.specs.declared.verdict.RootVerdict.{RootVerdict}
+use Rattle.kc_found.specs.Violations.{Violation}
+use Rattle.kc_plan.specs.Planned.{AuditAt}
+use Rattle.kc_plan.specs.Roots.{Root, broken_in, root_verdict, root_verdicts}
+use Rattle.kc_plan.specs.Stands.{RootStands}
+use Rattle.kc_run.specs.Each.{root_at}
+use Rattle.kc_repair.specs.declared.suspect.suspect.Suspect.{Suspect}
+use Rattle.kc_repair.specs.Repairs.{with_suspect}
+use Rattle.kc_repair.specs.Suspect.Laws.{IsSuspect}
+use Rattle.kc_report.specs.Lines.{rule_code}
+use Rattle.kc_cause.specs.Explained.{Explained, is_broken}
+
+-- the columns of a word: its virtual and its physical address, its file offset, the number that stands there, and another
+abbrev pub columns : Suspect → List ℕ
+columns s = hex s.va ++ codes " " ++ hex s.pa ++ codes " " ++ hex s.off ++ codes " " ++ hex s.now ++ codes " " ++ hex s.value
+
+-- Under `repair` or `fits`: a word stands in the dump so, and with the other number the root audit stands.
+pub record IsRepaired (e : Explained) (root : Root) (text : List ℕ) : Type 0 where
+  pub label : List ℕ
+  pub one : (label ≡ codes "repair ") ⊎ (label ≡ codes "fits ")
+  pub word : Suspect
+  pub line : text ≡ label ++ columns word ++ codes "\n"
+  pub there : IsSuspect e.image word
+  pub stands : RootStands (with_suspect e.image word) e.audits root
+
+-- Under `then`: a word stands in the dump so, and with the other number the root audit breaks this rule at this address.
+pub record IsThen (e : Explained) (root : Root) (text : List ℕ) : Type 0 where
+  pub word : Suspect
+  pub v : Violation
+  pub line : text ≡ codes "then " ++ columns word ++ codes " " ++ rule_code v.rule ++ codes " " ++ hex v.at ++ codes "\n"
+  pub there : IsSuspect e.image word
+  pub breaks : broken_in (root_verdict (with_suspect e.image word) e.audits root).verdict ≡ Some v
+
+-- Under `repair none`: so many words stand in the dump so, and with the other number of none of them the root audit stands.
+pub record IsUnrepaired (e : Explained) (root : Root) (text : List ℕ) : Type 0 where
+  pub tried : List Suspect
+  pub label : List ℕ
+  pub one : (label ≡ codes "repair none of ") ⊎ (label ≡ codes "repair none of the first ")
+  pub next : List ℕ
+  pub line : text ≡ label ++ decimal (length tried) ++ codes " tried\n" ++ next
+  pub there : AllByRecursion (IsSuspect e.image) tried
+  pub fails : All (λ s. RootStands (with_suspect e.image s) e.audits root → ⊥) tried
+  pub goes_on : (next ≡ []) ⊎ IsThen e root next
+
+-- The part of a root audit that is broken begins with the audit's name, and ends with what repairs this root audit, where the violation names an audit
+-- that found it.
+pub record IsPart (e : Explained) (number : ℕ) (v : Violation) (part : List ℕ) : Type 0 where
+  pub audit : AuditAt
+  pub named : slice_get e.audits number ≡ Some audit
+  pub root : Root
+  pub is : root_at number e.audits ≡ Some root
+  pub middle : List ℕ
+  pub ending : List ℕ
+  pub text : part ≡ codes "root " ++ audit.name ++ codes "\n" ++ middle ++ ending
+  pub said : IfSome (slice_get e.audits v.audit) (λ _. IsRepaired e root ending ⊎ IsUnrepaired e root ending)
+
+-- that of one that is sound is empty
+abbrev pub IsPartBy : Explained → ℕ → Option Violation → List ℕ → Type 0
+IsPartBy e number None part = part ≡ []
+IsPartBy e number (Some v) part = IsPart e number v part
+
+abbrev pub IsPartOf : Explained → RootVerdict → List ℕ → Type 0
+IsPartOf e r part = IsPartBy e r.root (broken_in r.verdict) part
+
+-- the root audits that are explained: with version 2 all, and with version 1 the first that is broken
+abbrev pub explained_roots : Explained → List RootVerdict
+explained_roots e =
+    if nat_eq e.version 2 then root_verdicts e.image e.audits else option_to_list (find is_broken (root_verdicts e.image e.audits))
+
+-- the parts are the text, or where there is no line it is `clean`
+abbrev pub IsWhole : List ℕ → List ℕ → Type 0
+IsWhole [] text = text ≡ codes "clean\n"
+IsWhole (c ∷ cs) text = text ≡ c ∷ cs
+
+-- an explanation has a part for each of them, in the order of the plan
+pub record IsExplanation (e : Explained) (text : List ℕ) : Type 0 where
+  pub parts : List (List ℕ)
+  pub are : AllZip (IsPartOf e) (explained_roots e) parts
+  pub whole : IsWhole (concat parts) text

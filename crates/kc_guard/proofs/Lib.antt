@@ -1,0 +1,2 @@
+pub mod GuardLaws
+pub mod GuardLemmas

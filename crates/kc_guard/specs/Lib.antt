@@ -1,0 +1,4 @@
+pub mod Bytes
+pub mod Guards
+pub mod Laws
+pub mod Objects

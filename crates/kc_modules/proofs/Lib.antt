@@ -1,0 +1,3 @@
+mod Following
+mod Loops
+mod Steps

@@ -1,0 +1,6 @@
+pub mod Lines
+pub mod Lists
+pub mod Parts
+pub mod Shapes
+pub mod Typed
+pub mod Views
