@@ -32,6 +32,7 @@ install:
 	install -m 644 $(wildcard plans/*.toml) plans/kernels.txt $(SHARE)/kaudit/plans
 	install -m 644 plans/reader.py $(SHARE)/kaudit/plans
 	install -m 755 plans/heads.py $(SHARE)/kaudit/plans
+	install -m 755 tools/addnote $(SHARE)/kaudit
 	for m in $(MANUAL); do gzip -9nc $$m > $(SHARE)/man/man1/$$(basename $$m).gz || exit 1; done
 	install -m 644 $(TEXTS) $(SHARE)/doc/kaudit
 	for p in $(PROGRAMS) ktriage; do install -m 644 tools/completion.bash $(SHARE)/bash-completion/completions/$$p || exit 1; done

@@ -6,7 +6,7 @@ _kaudit()
     case ${program%-unproved} in
         kaudit) commands="word layout show check selftest certify recheck" ;;
         kplain) commands="check certify recheck show word core" ;;
-        kfiles) [ "$COMP_CWORD" -eq 2 ] && commands="map types log modules module" ;;
+        kfiles) [ "$COMP_CWORD" -eq 2 ] && commands="map types log modules module note" ;;
         kwhy) [ "$COMP_CWORD" -eq 4 ] && commands="refs" ;;
         ktriage) commands="--types --map --json --html --keep --programs --plans --help" ;;
     esac

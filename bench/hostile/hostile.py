@@ -62,7 +62,7 @@ WHY = {
     "words": r"0|[1-9]\d*", "repair": rf"{CHANGED}|none of (the first 4096|\d+) tried", "then": f"{CHANGED} [A-Z][1-9]? {HEX}", "clean": "",
     "rule": "[A-Z][1-9]? .+", "expected": rf"{HEX} found {HEX} bits \d+",
 }
-NAMED = ("symbol", "module", "percpu", "stack", "descriptor", "cache", "held", "slab", "object", "pad", "past", "before", "encoded", "root", "audit", "list", "element")
+NAMED = ("symbol", "module", "percpu", "stack", "descriptor", "cache", "held", "slab", "object", "pad", "past", "before", "encoded", "unread", "root", "audit", "list", "element")
 FORMS = {"check": (CLEAN, BROKEN), "word": (FOUND, STOPPED), "show": (SHOWN, STOPPED), "layout": (LAYOUT, None), "kmatch": (MATCHED, MATCHED), "kwhy": (None, None), "selftest": (CLEAN, BROKEN)}
 
 

@@ -11,7 +11,7 @@ import re
 import subprocess
 import tempfile
 
-STAYS = "stays cause named later files quiet may opened others_opened others_sizes".split()
+STAYS = "stays cause reads named later files quiet may opened others_opened others_sizes".split()
 
 
 class House:

@@ -5,6 +5,7 @@ from plans.reader import TOP, Broken, Refused, address
 from second.verdict import tasks
 
 PROCESSORS = 8192
+NO_VARIABLE = ("__per_cpu_start", "kexec_control_code_size")
 
 
 def shown(name):
@@ -74,7 +75,7 @@ class Areas:
 
     def variable(self, first, at):
         """The symbol nearest below an address, from the first one on, where it isn't the area's own."""
-        below = [row for row in self.rows if first <= row[0] <= at and row[1] != "__per_cpu_start"]
+        below = [row for row in self.rows if first <= row[0] <= at and row[1] not in NO_VARIABLE]
         if not below:
             return ""
         most = max(row[0] for row in below)
@@ -128,10 +129,12 @@ class Areas:
 class Holders:
     """The symbols of the image's data, by the words that they name."""
 
-    def __init__(self, memory, rows, start, end):
+    def __init__(self, memory, rows, start, end, freed, kept):
         self.names = {}
         for at, name in rows:
-            if start is None or end is None or at % 8 or not start <= at < end:
+            if start is None or end is None or at % 8 or not max(start, 0xFFFFFFFF80000000) <= at < end:
+                continue
+            if freed is not None and kept is not None and freed <= at < kept:
                 continue
             try:
                 self.names.setdefault(memory.place(at)[3], []).append(name)

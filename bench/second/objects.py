@@ -15,6 +15,7 @@ import files
 import timer
 from plans.reader import IMAGE, TOP, Broken, Core, Info, Memory, Refused, Types, address, symbols
 from second.areas import Holders, shown
+from second.slabs import list_of, processors
 from second.verdict import Kernel, free_list, slub
 
 LINES = re.compile(r"^(descriptor |cache |held by |slab |object |pad |past|before)")
@@ -71,6 +72,17 @@ class Objects:
                 found.append((cache, self.name(cache), coded % TOP))
         return self.keys_base(), found
 
+    def unread(self):
+        """The caches whose random number can't be read: the address and the name of each."""
+        for node in self.kernel.ring(self.caches):
+            cache = (node - self.kernel.byte("kmem_cache", "list")) % TOP
+            try:
+                self.kernel.field(cache, "kmem_cache", "random")
+            except Broken:
+                yield cache, self.name(cache)
+            except Refused:
+                return
+
     def keys_base(self):
         """Where the direct map begins."""
         return self.base("page_offset_base", 0xFFFF888000000000, 0xFF11000000000000)
@@ -84,7 +96,7 @@ class Objects:
             base = (bases[1] + (slab - bases[0]) // self.page_size * 4096 + pad) % TOP
             yield slab, free_list(kernel, slab, kernel.field(slab, "slab", "objects")[0], base, size, offset, coded)
 
-    def free(self, slab, first, counts, of_cache):
+    def free(self, slab, first, counts, cache, of_cache):
         """Where the slab's own free list has the object."""
         base, size, offset, coded = of_cache
         try:
@@ -93,7 +105,29 @@ class Objects:
             return f"unknown {broken.rule} {broken.at:016x}"
         if first in found:
             return f"free {found.index(first) + 1} of {len(found)}"
-        return "frozen" if counts[2] else "used"
+        return self.kept(slab, first, counts[0], cache, of_cache) if counts[2] else "used"
+
+    def kept(self, slab, first, objects, cache, grid):
+        """Where the list of a processor that owns the slab has the object."""
+        kernel = self.kernel
+        try:
+            for struct, name in (("kmem_cache", "cpu_slab"), ("kmem_cache_cpu", "slab"), ("kmem_cache_cpu", "freelist")):
+                kernel.byte(struct, name)
+            numbered = processors(kernel)
+            if numbered is None:
+                return "frozen"
+            for number, offset in numbered:
+                at = (kernel.field(cache, "kmem_cache", "cpu_slab")[0] + offset) % TOP
+                if kernel.field(at, "kmem_cache_cpu", "slab")[0] == slab:
+                    led, _, places = kernel.field(at, "kmem_cache_cpu", "freelist")
+                    found = list_of(kernel, (led, places), objects, *grid)
+                    if first in found:
+                        return f"free {found.index(first) + 1} of {len(found)} processor {number}"
+            return "used"
+        except Broken as broken:
+            return f"frozen unknown {broken.rule} {broken.at:016x}"
+        except Refused:
+            return "frozen"
 
     def of_slab(self, slab, cache, pa, bases):
         """The lines of a slab of a cache that stands in the ring."""
@@ -125,14 +159,20 @@ class Objects:
             base = (bases[1] + start + pad) % TOP
             first = (base + number * size[0]) % TOP
             counts = objects[0], inuse[0], frozen[0]
-            free = self.free(slab, first, counts, (base, size[0], offset, coded))
+            free = self.free(slab, first, counts, cache, (base, size[0], offset, coded))
             yield f"object {first:016x} number {number} byte {byte - pad} {free}"
+
+    def one(self, name):
+        """The address of a symbol that has one alone."""
+        try:
+            return address(self.kernel.rows, name, self.kernel.info.kaslr)
+        except Refused:
+            return None
 
     def held_by(self, cache):
         """The line of the symbols whose words hold a cache's address."""
         if self.holders is None:
-            bounds = (address(self.kernel.rows, name, self.kernel.info.kaslr) for name in ("_etext", "_end"))
-            self.holders = Holders(self.memory, self.rows, *bounds)
+            self.holders = Holders(self.memory, self.rows, *(self.one(name) for name in ("_etext", "_end", "__init_begin", "__init_end")))
         if self.holders.of(cache):
             yield "held by " + " ".join(self.holders.of(cache))
 

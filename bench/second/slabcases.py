@@ -1,17 +1,21 @@
 """Tries kslab on small made dumps, a case for each rule, each mark of a slab and each thing that a kernel may lack, against the second reader of slabs.py.
 
+After that it asks kwhy for the objects of a slab that a processor owns, against the second reader of objects.py.
+
 usage: slabcases PROGRAMS
 
-Each case says what kslab has to tell, by the definition; the second reader's text and status have to be the same. It ends with 1 where one differs.
+Each case says what the program has to tell, by the definition; the second reader's text and status have to be the same. It ends with 1 where one differs.
 """
 import os
 import struct
+import subprocess
 import tempfile
 
 import files
 from second import madeslabs, slabs
-from second.made import IMAGE
-from second.madeslabs import BITS, BYTES, CACHE, CACHES, FRAMES, MADE, MAP, NOTE, OBJECTS, Slabs, btf
+from second.made import DIRECT, IMAGE, VMEMMAP
+from second.madeslabs import BITS, BYTES, CACHE, CACHES, CPUS, FRAMES, MADE, MAP, NOTE, OBJECTS, OFFSET, TOP, Slabs, btf
+from second.objects import Objects
 
 REFUSED = object()
 PLAIN = NOTE.replace(b"NUMBER(PG_slab)=9\n", b"")
@@ -140,7 +144,7 @@ def cases():
     yield "another page type", with_type(0xFFFFFF5E), typed, "unmarked 1\nslabs 0"
     yield "a page type of 6.12", with_type(0xF5000000), typed | dict(note=PLAIN + b"NUMBER(PAGE_SLAB_MAPCOUNT_VALUE)=-184549376\n"), " broken Z2 at "
     yield "a flag first", wrong(0, 250), typed | dict(note=NOTE + b"NUMBER(PAGE_SLAB_MAPCOUNT_VALUE)=-161\n"), " broken Z2 at "
-    yield "no page_type", with_type(0xFFFFFF5F), typed | dict(types=btf()), "absent 2 unmarked 0\nslabs 0"
+    yield "no page_type", with_type(0xFFFFFF5F), typed | dict(types=btf()), "absent 26 unmarked 0\nslabs 0"
     # the ring of all caches
     nodes = [CACHES] + [cache + 32 for cache in CACHE]
     for k, node in enumerate(nodes):
@@ -151,17 +155,102 @@ def cases():
     yield "a break reached from both ends", made, same, "caches 5\nframes"
     made.put(nodes[4] + 8, 0)
     yield "two breaks", made, same, "caches 4\nframes"
+    # a slab whose descriptor names no cache of the ring
+    for value in (0, 1, IMAGE + CACHE[0] + 64, 0xDEAD000000000100, TOP - 1):
+        made = whole()
+        made.put(FRAMES + 64 * 0x14 + 8, value)
+        yield f"a slab of no cache {value:x}", made, same, f"slab {VMEMMAP + 64 * 0x14:016x} cache {value:016x} - broken U1 at "
+        made.put(nodes[2], 0)
+        yield f"the same, a broken ring {value:x}", made, same, "slabs 0 frozen 0 untold 0 guarded 0 broken 0"
+        made = whole()
+        made.put(FRAMES + 64 * 0x14, 0)
+        made.put(FRAMES + 64 * 0x14 + 8, value)
+        yield f"no slab and no cache {value:x}", made, same, "slabs 0 frozen 0 untold 0 guarded 0 broken 0"
     # slabs of the other rules
     yield "all of them", madeslabs.damaged(), same, "guarded 2 broken 5"
+
+
+def owned(first=(3, 0), number=0, frozen=1, frame=0xE):
+    """A slab that a processor owns, of which the slab's own list has object 1, and the processor's these."""
+    made = Slabs()
+    made.slab(0xE, 0, (1,), 7, frozen)
+    made.processor(number, 0, frame, made.chain(0xE, first))
+    return made
+
+
+def kept_cases():
+    """The name of each case, its dump, types and map, and of each object what kwhy has to tell."""
+    same, used = dict(types=btf(), rows=MAP), ["used"] * OBJECTS
+    first = ["free 2 of 2 processor 0", "free 1 of 1", "used", "free 1 of 2 processor 0", *used[4:]]
+    own = ["used", "free 1 of 1", *used[2:]]
+    unknown = ["frozen", "free 1 of 1", *["frozen"] * 6]
+    yield "a processor's list", owned(), same, first
+    yield "that of processor 1", owned(number=1), same, [told.replace("processor 0", "processor 1") for told in first]
+    yield "all objects of it", owned((7, 0, 6, 2, 5, 3, 4)), same, [*(f"free {k} of 7 processor 0" if k else "free 1 of 1" for k in (2, 0, 4, 6, 7, 5, 3, 1))]
+    # an object's free pointer is one word, so that the slab's own list goes on as the processor's does
+    yield "an object of both lists", owned((1, 4)), same, ["used", "free 1 of 2", "used", "used", "free 2 of 2", *used[5:]]
+    yield "no list", owned(()), same, own
+    yield "a slab that no processor owns", owned(frozen=0), same, own
+    yield "another slab of the processor", owned(frame=0xD), same, own
+    made = owned(number=1)
+    made.processor(0, 0, 0xF, DIRECT + 0xF000 + 1)
+    yield "another slab of the first processor", made, same, [told.replace("processor 0", "processor 1") for told in first]
+    # what is broken, and what can't be read
+    made = owned()
+    made.put(CPUS[0], DIRECT + 0xE001)
+    yield "a broken list", made, same, [told if told == "free 1 of 1" else f"frozen unknown U5 {DIRECT + 0xE001:016x}" for told in unknown]
+    made = owned()
+    made.put(0xE000 + OFFSET, made.code(DIRECT + 0xE000 + OFFSET, DIRECT + 0xE000 + 3 * BYTES))
+    yield "a list that comes round", made, same, [told if told == "free 1 of 1" else f"frozen unknown A {DIRECT + 0xE000 + 3 * BYTES + OFFSET:016x}" for told in unknown]
+    made = owned()
+    made.put(CACHE[0], IMAGE + 0x7000000)
+    yield "words that aren't there", made, same, [told if told == "free 1 of 1" else f"frozen unknown M4 {IMAGE + 0x7000010:016x}" for told in unknown]
+    made = owned()
+    made.put(0xB008, 2)
+    yield "a processor that there isn't", made, same, own
+    made.put(0xB000, 1)
+    yield "fewer processors", made, same, own
+    # what a kernel lacks
+    for name in ("cpu_slab", "slab", "freelist"):
+        struct = "kmem_cache" if name == "cpu_slab" else "kmem_cache_cpu"
+        yield f"no {name}", owned(), same | dict(types=btf(without={(struct, name)})), unknown
+    for name in (b"nr_cpu_ids", b"__cpu_possible_mask", b"__per_cpu_offset"):
+        rows = b"".join(row + b"\n" for row in MAP.splitlines() if name not in row)
+        yield "no " + name.decode(), owned(), same | dict(rows=rows), unknown
+        yield "two of " + name.decode(), owned(), same | dict(rows=MAP + b"ffffffff8000b0f0 D " + name + b"\n"), unknown
+
+
+def put_files(folder, data):
+    """Writes a dump, types and a map."""
+    for file, text in data.items():
+        with open(os.path.join(folder, file), "wb") as handle:
+            handle.write(text)
+
+
+def try_kept(kwhy, folder):
+    """Asks kwhy for each object of the cases above: how many answers there are, and how many differ."""
+    count = differ = 0
+    for name, made, kernel, told in kept_cases():
+        data = {"vmcore": made.core(), "btf": kernel["types"], "System.map": kernel["rows"]}
+        put_files(folder, data)
+        reader = Objects(*data.values())
+        for number, state in enumerate(told):
+            at = DIRECT + 0xE000 + BYTES * number
+            done = subprocess.run([kwhy, *data, f"{at:x}"], cwd=folder, capture_output=True)
+            lines = [line for line in done.stdout.decode().splitlines() if line.startswith("object ")]
+            wanted = f"object {at:016x} number {number} byte 0 {state}"
+            count += 1
+            if (done.returncode, lines, reader.lines(at)[-1:]) != (0, [wanted], [wanted]):
+                differ += 1
+                print("differs", name, wanted, lines, reader.lines(at)[-1:], done.stderr, sep="\n")
+    return count, differ
 
 
 def main(words):
     kslab, differ, count = files.program(words[0], "kslab"), 0, 0
     with tempfile.TemporaryDirectory() as folder:
         for name, made, kernel, told in cases():
-            for file, data in (("vmcore", made.core(kernel["note"])), ("btf", kernel["types"]), ("System.map", kernel["rows"])):
-                with open(os.path.join(folder, file), "wb") as handle:
-                    handle.write(data)
+            put_files(folder, {"vmcore": made.core(kernel["note"]), "btf": kernel["types"], "System.map": kernel["rows"]})
             status, text, error = slabs.run(kslab, folder, f"{folder}/vmcore")
             count += 1
             if told is REFUSED:
@@ -172,5 +261,6 @@ def main(words):
             if not good:
                 differ += 1
                 print("differs", name, repr(told) if told is not REFUSED else "", wanted, (status, text, error), sep="\n")
-    print("cases", count, "differ", differ)
-    return 1 if differ else 0
+        objects, others = try_kept(files.program(words[0], "kwhy"), folder)
+    print("cases", count, "differ", differ, "objects", objects, "differ", others)
+    return 1 if differ + others else 0

@@ -1,11 +1,13 @@
 """Compares kslab with a second reader, which shares no code with it: on a dump, and on the dump with damages.
 
 usage: slabs PROGRAMS FOLDER [COUNT [SEED]]
+       slabs PROGRAMS FOLDER each
 
 The dump is copied, damaged word by word and mended. Each damage is one word: a free pointer, a slab's `freelist`, its counts, its `slab_cache`, at a
 slab that is taken at random, what a processor has of a cache, a pointer of the ring of all caches, or a byte that slub_debug keeps: of a red zone, of the padding, of the poison of a free
 object. The texts and the statuses have to be the same, also where a damage does no harm.
-It ends with 1 where one differs.
+With `each` the slabs are compared one by one: in run K those whose number among all has bit K have one word damaged, `freelist` or `inuse`, so that each
+slab is broken in runs of its own and whole in the others. It ends with 1 where one differs.
 """
 import collections
 import mmap
@@ -57,6 +59,31 @@ def mark_of(kernel, note):
     return "page_type", lambda value: value == kind
 
 
+def processors(kernel):
+    """The numbers of the processors that there may be, with their offsets, or none where the kernel lacks what tells them."""
+    memory, rows, info = kernel.memory, kernel.rows, kernel.info
+    try:
+        possible, offsets, count = places = [address(rows, name, info.kaslr) for name in ("__cpu_possible_mask", "__per_cpu_offset", "nr_cpu_ids")]
+    except Refused:
+        return None
+    if None in places:
+        return None
+    numbers = range(min(memory.number(count, 0, 32)[0], 8192))
+    return [(k, memory.place(offsets + 8 * k)[3]) for k in numbers if memory.place(possible + k // 64 * 8)[3] >> k % 64 & 1]
+
+
+def list_of(kernel, first, *grid):
+    """A free list from this pointer on."""
+
+    class Led:
+        memory = kernel.memory
+
+        def field(self, *_):
+            return first[0], 0, first[1]
+
+    return free_list(Led(), 0, *grid)
+
+
 def frames(core):
     found = set()
     for _, start, size in core.loads:
@@ -82,6 +109,8 @@ class Slabs:
         self.flags = (1 << 1, 1 << 2, 1 << 9) if (6, b"_slab_flag_bits") in kinds else (0x400, 0x800, 0x80000)
         self.caches = {}
         self.nodes, self.ring = self.reached(address(kernel.rows, "slab_caches", info.kaslr))
+        self.all_caches = wanted is None and self.ring is None
+        self.named = {}
         for node in self.nodes:
             cache = (node - kernel.byte("kmem_cache", "list")) % TOP
             name = self.text(self.value(cache, "kmem_cache", "name"))
@@ -200,18 +229,6 @@ class Slabs:
             self.guard(base, size, objects, free, runs)
         return objects, free, frozen, guarded
 
-    def processors(self):
-        """The numbers of the processors that there may be, with their offsets, or none where the kernel lacks what tells them."""
-        memory, rows, info = self.kernel.memory, self.kernel.rows, self.kernel.info
-        try:
-            possible, offsets, count = places = [address(rows, name, info.kaslr) for name in ("__cpu_possible_mask", "__per_cpu_offset", "nr_cpu_ids")]
-        except Refused:
-            return None
-        if None in places:
-            return None
-        numbers = range(min(memory.number(count, 0, 32)[0], 8192))
-        return [(k, memory.place(offsets + 8 * k)[3]) for k in numbers if memory.place(possible + k // 64 * 8)[3] >> k % 64 & 1]
-
     def owned(self, cache, at, laid):
         """What a processor has of a cache: the slab that it names, and the objects of its list; or none of either."""
         kernel = self.kernel
@@ -229,7 +246,7 @@ class Slabs:
                 raise Broken("U3", objects_at, places=places)
             size, offset, key, pad = laid
             base = (self.bases[1] + 4096 * number + pad) % TOP
-            found = self.list_of((first, shown), objects, base, size, offset, key)
+            found = list_of(kernel, (first, shown), objects, base, size, offset, key)
             try:
                 own = set(free_list(kernel, slab, objects, base, size, offset, key))
             except Broken:
@@ -241,21 +258,10 @@ class Slabs:
         except Broken as broken:
             return slab, [], broken
 
-    def list_of(self, first, *grid):
-        """A free list from this pointer on."""
-
-        class Led:
-            memory = self.kernel.memory
-
-            def field(self, *_):
-                return first[0], 0, first[1]
-
-        return free_list(Led(), 0, *grid)
-
     def look_at_processors(self, lines):
         seen = collections.Counter()
-        processors = self.processors()
-        if processors is None:
+        numbered = processors(self.kernel)
+        if numbered is None:
             return 0
         for node in self.nodes:
             cache = (node - self.kernel.byte("kmem_cache", "list")) % TOP
@@ -263,7 +269,7 @@ class Slabs:
             if laid is None:
                 continue
             base = self.value(cache, "kmem_cache", "cpu_slab")
-            for number, offset in processors:
+            for number, offset in numbered:
                 at = None if base is None else (base + offset) % TOP
                 if at is None or self.value(at, "kmem_cache_cpu", "slab") is None or self.value(at, "kmem_cache_cpu", "freelist") is None:
                     seen["unread"] += 1
@@ -277,7 +283,7 @@ class Slabs:
                     lines += [place_line(place) for place in broken.places]
                 elif slab is not None:
                     self.lists.append((at, found, laid[1], (slab - self.bases[0]) % TOP // self.page))
-        lines.append("processors %d slabs %d unread %d broken %d free %d\n" % (len(processors), *(seen[k] for k in ("slabs", "unread", "broken", "free"))))
+        lines.append("processors %d slabs %d unread %d broken %d free %d\n" % (len(numbered), *(seen[k] for k in ("slabs", "unread", "broken", "free"))))
         return seen["broken"]
 
     def told(self, broken):
@@ -290,15 +296,23 @@ class Slabs:
         """Adds what a page frame is."""
         seen["frames"] += 1
         slab = (self.bases[0] + self.page * number) % TOP
-        cache = self.word(slab + self.kernel.byte("slab", "slab_cache"))
-        if cache not in self.caches:
+        cache = self.named[number] = self.word(slab + self.kernel.byte("slab", "slab_cache"))
+        known = cache in self.caches
+        if cache is None or not known and not self.all_caches:
             seen["absent"] += cache is None
             return
         mark = self.value(slab, "page", self.field)
         if mark is None or not self.marked(mark):
-            seen["absent" if mark is None else "unmarked"] += 1
+            seen["absent"] += mark is None
+            seen["unmarked"] += known and mark is not None
             return
         seen["slabs"] += 1
+        if not known:
+            seen["broken"] += 1
+            _, at, places = self.kernel.field(slab, "slab", "slab_cache")
+            lines.append("slab %016x cache %016x - broken U1 at %016x\n" % (slab, cache, at))
+            lines += [place_line(place) for place in places]
+            return
         name, laid, runs = self.caches[cache]
         if laid is None:
             seen["untold"] += 1
@@ -312,9 +326,18 @@ class Slabs:
             lines.append("slab %016x cache %016x %s broken %s\n" % (slab, cache, (shown(name) or "-"), self.told(broken)))
             lines += [place_line(place) for place in ([broken.place] if isinstance(broken, Spoiled) else broken.places)]
 
+    def kept_of(self, before):
+        """What each page frame is, where the ring of all caches alone was changed: those of caches that aren't reached are no slabs."""
+        none, known = (collections.Counter(frames=1), [], []), {None, *self.caches}
+        return {number: one if before.named[number] in known else none for number, one in before.each.items()}
+
     def look(self, before=None, changed=None):
-        """What kslab prints, its status, and the slabs with their free objects. Where all but one page frame are as they were, they aren't looked at again."""
-        if before is None:
+        """What kslab prints, its status, and the slabs with their free objects. Where all but one page frame are as they were, or the ring of all caches was changed
+        alone, they aren't looked at again."""
+        if before is not None and changed is None:
+            self.each = told = self.kept_of(before)
+            seen = sum((one[0] for one in told.values()), collections.Counter())
+        elif before is None:
             self.each = {}
             for number in frames(self.kernel.memory.core):
                 self.each[number] = one = collections.Counter(), [], []
@@ -410,7 +433,7 @@ def compare(kslab, folder, dump, data, count, seed):
         old = data[where : where + 8]
         data[where : where + 8] = new.to_bytes(8, "little")
         data.flush()
-        text, status, _ = again(kept, data).look(kept if number else None, number)
+        text, status, _ = again(kept, data).look(kept, number)
         told = run(kslab, folder, dump)
         kinds[kind] += 1
         noticed[kind] += status
@@ -422,12 +445,37 @@ def compare(kslab, folder, dump, data, count, seed):
     return wrong
 
 
+def compare_each(kslab, folder, dump, data):
+    """Breaks each slab in runs of its own."""
+    kept = second(data, files.read(folder, "btf"), files.read(folder, "System.map"))
+    text, status, sound = kept.look()
+    wrong, place = int(run(kslab, folder, dump) != (status, text, "")), kept.kernel.memory.place
+    for field in ("freelist", "inuse"):
+        for bit in range(len(sound).bit_length()):
+            taken = [one[1] for k, one in enumerate(sound) if k >> bit & 1]
+            olds = [(place(kept.kernel.field(slab, "slab", field)[1] // 8 * 8)[2:4]) for slab in taken]
+            for where, old in olds:
+                data[where : where + 8] = ((old + 1) % TOP).to_bytes(8, "little")
+            data.flush()
+            text, status, _ = again(kept, data).look()
+            told = run(kslab, folder, dump)
+            named = {line.split()[1] for line in told[1].splitlines() if line.startswith("slab ")}
+            same = told == (status, text, "") and named == {f"{slab:016x}" for slab in taken}
+            wrong += not same
+            print(f"{field} bit {bit}: {len(taken)} of {len(sound)} slabs broken:", "same" if same else "differs", flush=True)
+            for where, old in olds:
+                data[where : where + 8] = old.to_bytes(8, "little")
+    return wrong
+
+
 def main(words):
     programs, folder = words[:2]
-    count, seed = (int(word) for word in (words[2:] + ["300", "1"][len(words) - 2 :])[:2])
+    each = words[2:] == ["each"]
+    count, seed = (0, 0) if each else (int(word) for word in (words[2:] + ["300", "1"][len(words) - 2 :])[:2])
     kslab, folder = files.program(programs, "kslab"), os.path.abspath(folder)
     with tempfile.TemporaryDirectory() as changed:
         dump = f"{changed}/vmcore"
         shutil.copyfile(f"{folder}/vmcore", dump)
         with open(dump, "r+b") as handle, mmap.mmap(handle.fileno(), 0) as data:
-            return 1 if compare(kslab, folder, dump, data, count, seed) else 0
+            wrong = compare_each(kslab, folder, dump, data) if each else compare(kslab, folder, dump, data, count, seed)
+            return 1 if wrong else 0

@@ -36,7 +36,8 @@ LINKS, TREE_LINKS, NEAR = 65536, 8192, 64
 # How each rule is suspected.
 WAYS = {
     "led": "M1 M2 M3 M4 M5 M6 N K", "met": "A", "before": "L1", "pointed": "H1", "parent": "R1", "top": "R2", "colour": "R3", "balance": "R5", "word": "R6 X3 X4 T6",
-    "bytes": "X1", "byte": "X2 X6", "count": "X5", "entry": "X7 X8 X9", "member": "U1 U2 U7 T1 T3 T4 T5 G2", "own": "T2", "free": "U5", "laid": "U4", "check": "C", "process": "G1", "shown": "R4 U3 U6 T7",
+    "bytes": "X1", "byte": "X2 X6", "count": "X5", "entry": "X7 X8 X9", "member": "U2 U7 T1 T3 T4 T5 G2", "named": "U1", "own": "T2", "free": "U5", "listed": "U6", "laid": "U4", "check": "C", "process": "G1",
+    "shown": "R4 U3 T7",
 }
 WAY_OF = {rule: way for way, rules in WAYS.items() for rule in rules.split()}
 
@@ -80,8 +81,13 @@ def each(at):
 
 
 def each_pointer(at):
-    """Any bit, where the number is then no value of an xarray."""
-    return at % TOP, lambda word: [number for number in (word ^ 1 << bit for bit in range(64)) if number % 2 == 0]
+    """Any bit, the two lowest at last, where the number is then no value of an xarray."""
+    return at % TOP, lambda word: [number for number in (word ^ 1 << bit for bit in (*range(2, 64), 0, 1)) if number % 2 == 0]
+
+
+def each_count(at):
+    """Any bit, where the lower half isn't zero then."""
+    return at % TOP, lambda word: [number for number in (word ^ 1 << bit for bit in range(64)) if number % 2**32]
 
 
 def recoloured(at):
@@ -135,13 +141,16 @@ class Suspects:
         return self.led(self.second_link())
 
     def by_word(self):
+        return self.word() + self.head_backs()
+
+    def word(self):
         return [] if self.expected is None else [to(self.at, self.expected)]
 
     def by_byte(self):
         return self.filled(self.at, 0, 8, self.expected)
 
     def by_bytes(self):
-        return self.by_byte() + self.first_words()
+        return self.by_byte() + self.first_words() + self.head_backs()
 
     def by_count(self):
         """First each slot that leads nowhere is null, and then the number of slots in use is what is expected."""
@@ -167,16 +176,31 @@ class Suspects:
 
     def by_before(self):
         behind = self.node_behind(self.expected) if self.kind == "ring" and self.expected is not None else None
-        return ([] if behind is None else [to(self.expected + self.offset("next"), behind)]) + self.by_word()
+        return ([] if behind is None else [to(self.expected + self.offset("next"), behind)]) + self.word()
 
     def by_pointed(self):
-        return self.by_word() + ([] if self.expected is None else [each(self.expected)])
+        """First the link as one to a node near that points back."""
+        return ([] if self.expected is None else self.hash_backs(self.expected)) + self.word()
+
+    def by_named(self):
+        """The cache that a slab names, and the cache's pointer to its first memory node."""
+        return self.by_member() + ([self.node_pointer()] if self.kind == "slub" else [])
+
+    def node_pointer(self):
+        return each((self.start + self.kernel.types.located(self.kernel.struct("kmem_cache"), "node")[1]) % TOP)
+
+    def by_listed(self):
+        """The numbers of objects, and then where the free list of the slab begins."""
+        if self.kind != "slub":
+            return shown(self.broken)
+        slab = self.at - self.field("slab", "inuse")[0] // 8
+        return shown(self.broken) + self.heads_in((slab + self.field("slab", "freelist")[0] // 8) % TOP)
 
     def by_parent(self):
         if self.kind != "rbtree" or self.expected is None:
             return []
         shape, parent = self.audit.shape, self.expected
-        found = []
+        found, backs = [], self.child_backs(parent) if parent else []
         node = (self.at - shape["parent"]) % TOP
         links = [parent + shape[side] for side in ("left", "right")] if parent else [self.start + shape["root"]]
         for link in links:
@@ -184,10 +208,10 @@ class Suspects:
             found += [each(link)] if place and place[3] == node else []
         words, own = [to(self.at, parent), to(self.at, parent + 1)], self.read(self.at)
         above = [self.read(((own[3] & ~3) + shape[side]) % TOP) for side in ("left", "right")] if own else []
-        return found + words if any(place and place[3] == node for place in above) else words + found
+        return backs + (found + words if any(place and place[3] == node for place in above) else words + found)
 
     def by_colour(self):
-        return itertools.chain(self.by_word(), self.by_balance())
+        return itertools.chain(self.word(), self.by_balance())
 
     def by_top(self):
         head = (self.start + self.audit.shape["root"]) % TOP
@@ -202,7 +226,10 @@ class Suspects:
                     yield recoloured(place[3] + self.audit.shape["parent"])
 
     def by_entry(self):
-        return [each_pointer(self.at), to(self.at, 0)]
+        return self.entry(self.at)
+
+    def entry(self, at):
+        return self.entry_backs(at) + [each_pointer(at), to(at, 0)]
 
     def by_free(self):
         return self.free() + self.by_laid()
@@ -213,8 +240,8 @@ class Suspects:
             return found
         for name, *numbers in [*reversed(BASES), ("nr_node_ids",)]:
             symbol = address(self.kernel.rows, name, self.kernel.info.kaslr)
-            found += [] if symbol is None else [each(symbol)] + [to(symbol, number) for number in numbers]
-        return found + [each((self.start + self.kernel.types.located(self.kernel.struct("kmem_cache"), "node")[1]) % TOP)]
+            found += [] if symbol is None else [(each if numbers else each_count)(symbol)] + [to(symbol, number) for number in numbers]
+        return found + [self.node_pointer()]
 
     def by_check(self):
         return shown(self.broken) + [to(place[0], 0) for place in self.broken.places if place[0] != "-"]
@@ -290,7 +317,10 @@ class Suspects:
         if self.kind in ("ring", "hlist"):
             following = self.offset("next")
             first = self.start + (following if self.kind == "ring" else self.offset("first"))
-            return self.link_to((self.at - following) % TOP, 1, self.chain(first, following))
+            link = self.link_to((self.at - following) % TOP, 1, self.chain(first, following))
+            if link is None and self.kind == "ring":
+                link = self.link_to((self.at - self.offset("prev")) % TOP, 0, self.chain(first, following))
+            return link
         if self.kind == "rbtree":
             return self.link_to((self.at - self.audit.shape["parent"]) % TOP, 1, self.tree_links())
         return None
@@ -299,10 +329,52 @@ class Suspects:
         """What a link that can't be right may have been."""
         if link is None or self.kind in ("slub", "tasks"):
             return self.by_laid()
-        if self.kind != "ring":
-            return [(each_pointer if self.kind in ("xarray", "pids") else each)(link), to(link, 0)]
+        if self.kind in ("xarray", "pids"):
+            return (self.hash_backs(link) if self.kind == "pids" else []) + self.entry(link)
+        if self.kind == "hlist":
+            return self.hash_backs(link) + [to(link, 0)]
+        if self.kind == "rbtree":
+            return self.tree_backs(link) + [each(link), to(link, 0)]
         behind = self.node_behind((link - self.offset("next")) % TOP)
         return ([] if behind is None else [to(link, behind)]) + [each(link)]
+
+    def backs(self, link, byte, wanted, coloured=False, tag=0):
+        """A link as one to each node near where it leads that points back to what is wanted, by the word with a byte of the node."""
+        place, found = self.read(link % TOP), []
+        if place:
+            value = (place[3] - tag) % TOP
+            for node in [value ^ 1 << bit for bit in range(64)] + [value - value % 4096 + 8 * k for k in range(512)]:
+                back = self.read((node + byte) % TOP)
+                if back and (back[3] & ~3 if coloured else back[3]) == wanted % TOP:
+                    found.append(to(place[0], (node + tag) % TOP))
+        return found
+
+    def hash_backs(self, link):
+        """Of a link of a hash chain, by `pprev`."""
+        if self.kind not in ("hlist", "pids"):
+            return []
+        return self.backs(link, self.kernel.offset("hlist_node", "pprev"), link)
+
+    def tree_backs(self, link):
+        """Of a tree's link, which is the left one or the right one of its node, by the parent."""
+        shape = self.audit.shape
+        return [change for side in ("left", "right") for change in self.backs(link, shape["parent"], link - shape[side], True)]
+
+    def child_backs(self, parent):
+        """Of both links of a tree's node."""
+        shape = self.audit.shape
+        return [change for side in ("left", "right") for change in self.backs(parent + shape[side], shape["parent"], parent, True)]
+
+    def array(self):
+        """The address of the xarray."""
+        return (self.start + (self.audit.shape["idr_rt"] if self.kind == "pids" else 0)) % TOP
+
+    def entry_backs(self, entry):
+        """Of an entry of an xarray, by its node's `array`."""
+        return self.backs(entry, self.audit.shape["array"], self.array(), tag=2) if self.kind in ("xarray", "pids") else []
+
+    def head_backs(self):
+        return self.entry_backs(self.array() + self.audit.shape["head"]) if self.kind in ("xarray", "pids") else []
 
     def emptied(self):
         """The slots of a node that lead nowhere, each as null."""
@@ -342,11 +414,13 @@ class Suspects:
             word[(node + self.audit.shape[name]) % 8] = numbers[name] % 256
         return int.from_bytes(word, "little")
 
-    def heads(self, at):
-        """Where a slab's free list may begin, if its `freelist` stands at an address: nowhere, or at each of its objects."""
+    def is_head(self, at):
+        """Whether a slab of this cache has its `freelist` at an address."""
+        return self.number("slab", "slab_cache", (at - self.field("slab", "freelist")[0] // 8) % TOP) == self.start
+
+    def heads_in(self, at):
+        """Where the free list of the slab may begin that has its `freelist` at an address: nowhere, or at each of its objects."""
         slab = (at - self.field("slab", "freelist")[0] // 8) % TOP
-        if self.number("slab", "slab_cache", slab) != self.start:
-            return None
         size, pad, objects = self.number("kmem_cache", "size", self.start), self.number_or_none("red_left_pad"), self.number("slab", "objects", slab)
         direct, vmemmap = (self.base(name, *numbers) for name, *numbers in BASES)
         if None in (size, objects, direct, vmemmap):
@@ -375,15 +449,28 @@ class Suspects:
         at = next((place[0] for place in self.broken.places if place[0] != "-"), None)
         if self.kind != "slub" or at is None:
             return []
-        heads = self.heads(at)
-        if heads is not None:
-            return heads
+        if self.is_head(at):
+            return self.heads_in(at)
         size, offset, random = *(self.number("kmem_cache", name, self.start) for name in ("size", "offset")), self.number_or_none("random")
         if size is None or offset is None:
             return []
         coded = 0 if random is None else random ^ int.from_bytes(at.to_bytes(8, "little"), "big")
         near = [(at - offset + k * size) % TOP for k in range(-NEAR, NEAR + 1)]
-        return [to(at, pointer ^ coded) for pointer in [0] + near]
+        return self.heads_before(at) + [to(at, pointer ^ coded) for pointer in [0] + near]
+
+    def heads_before(self, at):
+        """Where the free list of an object's slab may begin that begins with it now: the slab is of one page, two, four or eight, the first that fits."""
+        direct, vmemmap = (self.base(name, *numbers) for name, *numbers in BASES)
+        if direct is None or vmemmap is None:
+            return []
+        page, byte = self.kernel.types.size(self.kernel.struct("page")), self.field("slab", "freelist")[0] // 8
+        for pages in (1, 2, 4, 8):
+            slab = (vmemmap + page * ((at - direct) % TOP // 4096 // pages * pages)) % TOP
+            if self.is_head((slab + byte) % TOP):
+                offset = self.number("kmem_cache", "offset", self.start)
+                begins = offset is not None and self.number("slab", "freelist", slab) == (at - offset) % TOP
+                return self.heads_in((slab + byte) % TOP) if begins else []
+        return []
 
 
 class Elements:
@@ -469,7 +556,8 @@ class Elements:
             return ""
         kind, at = found
         path = "" if self.broken.rule in ("C", "U4") else self.path(kind, self.before(at))
-        return f"element {self.types.name(self.types.records[kind][1]).decode()} {at:016x}{' ' * bool(path)}{path}\n"
+        alone = self.broken.rule in "L1 H1 R1 X1 X2 X3 X4 U4 G1".split() or self.broken.rule == "C" and self.audit.kind == "xarray"
+        return f"element {self.types.name(self.types.records[kind][1]).decode()} {at:016x}{' ' * bool(path)}{path}{' unconfirmed' * alone}\n"
 
     def list_lines(self):
         """The list of tasks or of a slab cache in which the violation lies: the first that is broken, where it is so by this violation."""
@@ -565,6 +653,7 @@ class Causes:
         self.kernel = Kernel(Memory(self.core, info.table, info.levels, info.mask), Types(btf), symbols(map_), info)
         self.audits, self.numbers, self.tables, self.version = plan_of(plan, self.kernel)
         self.sights = Sights(core, btf, map_)
+        self.sights.why.memory = self.kernel.memory  # whose tails are the plan's
 
     def judge(self, root):
         """The violation that a root audit comes to, and the audit that finds it; or nothing."""
@@ -613,7 +702,7 @@ class Causes:
 
     def place_lines(self, place):
         """A word of a violation, and what lies at its address."""
-        return place_line(place) + ("" if place[0] is None else self.sights.told(place[0]))
+        return place_line(place) + ("" if place[0] in (None, "-") else self.sights.says(place[0], place[3]) + self.sights.told(place[0]))
 
     def text(self):
         """Of version 1 the first root audit that is broken, and of version 2 each."""

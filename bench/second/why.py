@@ -14,7 +14,7 @@ import re
 import files
 import timer
 from plans.reader import IMAGE, TOP, Broken, Core, Info, Memory, Refused, Types, address, dec_of, symbols, vmcoreinfo
-from second.areas import Areas
+from second.areas import NO_VARIABLE, Areas
 from second.objects import Objects, all_rows
 from second.verdict import POISON, Kernel
 
@@ -96,17 +96,22 @@ class Why:
         info = Info(self.core)
         self.memory = Memory(self.core, info.table, info.levels, info.mask)
         rows = symbols(map_)
-        self.end = self.image_end(rows, info)
+        self.end = self.one(rows, info, "_end")
         self.base, self.phys_base = self.direct_base(rows, info), phys_base(self.core)
-        self.rows = [row for row in all_rows(map_, info.kaslr) if row[0] >= IMAGE and row[1] != "__per_cpu_start"]
+        self.rows = [row for row in all_rows(map_, info.kaslr) if row[0] >= IMAGE and row[1] not in NO_VARIABLE]
+        self.freed = [self.one(rows, info, name) for name in ("__init_begin", "__init_end")]
         self.lead = lambda value: "number"
 
-    def image_end(self, rows, info):
-        """Where the kernel's image ends, if the map's rows say one address."""
+    def one(self, rows, info, name):
+        """The address of a symbol, if the map's rows say one."""
         try:
-            return address(rows, "_end", info.kaslr) if b"_end" in rows else None
+            return address(rows, name, info.kaslr) if name.encode() in rows else None
         except Refused:
             return None
+
+    def is_freed(self, at):
+        """Whether an address is in the memory that the kernel frees when it has started."""
+        return None not in self.freed and self.freed[0] <= at < self.freed[1]
 
     def direct_base(self, rows, info):
         """Where the direct map begins: the kernel's variable, or else the fixed address."""
@@ -128,7 +133,7 @@ class Why:
                 yield f"alias {at:016x}"
 
     def symbol(self, at):
-        if self.end is None or not IMAGE <= at < self.end:
+        if self.end is None or not IMAGE <= at < self.end or self.is_freed(at):
             return None
         below = [row for row in self.rows if row[0] <= at]
         if not below:
@@ -323,12 +328,19 @@ class Sights:
         unknown, keys = "", (0, [])
         try:
             keys = self.objects.keys() if self.objects else keys
+            unknown = "".join(f"unread {cache:016x} {name}\n" for cache, name in (self.objects.unread() if self.objects else []))
         except Broken as broken:
             unknown = f"encoded unknown {broken.rule} {broken.at:016x}\n"
         except (Refused, TypeError):
             pass
         text = self.why.refs(value, self.why.encoded([value], keys)[value])
         return re.sub(r"(words \d+\n)$", unknown + r"\1", text)
+
+    def says(self, va, value):
+        """What a word of a violation says by itself, and how far that goes on."""
+        kind = meaning(va, value)
+        lines = [] if kind == "number" else [f"says {self.why.said(va, value)}"]
+        return "".join(line + "\n" for line in lines + ([self.why.span(va, value)] if kind in FILLS else []))
 
     def told(self, at):
         """What stands after a word of a violation."""

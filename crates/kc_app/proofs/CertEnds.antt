@@ -74,21 +74,21 @@ certify_by law certs cert None ends old new err_old err_new fits is = absurd is
 certify_by law certs cert (Some (Err refusal)) ends old new err_old err_new fits is = is.ends
 certify_by law certs cert (Some (Ok all)) ends old new err_old err_new fits is = by_verdict certs cert all (verdict all.image all.audits) ends old new refl (standing law all) fits is.ends is.out_took
 
-certify_written : ChecksStand → CertLaws → (cert : List CertStep) (words : List (List ℕ)) (files : Told) (ends : Status) (old new err_old err_new : Option (List ℕ))
-    → FitsFiles cert words (Some files) → IsWritten (written_of cert words files) ends old new err_old err_new → CertifyEnds words files ends old new
-certify_written law certs cert words files ends old new err_old err_new fits is f same =
-    certify_by law certs cert (audited (files Dump f.dump) (files Btf f.btf) (files Map f.map) (files Plan f.plan)) ends old new err_old err_new (rw same at fits) (rw same at is)
+certify_written : (most : ℕ) → ChecksStand → CertLaws → (cert : List CertStep) (words : List (List ℕ)) (files : Told) (ends : Status) (old new err_old err_new : Option (List ℕ))
+    → FitsFiles most cert words (Some files) → IsWritten (written_of most cert words files) ends old new err_old err_new → CertifyEnds most words files ends old new
+certify_written most law certs cert words files ends old new err_old err_new fits is f same =
+    certify_by law certs cert (audited most (files Dump f.dump) (files Btf f.btf) (files Map f.map) (files Plan f.plan)) ends old new err_old err_new (rw same at fits) (rw same at is)
 
-certify_told : ChecksStand → CertLaws → (cert : List CertStep) (words : List (List ℕ)) (files : Option Told) (ends : Status) (old new err_old err_new : Option (List ℕ))
-    → FitsFiles cert words files → IsTold (written_of cert words) files ends old new err_old err_new → IfSome files (λ f. CertifyEnds words f ends old new)
-certify_told law certs cert words None ends old new err_old err_new fits is = tt
-certify_told law certs cert words (Some files) ends old new err_old err_new fits is = certify_written law certs cert words files ends old new err_old err_new fits is
+certify_told : (most : ℕ) → ChecksStand → CertLaws → (cert : List CertStep) (words : List (List ℕ)) (files : Option Told) (ends : Status) (old new err_old err_new : Option (List ℕ))
+    → FitsFiles most cert words files → IsTold (written_of most cert words) files ends old new err_old err_new → IfSome files (λ f. CertifyEnds most words f ends old new)
+certify_told most law certs cert words None ends old new err_old err_new fits is = tt
+certify_told most law certs cert words (Some files) ends old new err_old err_new fits is = certify_written most law certs cert words files ends old new err_old err_new fits is
 
 -- an answer of the program ends `certify` by what its files hold
-pub answer_certifies : ChecksStand → CertLaws → (words : List (List ℕ)) (files : Option Told) (ends : Status) (old new err_old err_new : Option (List ℕ))
-    → OnTrue (is_answer ends) (IsToldBy words files ends old new err_old err_new) → OnTrue (is_answer ends) (IfSome files (λ f. CertifyEnds words f ends old new))
-answer_certifies law certs words files ends old new err_old err_new told =
-    on_true (is_answer ends) (λ is. certify_told law certs is.0 words files ends old new err_old err_new is.1 is.2) told
+pub answer_certifies : (most : ℕ) → ChecksStand → CertLaws → (words : List (List ℕ)) (files : Option Told) (ends : Status) (old new err_old err_new : Option (List ℕ))
+    → OnTrue (is_answer ends) (IsToldBy most words files ends old new err_old err_new) → OnTrue (is_answer ends) (IfSome files (λ f. CertifyEnds most words f ends old new))
+answer_certifies most law certs words files ends old new err_old err_new told =
+    on_true (is_answer ends) (λ is. certify_told most law certs is.0 words files ends old new err_old err_new is.1 is.2) told
 
 -- what is made of a certificate's file, by whether it is short
 abbrev short_made : Bool → List ℕ → Made (List CertStep)
@@ -147,18 +147,18 @@ recheck_by law texts cert (Some (Err refusal)) file ends old new err_old err_new
 recheck_by law texts cert (Some (Ok all)) None ends old new err_old err_new is = absurd is
 recheck_by law texts cert (Some (Ok all)) (Some bytes) ends old new err_old err_new is = cert_by law texts cert all bytes ends old new err_old err_new is
 
-recheck_written : AnswersAreRight → TextsTold → (cert : List CertStep) (words : List (List ℕ)) (files : Told) (ends : Status) (old new err_old err_new : Option (List ℕ))
-    → IsWritten (written_of cert words files) ends old new err_old err_new → RecheckEnds words files ends old new err_old err_new
-recheck_written law texts cert words files ends old new err_old err_new is f same =
-    recheck_by law texts cert (audited (files Dump f.files.dump) (files Btf f.files.btf) (files Map f.files.map) (files Plan f.files.plan)) (files Report f.cert) ends old new err_old err_new (rw same at is)
+recheck_written : (most : ℕ) → AnswersAreRight → TextsTold → (cert : List CertStep) (words : List (List ℕ)) (files : Told) (ends : Status) (old new err_old err_new : Option (List ℕ))
+    → IsWritten (written_of most cert words files) ends old new err_old err_new → RecheckEnds most words files ends old new err_old err_new
+recheck_written most law texts cert words files ends old new err_old err_new is f same =
+    recheck_by law texts cert (audited most (files Dump f.files.dump) (files Btf f.files.btf) (files Map f.files.map) (files Plan f.files.plan)) (files Report f.cert) ends old new err_old err_new (rw same at is)
 
-recheck_told : AnswersAreRight → TextsTold → (cert : List CertStep) (words : List (List ℕ)) (files : Option Told) (ends : Status) (old new err_old err_new : Option (List ℕ))
-    → IsTold (written_of cert words) files ends old new err_old err_new → IfSome files (λ f. RecheckEnds words f ends old new err_old err_new)
-recheck_told law texts cert words None ends old new err_old err_new is = tt
-recheck_told law texts cert words (Some files) ends old new err_old err_new is = recheck_written law texts cert words files ends old new err_old err_new is
+recheck_told : (most : ℕ) → AnswersAreRight → TextsTold → (cert : List CertStep) (words : List (List ℕ)) (files : Option Told) (ends : Status) (old new err_old err_new : Option (List ℕ))
+    → IsTold (written_of most cert words) files ends old new err_old err_new → IfSome files (λ f. RecheckEnds most words f ends old new err_old err_new)
+recheck_told most law texts cert words None ends old new err_old err_new is = tt
+recheck_told most law texts cert words (Some files) ends old new err_old err_new is = recheck_written most law texts cert words files ends old new err_old err_new is
 
 -- and `recheck` by the certificate's file too
-pub answer_rechecks : AnswersAreRight → TextsTold → (words : List (List ℕ)) (files : Option Told) (ends : Status) (old new err_old err_new : Option (List ℕ))
-    → OnTrue (is_answer ends) (IsToldBy words files ends old new err_old err_new) → OnTrue (is_answer ends) (IfSome files (λ f. RecheckEnds words f ends old new err_old err_new))
-answer_rechecks law texts words files ends old new err_old err_new told =
-    on_true (is_answer ends) (λ is. recheck_told law texts is.0 words files ends old new err_old err_new is.2) told
+pub answer_rechecks : (most : ℕ) → AnswersAreRight → TextsTold → (words : List (List ℕ)) (files : Option Told) (ends : Status) (old new err_old err_new : Option (List ℕ))
+    → OnTrue (is_answer ends) (IsToldBy most words files ends old new err_old err_new) → OnTrue (is_answer ends) (IfSome files (λ f. RecheckEnds most words f ends old new err_old err_new))
+answer_rechecks most law texts words files ends old new err_old err_new told =
+    on_true (is_answer ends) (λ is. recheck_told most law texts is.0 words files ends old new err_old err_new is.2) told

@@ -146,25 +146,25 @@ cert_replies made file None content held cert r is told replies = tt
 cert_replies made file (Some files) content held cert r is told replies = rw (is.2, told) (rw is.1 at replies)
 
 -- a refusal of one of the four files leaves that of the certificate unopened too
-stays_more : (f : CertFiles) (one : Option Slot) (old new : Slot → Option (List ℕ)) → new slot.Report ≡ old slot.Report
-    → AllStay (behind one (check_asked f.files).named) old new → AllStay (behind one (recheck_asked f).named) old new
-stays_more f None old new kept stay = tt
-stays_more f (Some slot.Dump) old new kept stay = (stay.0, (stay.1.0, (stay.1.1.0, (kept, tt))))
-stays_more f (Some slot.Btf) old new kept stay = (stay.0, (stay.1.0, (kept, tt)))
-stays_more f (Some slot.Map) old new kept stay = (stay.0, (kept, tt))
-stays_more f (Some slot.Plan) old new kept stay = (kept, tt)
-stays_more f (Some slot.Report) old new kept stay = tt
-stays_more f (Some slot.Module) old new kept stay = tt
+stays_more : (most : ℕ) (f : CertFiles) (one : Option Slot) (old new : Slot → Option (List ℕ)) → new slot.Report ≡ old slot.Report
+    → AllStay (behind one (check_asked most f.files).named) old new → AllStay (behind one (recheck_asked most f).named) old new
+stays_more most f None old new kept stay = tt
+stays_more most f (Some slot.Dump) old new kept stay = (stay.0, (stay.1.0, (stay.1.1.0, (kept, tt))))
+stays_more most f (Some slot.Btf) old new kept stay = (stay.0, (stay.1.0, (kept, tt)))
+stays_more most f (Some slot.Map) old new kept stay = (stay.0, (kept, tt))
+stays_more most f (Some slot.Plan) old new kept stay = (kept, tt)
+stays_more most f (Some slot.Report) old new kept stay = tt
+stays_more most f (Some slot.Module) old new kept stay = tt
 
-pub four_stay : (A B : Type 0) (f : CertFiles) (halt : Halt) (r : Result B Halt) (old new : Slot → Option (List ℕ)) → r ≡ Err halt → new slot.Report ≡ old slot.Report
-    → StayBehind {A = A} (check_asked f.files).named (Err halt) old new → StayBehind (recheck_asked f).named r old new
-four_stay A B f (Refused refusal) r old new is kept stay = rw is (stays_more f (refused_slot refusal) old new kept stay)
-four_stay A B f Store r old new is kept stay = rw is tt
-four_stay A B f Memory r old new is kept stay = rw is tt
+pub four_stay : (most : ℕ) (A B : Type 0) (f : CertFiles) (halt : Halt) (r : Result B Halt) (old new : Slot → Option (List ℕ)) → r ≡ Err halt → new slot.Report ≡ old slot.Report
+    → StayBehind {A = A} (check_asked most f.files).named (Err halt) old new → StayBehind (recheck_asked most f).named r old new
+four_stay most A B f (Refused refusal) r old new is kept stay = rw is (stays_more most f (refused_slot refusal) old new kept stay)
+four_stay most A B f Store r old new is kept stay = rw is tt
+four_stay most A B f Memory r old new is kept stay = rw is tt
 
 -- and that of the certificate leaves none
-pub last_stays : (A B : Type 0) (f : CertFiles) (halt : Halt) (r : Result B Halt) (old new : Slot → Option (List ℕ)) → r ≡ Err halt → RefusesIn {A = A} slot.Report (Err halt)
-    → StayBehind (recheck_asked f).named r old new
-last_stays A B f (Refused refusal) r old new is late = rw (is, late) tt
-last_stays A B f Store r old new is late = rw is tt
-last_stays A B f Memory r old new is late = rw is tt
+pub last_stays : (most : ℕ) (A B : Type 0) (f : CertFiles) (halt : Halt) (r : Result B Halt) (old new : Slot → Option (List ℕ)) → r ≡ Err halt → RefusesIn {A = A} slot.Report (Err halt)
+    → StayBehind (recheck_asked most f).named r old new
+last_stays most A B f (Refused refusal) r old new is late = rw (is, late) tt
+last_stays most A B f Store r old new is late = rw is tt
+last_stays most A B f Memory r old new is late = rw is tt

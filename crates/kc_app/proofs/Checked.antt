@@ -21,12 +21,12 @@ use Rattle.kc_app.specs.Shown.{Shown, shown_status, shown_text, shown_written}
 use Rattle.kc_app.proofs.Ends.{shown_by}
 
 -- a late refusal leaves the files after it unopened
-pub late_stays : (A B : Type 0) (f : Files) (halt : Halt) (r : Result B Halt) (old before new : Slot → Option (List ℕ)) → r ≡ Err halt → before slot.Plan ≡ old slot.Plan
-    → RefusesLate {A = A} (Err halt) before new → StayBehind (check_asked f).named r old new
-late_stays A B f (Refused refusal) r old before new is kept (inl late) = rw (is, late.0) (rw kept at late.1, tt)
-late_stays A B f (Refused refusal) r old before new is kept (inr late) = rw (is, late) tt
-late_stays A B f Store r old before new is kept late = rw is tt
-late_stays A B f Memory r old before new is kept late = rw is tt
+pub late_stays : (most : ℕ) (A B : Type 0) (f : Files) (halt : Halt) (r : Result B Halt) (old before new : Slot → Option (List ℕ)) → r ≡ Err halt → before slot.Plan ≡ old slot.Plan
+    → RefusesLate {A = A} (Err halt) before new → StayBehind (check_asked most f).named r old new
+late_stays most A B f (Refused refusal) r old before new is kept (inl late) = rw (is, late.0) (rw kept at late.1, tt)
+late_stays most A B f (Refused refusal) r old before new is kept (inr late) = rw (is, late) tt
+late_stays most A B f Store r old before new is kept late = rw is tt
+late_stays most A B f Memory r old before new is kept late = rw is tt
 
 -- what is written of what is shown is what it prints
 prints_shown : (shown : Shown) (r : Result Answer Halt) → WritesText (shown_text shown) (shown_status shown) r → Prints shown_written (gives shown) r

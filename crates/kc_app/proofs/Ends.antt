@@ -98,7 +98,7 @@ made_ends stand cert (Some (Err refusal)) = refl
 made_ends stand cert (Some (Ok all)) = stand all
 
 pub checks_end : ChecksStand → ChecksEnd
-checks_end stand cert f files = made_ends stand cert (audited (files Dump) (files Btf) (files Map) (files Plan))
+checks_end stand most cert f files = made_ends stand cert (audited most (files Dump) (files Btf) (files Map) (files Plan))
 
 pub on_true : {P Q : Type 0} (b : Bool) → (P → Q) → OnTrue b P → OnTrue b Q
 on_true true follows p = follows p
@@ -110,22 +110,22 @@ pub written_ends : (cert : List CertStep) (made : Made Audited) (output : Option
 written_ends cert made None status out_old out_new err_old err_new ends is = absurd is
 written_ends cert made (Some o) status out_old out_new err_old err_new ends is = rw is.ends ends
 
-check_written : (cert : List CertStep) (words : List (List ℕ)) (files : Told) (status : Status) (out_old out_new err_old err_new : Option (List ℕ))
-    → ChecksEnd → IsWritten (written_of cert words files) status out_old out_new err_old err_new → CheckEnds words files status
-check_written cert words files status out_old out_new err_old err_new law is f same =
-    written_ends cert (audited (files Dump f.dump) (files Btf f.btf) (files Map f.map) (files Plan f.plan)) (out_of (check_words f) files) status out_old out_new err_old err_new
-    (law cert f (word_files (program (check_words f)) files)) (rw same at is)
+check_written : (most : ℕ) (cert : List CertStep) (words : List (List ℕ)) (files : Told) (status : Status) (out_old out_new err_old err_new : Option (List ℕ))
+    → ChecksEnd → IsWritten (written_of most cert words files) status out_old out_new err_old err_new → CheckEnds most words files status
+check_written most cert words files status out_old out_new err_old err_new law is f same =
+    written_ends cert (audited most (files Dump f.dump) (files Btf f.btf) (files Map f.map) (files Plan f.plan)) (out_of most (check_words f) files) status out_old out_new err_old err_new
+    (law most cert f (word_files (program most (check_words f)) files)) (rw same at is)
 
-check_told : (cert : List CertStep) (words : List (List ℕ)) (files : Option Told) (status : Status) (out_old out_new err_old err_new : Option (List ℕ))
-    → ChecksEnd → IsTold (written_of cert words) files status out_old out_new err_old err_new → IfSome files (λ f. CheckEnds words f status)
-check_told cert words None status out_old out_new err_old err_new law is = tt
-check_told cert words (Some files) status out_old out_new err_old err_new law is = check_written cert words files status out_old out_new err_old err_new law is
+check_told : (most : ℕ) (cert : List CertStep) (words : List (List ℕ)) (files : Option Told) (status : Status) (out_old out_new err_old err_new : Option (List ℕ))
+    → ChecksEnd → IsTold (written_of most cert words) files status out_old out_new err_old err_new → IfSome files (λ f. CheckEnds most words f status)
+check_told most cert words None status out_old out_new err_old err_new law is = tt
+check_told most cert words (Some files) status out_old out_new err_old err_new law is = check_written most cert words files status out_old out_new err_old err_new law is
 
 -- an answer of the program ends a check by what its files hold
-pub answer_ends : ChecksEnd → (words : List (List ℕ)) (files : Option Told) (status : Status) (out_old out_new err_old err_new : Option (List ℕ))
-    → OnTrue (is_answer status) (IsToldBy words files status out_old out_new err_old err_new) → OnTrue (is_answer status) (IfSome files (λ f. CheckEnds words f status))
-answer_ends law words files status out_old out_new err_old err_new told =
-    on_true (is_answer status) (λ is. check_told is.0 words files status out_old out_new err_old err_new law is.2) told
+pub answer_ends : (most : ℕ) → ChecksEnd → (words : List (List ℕ)) (files : Option Told) (status : Status) (out_old out_new err_old err_new : Option (List ℕ))
+    → OnTrue (is_answer status) (IsToldBy most words files status out_old out_new err_old err_new) → OnTrue (is_answer status) (IfSome files (λ f. CheckEnds most words f status))
+answer_ends most law words files status out_old out_new err_old err_new told =
+    on_true (is_answer status) (λ is. check_told most is.0 words files status out_old out_new err_old err_new law is.2) told
 
 -- a check prints what is shown of what it audits
 took_shown : (cert : List CertStep) (made : Made Audited) (all : Audited) (status : Status) (out_old out_new err_old err_new : Option (List ℕ))
@@ -141,21 +141,21 @@ pub prints_by : (cert : List CertStep) (made : Made Audited) (status : Status) (
     → RootsTold → IsWritten (option_map (output_written cert) (option_map Ends (shows_made (made >>= (λ all. gives (audited_shown all)))))) status out_old out_new err_old err_new → PrintsBy made out_old out_new
 prints_by cert made status out_old out_new err_old err_new law written all is = (took_shown cert made all status out_old out_new err_old err_new is written, law all)
 
-check_prints : (cert : List CertStep) (words : List (List ℕ)) (files : Told) (status : Status) (out_old out_new err_old err_new : Option (List ℕ))
-    → RootsTold → IsWritten (written_of cert words files) status out_old out_new err_old err_new → CheckPrints words files out_old out_new
-check_prints cert words files status out_old out_new err_old err_new law is f same =
-    prints_by cert (audited (files Dump f.dump) (files Btf f.btf) (files Map f.map) (files Plan f.plan)) status out_old out_new err_old err_new law (rw same at is)
+check_prints : (most : ℕ) (cert : List CertStep) (words : List (List ℕ)) (files : Told) (status : Status) (out_old out_new err_old err_new : Option (List ℕ))
+    → RootsTold → IsWritten (written_of most cert words files) status out_old out_new err_old err_new → CheckPrints most words files out_old out_new
+check_prints most cert words files status out_old out_new err_old err_new law is f same =
+    prints_by cert (audited most (files Dump f.dump) (files Btf f.btf) (files Map f.map) (files Plan f.plan)) status out_old out_new err_old err_new law (rw same at is)
 
-prints_told : (cert : List CertStep) (words : List (List ℕ)) (files : Option Told) (status : Status) (out_old out_new err_old err_new : Option (List ℕ))
-    → RootsTold → IsTold (written_of cert words) files status out_old out_new err_old err_new → IfSome files (λ f. CheckPrints words f out_old out_new)
-prints_told cert words None status out_old out_new err_old err_new law is = tt
-prints_told cert words (Some files) status out_old out_new err_old err_new law is = check_prints cert words files status out_old out_new err_old err_new law is
+prints_told : (most : ℕ) (cert : List CertStep) (words : List (List ℕ)) (files : Option Told) (status : Status) (out_old out_new err_old err_new : Option (List ℕ))
+    → RootsTold → IsTold (written_of most cert words) files status out_old out_new err_old err_new → IfSome files (λ f. CheckPrints most words f out_old out_new)
+prints_told most cert words None status out_old out_new err_old err_new law is = tt
+prints_told most cert words (Some files) status out_old out_new err_old err_new law is = check_prints most cert words files status out_old out_new err_old err_new law is
 
 -- an answer of the program prints so
-pub answer_prints : RootsTold → (words : List (List ℕ)) (files : Option Told) (status : Status) (out_old out_new err_old err_new : Option (List ℕ))
-    → OnTrue (is_answer status) (IsToldBy words files status out_old out_new err_old err_new) → OnTrue (is_answer status) (IfSome files (λ f. CheckPrints words f out_old out_new))
-answer_prints law words files status out_old out_new err_old err_new told =
-    on_true (is_answer status) (λ is. prints_told is.0 words files status out_old out_new err_old err_new law is.2) told
+pub answer_prints : (most : ℕ) → RootsTold → (words : List (List ℕ)) (files : Option Told) (status : Status) (out_old out_new err_old err_new : Option (List ℕ))
+    → OnTrue (is_answer status) (IsToldBy most words files status out_old out_new err_old err_new) → OnTrue (is_answer status) (IfSome files (λ f. CheckPrints most words f out_old out_new))
+answer_prints most law words files status out_old out_new err_old err_new told =
+    on_true (is_answer status) (λ is. prints_told most is.0 words files status out_old out_new err_old err_new law is.2) told
 
 -- what is written of an output whose words are true of the dump
 written_true : (cert : List CertStep) (output : Option (Output Reply)) (status : Status) (out_old out_new err_old err_new : Option (List ℕ))
@@ -163,14 +163,14 @@ written_true : (cert : List CertStep) (output : Option (Output Reply)) (status :
 written_true cert None status out_old out_new err_old err_new stands fits is = absurd is
 written_true cert (Some o) status out_old out_new err_old err_new stands fits is = (cert, fits, is.out_took, stands)
 
-told_true : (cert : List CertStep) (words : List (List ℕ)) (files : Option Told) (status : Status) (out_old out_new err_old err_new : Option (List ℕ))
-    → ShownStand → FitsFiles cert words files → IsTold (written_of cert words) files status out_old out_new err_old err_new → IfSome files (λ f. TookTrue (out_of words f) out_old out_new)
-told_true cert words None status out_old out_new err_old err_new law fits is = tt
-told_true cert words (Some files) status out_old out_new err_old err_new law fits is =
-    written_true cert (out_of words files) status out_old out_new err_old err_new (law words (word_files (program words) files)) fits is
+told_true : (most : ℕ) (cert : List CertStep) (words : List (List ℕ)) (files : Option Told) (status : Status) (out_old out_new err_old err_new : Option (List ℕ))
+    → ShownStand → FitsFiles most cert words files → IsTold (written_of most cert words) files status out_old out_new err_old err_new → IfSome files (λ f. TookTrue (out_of most words f) out_old out_new)
+told_true most cert words None status out_old out_new err_old err_new law fits is = tt
+told_true most cert words (Some files) status out_old out_new err_old err_new law fits is =
+    written_true cert (out_of most words files) status out_old out_new err_old err_new (law most words (word_files (program most words) files)) fits is
 
 -- an answer of the program shows words that are true of the dump
-pub answer_true : ShownStand → (words : List (List ℕ)) (files : Option Told) (status : Status) (out_old out_new err_old err_new : Option (List ℕ))
-    → OnTrue (is_answer status) (IsToldBy words files status out_old out_new err_old err_new) → OnTrue (is_answer status) (IfSome files (λ f. TookTrue (out_of words f) out_old out_new))
-answer_true law words files status out_old out_new err_old err_new told =
-    on_true (is_answer status) (λ is. told_true is.0 words files status out_old out_new err_old err_new law is.1 is.2) told
+pub answer_true : (most : ℕ) → ShownStand → (words : List (List ℕ)) (files : Option Told) (status : Status) (out_old out_new err_old err_new : Option (List ℕ))
+    → OnTrue (is_answer status) (IsToldBy most words files status out_old out_new err_old err_new) → OnTrue (is_answer status) (IfSome files (λ f. TookTrue (out_of most words f) out_old out_new))
+answer_true most law words files status out_old out_new err_old err_new told =
+    on_true (is_answer status) (λ is. told_true most is.0 words files status out_old out_new err_old err_new law is.1 is.2) told

@@ -110,32 +110,32 @@ both_true true follows p q = follows p q
 both_true false follows p q = tt
 
 -- an answer of the program is the one that the output of its words and files has
-pub told_by : (words : List (List ℕ)) (files : Option Files) (outcome : Option (Result Answer Halt)) (old new : Slot → Option (List ℕ)) (status : Status) (out_old out_new err_old err_new : Option (List ℕ))
-    → RunsAs (program words) files outcome old new → OnTrue (is_answer status) (IsWritten (ending usage_text outcome) status out_old out_new err_old err_new)
-    → OnTrue (is_answer status) (IsToldBy words files status out_old out_new err_old err_new)
-told_by words files outcome old new status out_old out_new err_old err_new runs is =
-    let k = chosen (program words) files outcome old new runs in
-    both_true (is_answer status) (λ w t. (k.cert, written_fits k.cert (program words) files usage_text outcome status out_old out_new err_old err_new k.fits w, t)) is
-    (tells usage_text (reply_written k.cert) (program words) files outcome old new status out_old out_new err_old err_new k.runs is)
+pub told_by : (most : ℕ) (words : List (List ℕ)) (files : Option Files) (outcome : Option (Result Answer Halt)) (old new : Slot → Option (List ℕ)) (status : Status) (out_old out_new err_old err_new : Option (List ℕ))
+    → RunsAs (program most words) files outcome old new → OnTrue (is_answer status) (IsWritten (ending usage_text outcome) status out_old out_new err_old err_new)
+    → OnTrue (is_answer status) (IsToldBy most words files status out_old out_new err_old err_new)
+told_by most words files outcome old new status out_old out_new err_old err_new runs is =
+    let k = chosen (program most words) files outcome old new runs in
+    both_true (is_answer status) (λ w t. (k.cert, written_fits k.cert (program most words) files usage_text outcome status out_old out_new err_old err_new k.fits w, t)) is
+    (tells usage_text (reply_written k.cert) (program most words) files outcome old new status out_old out_new err_old err_new k.runs is)
 
 -- and so is what standard output took where it failed; the counts are its own
-pub part_by : (words : List (List ℕ)) (files : Option Files) (outcome : Option (Result Answer Halt)) (old new : Slot → Option (List ℕ)) (status : Status) (faults_old faults_new : ℕ) (out_old out_new : Option (List ℕ))
-    → RunsAs (program words) files outcome old new → At status SinkFailed (faults_old < faults_new → TookOut (ending usage_text outcome) out_old out_new)
-    → At status SinkFailed (faults_old < faults_new → TookPartBy words files out_old out_new)
-part_by words files outcome old new status faults_old faults_new out_old out_new runs took =
-    let k = chosen (program words) files outcome old new runs in
-    both_true (nat_eq (number status) 4) (λ o p rose. (k.cert, took_fits k.cert (program words) files usage_text outcome out_old out_new k.fits (o rose), p rose)) took
-    (parts usage_text (reply_written k.cert) (program words) files outcome old new status faults_old faults_new out_old out_new k.runs took)
+pub part_by : (most : ℕ) (words : List (List ℕ)) (files : Option Files) (outcome : Option (Result Answer Halt)) (old new : Slot → Option (List ℕ)) (status : Status) (faults_old faults_new : ℕ) (out_old out_new : Option (List ℕ))
+    → RunsAs (program most words) files outcome old new → At status SinkFailed (faults_old < faults_new → TookOut (ending usage_text outcome) out_old out_new)
+    → At status SinkFailed (faults_old < faults_new → TookPartBy most words files out_old out_new)
+part_by most words files outcome old new status faults_old faults_new out_old out_new runs took =
+    let k = chosen (program most words) files outcome old new runs in
+    both_true (nat_eq (number status) 4) (λ o p rose. (k.cert, took_fits k.cert (program most words) files usage_text outcome out_old out_new k.fits (o rose), p rose)) took
+    (parts usage_text (reply_written k.cert) (program most words) files outcome old new status faults_old faults_new out_old out_new k.runs took)
 
 -- and what standard error took where it alone failed; the counts are those of the store and of standard output
-pub failed_by : (words : List (List ℕ)) (files : Option Files) (outcome : Option (Result Answer Halt)) (old new : Slot → Option (List ℕ)) (status : Status) (store_old store_new faults_old faults_new : ℕ) (err_old err_new : Option (List ℕ))
-    → RunsAs (program words) files outcome old new → OnStoreIn outcome (Rose store_old store_new)
+pub failed_by : (most : ℕ) (words : List (List ℕ)) (files : Option Files) (outcome : Option (Result Answer Halt)) (old new : Slot → Option (List ℕ)) (status : Status) (store_old store_new faults_old faults_new : ℕ) (err_old err_new : Option (List ℕ))
+    → RunsAs (program most words) files outcome old new → OnStoreIn outcome (Rose store_old store_new)
     → At status SinkFailed (faults_old < 2 ^ 64 - 1 → faults_new ≡ faults_old → TookLine (ending usage_text outcome) (outcome ≡ Some (Err Store)) err_old err_new)
-    → At status SinkFailed (faults_old < 2 ^ 64 - 1 → faults_new ≡ faults_old → ErrFailedBy words files (Rose store_old store_new) err_old err_new)
-failed_by words files outcome old new status store_old store_new faults_old faults_new err_old err_new runs cause took =
-    let k = chosen (program words) files outcome old new runs in
+    → At status SinkFailed (faults_old < 2 ^ 64 - 1 → faults_new ≡ faults_old → ErrFailedBy most words files (Rose store_old store_new) err_old err_new)
+failed_by most words files outcome old new status store_old store_new faults_old faults_new err_old err_new runs cause took =
+    let k = chosen (program most words) files outcome old new runs in
     both_true (nat_eq (number status) 4) (λ o p few same. (k.cert, p few same)) took
-    (fails usage_text (reply_written k.cert) (program words) files outcome old new status store_old store_new faults_old faults_new err_old err_new k.runs cause took)
+    (fails usage_text (reply_written k.cert) (program most words) files outcome old new status store_old store_new faults_old faults_new err_old err_new k.runs cause took)
 
 some_is : {A : Type 0} (x y : A) → Some x ≡ Some y → x ≡ y
 some_is x y is = cc
@@ -160,68 +160,68 @@ shown_replies_of : (asked : Asked Shown) (files : Option Files) (r : Result Answ
 shown_replies_of asked None r prints = tt
 shown_replies_of asked (Some f) r prints = shown_replies (asked.made (asked_files asked f)) r prints
 
-program_none : (words : List (List ℕ)) → certs_asks words ≡ None → program words ≡ option_map shows (command words)
-program_none words none = ap (λ (c : Option (Asked Reply)). option_or c (option_map shows (command words))) none
+program_none : (most : ℕ) (words : List (List ℕ)) → certs_asks most words ≡ None → program most words ≡ option_map shows (command most words)
+program_none most words none = ap (λ (c : Option (Asked Reply)). option_or c (option_map shows (command most words))) none
 
-program_some : (words : List (List ℕ)) (a : Asked Reply) → certs_asks words ≡ Some a → program words ≡ Some a
-program_some words a is = ap (λ (c : Option (Asked Reply)). option_or c (option_map shows (command words))) is
+program_some : (most : ℕ) (words : List (List ℕ)) (a : Asked Reply) → certs_asks most words ≡ Some a → program most words ≡ Some a
+program_some most words a is = ap (λ (c : Option (Asked Reply)). option_or c (option_map shows (command most words))) is
 
-pub shown_runs : (words : List (List ℕ)) (files : Option Files) (outcome : Option (Result Answer Halt)) (old new : Slot → Option (List ℕ))
-    → certs_asks words ≡ None → Runs shown_written (command words) files outcome old new → RunsAs (program words) files outcome old new
-shown_runs words files None old new none runs = program_none words none ∙ ap (option_map shows) runs
-shown_runs words files (Some r) old new none runs =
-    record { asked = shows runs.asked; is = program_none words none ∙ ap (option_map shows) runs.is; replies = shown_replies_of runs.asked files r runs.prints; unopened = runs.unopened }
+pub shown_runs : (most : ℕ) (words : List (List ℕ)) (files : Option Files) (outcome : Option (Result Answer Halt)) (old new : Slot → Option (List ℕ))
+    → certs_asks most words ≡ None → Runs shown_written (command most words) files outcome old new → RunsAs (program most words) files outcome old new
+shown_runs most words files None old new none runs = program_none most words none ∙ ap (option_map shows) runs
+shown_runs most words files (Some r) old new none runs =
+    record { asked = shows runs.asked; is = program_none most words none ∙ ap (option_map shows) runs.is; replies = shown_replies_of runs.asked files r runs.prints; unopened = runs.unopened }
 
 -- and what a command of certificates comes to
-pub certs_run : (words : List (List ℕ)) (a : Asked Reply) (files : Option Files) (r : Result Answer Halt) (old new : Slot → Option (List ℕ))
-    → certs_asks words ≡ Some a → RepliesTo (Some a) files r old new → RunsAs (program words) files (Some r) old new
-certs_run words a files r old new is replies = record { asked = replies.asked; is = program_some words a is ∙ replies.is; replies = replies.replies; unopened = replies.unopened }
+pub certs_run : (most : ℕ) (words : List (List ℕ)) (a : Asked Reply) (files : Option Files) (r : Result Answer Halt) (old new : Slot → Option (List ℕ))
+    → certs_asks most words ≡ Some a → RepliesTo (Some a) files r old new → RunsAs (program most words) files (Some r) old new
+certs_run most words a files r old new is replies = record { asked = replies.asked; is = program_some most words a is ∙ replies.is; replies = replies.replies; unopened = replies.unopened }
 
 -- the names that the program may ask for
 word_same : (asked : Option (Asked Shown)) (slot : Slot) → word_in (option_map shows asked) slot ≡ word_in asked slot
 word_same None slot = refl
 word_same (Some a) slot = refl
 
-pub shown_word : (words : List (List ℕ)) (slot : Slot) → certs_asks words ≡ None → word_in (program words) slot ≡ word_in (command words) slot
-shown_word words slot none = ap (λ (p : Option (Asked Reply)). word_in p slot) (program_none words none) ∙ word_same (command words) slot
+pub shown_word : (most : ℕ) (words : List (List ℕ)) (slot : Slot) → certs_asks most words ≡ None → word_in (program most words) slot ≡ word_in (command most words) slot
+shown_word most words slot none = ap (λ (p : Option (Asked Reply)). word_in p slot) (program_none most words none) ∙ word_same (command most words) slot
 
-pub certs_word : (words : List (List ℕ)) (a : Asked Reply) (slot : Slot) → certs_asks words ≡ Some a → word_in (program words) slot ≡ word_in (Some a) slot
-certs_word words a slot is = ap (λ (p : Option (Asked Reply)). word_in p slot) (program_some words a is)
+pub certs_word : (most : ℕ) (words : List (List ℕ)) (a : Asked Reply) (slot : Slot) → certs_asks most words ≡ Some a → word_in (program most words) slot ≡ word_in (Some a) slot
+certs_word most words a slot is = ap (λ (p : Option (Asked Reply)). word_in p slot) (program_some most words a is)
 
 -- where a file is refused, the files after it aren't opened
-asked_stay : (asks : Option (Asked Reply)) (files : Option Files) (refusal : Refusal) (old new : Slot → Option (List ℕ)) → RepliesTo asks files (Err (Refused refusal)) old new → AskedStay asks files old new
-asked_stay asks None refusal old new r = tt
-asked_stay asks (Some f) refusal old new r =
+asked_stay : (most : ℕ) (asks : Option (Asked Reply)) (files : Option Files) (refusal : Refusal) (old new : Slot → Option (List ℕ)) → RepliesTo asks files (Err (Refused refusal)) old new → AskedStay asks files old new
+asked_stay most asks None refusal old new r = tt
+asked_stay most asks (Some f) refusal old new r =
     subst (λ (a : Option (Asked Reply)). AskedStay a (Some f) old new) (sym r.is) (subst (λ (m : Made Reply). MadeStay m r.asked.named old new) (sym r.replies) r.unopened)
 
-refused_stay : (words : List (List ℕ)) (files : Option Files) (outcome : Option (Result Answer Halt)) (old new : Slot → Option (List ℕ)) (out_old out_new err_old err_new : Option (List ℕ))
-    → RunsAs (program words) files outcome old new → IsWritten (ending usage_text outcome) status.Refused out_old out_new err_old err_new → AskedStay (program words) files old new
-refused_stay words files None old new out_old out_new err_old err_new runs is = absurd (let no : status.Refused ≡ status.NoCommand = is.ends in let none : ⊥ = cc in none)
-refused_stay words files (Some (Ok (Done text))) old new out_old out_new err_old err_new runs is = absurd (let no : status.Refused ≡ status.Done = is.ends in let none : ⊥ = cc in none)
-refused_stay words files (Some (Ok (Broken text))) old new out_old out_new err_old err_new runs is = absurd (let no : status.Refused ≡ status.Broken = is.ends in let none : ⊥ = cc in none)
-refused_stay words files (Some (Err (Refused refusal))) old new out_old out_new err_old err_new runs is = asked_stay (program words) files refusal old new runs
-refused_stay words files (Some (Err Store)) old new out_old out_new err_old err_new runs is = absurd is
-refused_stay words files (Some (Err Memory)) old new out_old out_new err_old err_new runs is = absurd is
+refused_stay : (most : ℕ) (words : List (List ℕ)) (files : Option Files) (outcome : Option (Result Answer Halt)) (old new : Slot → Option (List ℕ)) (out_old out_new err_old err_new : Option (List ℕ))
+    → RunsAs (program most words) files outcome old new → IsWritten (ending usage_text outcome) status.Refused out_old out_new err_old err_new → AskedStay (program most words) files old new
+refused_stay most words files None old new out_old out_new err_old err_new runs is = absurd (let no : status.Refused ≡ status.NoCommand = is.ends in let none : ⊥ = cc in none)
+refused_stay most words files (Some (Ok (Done text))) old new out_old out_new err_old err_new runs is = absurd (let no : status.Refused ≡ status.Done = is.ends in let none : ⊥ = cc in none)
+refused_stay most words files (Some (Ok (Broken text))) old new out_old out_new err_old err_new runs is = absurd (let no : status.Refused ≡ status.Broken = is.ends in let none : ⊥ = cc in none)
+refused_stay most words files (Some (Err (Refused refusal))) old new out_old out_new err_old err_new runs is = asked_stay most (program most words) files refusal old new runs
+refused_stay most words files (Some (Err Store)) old new out_old out_new err_old err_new runs is = absurd is
+refused_stay most words files (Some (Err Memory)) old new out_old out_new err_old err_new runs is = absurd is
 
-pub unopened_by : (words : List (List ℕ)) (files : Option Files) (outcome : Option (Result Answer Halt)) (old new : Slot → Option (List ℕ)) (s : Status) (out_old out_new err_old err_new : Option (List ℕ))
-    → RunsAs (program words) files outcome old new → OnTrue (is_answer s) (IsWritten (ending usage_text outcome) s out_old out_new err_old err_new)
-    → At s status.Refused (AskedStay (program words) files old new)
-unopened_by words files outcome old new status.Done out_old out_new err_old err_new runs is = tt
-unopened_by words files outcome old new status.Broken out_old out_new err_old err_new runs is = tt
-unopened_by words files outcome old new status.Refused out_old out_new err_old err_new runs is = refused_stay words files outcome old new out_old out_new err_old err_new runs is
-unopened_by words files outcome old new status.StoreFailed out_old out_new err_old err_new runs is = tt
-unopened_by words files outcome old new status.SinkFailed out_old out_new err_old err_new runs is = tt
-unopened_by words files outcome old new status.OutOfMemory out_old out_new err_old err_new runs is = tt
-unopened_by words files outcome old new status.NoCommand out_old out_new err_old err_new runs is = tt
+pub unopened_by : (most : ℕ) (words : List (List ℕ)) (files : Option Files) (outcome : Option (Result Answer Halt)) (old new : Slot → Option (List ℕ)) (s : Status) (out_old out_new err_old err_new : Option (List ℕ))
+    → RunsAs (program most words) files outcome old new → OnTrue (is_answer s) (IsWritten (ending usage_text outcome) s out_old out_new err_old err_new)
+    → At s status.Refused (AskedStay (program most words) files old new)
+unopened_by most words files outcome old new status.Done out_old out_new err_old err_new runs is = tt
+unopened_by most words files outcome old new status.Broken out_old out_new err_old err_new runs is = tt
+unopened_by most words files outcome old new status.Refused out_old out_new err_old err_new runs is = refused_stay most words files outcome old new out_old out_new err_old err_new runs is
+unopened_by most words files outcome old new status.StoreFailed out_old out_new err_old err_new runs is = tt
+unopened_by most words files outcome old new status.SinkFailed out_old out_new err_old err_new runs is = tt
+unopened_by most words files outcome old new status.OutOfMemory out_old out_new err_old err_new runs is = tt
+unopened_by most words files outcome old new status.NoCommand out_old out_new err_old err_new runs is = tt
 
 -- `selftest` and `layout` are no commands of certificates
-named : (name : List ℕ) (words : List (List ℕ)) (one : List ℕ) → name ≡ one → certs_asks (name ∷ words) ≡ certs_asks (one ∷ words)
-named name words one is = ap (λ n. certs_asks (n ∷ words)) is
+named : (most : ℕ) (name : List ℕ) (words : List (List ℕ)) (one : List ℕ) → name ≡ one → certs_asks most (name ∷ words) ≡ certs_asks most (one ∷ words)
+named most name words one is = ap (λ n. certs_asks most (n ∷ words)) is
 
-pub selftest_none : (words : List (List ℕ)) → IsSelftest words → certs_asks words ≡ None
-selftest_none [] is = refl
-selftest_none (name ∷ words) is = let same : name ≡ codes "selftest" = cc in named name words (codes "selftest") same
+pub selftest_none : (most : ℕ) (words : List (List ℕ)) → IsSelftest words → certs_asks most words ≡ None
+selftest_none most [] is = refl
+selftest_none most (name ∷ words) is = let same : name ≡ codes "selftest" = cc in named most name words (codes "selftest") same
 
-pub layout_none : (words : List (List ℕ)) → IsLayout words → certs_asks words ≡ None
-layout_none [] is = refl
-layout_none (name ∷ words) is = named name words (codes "layout") ((bytes_eq-Decides name (codes "layout")).0 is)
+pub layout_none : (most : ℕ) (words : List (List ℕ)) → IsLayout words → certs_asks most words ≡ None
+layout_none most [] is = refl
+layout_none most (name ∷ words) is = named most name words (codes "layout") ((bytes_eq-Decides name (codes "layout")).0 is)

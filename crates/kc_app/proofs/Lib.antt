@@ -7,9 +7,11 @@ mod Counts
 mod Ends
 mod Fitted
 mod Holding
+mod Misfits
 mod ModuleEnds
 mod Planned
 mod Replies
 mod Rooted
 mod Selftests
 mod Stands
+mod StepLists

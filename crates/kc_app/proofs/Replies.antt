@@ -39,34 +39,34 @@ certified_true : (all : Audited) (found : Verdict) → AllStandIn all.image (ver
 certified_true all (Clean counts) there = tt
 certified_true all (Broken v) there = there
 
-certify_replies : Known → (dump btf map plan : Option (List ℕ)) → MadeReplies (certify_made dump btf map plan)
-certify_replies known dump btf map plan =
-    bound (audited dump btf map plan) (λ all. gives (certified all)) (λ all. certified_true all (verdict all.image all.audits) (known.verdicts all.image all.audits))
+certify_replies : (most : ℕ) → Known → (dump btf map plan : Option (List ℕ)) → MadeReplies (certify_made most dump btf map plan)
+certify_replies most known dump btf map plan =
+    bound (audited most dump btf map plan) (λ all. gives (certified all)) (λ all. certified_true all (verdict all.image all.audits) (known.verdicts all.image all.audits))
 
-recheck_replies : (dump btf map plan cert : Option (List ℕ)) → MadeReplies (recheck_made dump btf map plan cert)
-recheck_replies dump btf map plan cert =
-    bound (audited dump btf map plan) (λ all. cert_file cert >>= (λ steps. gives (Rechecks (answer all.image all.audits steps))))
+recheck_replies : (most : ℕ) (dump btf map plan cert : Option (List ℕ)) → MadeReplies (recheck_made most dump btf map plan cert)
+recheck_replies most dump btf map plan cert =
+    bound (audited most dump btf map plan) (λ all. cert_file cert >>= (λ steps. gives (Rechecks (answer all.image all.audits steps))))
     (λ all. bound (cert_file cert) (λ steps. gives (Rechecks (answer all.image all.audits steps))) (λ steps. tt))
 
 abbrev AskReplies : (Slot → Option (List ℕ)) → Option (Asked Reply) → Type 0
 AskReplies files asked = IfSome (output_of asked files) StandsIn
 
-certify_ask : Known → (files : Slot → Option (List ℕ)) (words : List (List ℕ)) → AskReplies files (certify_asks words)
-certify_ask known files [] = tt
-certify_ask known files (a ∷ []) = tt
-certify_ask known files (a ∷ b ∷ []) = tt
-certify_ask known files (a ∷ b ∷ c ∷ []) = tt
-certify_ask known files (dump ∷ btf ∷ map ∷ plan ∷ []) = certify_replies known (files Dump) (files Btf) (files Map) (files Plan)
-certify_ask known files (a ∷ b ∷ c ∷ d ∷ e ∷ words) = tt
+certify_ask : (most : ℕ) → Known → (files : Slot → Option (List ℕ)) (words : List (List ℕ)) → AskReplies files (certify_asks most words)
+certify_ask most known files [] = tt
+certify_ask most known files (a ∷ []) = tt
+certify_ask most known files (a ∷ b ∷ []) = tt
+certify_ask most known files (a ∷ b ∷ c ∷ []) = tt
+certify_ask most known files (dump ∷ btf ∷ map ∷ plan ∷ []) = certify_replies most known (files Dump) (files Btf) (files Map) (files Plan)
+certify_ask most known files (a ∷ b ∷ c ∷ d ∷ e ∷ words) = tt
 
-recheck_ask : (files : Slot → Option (List ℕ)) (words : List (List ℕ)) → AskReplies files (recheck_asks words)
-recheck_ask files [] = tt
-recheck_ask files (a ∷ []) = tt
-recheck_ask files (a ∷ b ∷ []) = tt
-recheck_ask files (a ∷ b ∷ c ∷ []) = tt
-recheck_ask files (a ∷ b ∷ c ∷ d ∷ []) = tt
-recheck_ask files (dump ∷ btf ∷ map ∷ plan ∷ cert ∷ []) = recheck_replies (files Dump) (files Btf) (files Map) (files Plan) (files Report)
-recheck_ask files (a ∷ b ∷ c ∷ d ∷ e ∷ f ∷ words) = tt
+recheck_ask : (most : ℕ) (files : Slot → Option (List ℕ)) (words : List (List ℕ)) → AskReplies files (recheck_asks most words)
+recheck_ask most files [] = tt
+recheck_ask most files (a ∷ []) = tt
+recheck_ask most files (a ∷ b ∷ []) = tt
+recheck_ask most files (a ∷ b ∷ c ∷ []) = tt
+recheck_ask most files (a ∷ b ∷ c ∷ d ∷ []) = tt
+recheck_ask most files (dump ∷ btf ∷ map ∷ plan ∷ cert ∷ []) = recheck_replies most (files Dump) (files Btf) (files Map) (files Plan) (files Report)
+recheck_ask most files (a ∷ b ∷ c ∷ d ∷ e ∷ f ∷ words) = tt
 
 found_replies : (files : Slot → Option (List ℕ)) (name : List ℕ) (words : List (List ℕ)) (fs : List (Form Reply)) → AllByRecursion (λ (form : Form Reply). AskReplies files (form.asks words)) fs
     → AskReplies files (option_and_then (λ (form : Form Reply). form.asks words) (find (λ form. bytes_eq name form.name) fs))
@@ -78,9 +78,9 @@ found_replies files name words (f ∷ fs) all = by_test (bytes_eq name f.name) (
     by_test true later = all.0
     by_test false later = later
 
-certs_reply : Known → (words : List (List ℕ)) (files : Slot → Option (List ℕ)) → AskReplies files (certs_asks words)
-certs_reply known [] files = tt
-certs_reply known (name ∷ words) files = found_replies files name words cert_forms (certify_ask known files words, (recheck_ask files words, tt))
+certs_reply : (most : ℕ) → Known → (words : List (List ℕ)) (files : Slot → Option (List ℕ)) → AskReplies files (certs_asks most words)
+certs_reply most known [] files = tt
+certs_reply most known (name ∷ words) files = found_replies files name words (cert_forms most) (certify_ask most known files words, (recheck_ask most files words, tt))
 
 -- what is shown is true as a reply
 shows_true : (made : Made Shown) → IfSome (option_map Ends made) ShowsTrue → MadeReplies (shows_made made)
@@ -97,5 +97,5 @@ either_ask files None other first second = second
 either_ask files (Some one) other first second = first
 
 pub shown_stand : Known → ShownStand
-shown_stand known words files =
-    either_ask files (certs_asks words) (option_map shows (command words)) (certs_reply known words files) (shows_ask files (command words) (commands_stand known words files))
+shown_stand known most words files =
+    either_ask files (certs_asks most words) (option_map shows (command most words)) (certs_reply most known words files) (shows_ask files (command most words) (commands_stand most known words files))

@@ -63,17 +63,17 @@ word_one : (image : Image) (r : Result VWord Stopped) → AllStandIn image (plac
 word_one image (Ok w) there = there
 word_one image (Err s) there = there
 
-word_stands : PlacesStand → (table : Option ℕ) (address : ℕ) (file : Option (List ℕ)) → MadeStands (word_made table address file)
-word_stands law table address file =
-    bound (word_image table file) (λ image. gives (word_shown image (vword image address))) (λ image. word_one image (vword image address) (law image address))
+word_stands : (most : ℕ) → PlacesStand → (table : Option ℕ) (address : ℕ) (file : Option (List ℕ)) → MadeStands (word_made most table address file)
+word_stands most law table address file =
+    bound (word_image most table file) (λ image. gives (word_shown image (vword image address))) (λ image. word_one image (vword image address) (law image address))
 
 number_one : (image : Image) (r : Result Number Stopped) → AllStandIn image (number_places r) → IsTrueOfDump (number_shown image r)
 number_one image (Ok n) there = there
 number_one image (Err s) there = there
 
-show_stands : ValuesStand → (question : Question) (dump btf map : Option (List ℕ)) → MadeStands (show_made question dump btf map)
-show_stands law question dump btf map =
-    bound (show_sought question dump btf map) (λ sought. gives (number_shown sought.image (number_read sought.image sought.target)))
+show_stands : (most : ℕ) → ValuesStand → (question : Question) (dump btf map : Option (List ℕ)) → MadeStands (show_made most question dump btf map)
+show_stands most law question dump btf map =
+    bound (show_sought most question dump btf map) (λ sought. gives (number_shown sought.image (number_read sought.image sought.target)))
     (λ sought. number_one sought.image (number_read sought.image sought.target) (law sought.image sought.target.at sought.target.number.hops sought.target.number.bits))
 
 layout_stands : (name : List ℕ) (file : Option (List ℕ)) → MadeStands (layout_made name file)
@@ -94,28 +94,28 @@ audited_stands : Known → (all : Audited) (each : Bool) → IsTrueOfDump (shown
 audited_stands known all true = roots_shown_stand known.roots all.image (names_of all.audits) all.audits (roots 0 all.audits)
 audited_stands known all false = known.verdicts all.image all.audits
 
-check_stands : Known → (dump btf map plan : Option (List ℕ)) → MadeStands (check_made dump btf map plan)
-check_stands known dump btf map plan = bound (audited dump btf map plan) (λ all. gives (audited_shown all)) (λ all. audited_stands known all (nat_eq all.version 2))
+check_stands : (most : ℕ) → Known → (dump btf map plan : Option (List ℕ)) → MadeStands (check_made most dump btf map plan)
+check_stands most known dump btf map plan = bound (audited most dump btf map plan) (λ all. gives (audited_shown all)) (λ all. audited_stands known all (nat_eq all.version 2))
 
-module_stands : Known → (dump btf split map plan : Option (List ℕ)) → MadeStands (module_made dump btf split map plan)
-module_stands known dump btf split map plan =
-    bound (audited_with dump btf split map plan) (λ all. gives (audited_shown all)) (λ all. audited_stands known all (nat_eq all.version 2))
+module_stands : (most : ℕ) → Known → (dump btf split map plan : Option (List ℕ)) → MadeStands (module_made most dump btf split map plan)
+module_stands most known dump btf split map plan =
+    bound (audited_with most dump btf split map plan) (λ all. gives (audited_shown all)) (λ all. audited_stands known all (nat_eq all.version 2))
 
 -- and so does what words ask for
 abbrev pub AskStands : (Slot → Option (List ℕ)) → Option (Asked Shown) → Type 0
 AskStands files asked = IfSome (output_of asked files) ShowsTrue
 
-numbers_stand : Known → (files : Slot → Option (List ℕ)) (dump : List ℕ) (table : Option (Option ℕ)) (address : Option ℕ) → AskStands files (numbers_asked dump table address)
-numbers_stand known files dump (Some table) (Some address) = word_stands known.places table address (files Dump)
-numbers_stand known files dump (Some table) None = tt
-numbers_stand known files dump None address = tt
+numbers_stand : (most : ℕ) → Known → (files : Slot → Option (List ℕ)) (dump : List ℕ) (table : Option (Option ℕ)) (address : Option ℕ) → AskStands files (numbers_asked most dump table address)
+numbers_stand most known files dump (Some table) (Some address) = word_stands most known.places table address (files Dump)
+numbers_stand most known files dump (Some table) None = tt
+numbers_stand most known files dump None address = tt
 
-word_ask : Known → (files : Slot → Option (List ℕ)) (words : List (List ℕ)) → AskStands files (word_asks words)
-word_ask known files [] = tt
-word_ask known files (a ∷ []) = tt
-word_ask known files (a ∷ b ∷ []) = tt
-word_ask known files (dump ∷ table ∷ address ∷ []) = numbers_stand known files dump (table_word table) (hex_number address)
-word_ask known files (a ∷ b ∷ c ∷ d ∷ words) = tt
+word_ask : (most : ℕ) → Known → (files : Slot → Option (List ℕ)) (words : List (List ℕ)) → AskStands files (word_asks most words)
+word_ask most known files [] = tt
+word_ask most known files (a ∷ []) = tt
+word_ask most known files (a ∷ b ∷ []) = tt
+word_ask most known files (dump ∷ table ∷ address ∷ []) = numbers_stand most known files dump (table_word table) (hex_number address)
+word_ask most known files (a ∷ b ∷ c ∷ d ∷ words) = tt
 
 layout_ask : (files : Slot → Option (List ℕ)) (words : List (List ℕ)) → AskStands files (layout_asks words)
 layout_ask files [] = tt
@@ -123,29 +123,29 @@ layout_ask files (a ∷ []) = tt
 layout_ask files (btf ∷ ty ∷ []) = layout_stands ty (files Btf)
 layout_ask files (a ∷ b ∷ c ∷ words) = tt
 
-show_ask : Known → (files : Slot → Option (List ℕ)) (words : List (List ℕ)) → AskStands files (show_asks words)
-show_ask known files [] = tt
-show_ask known files (a ∷ []) = tt
-show_ask known files (a ∷ b ∷ []) = tt
-show_ask known files (a ∷ b ∷ c ∷ []) = tt
-show_ask known files (a ∷ b ∷ c ∷ d ∷ []) = tt
-show_ask known files (a ∷ b ∷ c ∷ d ∷ e ∷ []) = tt
-show_ask known files (dump ∷ btf ∷ map ∷ symbol ∷ ty ∷ path ∷ []) =
-    show_stands known.values (record { dump = dump; btf = btf; map = map; symbol = symbol; name = ty; path = path }) (files Dump) (files Btf) (files Map)
-show_ask known files (a ∷ b ∷ c ∷ d ∷ e ∷ f ∷ g ∷ words) = tt
+show_ask : (most : ℕ) → Known → (files : Slot → Option (List ℕ)) (words : List (List ℕ)) → AskStands files (show_asks most words)
+show_ask most known files [] = tt
+show_ask most known files (a ∷ []) = tt
+show_ask most known files (a ∷ b ∷ []) = tt
+show_ask most known files (a ∷ b ∷ c ∷ []) = tt
+show_ask most known files (a ∷ b ∷ c ∷ d ∷ []) = tt
+show_ask most known files (a ∷ b ∷ c ∷ d ∷ e ∷ []) = tt
+show_ask most known files (dump ∷ btf ∷ map ∷ symbol ∷ ty ∷ path ∷ []) =
+    show_stands most known.values (record { dump = dump; btf = btf; map = map; symbol = symbol; name = ty; path = path }) (files Dump) (files Btf) (files Map)
+show_ask most known files (a ∷ b ∷ c ∷ d ∷ e ∷ f ∷ g ∷ words) = tt
 
-checks_ask : Known → (files : Slot → Option (List ℕ)) (words : List (List ℕ)) → AskStands files (checks_asks words)
-checks_ask known files [] = tt
-checks_ask known files (a ∷ []) = tt
-checks_ask known files (a ∷ b ∷ []) = tt
-checks_ask known files (a ∷ b ∷ c ∷ []) = tt
-checks_ask known files (dump ∷ btf ∷ map ∷ plan ∷ []) = check_stands known (files Dump) (files Btf) (files Map) (files Plan)
-checks_ask known files (dump ∷ btf ∷ map ∷ plan ∷ split ∷ []) = module_stands known (files Dump) (files Btf) (files Module) (files Map) (files Plan)
-checks_ask known files (a ∷ b ∷ c ∷ d ∷ e ∷ f ∷ words) = tt
+checks_ask : (most : ℕ) → Known → (files : Slot → Option (List ℕ)) (words : List (List ℕ)) → AskStands files (checks_asks most words)
+checks_ask most known files [] = tt
+checks_ask most known files (a ∷ []) = tt
+checks_ask most known files (a ∷ b ∷ []) = tt
+checks_ask most known files (a ∷ b ∷ c ∷ []) = tt
+checks_ask most known files (dump ∷ btf ∷ map ∷ plan ∷ []) = check_stands most known (files Dump) (files Btf) (files Map) (files Plan)
+checks_ask most known files (dump ∷ btf ∷ map ∷ plan ∷ split ∷ []) = module_stands most known (files Dump) (files Btf) (files Module) (files Map) (files Plan)
+checks_ask most known files (a ∷ b ∷ c ∷ d ∷ e ∷ f ∷ words) = tt
 
 count_stands : Known → (files : Slot → Option (List ℕ)) (n : Option ℕ) → AskStands files (option_map selftest_asked n)
 count_stands known files None = tt
-count_stands known files (Some n) = check_stands known (Some (made.dump n None)) (Some btf) (Some map) (Some plan)
+count_stands known files (Some n) = check_stands 65536 known (Some (made.dump n None)) (Some btf) (Some map) (Some plan)
 
 selftest_ask : Known → (files : Slot → Option (List ℕ)) (words : List (List ℕ)) → AskStands files (selftest_asks words)
 selftest_ask known files [] = tt
@@ -166,7 +166,7 @@ found_stands files name words (f ∷ fs) all = by_test (bytes_eq name f.name) (f
     by_test true later = all.0 files words
     by_test false later = later
 
-pub commands_stand : Known → (words : List (List ℕ)) (files : Slot → Option (List ℕ)) → AskStands files (command words)
-commands_stand known [] files = tt
-commands_stand known (name ∷ words) files =
-    found_stands files name words forms (word_ask known, (layout_ask, (show_ask known, (checks_ask known, (selftest_ask known, tt)))))
+pub commands_stand : (most : ℕ) → Known → (words : List (List ℕ)) (files : Slot → Option (List ℕ)) → AskStands files (command most words)
+commands_stand most known [] files = tt
+commands_stand most known (name ∷ words) files =
+    found_stands files name words (forms most) (word_ask most known, (layout_ask, (show_ask most known, (checks_ask most known, (selftest_ask known, tt)))))

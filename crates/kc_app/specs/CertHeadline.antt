@@ -41,9 +41,9 @@ abbrev pub certify_words : Files → List (List ℕ)
 certify_words f = codes "certify" ∷ f.dump ∷ f.btf ∷ f.map ∷ f.plan ∷ []
 
 -- so it is where the words are those of `certify`
-abbrev pub CertifyEnds : List (List ℕ) → Told → Status → Option (List ℕ) → Option (List ℕ) → Type 0
-CertifyEnds words files ends old new =
-    (f : Files) → words ≡ certify_words f → CertifyBy (audited (files Dump f.dump) (files Btf f.btf) (files Map f.map) (files Plan f.plan)) ends old new
+abbrev pub CertifyEnds : (most : ℕ) → List (List ℕ) → Told → Status → Option (List ℕ) → Option (List ℕ) → Type 0
+CertifyEnds most words files ends old new =
+    (f : Files) → words ≡ certify_words f → CertifyBy (audited most (files Dump f.dump) (files Btf f.btf) (files Map f.map) (files Plan f.plan)) ends old new
 
 -- `recheck` tells of the certificate whose text a file is whether it fits, and ends with 0 only where every structure that the plan
 -- reaches stands; a file above 256 MiB and one that isn't a certificate's text are refused
@@ -64,7 +64,7 @@ abbrev pub recheck_words : CertFiles → List (List ℕ)
 recheck_words f = codes "recheck" ∷ f.files.dump ∷ f.files.btf ∷ f.files.map ∷ f.files.plan ∷ f.cert ∷ []
 
 -- so it is where the words are those of `recheck`
-abbrev pub RecheckEnds : List (List ℕ) → Told → Status → Option (List ℕ) → Option (List ℕ) → Option (List ℕ) → Option (List ℕ) → Type 0
-RecheckEnds words files ends old new err_old err_new =
+abbrev pub RecheckEnds : (most : ℕ) → List (List ℕ) → Told → Status → Option (List ℕ) → Option (List ℕ) → Option (List ℕ) → Option (List ℕ) → Type 0
+RecheckEnds most words files ends old new err_old err_new =
     (f : CertFiles) → words ≡ recheck_words f
-    → RecheckBy (audited (files Dump f.files.dump) (files Btf f.files.btf) (files Map f.files.map) (files Plan f.files.plan)) (files Report f.cert) ends old new err_old err_new
+    → RecheckBy (audited most (files Dump f.files.dump) (files Btf f.files.btf) (files Map f.files.map) (files Plan f.files.plan)) (files Report f.cert) ends old new err_old err_new

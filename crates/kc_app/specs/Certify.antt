@@ -21,20 +21,20 @@ abbrev pub certified : Audited → Reply
 certified all = certified_by all (verdict all.image all.audits)
 
 -- what `certify` makes of its files
-abbrev pub certify_made : Option (List ℕ) → Option (List ℕ) → Option (List ℕ) → Option (List ℕ) → Made Reply
-certify_made dump btf map plan = do
-  all ← audited dump btf map plan
+abbrev pub certify_made : (most : ℕ) → Option (List ℕ) → Option (List ℕ) → Option (List ℕ) → Option (List ℕ) → Made Reply
+certify_made most dump btf map plan = do
+  all ← audited most dump btf map plan
   gives (certified all)
 
-abbrev pub certify_asked : Files → Asked Reply
-certify_asked f = record {
-  named = (check_asked f).named;
-  made = λ files. certify_made (files slot.Dump) (files slot.Btf) (files slot.Map) (files slot.Plan);
+abbrev pub certify_asked : (most : ℕ) → Files → Asked Reply
+certify_asked most f = record {
+  named = (check_asked most f).named;
+  made = λ files. certify_made most (files slot.Dump) (files slot.Btf) (files slot.Map) (files slot.Plan);
 }
 
-abbrev pub certify_asks : List (List ℕ) → Option (Asked Reply)
-certify_asks (dump ∷ btf ∷ map ∷ plan ∷ []) = Some (certify_asked (record { dump = dump; btf = btf; map = map; plan = plan }))
-certify_asks _ = None
+abbrev pub certify_asks : (most : ℕ) → List (List ℕ) → Option (Asked Reply)
+certify_asks most (dump ∷ btf ∷ map ∷ plan ∷ []) = Some (certify_asked most (record { dump = dump; btf = btf; map = map; plan = plan }))
+certify_asks most _ = None
 
-abbrev pub certify_form : Form Reply
-certify_form = record { name = codes "certify"; words = codes "DUMP BTF MAP PLAN" ∷ []; asks = certify_asks }
+abbrev pub certify_form : (most : ℕ) → Form Reply
+certify_form most = record { name = codes "certify"; words = codes "DUMP BTF MAP PLAN" ∷ []; asks = certify_asks most }

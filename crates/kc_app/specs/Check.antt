@@ -60,9 +60,9 @@ abbrev pub audited_by : List Segment → PageCfg → PlanAt → List ℕ → Aud
 audited_by segments paging plan bytes = record { image = image_of bytes segments plan.tail paging; version = plan.version; audits = plan.audits }
 
 -- the faults come in the order dump, types, map and plan
-abbrev pub audited : Option (List ℕ) → Option (List ℕ) → Option (List ℕ) → Option (List ℕ) → Made Audited
-audited dump btf map plan = do
-  kernel ← kernel_in dump btf map
+abbrev pub audited : (most : ℕ) → Option (List ℕ) → Option (List ℕ) → Option (List ℕ) → Option (List ℕ) → Made Audited
+audited most dump btf map plan = do
+  kernel ← kernel_in most dump btf map
   planned ← planned_in kernel.types kernel.told kernel.map plan
   gives (audited_by kernel.segments (by_info kernel.told) planned (bytes_of dump))
 
@@ -101,28 +101,28 @@ audited_shown all =
     else verdict_shown all.image (names_of all.audits) (verdict all.image all.audits)
 
 -- what `check` makes of its files
-abbrev pub check_made : Option (List ℕ) → Option (List ℕ) → Option (List ℕ) → Option (List ℕ) → Made Shown
-check_made dump btf map plan = do
-  all ← audited dump btf map plan
+abbrev pub check_made : (most : ℕ) → Option (List ℕ) → Option (List ℕ) → Option (List ℕ) → Option (List ℕ) → Made Shown
+check_made most dump btf map plan = do
+  all ← audited most dump btf map plan
   gives (audited_shown all)
 
-abbrev pub check_asked : Files → Asked Shown
-check_asked f = record {
+abbrev pub check_asked : (most : ℕ) → Files → Asked Shown
+check_asked most f = record {
   named = record { slot = slot.Dump; name = f.dump } ∷ record { slot = slot.Btf; name = f.btf }
       ∷ record { slot = slot.Map; name = f.map } ∷ record { slot = slot.Plan; name = f.plan } ∷ [];
-  made = λ files. check_made (files slot.Dump) (files slot.Btf) (files slot.Map) (files slot.Plan);
+  made = λ files. check_made most (files slot.Dump) (files slot.Btf) (files slot.Map) (files slot.Plan);
 }
 
-abbrev pub check_asks : List (List ℕ) → Option (Asked Shown)
-check_asks (dump ∷ btf ∷ map ∷ plan ∷ []) = Some (check_asked (record { dump = dump; btf = btf; map = map; plan = plan }))
-check_asks _ = None
+abbrev pub check_asks : (most : ℕ) → List (List ℕ) → Option (Asked Shown)
+check_asks most (dump ∷ btf ∷ map ∷ plan ∷ []) = Some (check_asked most (record { dump = dump; btf = btf; map = map; plan = plan }))
+check_asks most _ = None
 
 -- as the code keeps them
 abbrev pub files_view : PlanFiles → Files
 files_view a = record { dump = a.kernel.dump.now; btf = a.kernel.btf.now; map = a.kernel.map.now; plan = a.plan.now }
 
 abbrev pub check_view : PlanFiles → Asked Shown
-check_view a = check_asked (files_view a)
+check_view a = check_asked a.most (files_view a)
 
 -- a status is 0 exactly where every structure that a plan reaches stands in the memory, and 1 exactly where one doesn't
 abbrev pub TellsStanding : Audited → Status → Type 0

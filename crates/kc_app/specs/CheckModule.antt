@@ -19,9 +19,9 @@ pub record FiveFiles : Type 0 where
   pub split : List ℕ
 
 -- the faults come in the order dump, types, module, map and plan
-abbrev pub audited_with : Option (List ℕ) → Option (List ℕ) → Option (List ℕ) → Option (List ℕ) → Option (List ℕ) → Made Audited
-audited_with dump btf split map plan = do
-  noted ← noted_in dump
+abbrev pub audited_with : (most : ℕ) → Option (List ℕ) → Option (List ℕ) → Option (List ℕ) → Option (List ℕ) → Option (List ℕ) → Made Audited
+audited_with most dump btf split map plan = do
+  noted ← noted_in most dump
   base ← types_in btf
   types ← module_in base split
   listed ← map_in map
@@ -29,34 +29,34 @@ audited_with dump btf split map plan = do
   gives (audited_by noted.parts.segments (by_info noted.told) planned (bytes_of dump))
 
 -- what it makes of its files
-abbrev pub module_made : Option (List ℕ) → Option (List ℕ) → Option (List ℕ) → Option (List ℕ) → Option (List ℕ) → Made Shown
-module_made dump btf split map plan = do
-  all ← audited_with dump btf split map plan
+abbrev pub module_made : (most : ℕ) → Option (List ℕ) → Option (List ℕ) → Option (List ℕ) → Option (List ℕ) → Option (List ℕ) → Made Shown
+module_made most dump btf split map plan = do
+  all ← audited_with most dump btf split map plan
   gives (audited_shown all)
 
-abbrev pub module_asked : FiveFiles → Asked Shown
-module_asked f = record {
+abbrev pub module_asked : (most : ℕ) → FiveFiles → Asked Shown
+module_asked most f = record {
   named = record { slot = slot.Dump; name = f.files.dump } ∷ record { slot = slot.Btf; name = f.files.btf }
       ∷ record { slot = slot.Module; name = f.split } ∷ record { slot = slot.Map; name = f.files.map }
       ∷ record { slot = slot.Plan; name = f.files.plan } ∷ [];
-  made = λ files. module_made (files slot.Dump) (files slot.Btf) (files slot.Module) (files slot.Map) (files slot.Plan);
+  made = λ files. module_made most (files slot.Dump) (files slot.Btf) (files slot.Module) (files slot.Map) (files slot.Plan);
 }
 
-abbrev pub module_asks : List (List ℕ) → Option (Asked Shown)
-module_asks (dump ∷ btf ∷ map ∷ plan ∷ split ∷ []) =
-    Some (module_asked (record { files = record { dump = dump; btf = btf; map = map; plan = plan }; split = split }))
-module_asks _ = None
+abbrev pub module_asks : (most : ℕ) → List (List ℕ) → Option (Asked Shown)
+module_asks most (dump ∷ btf ∷ map ∷ plan ∷ split ∷ []) =
+    Some (module_asked most (record { files = record { dump = dump; btf = btf; map = map; plan = plan }; split = split }))
+module_asks most _ = None
 
 -- the command `check`, with a module or without one
-abbrev pub checks_asks : List (List ℕ) → Option (Asked Shown)
-checks_asks words = option_or (module_asks words) (check_asks words)
+abbrev pub checks_asks : (most : ℕ) → List (List ℕ) → Option (Asked Shown)
+checks_asks most words = option_or (module_asks most words) (check_asks most words)
 
-abbrev pub check_form : Form Shown
-check_form = record { name = codes "check"; words = codes "DUMP BTF MAP PLAN" ∷ codes "DUMP BTF MAP PLAN MODULE" ∷ []; asks = checks_asks }
+abbrev pub check_form : (most : ℕ) → Form Shown
+check_form most = record { name = codes "check"; words = codes "DUMP BTF MAP PLAN" ∷ codes "DUMP BTF MAP PLAN MODULE" ∷ []; asks = checks_asks most }
 
 -- as the code keeps them
 abbrev pub five_view : Asks → FiveFiles
 five_view a = record { files = files_view a.files; split = a.split.now }
 
 abbrev pub module_view : Asks → Asked Shown
-module_view a = module_asked (five_view a)
+module_view a = module_asked a.files.most (five_view a)

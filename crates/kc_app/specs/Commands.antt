@@ -11,13 +11,13 @@ use Rattle.kc_app.specs.Shown.{Shown}
 use Rattle.kc_app.specs.Word.{word_form}
 
 -- the commands in the order of usage
-abbrev pub forms : List (Form Shown)
-forms = word_form ∷ layout_form ∷ show_form ∷ check_form ∷ selftest_form ∷ []
+abbrev pub forms : (most : ℕ) → List (Form Shown)
+forms most = word_form most ∷ layout_form ∷ show_form most ∷ check_form most ∷ selftest_form ∷ []
 
 -- what the words behind the program's name ask for: the first one names the command, the others are its words
-abbrev pub command : List (List ℕ) → Option (Asked Shown)
-command [] = None
-command (name ∷ words) = option_and_then (λ form. form.asks words) (find (λ form. bytes_eq name form.name) forms)
+abbrev pub command : (most : ℕ) → List (List ℕ) → Option (Asked Shown)
+command most [] = None
+command most (name ∷ words) = option_and_then (λ form. form.asks words) (find (λ form. bytes_eq name form.name) (forms most))
 
 -- a line for each way to write a command
 abbrev pub usage_of : List ℕ → List (List ℕ) → List ℕ

@@ -24,9 +24,9 @@ abbrev pub check_words : Files → List (List ℕ)
 check_words f = codes "check" ∷ f.dump ∷ f.btf ∷ f.map ∷ f.plan ∷ []
 
 -- where the words are those of a check of four files, a status is its end
-abbrev pub CheckEnds : List (List ℕ) → Told → Status → Type 0
-CheckEnds words files ends =
-    (f : Files) → words ≡ check_words f → EndsBy (audited (files Dump f.dump) (files Btf f.btf) (files Map f.map) (files Plan f.plan)) ends
+abbrev pub CheckEnds : (most : ℕ) → List (List ℕ) → Told → Status → Type 0
+CheckEnds most words files ends =
+    (f : Files) → words ≡ check_words f → EndsBy (audited most (files Dump f.dump) (files Btf f.btf) (files Map f.map) (files Plan f.plan)) ends
 
 -- Where no file is refused, standard output took what is shown. Of a plan of version 2 this says of each root audit that it is
 -- clean exactly where its structures stand in the dump.
@@ -34,12 +34,12 @@ abbrev pub PrintsBy : Made Audited → Option (List ℕ) → Option (List ℕ) �
 PrintsBy made old new = (all : Audited) → made ≡ gives all → (new ≡ with_piece old (shown_text (audited_shown all))) × TellsRoots all (audited_shown all)
 
 -- it did so where the words are those of a check of four files
-abbrev pub CheckPrints : List (List ℕ) → Told → Option (List ℕ) → Option (List ℕ) → Type 0
-CheckPrints words files old new =
-    (f : Files) → words ≡ check_words f → PrintsBy (audited (files Dump f.dump) (files Btf f.btf) (files Map f.map) (files Plan f.plan)) old new
+abbrev pub CheckPrints : (most : ℕ) → List (List ℕ) → Told → Option (List ℕ) → Option (List ℕ) → Type 0
+CheckPrints most words files old new =
+    (f : Files) → words ≡ check_words f → PrintsBy (audited most (files Dump f.dump) (files Btf f.btf) (files Map f.map) (files Plan f.plan)) old new
 
 -- each output of a check has such a status
 abbrev pub ChecksEnd : Type 0
 ChecksEnd =
-    (cert : List CertStep) (f : Files) (files : Slot → Option (List ℕ)) → IfSome (out (check_words f) files)
-    (λ output. EndsBy (audited (files Dump) (files Btf) (files Map) (files Plan)) (output_written cert output).status)
+    (most : ℕ) (cert : List CertStep) (f : Files) (files : Slot → Option (List ℕ)) → IfSome (out most (check_words f) files)
+    (λ output. EndsBy (audited most (files Dump) (files Btf) (files Map) (files Plan)) (output_written cert output).status)

@@ -13,20 +13,20 @@ use Rattle.kc_app.specs.Reply.{Reply, CertificateOf, Fits, Rechecks, Shows, repl
 use Rattle.kc_app.specs.Shown.{IsTrueOfDump}
 
 -- the output of the words after the program's name. A file is the bytes that a slot's word stands for.
-abbrev pub out : List (List ℕ) → (Slot → Option (List ℕ)) → Option (Output Reply)
-out words files = output_of (program words) files
+abbrev pub out : (most : ℕ) → List (List ℕ) → (Slot → Option (List ℕ)) → Option (Output Reply)
+out most words files = output_of (program most words) files
 
 -- and over a store's files
-abbrev pub out_of : List (List ℕ) → Files → Option (Output Reply)
-out_of words files = out words (word_files (program words) files)
+abbrev pub out_of : (most : ℕ) → List (List ℕ) → Files → Option (Output Reply)
+out_of most words files = out most words (word_files (program most words) files)
 
 -- what is written of an output, by the certificate that is printed where one is
 abbrev pub output_written : List CertStep → Output Reply → Written
 output_written cert output = written usage_text (reply_written cert) output
 
 -- and of that over a store's files
-abbrev pub written_of : List CertStep → List (List ℕ) → Files → Option Written
-written_of cert words files = written_files usage_text (reply_written cert) (program words) files
+abbrev pub written_of : (most : ℕ) → List CertStep → List (List ℕ) → Files → Option Written
+written_of most cert words files = written_files usage_text (reply_written cert) (program most words) files
 
 -- the certificate is one of the memory, where one is printed
 abbrev pub FitsOutput : List CertStep → Option (Output Reply) → Type 0
@@ -49,7 +49,7 @@ StandsIn (Ends (Err refusal)) = Unit {0}
 
 -- of each output
 abbrev pub ShownStand : Type 0
-ShownStand = (words : List (List ℕ)) (files : Slot → Option (List ℕ)) → IfSome (out words files) StandsIn
+ShownStand = (most : ℕ) (words : List (List ℕ)) (files : Slot → Option (List ℕ)) → IfSome (out most words files) StandsIn
 
 -- Standard output took the text of an output whose words are true of the dump. The certificate fits, where one is printed; for
 -- any other output it says nothing.
@@ -59,18 +59,18 @@ TookTrue (Some output) old new =
     (cert : List CertStep) × FitsOutput cert (Some output) × (new ≡ with_piece old (output_written cert output).out) × StandsIn output
 
 -- where the files are told, a certificate fits their output, if one is printed
-abbrev pub FitsFiles : List CertStep → List (List ℕ) → Option Files → Type 0
-FitsFiles cert words files = IfSome files (λ f. FitsOutput cert (out_of words f))
+abbrev pub FitsFiles : (most : ℕ) → List CertStep → List (List ℕ) → Option Files → Type 0
+FitsFiles most cert words files = IfSome files (λ f. FitsOutput cert (out_of most words f))
 
 -- the program ended as the output of the words and the files says
-abbrev pub IsToldBy : List (List ℕ) → Option Files → Status → Option (List ℕ) → Option (List ℕ) → Option (List ℕ) → Option (List ℕ) → Type 0
-IsToldBy words files status out_old out_new err_old err_new =
-    (cert : List CertStep) × FitsFiles cert words files × IsTold (written_of cert words) files status out_old out_new err_old err_new
+abbrev pub IsToldBy : (most : ℕ) → List (List ℕ) → Option Files → Status → Option (List ℕ) → Option (List ℕ) → Option (List ℕ) → Option (List ℕ) → Type 0
+IsToldBy most words files status out_old out_new err_old err_new =
+    (cert : List CertStep) × FitsFiles most cert words files × IsTold (written_of most cert words) files status out_old out_new err_old err_new
 
 -- what standard output took where it failed: a prefix of the output's text
-abbrev pub TookPartBy : List (List ℕ) → Option Files → Option (List ℕ) → Option (List ℕ) → Type 0
-TookPartBy words files old new = (cert : List CertStep) × FitsFiles cert words files × TookPart (written_of cert words) files old new
+abbrev pub TookPartBy : (most : ℕ) → List (List ℕ) → Option Files → Option (List ℕ) → Option (List ℕ) → Type 0
+TookPartBy most words files old new = (cert : List CertStep) × FitsFiles most cert words files × TookPart (written_of most cert words) files old new
 
 -- what standard error took where it alone failed, for which it doesn't matter what certificate is printed
-abbrev pub ErrFailedBy : List (List ℕ) → Option Files → Type 0 → Option (List ℕ) → Option (List ℕ) → Type 0
-ErrFailedBy words files store_rose old new = (cert : List CertStep) × ErrFailed (written_of cert words) files store_rose old new
+abbrev pub ErrFailedBy : (most : ℕ) → List (List ℕ) → Option Files → Type 0 → Option (List ℕ) → Option (List ℕ) → Type 0
+ErrFailedBy most words files store_rose old new = (cert : List CertStep) × ErrFailed (written_of most cert words) files store_rose old new

@@ -13,22 +13,23 @@ use Rattle.kc_app.specs.Recheck.{cert_files, recheck_asked, recheck_form}
 use Rattle.kc_app.specs.Reply.{Reply, shows}
 
 -- the commands of certificates, in the order of usage
-abbrev pub cert_forms : List (Form Reply)
-cert_forms = certify_form ∷ recheck_form ∷ []
+abbrev pub cert_forms : (most : ℕ) → List (Form Reply)
+cert_forms most = certify_form most ∷ recheck_form most ∷ []
 
 -- what words ask for, where they are one of these
-abbrev pub certs_asks : List (List ℕ) → Option (Asked Reply)
-certs_asks [] = None
-certs_asks (name ∷ words) = option_and_then (λ form. form.asks words) (find (λ form. bytes_eq name form.name) cert_forms)
+abbrev pub certs_asks : (most : ℕ) → List (List ℕ) → Option (Asked Reply)
+certs_asks most [] = None
+certs_asks most (name ∷ words) = option_and_then (λ form. form.asks words) (find (λ form. bytes_eq name form.name) (cert_forms most))
 
--- and where they are any command
-abbrev pub program : List (List ℕ) → Option (Asked Reply)
-program words = option_or (certs_asks words) (option_map shows (command words))
+-- and where they are any command, over dumps of at most so many program headers
+abbrev pub program : (most : ℕ) → List (List ℕ) → Option (Asked Reply)
+program most words = option_or (certs_asks most words) (option_map shows (command most words))
 
+-- that of usage is the same for each number of program headers
 abbrev pub usage_text : List ℕ
-usage_text = usage_lines forms ++ usage_lines cert_forms
+usage_text = usage_lines (forms 65536) ++ usage_lines (cert_forms 65536)
 
 -- as the code keeps them
 abbrev pub certs_view : CertAsks → Asked Reply
-certs_view (certs.Certify a) = certify_asked (files_view a)
-certs_view (certs.Recheck a) = recheck_asked (cert_files a)
+certs_view (certs.Certify a) = certify_asked a.most (files_view a)
+certs_view (certs.Recheck a) = recheck_asked a.files.most (cert_files a)

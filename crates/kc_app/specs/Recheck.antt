@@ -25,25 +25,25 @@ cert_file file = do
   checked Certificate (cert_in bytes)
 
 -- what `recheck` makes of its files: the faults come in the order dump, types, map, plan and certificate
-abbrev pub recheck_made : Option (List ℕ) → Option (List ℕ) → Option (List ℕ) → Option (List ℕ) → Option (List ℕ) → Made Reply
-recheck_made dump btf map plan file = do
-  all ← audited dump btf map plan
+abbrev pub recheck_made : (most : ℕ) → Option (List ℕ) → Option (List ℕ) → Option (List ℕ) → Option (List ℕ) → Option (List ℕ) → Made Reply
+recheck_made most dump btf map plan file = do
+  all ← audited most dump btf map plan
   cert ← cert_file file
   gives (Rechecks (answer all.image all.audits cert))
 
-abbrev pub recheck_asked : CertFiles → Asked Reply
-recheck_asked f = record {
-  named = (check_asked f.files).named ++ record { slot = slot.Report; name = f.cert } ∷ [];
-  made = λ files. recheck_made (files slot.Dump) (files slot.Btf) (files slot.Map) (files slot.Plan) (files slot.Report);
+abbrev pub recheck_asked : (most : ℕ) → CertFiles → Asked Reply
+recheck_asked most f = record {
+  named = (check_asked most f.files).named ++ record { slot = slot.Report; name = f.cert } ∷ [];
+  made = λ files. recheck_made most (files slot.Dump) (files slot.Btf) (files slot.Map) (files slot.Plan) (files slot.Report);
 }
 
-abbrev pub recheck_asks : List (List ℕ) → Option (Asked Reply)
-recheck_asks (dump ∷ btf ∷ map ∷ plan ∷ cert ∷ []) =
-    Some (recheck_asked (record { files = record { dump = dump; btf = btf; map = map; plan = plan }; cert = cert }))
-recheck_asks _ = None
+abbrev pub recheck_asks : (most : ℕ) → List (List ℕ) → Option (Asked Reply)
+recheck_asks most (dump ∷ btf ∷ map ∷ plan ∷ cert ∷ []) =
+    Some (recheck_asked most (record { files = record { dump = dump; btf = btf; map = map; plan = plan }; cert = cert }))
+recheck_asks most _ = None
 
-abbrev pub recheck_form : Form Reply
-recheck_form = record { name = codes "recheck"; words = codes "DUMP BTF MAP PLAN CERT" ∷ []; asks = recheck_asks }
+abbrev pub recheck_form : (most : ℕ) → Form Reply
+recheck_form most = record { name = codes "recheck"; words = codes "DUMP BTF MAP PLAN CERT" ∷ []; asks = recheck_asks most }
 
 -- as the code keeps them
 abbrev pub cert_files : Asks → CertFiles

@@ -20,7 +20,7 @@ count_in text = if nat_le (length text) 6 then option_and_then as_count (decimal
 
 -- what `check` makes of the made files
 abbrev pub selftest_made : ℕ → Made Shown
-selftest_made n = check_made (Some (dump n None)) (Some btf) (Some map) (Some plan)
+selftest_made n = check_made 65536 (Some (dump n None)) (Some btf) (Some map) (Some plan)
 
 -- what `selftest` asks: no file of the outside
 abbrev pub selftest_asked : ℕ → Asked Shown

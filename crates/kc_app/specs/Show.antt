@@ -59,9 +59,9 @@ pub record Sought : Type 0 where
   pub target : Target
 
 -- the faults come in the order dump, types, map, symbol, type and path
-abbrev pub show_sought : Question → Option (List ℕ) → Option (List ℕ) → Option (List ℕ) → Made Sought
-show_sought question dump btf map = do
-  kernel ← kernel_in dump btf map
+abbrev pub show_sought : (most : ℕ) → Question → Option (List ℕ) → Option (List ℕ) → Option (List ℕ) → Made Sought
+show_sought most question dump btf map = do
+  kernel ← kernel_in most dump btf map
   target ← target_in question kernel.types kernel.told.kaslr kernel.map
   gives (record { image = bare_image (bytes_of dump) kernel.segments (by_info kernel.told); target = target })
 
@@ -74,31 +74,31 @@ abbrev pub number_shown : Image → Result Number Stopped → Shown
 number_shown image (Ok n) = Seen (Value n.value) image (number_places (Ok n))
 number_shown image (Err s) = broken image s
 
-abbrev pub show_made : Question → Option (List ℕ) → Option (List ℕ) → Option (List ℕ) → Made Shown
-show_made question dump btf map = do
-  sought ← show_sought question dump btf map
+abbrev pub show_made : (most : ℕ) → Question → Option (List ℕ) → Option (List ℕ) → Option (List ℕ) → Made Shown
+show_made most question dump btf map = do
+  sought ← show_sought most question dump btf map
   gives (number_shown sought.image (number_read sought.image sought.target))
 
-abbrev pub show_asked : Question → Asked Shown
-show_asked question = record {
+abbrev pub show_asked : (most : ℕ) → Question → Asked Shown
+show_asked most question = record {
   named = record { slot = Dump; name = question.dump } ∷ record { slot = Btf; name = question.btf } ∷ record { slot = Map; name = question.map } ∷ [];
-  made = λ files. show_made question (files Dump) (files Btf) (files Map);
+  made = λ files. show_made most question (files Dump) (files Btf) (files Map);
 }
 
-abbrev pub show_asks : List (List ℕ) → Option (Asked Shown)
-show_asks (dump ∷ btf ∷ map ∷ symbol ∷ ty ∷ path ∷ []) =
-    Some (show_asked (record { dump = dump; btf = btf; map = map; symbol = symbol; name = ty; path = path }))
-show_asks _ = None
+abbrev pub show_asks : (most : ℕ) → List (List ℕ) → Option (Asked Shown)
+show_asks most (dump ∷ btf ∷ map ∷ symbol ∷ ty ∷ path ∷ []) =
+    Some (show_asked most (record { dump = dump; btf = btf; map = map; symbol = symbol; name = ty; path = path }))
+show_asks most _ = None
 
-abbrev pub show_form : Form Shown
-show_form = record { name = codes "show"; words = codes "DUMP BTF MAP SYMBOL TYPE PATH" ∷ []; asks = show_asks }
+abbrev pub show_form : (most : ℕ) → Form Shown
+show_form most = record { name = codes "show"; words = codes "DUMP BTF MAP SYMBOL TYPE PATH" ∷ []; asks = show_asks most }
 
 -- as the code keeps them
 abbrev pub worded : Asks → Question
 worded a = record { dump = a.files.dump.now; btf = a.files.btf.now; map = a.files.map.now; symbol = a.symbol.now; name = a.name.now; path = a.path.now }
 
 abbrev pub show_view : Asks → Asked Shown
-show_view a = show_asked (worded a)
+show_view a = show_asked a.most (worded a)
 
 abbrev pub target_view : CodeTarget → Target
 target_view t = record { at = t.at; number = number_view t.field }

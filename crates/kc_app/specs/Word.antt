@@ -42,9 +42,9 @@ paging_of None notes = do
   gives (by_info told)
 
 -- the memory that is read: what its dump leaves out is absent
-abbrev pub word_image : Option ℕ → Option (List ℕ) → Made Image
-word_image table dump = do
-  parts ← dump_parts dump
+abbrev pub word_image : (most : ℕ) → Option ℕ → Option (List ℕ) → Made Image
+word_image most table dump = do
+  parts ← dump_parts most dump
   paging ← paging_of table parts.notes
   gives (bare_image (bytes_of dump) parts.segments paging)
 
@@ -54,33 +54,33 @@ word_shown image (Ok w) = Seen Bare image (place_of w ∷ [])
 word_shown image (Err s) = broken image s
 
 -- the word at an address
-abbrev pub word_made : Option ℕ → ℕ → Option (List ℕ) → Made Shown
-word_made table address dump = do
-  image ← word_image table dump
+abbrev pub word_made : (most : ℕ) → Option ℕ → ℕ → Option (List ℕ) → Made Shown
+word_made most table address dump = do
+  image ← word_image most table dump
   gives (word_shown image (vword image address))
 
 -- what `word` asks: the name of the dump, the physical address of the top table, or none where the dump's notes name
 -- it, and the virtual address
-abbrev pub word_asked : List ℕ → Option ℕ → ℕ → Asked Shown
-word_asked dump table address = record {
+abbrev pub word_asked : (most : ℕ) → List ℕ → Option ℕ → ℕ → Asked Shown
+word_asked most dump table address = record {
   named = record { slot = Dump; name = dump } ∷ [];
-  made = λ files. word_made table address (files Dump);
+  made = λ files. word_made most table address (files Dump);
 }
 
 -- where both its numbers are there
-abbrev pub numbers_asked : List ℕ → Option (Option ℕ) → Option ℕ → Option (Asked Shown)
-numbers_asked dump (Some table) (Some address) = Some (word_asked dump table address)
-numbers_asked dump (Some table) None = None
-numbers_asked dump None address = None
+abbrev pub numbers_asked : (most : ℕ) → List ℕ → Option (Option ℕ) → Option ℕ → Option (Asked Shown)
+numbers_asked most dump (Some table) (Some address) = Some (word_asked most dump table address)
+numbers_asked most dump (Some table) None = None
+numbers_asked most dump None address = None
 
 -- the words: the name of the dump, the top table or `-`, and the virtual address
-abbrev pub word_asks : List (List ℕ) → Option (Asked Shown)
-word_asks (dump ∷ table ∷ address ∷ []) = numbers_asked dump (table_word table) (hex_number address)
-word_asks _ = None
+abbrev pub word_asks : (most : ℕ) → List (List ℕ) → Option (Asked Shown)
+word_asks most (dump ∷ table ∷ address ∷ []) = numbers_asked most dump (table_word table) (hex_number address)
+word_asks most _ = None
 
-abbrev pub word_form : Form Shown
-word_form = record { name = codes "word"; words = codes "DUMP TABLE ADDRESS" ∷ []; asks = word_asks }
+abbrev pub word_form : (most : ℕ) → Form Shown
+word_form most = record { name = codes "word"; words = codes "DUMP TABLE ADDRESS" ∷ []; asks = word_asks most }
 
 -- as the code keeps it
 abbrev pub word_view : Asks → Asked Shown
-word_view a = word_asked a.dump.now a.table a.address
+word_view a = word_asked a.most a.dump.now a.table a.address

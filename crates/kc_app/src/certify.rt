@@ -1,14 +1,13 @@
 // The command `certify`: a certificate of the structures of a kernel, by a plan.
-ghost use Rattle.std.specs.Prelude.{◌≡◌, ◌≤◌, length, Some};
+ghost use Rattle.std.specs.Prelude.{length, Some};
 ghost use Rattle.kc_outside.specs.declared.store.Slot.{Slot};
 ghost use Rattle.kc_outside.specs.declared.store.Slot.TheVariants.{Dump, Map};
-ghost use Rattle.kc_outside.specs.Counts.{Rose};
 ghost use Rattle.kc_outside.specs.Files.{content};
 ghost use Rattle.kc_phys.specs.Stored.{AreInside};
 ghost use Rattle.kc_plan.specs.Inside.{AreInside as TypesAreInside};
 ghost use Rattle.kc_plan.specs.Views.{plan_seen};
 ghost use Rattle.kc_cert.specs.Certifying.Certified.{CertifiesAs, CountsCertifyFaults, NamesAudit};
-ghost use Rattle.kc_command.specs.Halts.{NotRefused, OnStore, UnlessStore};
+ghost use Rattle.kc_command.specs.Halts.{NotRefused};
 ghost use Rattle.kc_command.specs.Paging.{IsTable};
 ghost use Rattle.kc_command.specs.Ends.Answers.{StayBehind};
 ghost use Rattle.kc_app.specs.Certify.{certified, certify_asked, certify_made};
@@ -16,6 +15,7 @@ ghost use Rattle.kc_app.specs.Check.{files_view};
 ghost use Rattle.kc_app.specs.Fitted.{RepliesOf, RepliesOfBytes};
 ghost use Rattle.kc_app.specs.Held.{audited_of};
 ghost use Rattle.kc_app.specs.Certified.{IsMade, IsSpelled, IsUnclean, NamesIn};
+ghost use Rattle.kc_app.specs.Reads.{ReadsFiles};
 
 use crate::held::{HeldFiles, ask_held, read_held};
 use crate::plan_files::PlanFiles;
@@ -44,14 +44,11 @@ pub(crate) fn certify<S: Store>(
     requires plan { S.may store.old Slot.Plan asks.now.plan.now }
 
     ensures output { RepliesOf
-        (λ files. certify_made (files Dump asks.now.kernel.dump.now) (files Slot.Btf asks.now.kernel.btf.now)
+        (λ files. certify_made asks.now.most (files Dump asks.now.kernel.dump.now) (files Slot.Btf asks.now.kernel.btf.now)
         (files Map asks.now.kernel.map.now) (files Slot.Plan asks.now.plan.now)) (S.files store.old) result }
-    ensures unopened { StayBehind (certify_asked (files_view asks.now)).named result (S.opened store.old)
+    ensures unopened { StayBehind (certify_asked asks.now.most (files_view asks.now)).named result (S.opened store.old)
         (S.opened store.new) }
-    ensures files { S.files store.new ≡ S.files store.old }
-    ensures later { S.faults store.old ≤ S.faults store.new }
-    ensures quiet { UnlessStore result (S.faults store.new ≡ S.faults store.old) }
-    ensures cause { OnStore result (Rose (S.faults store.old) (S.faults store.new)) }
+    ensures reads { ReadsFiles S.files S.faults result store.old store.new }
 {
     let held = read_held(alloc, store, asks)?;
     certified(alloc, store, &held)
@@ -66,10 +63,7 @@ fn certified<S: Store>(alloc: Global, store: &mut S, held: &HeldFiles) -> Result
     ensures output { RepliesOfBytes (λ bytes. certified (audited_of held.now bytes))
         (content (S.files store.old) Dump (S.opened store.old Dump)) result }
     ensures not_refused { NotRefused result }
-    ensures files { S.files store.new ≡ S.files store.old }
-    ensures later { S.faults store.old ≤ S.faults store.new }
-    ensures quiet { UnlessStore result (S.faults store.new ≡ S.faults store.old) }
-    ensures cause { OnStore result (Rose (S.faults store.old) (S.faults store.new)) }
+    ensures reads { ReadsFiles S.files S.faults result store.old store.new }
 {
     let plan = &held.plan;
     let names = names_of(alloc, plan)?;

@@ -1,15 +1,14 @@
 // The commands of certificates.
-ghost use Rattle.std.specs.Prelude.{◌≡◌, ◌≤◌, map, option_map, Some};
+ghost use Rattle.std.specs.Prelude.{◌≡◌, map, option_map, Some};
 ghost use Rattle.std.specs.Option.{ForSome};
 ghost use Rattle.std.specs.String.{string_bytes};
 ghost use Rattle.kc_outside.specs.declared.store.Slot.{Slot};
-ghost use Rattle.kc_outside.specs.Counts.{Rose};
-ghost use Rattle.kc_command.specs.Halts.{OnStore, UnlessStore};
 ghost use Rattle.kc_command.specs.Ends.Asked.{word_in};
 ghost use Rattle.kc_app.specs.Fitted.{RepliesTo};
 ghost use Rattle.kc_app.specs.Certify.{certify_asks};
 ghost use Rattle.kc_app.specs.Program.{certs_asks, certs_view};
 ghost use Rattle.kc_app.specs.Recheck.{recheck_asks};
+ghost use Rattle.kc_app.specs.Reads.{ReadsFiles};
 
 use crate::plan_files::PlanFiles;
 use crate::recheck::Asks as CertFiles;
@@ -27,8 +26,8 @@ pub enum CertAsks<'w> {
 }
 
 // What the words of `recheck` ask.
-fn read_five(words: &[String]) -> Option<CertAsks<'_>>
-    ensures asked { option_map certs_view result ≡ recheck_asks (map string_bytes words.now) }
+fn read_five(most: u32, words: &[String]) -> Option<CertAsks<'_>>
+    ensures asked { option_map certs_view result ≡ recheck_asks most (map string_bytes words.now) }
 {
     let [dump, btf, map, plan, cert] = words else {
         return None;
@@ -41,6 +40,7 @@ fn read_five(words: &[String]) -> Option<CertAsks<'_>>
     let files = PlanFiles {
         kernel,
         plan: plan.as_str(),
+        most,
     };
     Some(CertAsks::Recheck(CertFiles {
         files,
@@ -49,8 +49,8 @@ fn read_five(words: &[String]) -> Option<CertAsks<'_>>
 }
 
 // What the words of `certify` ask.
-fn read_four(words: &[String]) -> Option<CertAsks<'_>>
-    ensures asked { option_map certs_view result ≡ certify_asks (map string_bytes words.now) }
+fn read_four(most: u32, words: &[String]) -> Option<CertAsks<'_>>
+    ensures asked { option_map certs_view result ≡ certify_asks most (map string_bytes words.now) }
 {
     let [dump, btf, map, plan] = words else {
         return None;
@@ -63,19 +63,20 @@ fn read_four(words: &[String]) -> Option<CertAsks<'_>>
     Some(CertAsks::Certify(PlanFiles {
         kernel,
         plan: plan.as_str(),
+        most,
     }))
 }
 
 /// What words ask, the first of which names the command. `None` where they are no command of certificates.
-pub fn read(words: &[String]) -> Option<CertAsks<'_>>
-    ensures asked { option_map certs_view result ≡ certs_asks (map string_bytes words.now) }
+pub fn read(most: u32, words: &[String]) -> Option<CertAsks<'_>>
+    ensures asked { option_map certs_view result ≡ certs_asks most (map string_bytes words.now) }
 {
     let [name, words @ ..] = words else {
         return None;
     };
     match name.as_str() {
-        "certify" => read_four(words),
-        "recheck" => read_five(words),
+        "certify" => read_four(most, words),
+        "recheck" => read_five(most, words),
         _ => None,
     }
 }
@@ -86,10 +87,7 @@ pub fn reply<S: Store>(alloc: Global, store: &mut S, asks: &CertAsks<'_>) -> Res
 
     ensures output { RepliesTo (Some (certs_view asks.now)) (S.files store.old) result (S.opened store.old)
         (S.opened store.new) }
-    ensures files { S.files store.new ≡ S.files store.old }
-    ensures later { S.faults store.old ≤ S.faults store.new }
-    ensures quiet { UnlessStore result (S.faults store.new ≡ S.faults store.old) }
-    ensures cause { OnStore result (Rose (S.faults store.old) (S.faults store.new)) }
+    ensures reads { ReadsFiles S.files S.faults result store.old store.new }
 {
     match asks {
         CertAsks::Certify(asks) => crate::certify::certify(alloc, store, asks),

@@ -1,20 +1,19 @@
 // The command `check` over the types of a kernel with those of a module of it.
-ghost use Rattle.std.specs.Prelude.{◌≡◌, ◌≤◌, length, map, option_map, IfOk};
+ghost use Rattle.std.specs.Prelude.{◌≡◌, length, map, option_map, IfOk};
 ghost use Rattle.std.specs.Option.{ForSome};
 ghost use Rattle.std.specs.String.{string_bytes};
 ghost use Rattle.kc_outside.specs.declared.store.Slot.{Slot};
 ghost use Rattle.kc_outside.specs.declared.store.Slot.TheVariants.{Dump, Map};
-ghost use Rattle.kc_outside.specs.Counts.{Rose};
 ghost use Rattle.kc_outside.specs.Files.{content};
 ghost use Rattle.kc_phys.specs.Stored.{AreInside};
 ghost use Rattle.kc_plan.specs.Inside.{AreInside as TypesAreInside};
-ghost use Rattle.kc_command.specs.Halts.{OnStore, UnlessStore};
 ghost use Rattle.kc_command.specs.Paging.{IsTable};
-ghost use Rattle.kc_command.specs.Ends.Answers.{OnNone, OnStoreIn, PrintsOf, Runs, StayBehind, UnlessStoreIn};
+ghost use Rattle.kc_command.specs.Ends.Answers.{OnNone, PrintsOf, Runs, StayBehind};
 ghost use Rattle.kc_command.specs.Ends.Asked.{word_in};
 ghost use Rattle.kc_app.specs.CheckModule.{audited_with, checks_asks, five_view, module_asked, module_asks, module_made, module_view};
 ghost use Rattle.kc_app.specs.Held.{Holds};
 ghost use Rattle.kc_app.specs.Shown.{shown_written};
+ghost use Rattle.kc_app.specs.Reads.{ReadsFiles, ReadsFilesIn};
 
 use crate::held::HeldFiles;
 use crate::plan_files::{PlanFiles, find_plan};
@@ -33,8 +32,8 @@ pub struct Asks<'w> {
 }
 
 // What the words ask.
-fn read(words: &[String]) -> Option<Asks<'_>>
-    ensures asked { option_map module_view result ≡ module_asks (map string_bytes words.now) }
+fn read(most: u32, words: &[String]) -> Option<Asks<'_>>
+    ensures asked { option_map module_view result ≡ module_asks most (map string_bytes words.now) }
 {
     let [dump, btf, map, plan, split] = words else {
         return None;
@@ -47,6 +46,7 @@ fn read(words: &[String]) -> Option<Asks<'_>>
     let files = PlanFiles {
         kernel,
         plan: plan.as_str(),
+        most,
     };
     Some(Asks {
         files,
@@ -56,20 +56,22 @@ fn read(words: &[String]) -> Option<Asks<'_>>
 
 /// Runs `check` on its words: the first fault of the dump, the types, the module's where the words name one, the map or
 /// the plan, else the verdict of the plan on the dump. `None` where these aren't its words; the store isn't asked then.
-pub fn run<S: Store>(alloc: Global, store: &mut S, words: &[String]) -> Option<Result<Answer, Halt>>
-    requires { (slot : Slot) → ForSome (word_in (checks_asks (map string_bytes words.now)) slot) (S.may store.old slot) }
+pub fn run<S: Store>(
+    alloc: Global,
+    store: &mut S,
+    most: u32,
+    words: &[String],
+) -> Option<Result<Answer, Halt>>
+    requires { (slot : Slot) → ForSome (word_in (checks_asks most (map string_bytes words.now)) slot) (S.may store.old slot) }
 
-    ensures output { Runs shown_written (checks_asks (map string_bytes words.now)) (S.files store.old) result
+    ensures output { Runs shown_written (checks_asks most (map string_bytes words.now)) (S.files store.old) result
         (S.opened store.old) (S.opened store.new) }
     ensures unasked { OnNone result (S.asked store.new ≡ S.asked store.old) }
-    ensures files { S.files store.new ≡ S.files store.old }
-    ensures later { S.faults store.old ≤ S.faults store.new }
-    ensures quiet { UnlessStoreIn result (S.faults store.new ≡ S.faults store.old) }
-    ensures cause { OnStoreIn result (Rose (S.faults store.old) (S.faults store.new)) }
+    ensures reads { ReadsFilesIn S.files S.faults result store.old store.new }
 {
-    match read(words) {
+    match read(most, words) {
         Some(asks) => Some(check(alloc, store, &asks)),
-        None => crate::check::run(alloc, store, words),
+        None => crate::check::run(alloc, store, most, words),
     }
 }
 
@@ -82,15 +84,12 @@ fn check<S: Store>(alloc: Global, store: &mut S, asks: &Asks<'_>) -> Result<Answ
     requires plan { S.may store.old Slot.Plan asks.now.files.plan.now }
 
     ensures output { PrintsOf shown_written
-        (λ files. module_made (files Dump asks.now.files.kernel.dump.now) (files Slot.Btf asks.now.files.kernel.btf.now)
+        (λ files. module_made asks.now.files.most (files Dump asks.now.files.kernel.dump.now) (files Slot.Btf asks.now.files.kernel.btf.now)
         (files Slot.Module asks.now.split.now) (files Map asks.now.files.kernel.map.now)
         (files Slot.Plan asks.now.files.plan.now)) (S.files store.old) result }
-    ensures unopened { StayBehind (module_asked (five_view asks.now)).named result (S.opened store.old)
+    ensures unopened { StayBehind (module_asked asks.now.files.most (five_view asks.now)).named result (S.opened store.old)
         (S.opened store.new) }
-    ensures files { S.files store.new ≡ S.files store.old }
-    ensures later { S.faults store.old ≤ S.faults store.new }
-    ensures quiet { UnlessStore result (S.faults store.new ≡ S.faults store.old) }
-    ensures cause { OnStore result (Rose (S.faults store.old) (S.faults store.new)) }
+    ensures reads { ReadsFiles S.files S.faults result store.old store.new }
 {
     let held = read_joined(alloc, store, asks)?;
     judge(alloc, store, &held)
@@ -105,22 +104,19 @@ fn read_joined<S: Store>(alloc: Global, store: &mut S, asks: &Asks<'_>) -> Resul
     requires plan { S.may store.old Slot.Plan asks.now.files.plan.now }
 
     ensures told { Holds
-        (λ files. audited_with (files Dump asks.now.files.kernel.dump.now) (files Slot.Btf asks.now.files.kernel.btf.now)
+        (λ files. audited_with asks.now.files.most (files Dump asks.now.files.kernel.dump.now) (files Slot.Btf asks.now.files.kernel.btf.now)
         (files Slot.Module asks.now.split.now) (files Map asks.now.files.kernel.map.now)
         (files Slot.Plan asks.now.files.plan.now)) (S.files store.old)
         (content (S.files store.new) Dump (S.opened store.new Dump)) result }
-    ensures unopened { StayBehind (module_asked (five_view asks.now)).named result (S.opened store.old)
+    ensures unopened { StayBehind (module_asked asks.now.files.most (five_view asks.now)).named result (S.opened store.old)
         (S.opened store.new) }
     ensures table { IfOk result (λ held. IsTable held.info.table) }
     ensures types { IfOk result (λ held. TypesAreInside (length held.types.records) held.plan.audits) }
     ensures inside { IfOk result (λ held. AreInside (S.sizes store.new Dump) held.core.segments) }
 
-    ensures files { S.files store.new ≡ S.files store.old }
-    ensures later { S.faults store.old ≤ S.faults store.new }
-    ensures quiet { UnlessStore result (S.faults store.new ≡ S.faults store.old) }
-    ensures cause { OnStore result (Rose (S.faults store.old) (S.faults store.new)) }
+    ensures reads { ReadsFiles S.files S.faults result store.old store.new }
 {
-    let noted = read_noted(alloc, store, asks.files.kernel.dump)?;
+    let noted = read_noted(alloc, store, asks.files.most, asks.files.kernel.dump)?;
     let base = read_types(alloc, store, asks.files.kernel.btf)?;
     let types = read_module(alloc, store, asks.split, &base)?;
     let map = read_map(alloc, store, asks.files.kernel.map)?;

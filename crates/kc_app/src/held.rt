@@ -1,16 +1,15 @@
 // What the four files of an audit hold.
-ghost use Rattle.std.specs.Prelude.{◌≡◌, ◌≤◌, ℕ, List, length, IfErr, IfOk, IfSome};
+ghost use Rattle.std.specs.Prelude.{◌≡◌, ℕ, List, length, IfErr, IfOk, IfSome};
 ghost use Rattle.kc_outside.specs.declared.store.Slot.{Slot};
 ghost use Rattle.kc_outside.specs.declared.store.Slot.TheVariants.{Dump, Map};
-ghost use Rattle.kc_outside.specs.Counts.{Rose};
 ghost use Rattle.kc_outside.specs.Files.{content};
 ghost use Rattle.kc_phys.specs.Stored.{AreInside};
 ghost use Rattle.kc_plan.specs.Inside.{AreInside as TypesAreInside};
-ghost use Rattle.kc_command.specs.Halts.{OnStore, UnlessStore};
 ghost use Rattle.kc_command.specs.Paging.{IsTable};
 ghost use Rattle.kc_command.specs.Ends.Answers.{StayBehind};
 ghost use Rattle.kc_app.specs.Check.{audited, check_asked, files_view};
 ghost use Rattle.kc_app.specs.Held.{Holds, audited_of};
+ghost use Rattle.kc_app.specs.Reads.{ReadsFiles};
 
 use crate::plan_files::{PlanFiles, find_plan};
 use kc_btf::Btf;
@@ -52,10 +51,10 @@ pub fn read_held<S: Store>(
     requires plan { S.may store.old Slot.Plan asks.now.plan.now }
 
     ensures told { Holds
-        (λ files. audited (files Dump asks.now.kernel.dump.now) (files Slot.Btf asks.now.kernel.btf.now)
+        (λ files. audited asks.now.most (files Dump asks.now.kernel.dump.now) (files Slot.Btf asks.now.kernel.btf.now)
         (files Map asks.now.kernel.map.now) (files Slot.Plan asks.now.plan.now)) (S.files store.old)
         (content (S.files store.new) Dump (S.opened store.new Dump)) result }
-    ensures unopened { StayBehind (check_asked (files_view asks.now)).named result (S.opened store.old)
+    ensures unopened { StayBehind (check_asked asks.now.most (files_view asks.now)).named result (S.opened store.old)
         (S.opened store.new) }
     ensures table { IfOk result (λ held. IsTable held.info.table) }
     ensures types { IfOk result (λ held. TypesAreInside (length held.types.records) held.plan.audits) }
@@ -63,12 +62,9 @@ pub fn read_held<S: Store>(
 
     ensures cert_opened { S.opened store.new Slot.Report ≡ S.opened store.old Slot.Report }
     ensures may { (s : Slot) (n : List ℕ) → S.may store.old s n → S.may store.new s n }
-    ensures files { S.files store.new ≡ S.files store.old }
-    ensures later { S.faults store.old ≤ S.faults store.new }
-    ensures quiet { UnlessStore result (S.faults store.new ≡ S.faults store.old) }
-    ensures cause { OnStore result (Rose (S.faults store.old) (S.faults store.new)) }
+    ensures reads { ReadsFiles S.files S.faults result store.old store.new }
 {
-    let kernel = read_kernel(alloc, store, &asks.kernel)?;
+    let kernel = read_kernel(alloc, store, asks.most, &asks.kernel)?;
     let plan = find_plan(
         alloc,
         store,

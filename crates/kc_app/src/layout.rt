@@ -12,11 +12,12 @@ ghost use Rattle.kc_outside.specs.Counts.{Rose};
 ghost use Rattle.kc_command.specs.Calls.{ReadsOnce, RefusesRead};
 ghost use Rattle.kc_command.specs.Halts.{NotStore, OnStore, UnlessStore};
 ghost use Rattle.kc_command.specs.Slots.{RefusesAbout};
-ghost use Rattle.kc_command.specs.Ends.Answers.{OnNone, OnStoreIn, Prints, PrintsOf, Runs, StayBehind, UnlessStoreIn};
+ghost use Rattle.kc_command.specs.Ends.Answers.{OnNone, Prints, PrintsOf, Runs, StayBehind};
 ghost use Rattle.kc_command.specs.Ends.Asked.{word_in};
 ghost use Rattle.kc_app.specs.Calls.{LayoutCalls};
 ghost use Rattle.kc_app.specs.Layout.{layout_asks, layout_made, layout_of, layout_view};
 ghost use Rattle.kc_app.specs.Shown.{compound_line, compound_word, member_line, member_lines, shown_written, width_text};
+ghost use Rattle.kc_app.specs.Reads.{ReadsFilesIn};
 
 use kc_btf::{Btf, Kind, TypeRef};
 use kc_command::{Answer, Halt, Refusal, read_types};
@@ -58,10 +59,7 @@ pub fn run<S: Store>(alloc: Global, store: &mut S, words: &[String]) -> Option<R
         (S.opened store.old) (S.opened store.new) }
     ensures unasked { OnNone result (S.asked store.new ≡ S.asked store.old) }
     ensures calls { LayoutCalls S.faults S.asked result store.old store.new }
-    ensures files { S.files store.new ≡ S.files store.old }
-    ensures later { S.faults store.old ≤ S.faults store.new }
-    ensures quiet { UnlessStoreIn result (S.faults store.new ≡ S.faults store.old) }
-    ensures cause { OnStoreIn result (Rose (S.faults store.old) (S.faults store.new)) }
+    ensures reads { ReadsFilesIn S.files S.faults result store.old store.new }
 {
     let asks = read(words)?;
     Some(layout(alloc, store, asks))

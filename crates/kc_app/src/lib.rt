@@ -20,5 +20,5 @@ mod verdict;
 mod word;
 
 pub use kc_command::Status;
-pub use laws::{know_reports, know_shown};
-pub use top::kaudit;
+pub use laws::{know_misfits, know_reports, know_shown, know_step_lists};
+pub use top::{kaudit, kaudit_within};

@@ -1,13 +1,12 @@
 // The files of a plan on a dump, and the plan over the types and the map.
-ghost use Rattle.std.specs.Prelude.{◌≡◌, ◌≤◌, ℕ, List, length, IfOk};
+ghost use Rattle.std.specs.Prelude.{◌≡◌, ℕ, List, length, IfOk};
 ghost use Rattle.kc_outside.specs.declared.store.Slot.{Slot};
 ghost use Rattle.kc_outside.specs.declared.store.Slot.TheVariants.{Dump};
-ghost use Rattle.kc_outside.specs.Counts.{Rose};
 ghost use Rattle.kc_plan.specs.Inside.{AreInside as TypesAreInside};
 ghost use Rattle.kc_plan.specs.Views.{plan_whole};
-ghost use Rattle.kc_command.specs.Halts.{OnStore, UnlessStore};
 ghost use Rattle.kc_command.specs.Made.{IsOf};
 ghost use Rattle.kc_app.specs.Check.{RefusesLate, planned_in};
+ghost use Rattle.kc_app.specs.Reads.{ReadsFiles};
 
 use kc_audit::read_audits;
 use kc_btf::Btf;
@@ -24,6 +23,8 @@ pub struct PlanFiles<'w> {
     pub kernel: KernelFiles<'w>,
     /// The name of the plan.
     pub plan: &'w str,
+    /// At most so many program headers has the dump.
+    pub most: u32,
 }
 
 /// Reads the plan, over the types and a map with these bytes.
@@ -49,10 +50,7 @@ pub fn find_plan<S: Store>(
     ensures dump_opened { S.opened store.new Dump ≡ S.opened store.old Dump }
     ensures dump_sizes { S.sizes store.new Dump ≡ S.sizes store.old Dump }
     ensures may { (s : Slot) (n : List ℕ) → S.may store.old s n → S.may store.new s n }
-    ensures files { S.files store.new ≡ S.files store.old }
-    ensures later { S.faults store.old ≤ S.faults store.new }
-    ensures quiet { UnlessStore result (S.faults store.new ≡ S.faults store.old) }
-    ensures cause { OnStore result (Rose (S.faults store.old) (S.faults store.new)) }
+    ensures reads { ReadsFiles S.files S.faults result store.old store.new }
 {
     let symbols = read_symbols(alloc, map)?;
     let bytes = read_plan_file(alloc, store, name)?;

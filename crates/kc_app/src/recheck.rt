@@ -1,8 +1,7 @@
 // The command `recheck`: whether a certificate fits the structures of a kernel, by a plan.
-ghost use Rattle.std.specs.Prelude.{◌≡◌, ◌++◌, ◌≤◌, ℕ, List, codes, decimal, length, IfOk};
+ghost use Rattle.std.specs.Prelude.{◌≡◌, ◌++◌, codes, decimal, length, IfOk};
 ghost use Rattle.kc_outside.specs.declared.store.Slot.{Slot};
 ghost use Rattle.kc_outside.specs.declared.store.Slot.TheVariants.{Dump, Map};
-ghost use Rattle.kc_outside.specs.Counts.{Rose};
 ghost use Rattle.kc_outside.specs.Files.{OthersStay, content};
 ghost use Rattle.kc_phys.specs.Stored.{AreInside};
 ghost use Rattle.kc_plan.specs.Inside.{AreInside as TypesAreInside};
@@ -10,7 +9,7 @@ ghost use Rattle.kc_plan.specs.Views.{plan_seen};
 ghost use Rattle.kc_cert.specs.Rechecking.Certificates.{answer};
 ghost use Rattle.kc_cert.specs.Text.CertTexts.{cert_in};
 ghost use Rattle.kc_command.specs.declared.refusal.Refusal.TheVariants.{Certificate as cert_refused};
-ghost use Rattle.kc_command.specs.Halts.{NotRefused, NotStore, OnStore, UnlessStore};
+ghost use Rattle.kc_command.specs.Halts.{NotRefused, NotStore};
 ghost use Rattle.kc_command.specs.Made.{Is, IsOf, checked};
 ghost use Rattle.kc_command.specs.Paging.{IsTable};
 ghost use Rattle.kc_command.specs.Slots.{RefusesIn};
@@ -22,6 +21,7 @@ ghost use Rattle.kc_app.specs.Held.{audited_of};
 ghost use Rattle.kc_app.specs.Recheck.{cert_file, cert_files, recheck_asked, recheck_made};
 ghost use Rattle.kc_app.specs.Reply.{Rechecks, answer_line, answer_status};
 ghost use Rattle.kc_found.specs.Failures.{CountsFailures};
+ghost use Rattle.kc_app.specs.Reads.{ReadsFiles};
 
 use crate::held::{HeldFiles, ask_held, read_held};
 use crate::plan_files::PlanFiles;
@@ -59,15 +59,12 @@ pub(crate) fn recheck<S: Store>(
     requires cert { S.may store.old Slot.Report asks.now.cert.now }
 
     ensures output { RepliesOf
-        (λ files. recheck_made (files Dump asks.now.files.kernel.dump.now) (files Slot.Btf asks.now.files.kernel.btf.now)
+        (λ files. recheck_made asks.now.files.most (files Dump asks.now.files.kernel.dump.now) (files Slot.Btf asks.now.files.kernel.btf.now)
         (files Map asks.now.files.kernel.map.now) (files Slot.Plan asks.now.files.plan.now)
         (files Slot.Report asks.now.cert.now)) (S.files store.old) result }
-    ensures unopened { StayBehind (recheck_asked (cert_files asks.now)).named result (S.opened store.old)
+    ensures unopened { StayBehind (recheck_asked asks.now.files.most (cert_files asks.now)).named result (S.opened store.old)
         (S.opened store.new) }
-    ensures files { S.files store.new ≡ S.files store.old }
-    ensures later { S.faults store.old ≤ S.faults store.new }
-    ensures quiet { UnlessStore result (S.faults store.new ≡ S.faults store.old) }
-    ensures cause { OnStore result (Rose (S.faults store.old) (S.faults store.new)) }
+    ensures reads { ReadsFiles S.files S.faults result store.old store.new }
 {
     let held = read_held(alloc, store, &asks.files)?;
     let cert = find_cert(alloc, store, asks.cert)?;
@@ -83,10 +80,7 @@ fn find_cert<S: Store>(alloc: Global, store: &mut S, name: &str) -> Result<Certi
 
     ensures others_opened { OthersStay Slot.Report (S.opened store.old) (S.opened store.new) }
     ensures others_sizes { OthersStay Slot.Report (S.sizes store.old) (S.sizes store.new) }
-    ensures files { S.files store.new ≡ S.files store.old }
-    ensures later { S.faults store.old ≤ S.faults store.new }
-    ensures quiet { UnlessStore result (S.faults store.new ≡ S.faults store.old) }
-    ensures cause { OnStore result (Rose (S.faults store.old) (S.faults store.new)) }
+    ensures reads { ReadsFiles S.files S.faults result store.old store.new }
 {
     let bytes = read_cert_file(alloc, store, name)?;
     take_cert(alloc, &bytes)
@@ -120,10 +114,7 @@ fn rechecked<S: Store>(
         (λ bytes. Rechecks (answer (audited_of held.now bytes).image (audited_of held.now bytes).audits cert.now))
         (content (S.files store.old) Dump (S.opened store.old Dump)) result }
     ensures not_refused { NotRefused result }
-    ensures files { S.files store.new ≡ S.files store.old }
-    ensures later { S.faults store.old ≤ S.faults store.new }
-    ensures quiet { UnlessStore result (S.faults store.new ≡ S.faults store.old) }
-    ensures cause { OnStore result (Rose (S.faults store.old) (S.faults store.new)) }
+    ensures reads { ReadsFiles S.files S.faults result store.old store.new }
 {
     let over = PlanOf {
         alloc,

@@ -3,15 +3,16 @@ ghost use Rattle.std.specs.Prelude.{◌≡◌, ◌<◌, ◌≤◌, map, option_a
 ghost use Rattle.std.specs.Option.{ForSome};
 ghost use Rattle.std.specs.String.{string_bytes};
 ghost use Rattle.kc_outside.specs.declared.store.Slot.{Slot};
-ghost use Rattle.kc_outside.specs.Counts.{Rose};
 ghost use Rattle.kc_command.specs.Halts.{NotStore};
-ghost use Rattle.kc_command.specs.Ends.Answers.{OnNone, OnStoreIn, Prints, Runs, UnlessStoreIn};
+ghost use Rattle.kc_command.specs.Ends.Answers.{OnStoreIn, Prints, Runs};
 ghost use Rattle.kc_command.specs.Ends.Asked.{word_in};
 ghost use Rattle.kc_app.specs.Selftest.{count_in, count_of, selftest_asked, selftest_asks, selftest_made};
 ghost use Rattle.kc_app.specs.Shown.{shown_written};
+ghost use Rattle.kc_app.specs.Reads.{ReadsFilesIn};
 
 use crate::check::check;
 use crate::plan_files::PlanFiles;
+use crate::top::MOST_HEADERS;
 use kc_command::{Answer, Halt, KernelFiles};
 use kc_gen::make;
 use kc_outside::{Store, SureStore};
@@ -67,10 +68,7 @@ pub fn run<S: Store>(alloc: Global, store: &mut S, words: &[String]) -> Option<R
         (S.opened store.old) (S.opened store.new) }
     ensures unasked { S.asked store.new ≡ S.asked store.old }
     ensures sure { OnStoreIn result ⊥ }
-    ensures files { S.files store.new ≡ S.files store.old }
-    ensures later { S.faults store.old ≤ S.faults store.new }
-    ensures quiet { UnlessStoreIn result (S.faults store.new ≡ S.faults store.old) }
-    ensures cause { OnStoreIn result (Rose (S.faults store.old) (S.faults store.new)) }
+    ensures reads { ReadsFilesIn S.files S.faults result store.old store.new }
 {
     let _ = store;
     let count = read(words)?;
@@ -94,6 +92,7 @@ fn selftest(alloc: Global, count: u32) -> Result<Answer, Halt>
     let asks = PlanFiles {
         kernel,
         plan: "plan",
+        most: MOST_HEADERS,
     };
     check(alloc, &mut store, &asks)
 }

@@ -1,7 +1,6 @@
 // What a plan comes to on a dump, as an answer.
-ghost use Rattle.std.specs.Prelude.{◌≡◌, ◌≤◌, length, map};
+ghost use Rattle.std.specs.Prelude.{◌≡◌, length, map};
 ghost use Rattle.kc_outside.specs.declared.store.Slot.TheVariants.{Dump};
-ghost use Rattle.kc_outside.specs.Counts.{Rose};
 ghost use Rattle.kc_outside.specs.Files.{content};
 ghost use Rattle.kc_phys.specs.Stored.{AreInside};
 ghost use Rattle.kc_plan.specs.Inside.{AreInside as TypesAreInside};
@@ -9,7 +8,7 @@ ghost use Rattle.kc_plan.specs.Roots.{root_verdicts};
 ghost use Rattle.kc_plan.specs.Verdicts.{verdict, verdict_places};
 ghost use Rattle.kc_plan.specs.Views.{plan_seen};
 ghost use Rattle.kc_report.specs.Copies.{AreOfPlan, IsOfPlan};
-ghost use Rattle.kc_command.specs.Halts.{NotRefused, OnStore, UnlessStore};
+ghost use Rattle.kc_command.specs.Halts.{NotRefused};
 ghost use Rattle.kc_command.specs.Made.{gives};
 ghost use Rattle.kc_command.specs.Paging.{IsTable};
 ghost use Rattle.kc_command.specs.Ends.Answers.{PrintsOfBytes};
@@ -18,6 +17,7 @@ ghost use Rattle.kc_app.specs.Answer.{Writes, WritesRoots};
 ghost use Rattle.kc_app.specs.Check.{audited_shown, root_seen, roots_shown, verdict_said, verdict_shown};
 ghost use Rattle.kc_app.specs.Held.{audited_of};
 ghost use Rattle.kc_app.specs.Shown.{shown_written};
+ghost use Rattle.kc_app.specs.Reads.{ReadsFiles};
 
 use crate::held::{HeldFiles, ask_held};
 use kc_audit::{EachRoot, PlanOf, WholePlan, is_broken, names_of};
@@ -36,10 +36,7 @@ pub fn judge<S: Store>(alloc: Global, store: &mut S, held: &HeldFiles) -> Result
     ensures output { PrintsOfBytes shown_written (λ bytes. gives (audited_shown (audited_of held.now bytes)))
         (content (S.files store.old) Dump (S.opened store.old Dump)) result }
     ensures not_refused { NotRefused result }
-    ensures files { S.files store.new ≡ S.files store.old }
-    ensures later { S.faults store.old ≤ S.faults store.new }
-    ensures quiet { UnlessStore result (S.faults store.new ≡ S.faults store.old) }
-    ensures cause { OnStore result (Rose (S.faults store.old) (S.faults store.new)) }
+    ensures reads { ReadsFiles S.files S.faults result store.old store.new }
 {
     let plan = &held.plan;
     let names = names_of(alloc, plan)?;
@@ -67,10 +64,7 @@ fn judge_all<S: Store>(
         gives (verdict_shown all.image (names_of all.audits) (verdict all.image all.audits)))
         (content (S.files store.old) Dump (S.opened store.old Dump)) result }
     ensures not_refused { NotRefused result }
-    ensures files { S.files store.new ≡ S.files store.old }
-    ensures later { S.faults store.old ≤ S.faults store.new }
-    ensures quiet { UnlessStore result (S.faults store.new ≡ S.faults store.old) }
-    ensures cause { OnStore result (Rose (S.faults store.old) (S.faults store.new)) }
+    ensures reads { ReadsFiles S.files S.faults result store.old store.new }
 {
     let over = PlanOf {
         alloc,
@@ -102,10 +96,7 @@ fn judge_each<S: Store>(
         gives (roots_shown all.image (names_of all.audits) (root_verdicts all.image all.audits)))
         (content (S.files store.old) Dump (S.opened store.old Dump)) result }
     ensures not_refused { NotRefused result }
-    ensures files { S.files store.new ≡ S.files store.old }
-    ensures later { S.faults store.old ≤ S.faults store.new }
-    ensures quiet { UnlessStore result (S.faults store.new ≡ S.faults store.old) }
-    ensures cause { OnStore result (Rose (S.faults store.old) (S.faults store.new)) }
+    ensures reads { ReadsFiles S.files S.faults result store.old store.new }
 {
     let over = PlanOf {
         alloc,

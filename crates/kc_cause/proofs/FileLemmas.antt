@@ -22,22 +22,28 @@ use Rattle.kc_report.specs.IsReport.{report_text}
 use Rattle.kc_command.specs.declared.halt.Halt.{Halt}
 use Rattle.kc_command.specs.declared.halt.Halt.TheVariants.{Refused, Store, Memory}
 use Rattle.kc_command.specs.Halts.{NotRefused}
-use Rattle.kc_command.specs.Inputs.{report_bytes_in}
-use Rattle.kc_command.specs.Made.{Is, IsOf, Made, gives}
+use Rattle.kc_command.specs.declared.refusal.Refusal.TheVariants.{Notes}
+use Rattle.kc_command.specs.Inputs.{map_in, report_bytes_in, types_in, view_headers}
+use Rattle.kc_command.specs.Made.{Is, IsOf, Made, checked, gives}
 use Rattle.kc_command.specs.Paging.{by_info}
 use Rattle.kc_command.specs.Slots.{RefusesIn, refused_slot}
 use Rattle.kc_command.specs.declared.ends.answer.Answer.{Answer}
 use Rattle.kc_command.specs.declared.ends.answer.Answer.TheVariants.{Done, Broken}
 use Rattle.kc_command.specs.Ends.Answers.{Prints, PrintsOf, PrintsOfBytes, StayBehind}
 use Rattle.kc_command.specs.Ends.Asked.{AllStay, behind}
-use Rattle.kc_command.specs.declared.kernel.Kernel.{Kernel}
-use Rattle.kc_command.specs.Kernels.{kernel_files, kernel_in, kernel_view}
+use Rattle.kc_command.specs.declared.kernel.Noted.{Noted}
+use Rattle.kc_command.specs.Kernels.{NotedAt, kernel_files, noted_in, noted_view}
+use Rattle.kc_btf.specs.Btf.{Types}
+use Rattle.kc_notes.specs.Notes.{text_in}
+use Rattle.kc_slab_page.specs.Frames.Frames.{frames}
+use Rattle.std.specs.Global.{Vec}
 use Rattle.kc_audit.specs.Audits.{names_of}
 use Rattle.kc_cause.specs.declared.files.Asks.{Asks}
+use Rattle.kc_cause.specs.declared.planned.KernelRead.{KernelRead}
 use Rattle.kc_cause.specs.declared.planned.Planned.{Planned}
 use Rattle.kc_cause.specs.declared.judged.PlanOf.{PlanOf}
 use Rattle.kc_cause.specs.declared.judged.Judged.{Judged}
-use Rattle.kc_cause.specs.Explained.{Explained, cause_made, causes_text, compared, explained_text, explained_written, or_clean, planned_in, report_file, report_now, report_passed}
+use Rattle.kc_cause.specs.Explained.{Explained, cause_made, causes_text, compared, explained_by, explained_text, explained_written, kernel_with, or_clean, planned_in, report_file, report_now, report_passed}
 use Rattle.kc_cause.specs.Files.{RefusesLate, cause_asked, explained_of, planned_view, report_files}
 use Rattle.kc_cause.specs.Judged.{Compares, JudgesAs, Tells, is_reported, over_plan, report_by}
 
@@ -105,22 +111,24 @@ stops_told o (Some i) report Store sure = tt
 stops_told o (Some i) report Memory sure = tt
 
 -- over the dump
-abbrev over_kernel : Kernel → Planned → Image → Explained
-over_kernel kernel planned image = record {
+abbrev over_kernel : KernelRead → Planned → List ℕ → Image → Explained
+over_kernel kernel planned ns image = record {
   image = image;
-  types = kernel.types;
+  types = kernel.types.now;
   version = planned.plan.version;
   audits = plan_seen planned.plan;
   shapes = shapes_view planned.shapes;
+  slabs = planned.slabs;
+  frames = ns;
   symbols = map_symbols planned.shapes.map;
 }
 
-pub kernel_prints : (content now : Option (List ℕ)) (kernel : Kernel) (planned : Planned) (segments : List Segment) (tail : Tail) (report : List ℕ) (r : Result Answer Halt)
-    → now ≡ content → segments ≡ kernel.core.segments → tail ≡ planned.plan.tail
-    → IfSome (with_paging (by_info kernel.info) (stored segments tail now)) (λ i. Prints explained_written (compared (over_kernel kernel planned i) report) r)
+pub kernel_prints : (content now : Option (List ℕ)) (kernel : KernelRead) (planned : Planned) (segments : List Segment) (tail : Tail) (ns report : List ℕ) (r : Result Answer Halt)
+    → now ≡ content → segments ≡ kernel.core.now.segments → tail ≡ planned.plan.tail → ns ≡ frames kernel.core.now.segments
+    → IfSome (with_paging (by_info kernel.info) (stored segments tail now)) (λ i. Prints explained_written (compared (over_kernel kernel planned ns i) report) r)
     → PrintsOfBytes explained_written (λ bytes. compared (explained_of kernel planned bytes) report) content r
-kernel_prints None now kernel planned segments tail report r same within ends prints = tt
-kernel_prints (Some bytes) now kernel planned segments tail report r same within ends prints = rw (same, within, ends) at prints
+kernel_prints None now kernel planned segments tail ns report r same within ends framed prints = tt
+kernel_prints (Some bytes) now kernel planned segments tail ns report r same within ends framed prints = rw (same, within, ends, framed) at prints
 
 pub halted_prints : (content : Option (List ℕ)) (made : List ℕ → Made Explained) (halt : Halt) → NotRefused {A = Answer} (Err halt) → PrintsOfBytes explained_written made content (Err halt)
 halted_prints None made halt sure = tt
@@ -129,23 +137,26 @@ halted_prints (Some bytes) made Store sure = tt
 halted_prints (Some bytes) made Memory sure = tt
 
 -- of files that are there
-made_prints : (dump btf map plan file content : Option (List ℕ)) (kernel : Kernel) (planned : Planned) (report : List ℕ) (r : Result Answer Halt)
-    → kernel_in dump btf map ≡ gives (kernel_view kernel) → planned_in (kernel_view kernel) plan ≡ gives (planned_view planned) → report_file file ≡ gives report → content ≡ dump
-    → PrintsOfBytes explained_written (λ bytes. compared (explained_of kernel planned bytes) report) content r
+made_prints : (dump btf map plan file content : Option (List ℕ)) (noted : NotedAt) (note : List ℕ) (types : Types) (listed : List ℕ) (planned : Planned) (report : List ℕ) (r : Result Answer Halt)
+    → noted_in view_headers dump ≡ gives noted → checked Notes (text_in noted.parts.notes) ≡ gives note → types_in btf ≡ gives types → map_in map ≡ gives listed
+    → planned_in (kernel_with noted types listed) note plan ≡ gives (planned_view planned) → report_file file ≡ gives report → content ≡ dump
+    → PrintsOfBytes explained_written (λ bytes. compared (explained_by (kernel_with noted types listed) (planned_view planned) bytes) report) content r
     → Prints explained_written (cause_made dump btf map plan file) r
-made_prints None btf map plan file content kernel planned report r is found read same prints = absurd (let none : ⊥ = cc in none)
-made_prints (Some bytes) btf map plan file content kernel planned report r is found read same prints = rw (is, found, read) (rw same at prints)
+made_prints None btf map plan file content noted note types listed planned report r is told typed mapped found read same prints = absurd (let none : ⊥ = cc in none)
+made_prints (Some bytes) btf map plan file content noted note types listed planned report r is told typed mapped found read same prints = rw (is, told, typed, mapped, found, read) (rw same at prints)
 
-pub files_print : {X : Type 0} (a : Asks) (files : Option Told) (content : Option (List ℕ)) (kernel : Kernel) (planned : Planned) (kept : X → List ℕ) (report : X) (r : Result Answer Halt)
-    → IsOf kernel_view (λ files. kernel_in (files slot.Dump a.files.dump.now) (files slot.Btf a.files.btf.now) (files slot.Map a.files.map.now)) files (Ok kernel)
-    → IsOf planned_view (λ files. planned_in (kernel_view kernel) (files slot.Plan a.plan.now)) files (Ok planned)
+pub files_print : {X : Type 0} (a : Asks) (files : Option Told) (content : Option (List ℕ)) (noted : Noted) (note : List ℕ) (types : Types) (listed : Vec ℕ) (planned : Planned) (kept : X → List ℕ) (report : X) (r : Result Answer Halt)
+    → IsOf noted_view (λ files. noted_in view_headers (files slot.Dump a.files.dump.now)) files (Ok noted) → checked Notes (text_in noted.core.notes) ≡ gives note
+    → IsOf {X = Types} (λ x. x) (λ files. types_in (files slot.Btf a.files.btf.now)) files (Ok types)
+    → IsOf {X = Vec ℕ} (λ m. m.items) (λ files. map_in (files slot.Map a.files.map.now)) files (Ok listed)
+    → IsOf planned_view (λ files. planned_in (kernel_with (noted_view noted) types listed.items) note (files slot.Plan a.plan.now)) files (Ok planned)
     → content ≡ named files slot.Dump a.files.dump.now → IsOf kept (λ files. report_file (files slot.Report a.report.now)) files (Ok report)
-    → PrintsOfBytes explained_written (λ bytes. compared (explained_of kernel planned bytes) (kept report)) content r
+    → PrintsOfBytes explained_written (λ bytes. compared (explained_by (kernel_with (noted_view noted) types listed.items) (planned_view planned) bytes) (kept report)) content r
     → PrintsOf explained_written (λ files. cause_made (files slot.Dump a.files.dump.now) (files slot.Btf a.files.btf.now) (files slot.Map a.files.map.now) (files slot.Plan a.plan.now) (files slot.Report a.report.now)) files r
-files_print a None content kernel planned kept report r is found same read prints = tt
-files_print a (Some files) content kernel planned kept report r is found same read prints =
+files_print a None content noted note types listed planned kept report r is told typed mapped found same read prints = tt
+files_print a (Some files) content noted note types listed planned kept report r is told typed mapped found same read prints =
     made_prints (files slot.Dump a.files.dump.now) (files slot.Btf a.files.btf.now) (files slot.Map a.files.map.now) (files slot.Plan a.plan.now) (files slot.Report a.report.now)
-    content kernel planned (kept report) r is found read same prints
+    content (noted_view noted) note types listed.items planned (kept report) r is told typed mapped found read same prints
 
 -- a refusal of the kernel's files leaves those of the plan and of the report unopened too
 stays_more : (a : Asks) (one : Option Slot) (old new : Slot → Option (List ℕ)) → new slot.Plan ≡ old slot.Plan → new slot.Report ≡ old slot.Report

@@ -2,16 +2,26 @@
 use Rattle.std.proofs.Common.{◌≡◌, ℕ, ◌+◌, ◌≤◌, length, List, ◌++◌, drop, slice_get, Option, Some, None, IfSome, Result, Ok, Err, OnOk, sym, ap, ◌∙◌, append_assoc}
 use Rattle.std.proofs.lemmas.List.{append-nil, drop_all}
 use Rattle.kc_memory.specs.declared.words.Place.{Place}
+use Rattle.kc_memory.specs.declared.words.VWord.{VWord}
 use Rattle.kc_memory.specs.Image.{Image}
+use Rattle.kc_memory.specs.Stopped.{Stopped}
 use Rattle.kc_found.specs.Violations.{Violation}
 use Rattle.kc_plan.specs.Planned.{AuditAt}
 use Rattle.kc_plan.specs.Views.{plan_seen}
 use Rattle.kc_text.specs.Compose.{texts}
+use Rattle.kc_report.specs.Lines.{place_line}
+use Rattle.kc_sight.specs.Looks.{LooksAs, words}
+use Rattle.kc_sight.specs.Sights.{page_start}
+use Rattle.kc_sight.specs.Views.{image_symbols}
+use Rattle.kc_told.specs.Objects.{Told, told_of}
+use Rattle.kc_told.specs.SaysText.{says_lines}
+use Rattle.kc_told.specs.SeenText.{map_symbols, told_lines}
+use Rattle.kc_told.specs.Views.{shapes_view}
 use Rattle.kc_cause.specs.declared.judged.PlanOf.{PlanOf}
 use Rattle.kc_kinds.specs.declared.kind.Kind.{Kind}
 use Rattle.kc_cause.specs.declared.suspected.AsRing.{AsRing}
 use Rattle.kc_cause.specs.Suspected.{Suspected, suspected, suspected_view}
-use Rattle.kc_cause.specs.Explained.{place_told, repairs_as, repairs_found, repairs_of, shown_lines}
+use Rattle.kc_cause.specs.Explained.{listed_lines, place_told, repairs_as, repairs_found, repairs_of, says_at, shown_lines, slabs_found, slabs_lines, told_at}
 use Rattle.kc_cause.specs.Judged.{over_plan}
 use Rattle.kc_cause.specs.Rings.{ring_lines}
 use Rattle.kc_cause.proofs.ItemLemmas.{texts_item}
@@ -40,12 +50,36 @@ then_lines None after (Ok a) old mid new first rest same one two = tt
 then_lines (Some m) after (Ok a) old mid new first rest same one two =
     (rw same at two) ∙ ap (λ l. l ++ rest m) one ∙ append_assoc old (first m) (rest m)
 
+-- a place, with what its word says by itself and what is told of its address
+pub place_added : {P T : Type 0} (image after : Option Image) (o : PlanOf) (p : Place) (va : ℕ) (items : P → List (Result VWord Stopped)) (view : T → Told) (page : P) (told : T) (old one two new : List ℕ)
+    → p.va ≡ Some va → after ≡ image → one ≡ old ++ place_line p → LooksAs items (λ m. words m (page_start va) 512) image (Ok page)
+    → two ≡ one ++ says_lines (image_symbols o.shapes.map) va p.value (items page) → LooksAs view (λ m. told_of m (shapes_view o.shapes) va) after (Ok told)
+    → new ≡ two ++ told_lines (map_symbols o.shapes.map) va (view told) → IfSome image (λ m. new ≡ old ++ place_told (over_plan o m) p)
+place_added None after o p va items view page told old one two new is same first read second tells third = tt
+place_added (Some m) after o p va items view page told old one two new is same first read second tells third =
+    let line : List ℕ = place_line p in
+    let says : List ℕ = says_lines (image_symbols o.shapes.map) va p.value (items page) in
+    let lines : List ℕ = told_lines (map_symbols o.shapes.map) va (view told) in
+    let as_told : view told ≡ told_of m (shapes_view o.shapes) va = rw same at tells in
+    let all : new ≡ old ++ ((line ++ says) ++ lines)
+    = third ∙ ap (λ l. l ++ lines) (second ∙ ap (λ l. l ++ says) first ∙ append_assoc old line says) ∙ append_assoc old (line ++ says) lines in
+    all ∙ ap (λ l. old ++ ((line ++ says_lines (image_symbols o.shapes.map) va p.value l) ++ lines)) read
+    ∙ ap (λ t. old ++ ((line ++ says_lines (image_symbols o.shapes.map) va p.value (words m (page_start va) 512)) ++ told_lines (map_symbols o.shapes.map) va t)) as_told
+    ∙ ap (λ v. old ++ ((line ++ says_at (over_plan o m) p.value v) ++ told_at (over_plan o m) v)) (sym is)
+
 -- the list in which a violation lies, and the words that show it
-pub shown_added : {A E : Type 0} (image after : Option Image) (r : Result A E) (o : PlanOf) (v : Violation) (a : AuditAt) (ps : List Place) (old mid new : List ℕ)
+pub listed_added : {A E : Type 0} (image after : Option Image) (r : Result A E) (o : PlanOf) (v : Violation) (a : AuditAt) (ps : List Place) (old mid new : List ℕ)
     → v.places ≡ ps → slice_get (plan_seen o.plan.now) v.audit ≡ Some a → after ≡ image → IfSome image (λ m. mid ≡ old ++ ring_lines o.types.now m v a.kind)
-    → OnOk r (IfSome after (λ m. new ≡ mid ++ texts (place_told (over_plan o m)) ps)) → OnOk r (IfSome image (λ m. new ≡ old ++ shown_lines (over_plan o m) v))
-shown_added image after r o v a ps old mid new placed is same one two =
+    → OnOk r (IfSome after (λ m. new ≡ mid ++ texts (place_told (over_plan o m)) ps)) → OnOk r (IfSome image (λ m. new ≡ old ++ listed_lines (over_plan o m) v))
+listed_added image after r o v a ps old mid new placed is same one two =
     rw (is, placed) (then_lines image after r old mid new (λ m. ring_lines o.types.now m v a.kind) (λ m. texts (place_told (over_plan o m)) ps) same one two)
+
+-- and what kslab finds in the slabs of its cache
+pub shown_added : {A E : Type 0} (image after : Option Image) (r : Result A E) (o : PlanOf) (v : Violation) (a : AuditAt) (old mid new : List ℕ)
+    → slice_get (plan_seen o.plan.now) v.audit ≡ Some a → after ≡ image → IfSome image (λ m. mid ≡ old ++ listed_lines (over_plan o m) v)
+    → OnOk r (IfSome after (λ m. new ≡ mid ++ slabs_lines (over_plan o m) v a.kind)) → OnOk r (IfSome image (λ m. new ≡ old ++ shown_lines (over_plan o m) v))
+shown_added image after r o v a old mid new is same one two =
+    then_lines image after r old mid new (λ m. listed_lines (over_plan o m) v) (λ m. slabs_found (over_plan o m) v) same one (rw is two)
 
 -- what repairs it, as it is suspected
 pub repairs_told : {A E : Type 0} (image after : Option Image) (r : Result A E) (o : PlanOf) (root : ℕ) (v : Violation) (a : AuditAt) (ring : Option AsRing) (kind : Kind) (w : Violation) (old new : List ℕ)

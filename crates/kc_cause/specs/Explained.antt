@@ -19,16 +19,25 @@ use Rattle.kc_report.specs.Reads.{report_in}
 use Rattle.kc_text.specs.Compose.{texts}
 use Rattle.kc_command.specs.declared.refusal.Refusal.TheVariants as refusal
 use Rattle.kc_command.specs.declared.refusal.ReportFault.TheVariants.{Y1, Y2}
-use Rattle.kc_command.specs.Inputs.{plan_in, report_bytes_in, rows_in}
-use Rattle.kc_command.specs.Kernels.{KernelAt, kernel_in}
+use Rattle.kc_command.specs.declared.refusal.Refusal.TheVariants.{Notes}
+use Rattle.kc_command.specs.Inputs.{map_in, plan_in, report_bytes_in, rows_in, types_in, view_headers}
+use Rattle.kc_command.specs.Kernels.{KernelAt, NotedAt, noted_in}
 use Rattle.kc_command.specs.Made.{◌>>=◌, Made, checked, gives, refuses}
 use Rattle.kc_command.specs.Paging.{by_info}
 use Rattle.kc_command.specs.declared.ends.status.Status.TheVariants.{Done}
 use Rattle.kc_command.specs.Ends.Written.{Written}
 use Rattle.kc_report.specs.Lines.{place_line}
-use Rattle.kc_told.specs.Objects.{Shapes, shapes_by, told_of}
+use Rattle.kc_told.specs.Objects.{Shapes, kernel_by, shapes_by, told_of}
+use Rattle.kc_sight.specs.Looks.{words}
+use Rattle.kc_sight.specs.Sights.{page_start}
+use Rattle.kc_told.specs.SaysText.{says_lines}
 use Rattle.kc_told.specs.SeenText.{MapSymbols, symbols_by, told_lines}
 use Rattle.kc_kinds.specs.declared.kind.Kind.{Kind}
+use Rattle.kc_kinds.specs.declared.kind.Kind.TheVariants.{Slub}
+use Rattle.kc_notes.specs.Notes.{text_in}
+use Rattle.kc_slab_page.specs.Frames.Frames.{frames}
+use Rattle.kc_slabs.specs.declared.looking.SlabShapes.{SlabShapes}
+use Rattle.kc_slabs.specs.OfCache.{cache_line, of_cache, slab_shapes}
 use Rattle.kc_question.specs.Memory.{bytes_of, image_of}
 use Rattle.kc_audit.specs.Audits.{names_of, plan_over}
 use Rattle.kc_cause.specs.Rings.{ring_lines}
@@ -36,13 +45,15 @@ use Rattle.kc_cause.specs.Suspected.{Suspected, suspected}
 use Rattle.kc_cause.specs.Lines.{bytes_line, named_lines, number_lines, repair_lines}
 
 -- what is explained: a memory that is audited, with its kernel's types, the version of a plan, the plan's audits, where the kernel has what tells
--- of an address, and the map's symbols
+-- of an address and of slabs, the dump's page frames, and the map's symbols
 pub record Explained : Type 0 where
   pub image : Image
   pub types : Types
   pub version : ℕ
   pub audits : List AuditAt
   pub shapes : Shapes
+  pub slabs : Option SlabShapes
+  pub frames : List ℕ
   pub symbols : MapSymbols
 
 -- the report that `check` prints of it
@@ -63,12 +74,34 @@ abbrev pub told_at : Explained → Option ℕ → List ℕ
 told_at e None = []
 told_at e (Some va) = told_lines e.symbols va (told_of e.image e.shapes va)
 
+-- and with what its word says by itself, by the words of its 4096 bytes
+abbrev pub says_at : Explained → ℕ → Option ℕ → List ℕ
+says_at e value None = []
+says_at e value (Some va) = says_lines e.symbols.image va value (words e.image (page_start va) 512)
+
 abbrev pub place_told : Explained → Place → List ℕ
-place_told e p = place_line p ++ told_at e p.va
+place_told e p = place_line p ++ says_at e p.value p.va ++ told_at e p.va
 
 -- the list in which a violation lies, by the audit that found it, and the words that show it
+abbrev pub listed_lines : Explained → Violation → List ℕ
+listed_lines e v = option_map_or (λ (a : AuditAt). ring_lines e.types e.image v a.kind) (slice_get e.audits v.audit) [] ++ texts (place_told e) v.places
+
+-- what kslab finds in the slabs of a cache, where the kernel has what tells of slabs
+abbrev pub slabs_by : Image → List ℕ → ℕ → Option SlabShapes → List ℕ
+slabs_by image frames cache None = []
+slabs_by image frames cache (Some shapes) = cache_line cache (of_cache image shapes cache frames)
+
+-- of the cache that a violation of an audit starts at
+abbrev pub slabs_lines : Explained → Violation → Kind → List ℕ
+slabs_lines e v (Slub shape) = slabs_by e.image e.frames v.start e.slabs
+slabs_lines e v _ = []
+
+abbrev pub slabs_found : Explained → Violation → List ℕ
+slabs_found e v = option_map_or (λ (a : AuditAt). slabs_lines e v a.kind) (slice_get e.audits v.audit) []
+
+-- and all that
 abbrev pub shown_lines : Explained → Violation → List ℕ
-shown_lines e v = option_map_or (λ (a : AuditAt). ring_lines e.types e.image v a.kind) (slice_get e.audits v.audit) [] ++ texts (place_told e) v.places
+shown_lines e v = listed_lines e v ++ slabs_found e v
 
 -- a violation up to its words, and the number that it expects, by the audit that found it
 abbrev pub found_named : Types → List AuditAt → Violation → List ℕ
@@ -138,24 +171,30 @@ report_file file = do
 abbrev pub compared : Explained → List ℕ → Made Explained
 compared e bytes = if bytes_eq bytes (report_text (report_now e)) then gives e else refuses (refusal.Report Y2)
 
--- a plan, where the kernel has what tells of an address, and the map's symbols
+-- a plan, where the kernel has what tells of an address and of slabs, and the map's symbols
 pub record PlanOver : Type 0 where
   pub plan : PlanAt
   pub shapes : Shapes
+  pub slabs : Option SlabShapes
   pub symbols : MapSymbols
 
 -- a plan over the rows of the map, or its first fault
-abbrev pub planned_over : KernelAt → List RowText → List ℕ → Made PlanOver
-planned_over k rows bytes = do
+abbrev pub planned_over : KernelAt → List ℕ → List RowText → List ℕ → Made PlanOver
+planned_over k note rows bytes = do
   planned ← plan_over k.types rows k.told bytes
-  gives (record { plan = planned; shapes = shapes_by k.types rows k.told; symbols = symbols_by k.told.kaslr rows })
+  gives (record {
+    plan = planned;
+    shapes = shapes_by k.types rows k.told;
+    slabs = slab_shapes (kernel_by k.types rows k.told) note;
+    symbols = symbols_by k.told.kaslr rows;
+  })
 
 -- the map's faults come first
-abbrev pub planned_in : KernelAt → Option (List ℕ) → Made PlanOver
-planned_in k file = do
+abbrev pub planned_in : KernelAt → List ℕ → Option (List ℕ) → Made PlanOver
+planned_in k note file = do
   rows ← rows_in k.map
   bytes ← plan_in file
-  planned_over k rows bytes
+  planned_over k note rows bytes
 
 -- what a plan audits of it, where the dump has these bytes
 abbrev pub explained_by : KernelAt → PlanOver → List ℕ → Explained
@@ -165,15 +204,24 @@ explained_by k p bytes = record {
   version = p.plan.version;
   audits = p.plan.audits;
   shapes = p.shapes;
+  slabs = p.slabs;
+  frames = frames k.segments;
   symbols = p.symbols;
 }
+
+-- a dump with its notes, the types and the map of its kernel
+abbrev pub kernel_with : NotedAt → Types → List ℕ → KernelAt
+kernel_with noted types map = record { segments = noted.parts.segments; told = noted.told; types = types; map = map }
 
 -- the faults come in the order dump, types, map and plan
 abbrev pub audited : Option (List ℕ) → Option (List ℕ) → Option (List ℕ) → Option (List ℕ) → Made Explained
 audited dump btf map plan = do
-  kernel ← kernel_in dump btf map
-  planned ← planned_in kernel plan
-  gives (explained_by kernel planned (bytes_of dump))
+  noted ← noted_in view_headers dump
+  note ← checked Notes (text_in noted.parts.notes)
+  types ← types_in btf
+  listed ← map_in map
+  planned ← planned_in (kernel_with noted types listed) note plan
+  gives (explained_by (kernel_with noted types listed) planned (bytes_of dump))
 
 -- and then those of the report
 abbrev pub cause_made : Option (List ℕ) → Option (List ℕ) → Option (List ℕ) → Option (List ℕ) → Option (List ℕ) → Made Explained

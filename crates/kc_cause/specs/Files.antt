@@ -5,11 +5,11 @@ use Rattle.kc_outside.specs.declared.store.Slot.TheVariants as slot
 use Rattle.kc_plan.specs.Views.{plan_whole}
 use Rattle.kc_command.specs.declared.halt.Halt.{Halt}
 use Rattle.kc_command.specs.declared.halt.Halt.TheVariants.{Refused, Store, Memory}
-use Rattle.kc_command.specs.declared.kernel.Kernel.{Kernel}
-use Rattle.kc_command.specs.Kernels.{kernel_view}
+use Rattle.kc_command.specs.Kernels.{KernelAt}
 use Rattle.kc_command.specs.Slots.{refused_slot}
 use Rattle.kc_command.specs.Ends.Asked.{Asked}
 use Rattle.kc_cause.specs.declared.files.Asks.{Asks}
+use Rattle.kc_cause.specs.declared.planned.KernelRead.{KernelRead}
 use Rattle.kc_cause.specs.declared.planned.Planned.{Planned}
 use Rattle.kc_told.specs.SeenText.{map_symbols}
 use Rattle.kc_told.specs.Views.{shapes_view}
@@ -42,13 +42,16 @@ report_files a = record {
   report = a.report.now;
 }
 
--- a plan, as the code keeps it
+-- the files of a kernel and a plan, as the code keeps them
+abbrev pub kernel_read : KernelRead → KernelAt
+kernel_read k = record { segments = k.core.now.segments; told = k.info; types = k.types.now; map = k.map.now }
+
 abbrev pub planned_view : Planned → PlanOver
-planned_view p = record { plan = plan_whole p.plan; shapes = shapes_view p.shapes; symbols = map_symbols p.shapes.map }
+planned_view p = record { plan = plan_whole p.plan; shapes = shapes_view p.shapes; slabs = p.slabs; symbols = map_symbols p.shapes.map }
 
 -- what is explained by these, where the dump has these bytes
-abbrev pub explained_of : Kernel → Planned → List ℕ → Explained
-explained_of kernel planned bytes = explained_by (kernel_view kernel) (planned_view planned) bytes
+abbrev pub explained_of : KernelRead → Planned → List ℕ → Explained
+explained_of kernel planned bytes = explained_by (kernel_read kernel) (planned_view planned) bytes
 
 -- a refusal is about the map, and the plan's slot is then as before, or it is about the plan
 abbrev pub RefusesLate : {A : Type 0} → Result A Halt → (Slot → Option (List ℕ)) → (Slot → Option (List ℕ)) → Type 0

@@ -21,6 +21,7 @@ use Rattle.kc_command.specs.Paging.{IsTable}
 use Rattle.kc_command.specs.declared.ends.answer.Answer.{Answer}
 use Rattle.kc_command.specs.declared.ends.answer.Answer.TheVariants.{Done, Broken}
 use Rattle.kc_view.specs.TaskLists.{IsInside}
+use Rattle.kc_slab_page.specs.Frames.Frames.{frames_of}
 use Rattle.kc_told.specs.SeenText.{map_symbols}
 use Rattle.kc_told.specs.Views.{shapes_view}
 use Rattle.kc_cause.specs.declared.judged.Judged.{Judged}
@@ -74,6 +75,8 @@ over_plan o image = record {
   version = o.plan.now.version;
   audits = plan_seen o.plan.now;
   shapes = shapes_view o.shapes;
+  slabs = o.slabs;
+  frames = frames_of o.runs.now;
   symbols = map_symbols o.shapes.map;
 }
 

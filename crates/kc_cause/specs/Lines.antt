@@ -14,6 +14,7 @@ use Rattle.kc_report.specs.Lines.{rule_code}
 use Rattle.kc_layout.specs.MemberPath.MemberPaths.{member_path}
 use Rattle.kc_element.specs.declared.element.Element.{Element}
 use Rattle.kc_element.specs.declared.number.FoundNumber.{FoundNumber}
+use Rattle.kc_element.specs.Confirmed.{is_confirmed}
 use Rattle.kc_element.specs.Elements.{element_of}
 use Rattle.kc_element.specs.Numbers.{differing, part_of}
 use Rattle.kc_repair.specs.declared.suspect.suspect.Suspect.{Suspect}
@@ -49,12 +50,19 @@ path_part (c ∷ cs) = codes " " ++ c ∷ cs
 
 -- the member of it in which a violation's address lies
 abbrev pub about_part : Types → Violation → Element → List ℕ
-about_part types v e =
-    (if is_of_member v.rule then path_part (member_path types e.ty (container_of e.at v.at)) else []) ++ codes "\n"
+about_part types v e = if is_of_member v.rule then path_part (member_path types e.ty (container_of e.at v.at)) else []
+
+-- where what stands there doesn't lead back to where the walk came from, it may be no such element
+abbrev pub confirmed_part : Bool → List ℕ
+confirmed_part true = []
+confirmed_part false = codes " unconfirmed"
 
 -- the element that a violation is about, where that is told
-abbrev pub element_lines : Types → Violation → Option Element → List ℕ
-element_lines types v element = option_map_or (λ e. typed_part types e ++ about_part types v e) element []
+abbrev pub element_line : Types → Bool → Violation → Element → List ℕ
+element_line types confirmed v e = typed_part types e ++ about_part types v e ++ confirmed_part confirmed ++ codes "\n"
+
+abbrev pub element_lines : Types → Bool → Violation → Option Element → List ℕ
+element_lines types confirmed v element = option_map_or (element_line types confirmed v) element []
 
 -- a number against the one that is expected, and in how many bits they differ
 abbrev pub number_line : FoundNumber → List ℕ
@@ -65,7 +73,7 @@ number_lines kind v = option_map_or number_line (part_of kind v) []
 
 -- a violation of an audit, up to its words
 abbrev pub named_lines : Types → AuditAt → Violation → List ℕ
-named_lines types a v = bytes_line (codes "audit ") a.name ++ rule_line v.rule ++ element_lines types v (element_of types a v)
+named_lines types a v = bytes_line (codes "audit ") a.name ++ rule_line v.rule ++ element_lines types (is_confirmed a.kind v.rule) v (element_of types a v)
 
 -- a word that is suspected: the four columns of a place, and the number that it may have held
 abbrev pub suspect_part : Suspect → List ℕ

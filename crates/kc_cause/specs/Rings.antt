@@ -20,6 +20,7 @@ use Rattle.kc_which.specs.declared.tasks.TaskRing.{TaskRing}
 use Rattle.kc_which.specs.declared.tasks.TaskRing.TheVariants.{Tasks, Threads, Children}
 use Rattle.kc_which.specs.CacheRings.{cache_ring, slab_in}
 use Rattle.kc_which.specs.TaskRings.{task_ring, task_in}
+use Rattle.kc_element.specs.Confirmed.{leads_back}
 use Rattle.kc_cause.specs.Lines.{element_lines}
 
 -- the ring of a violation of tasks
@@ -34,7 +35,7 @@ typed_task types shape (Task at) = Some (record { ty = shape.task; at = at })
 typed_task types shape (Signal at) = option_map (λ ty. record { ty = ty; at = at }) (find types (codes "signal_struct"))
 
 abbrev pub task_lines : Types → TaskShape → Violation → TaskRing → List ℕ
-task_lines types shape v ring = task_list_line ring ++ element_lines types v (option_and_then (typed_task types shape) (task_in shape v ring))
+task_lines types shape v ring = task_list_line ring ++ element_lines types (leads_back v.rule) v (option_and_then (typed_task types shape) (task_in shape v ring))
 
 -- the partial list of a violation of a slab cache, by its memory node
 abbrev pub cache_list_line : CacheRing → List ℕ
@@ -45,7 +46,7 @@ typed_slab shape (Slab at) = record { ty = shape.slab; at = at }
 typed_slab shape (Node at) = record { ty = shape.knode; at = at }
 
 abbrev pub cache_lines : Types → SlubShape → Violation → CacheRing → List ℕ
-cache_lines types shape v list = cache_list_line list ++ element_lines types v (option_map (typed_slab shape) (slab_in shape v list))
+cache_lines types shape v list = cache_list_line list ++ element_lines types (leads_back v.rule) v (option_map (typed_slab shape) (slab_in shape v list))
 
 -- by the kind of the audit
 abbrev pub ring_lines : Types → Image → Violation → Kind → List ℕ

@@ -1,13 +1,12 @@
 // The text that explains verdicts on root audits.
 ghost use Rattle.std.specs.Prelude.{◌≡◌, ◌++◌, ◌<◌, find, length, IfOk, IfSome, OnOk};
-ghost use Rattle.kc_memory.specs.Stays.{FramesStay};
 ghost use Rattle.kc_mem.specs.Paged.{with_paging};
 ghost use Rattle.kc_text.specs.Compose.{texts};
 ghost use Rattle.kc_plan.specs.Roots.{FitEach, FitsRoot};
 ghost use Rattle.kc_plan.specs.Views.{plan_seen};
+ghost use Rattle.kc_repair.specs.Suspect.Answers.{OnlyReadsFrames};
 ghost use Rattle.kc_cause.specs.Explained.{broken_lines, cause_lines, causes_text, first_lines, found_named, found_number, is_broken, or_clean, root_line};
 ghost use Rattle.kc_cause.specs.Judged.{FitsTogether, over_plan};
-ghost use Rattle.kc_found.specs.Failures.{CountsFailures};
 
 use crate::judged::PlanOf;
 use crate::lines::{push_line, push_named, push_number};
@@ -70,8 +69,7 @@ fn push_broken<F: Repairable>(
 
     ensures added { OnOk result.answer (IfSome (with_paging over.now.paging (F.image memory)) (λ image.
         text.new.items ≡ text.old.items ++ broken_lines (over_plan over.now image) root found.now)) }
-    ensures stays { FramesStay F.image F.files F.through memory result.memory }
-    ensures cause { CountsFailures result.answer (F.faults memory) (F.faults result.memory) }
+    ensures reads { OnlyReadsFrames F.image F.files F.through F.faults result.answer memory result.memory }
 {
     if let Err(NoMemory) = push_named_root(text, over, root, found) {
         return Returned {
@@ -107,8 +105,7 @@ fn push_cause<F: Repairable>(
 
     ensures added { OnOk result.answer (IfSome (with_paging over.now.paging (F.image memory)) (λ image.
         text.new.items ≡ text.old.items ++ cause_lines (over_plan over.now image) root.now)) }
-    ensures stays { FramesStay F.image F.files F.through memory result.memory }
-    ensures cause { CountsFailures result.answer (F.faults memory) (F.faults result.memory) }
+    ensures reads { OnlyReadsFrames F.image F.files F.through F.faults result.answer memory result.memory }
 {
     match &root.verdict {
         Verdict::Broken(found) => push_broken(memory, text, over, root.root, found),
@@ -131,8 +128,7 @@ fn push_causes<F: Repairable>(
 
     ensures added { OnOk result.answer (IfSome (with_paging over.now.paging (F.image memory)) (λ image.
         text.new.items ≡ text.old.items ++ texts (cause_lines (over_plan over.now image)) verdicts.now)) }
-    ensures stays { FramesStay F.image F.files F.through memory result.memory }
-    ensures cause { CountsFailures result.answer (F.faults memory) (F.faults result.memory) }
+    ensures reads { OnlyReadsFrames F.image F.files F.through F.faults result.answer memory result.memory }
 {
     let mut memory = memory;
     for i in 0..verdicts.len() {
@@ -166,8 +162,7 @@ fn push_first<F: Repairable>(
 
     ensures added { OnOk result.answer (IfSome (with_paging over.now.paging (F.image memory)) (λ image.
         text.new.items ≡ text.old.items ++ first_lines (over_plan over.now image) (find is_broken verdicts.now))) }
-    ensures stays { FramesStay F.image F.files F.through memory result.memory }
-    ensures cause { CountsFailures result.answer (F.faults memory) (F.faults result.memory) }
+    ensures reads { OnlyReadsFrames F.image F.files F.through F.faults result.answer memory result.memory }
 {
     for i in 0..verdicts.len() {
         let root = verdicts.get(i);
@@ -193,8 +188,7 @@ fn push_some<F: Repairable>(
 
     ensures added { OnOk result.answer (IfSome (with_paging over.now.paging (F.image memory)) (λ image.
         text.new.items ≡ text.old.items ++ causes_text (over_plan over.now image) verdicts.now)) }
-    ensures stays { FramesStay F.image F.files F.through memory result.memory }
-    ensures cause { CountsFailures result.answer (F.faults memory) (F.faults result.memory) }
+    ensures reads { OnlyReadsFrames F.image F.files F.through F.faults result.answer memory result.memory }
 {
     if over.plan.version == 2 {
         push_causes(memory, text, over, verdicts)
@@ -219,8 +213,7 @@ pub(crate) fn explained_text<F: Repairable>(
 
     ensures says { IfOk result.answer (λ text. IfSome (with_paging over.now.paging (F.image memory)) (λ image.
         text.items ≡ or_clean (causes_text (over_plan over.now image) verdicts.now))) }
-    ensures stays { FramesStay F.image F.files F.through memory result.memory }
-    ensures cause { CountsFailures result.answer (F.faults memory) (F.faults result.memory) }
+    ensures reads { OnlyReadsFrames F.image F.files F.through F.faults result.answer memory result.memory }
 {
     let mut text = Vec::new(over.alloc);
     let Returned { memory, answer } = push_some(memory, &mut text, over, verdicts);

@@ -1,5 +1,6 @@
 // The files of a report, and what explains it.
-ghost use Rattle.std.specs.Prelude.{◌≡◌, ◌≤◌, ℕ, List, length, IfSome};
+ghost use Rattle.std.specs.Prelude.{◌≡◌, ◌≤◌, ◌+◌, ◌^◌, max, Some, ℕ, List, length, IfSome};
+ghost use Rattle.std.specs.List.{All};
 ghost use Rattle.kc_outside.specs.declared.store.Slot.{Slot};
 ghost use Rattle.kc_outside.specs.declared.store.Slot.TheVariants.{Dump, Map};
 ghost use Rattle.kc_outside.specs.Counts.{Rose};
@@ -11,9 +12,11 @@ ghost use Rattle.kc_view.specs.TaskLists.{IsInside};
 ghost use Rattle.kc_plan.specs.Inside.{AreInside as TypesAreInside};
 ghost use Rattle.kc_plan.specs.Views.{plan_seen};
 ghost use Rattle.kc_command.specs.Halts.{NotRefused, NotStore, OnStore, UnlessStore};
-ghost use Rattle.kc_command.specs.Made.{Is, IsOf};
+ghost use Rattle.kc_notes.specs.Notes.{text_in};
+ghost use Rattle.kc_command.specs.declared.refusal.Refusal.TheVariants.{Notes};
+ghost use Rattle.kc_command.specs.Made.{Is, IsOf, Tells as Gives, checked};
 ghost use Rattle.kc_command.specs.Paging.{IsTable};
-ghost use Rattle.kc_command.specs.Slots.{RefusesIn};
+ghost use Rattle.kc_command.specs.Slots.{IsAbout, RefusesIn};
 ghost use Rattle.kc_command.specs.Ends.Answers.{Prints, PrintsOf, PrintsOfBytes, StayBehind};
 ghost use Rattle.kc_cause.specs.Explained.{cause_made, causes_text, compared, explained_written, or_clean, report_file, report_passed};
 ghost use Rattle.kc_cause.specs.Files.{cause_asked, explained_of, report_files};
@@ -21,18 +24,21 @@ ghost use Rattle.kc_cause.specs.Judged.{Compares, FitsJudged, FitsTogether, Judg
 
 use crate::explained::explained_text;
 use crate::judged::{Judged, PlanOf, judge_over, report_text};
-use crate::planned::{Planned, find_plan};
+use crate::planned::{KernelRead, Planned, find_plan};
 use crate::repairs::Repairable;
 use kc_audit::names_of;
 use kc_command::{
-    Answer, Halt, Kernel, KernelFiles, Refusal, ReportFault, paging_by, read_kernel,
-    read_report_file,
+    Answer, Halt, KernelFiles, Refusal, ReportFault, VIEW_HEADERS, paging_by, read_map, read_noted,
+    read_report_file, read_types,
 };
+use kc_elf::Core;
 use kc_found::ReadFailed;
+use kc_notes::vmcoreinfo;
 use kc_outside::Store;
 use kc_phys::{Phys, Room};
 use kc_question::Returned;
 use kc_report::{ReportStop, read_report};
+use kc_slab_page::frame_runs;
 use std::alloc::Global;
 
 /// A report, with the files of its audit.
@@ -69,10 +75,28 @@ pub fn explain<S: Store>(alloc: Global, store: &mut S, asks: &Asks<'_>) -> Resul
     ensures quiet { UnlessStore result (S.faults store.new ≡ S.faults store.old) }
     ensures cause { OnStore result (Rose (S.faults store.old) (S.faults store.new)) }
 {
-    let kernel = read_kernel(alloc, store, &asks.files)?;
+    let noted = read_noted(alloc, store, VIEW_HEADERS, asks.files.dump)?;
+    let note = read_note(&noted.core)?;
+    let types = read_types(alloc, store, asks.files.btf)?;
+    let map = read_map(alloc, store, asks.files.map)?;
+    let kernel = KernelRead {
+        core: &noted.core,
+        info: noted.info,
+        note,
+        types: &types,
+        map: &map,
+    };
     let planned = find_plan(alloc, store, asks.plan, &kernel)?;
     let report = find_report(alloc, store, asks.report)?;
     explain_read(alloc, store, &kernel, &planned, &report)
+}
+
+// The text of a dump's VMCOREINFO.
+fn read_note(core: &Core) -> Result<&[u8], Refusal>
+    ensures made { Gives (λ note. note.now) (checked Notes (text_in core.now.notes)) result }
+    ensures refused { IsAbout (Some Dump) result }
+{
+    Ok(vmcoreinfo(core)?)
 }
 
 // The bytes of a file that is a report.
@@ -110,14 +134,15 @@ fn pass_report(alloc: Global, bytes: Vec<u8>) -> Result<Vec<u8>, Halt>
 fn explain_read<S: Store>(
     alloc: Global,
     store: &mut S,
-    kernel: &Kernel,
+    kernel: &KernelRead<'_>,
     planned: &Planned<'_>,
     report: &[u8],
 ) -> Result<Answer, Halt>
     requires table { IsTable kernel.now.info.table }
-    requires types { TypesAreInside (length kernel.now.types.records) planned.now.plan.audits }
-    requires tasks { IfSome planned.now.shapes.words.areas.stacks (λ shape. IsInside shape.tasks kernel.now.types) }
-    requires inside { AreInside (S.sizes store.old Dump) kernel.now.core.segments }
+    requires types { TypesAreInside (length kernel.now.types.now.records) planned.now.plan.audits }
+    requires tasks { IfSome planned.now.shapes.words.areas.stacks (λ shape. IsInside shape.tasks kernel.now.types.now) }
+    requires inside { AreInside (S.sizes store.old Dump) kernel.now.core.now.segments }
+    requires below { All (λ s. s.paddr + max s.filesz s.memsz ≤ 2 ^ 64) kernel.now.core.now.segments }
 
     ensures output { PrintsOfBytes explained_written (λ bytes. compared (explained_of kernel.now planned.now bytes) report.now)
         (content (S.files store.old) Dump (S.opened store.old Dump)) result }
@@ -127,12 +152,16 @@ fn explain_read<S: Store>(
     ensures quiet { UnlessStore result (S.faults store.new ≡ S.faults store.old) }
     ensures cause { OnStore result (Rose (S.faults store.old) (S.faults store.new)) }
 {
-    let room = Room::new(alloc, kernel.core.segments(), planned.plan.tail)?;
+    let segments = kernel.core.segments();
+    let runs = frame_runs(alloc, segments)?;
+    let room = Room::new(alloc, segments, planned.plan.tail)?;
     let over = PlanOf {
         alloc,
         plan: &planned.plan,
-        types: &kernel.types,
+        types: kernel.types,
         shapes: planned.shapes,
+        slabs: planned.slabs,
+        runs: &runs,
         paging: paging_by(kernel.info),
     };
     let memory = Phys::over(store, room);

@@ -1,11 +1,11 @@
 // What a plan comes to on a dump.
 ghost use Rattle.std.specs.Prelude.{◌≡◌, length, IfOk, IfSome};
-ghost use Rattle.kc_memory.specs.Stays.{FramesStay, SpaceStays};
 ghost use Rattle.kc_mem.specs.Paged.{with_paging};
 ghost use Rattle.kc_plan.specs.Inside.{AreInside as TypesAreInside};
 ghost use Rattle.kc_plan.specs.Verdicts.{FitsPlan};
 ghost use Rattle.kc_plan.specs.Views.{plan_seen};
 ghost use Rattle.kc_report.specs.IsReport.{report_text};
+ghost use Rattle.kc_repair.specs.Suspect.Answers.{OnlyReads, OnlyReadsFrames};
 ghost use Rattle.kc_cause.specs.Judged.{AreOfPlan, FitsJudged, FitsTogether, JudgesAs, report_of_judged, whole_verdict};
 ghost use Rattle.kc_found.specs.Failures.{CountsFailures};
 
@@ -16,6 +16,8 @@ use kc_plan::Plan;
 use kc_question::{Question, Returned, ask_over};
 use kc_report::{PlanNames, report_each, report_of, text};
 use kc_run::{run, run_each};
+use kc_slab_page::FrameRun;
+use kc_slabs::SlabShapes;
 use kc_told::Shapes;
 use kc_word::{NoMemory, PageCfg, Steps};
 use std::alloc::Global;
@@ -41,6 +43,10 @@ pub(crate) struct PlanOf<'p> {
     pub types: &'p Btf,
     /// What tells of an address.
     pub shapes: Shapes<'p>,
+    /// What tells of slabs, where the kernel has it.
+    pub slabs: Option<SlabShapes>,
+    /// The page frames of the dump, as runs.
+    pub runs: &'p [FrameRun],
     /// The page tables of the dump.
     pub paging: PageCfg,
 }
@@ -54,8 +60,7 @@ fn judge_whole<M: Space, L: Ledger>(
     requires { TypesAreInside (length over.now.types.now.records) over.now.plan.now.audits }
     ensures says { IfSome (M.image memory.old) (λ image. IfOk result (λ found. whole_verdict image over.now.plan.now ≡ found)) }
     ensures fits { IfOk result (λ found. IfSome found (FitsPlan (length over.now.plan.now.audits))) }
-    ensures stays { SpaceStays M.image M.files M.through M.most memory.old memory.new }
-    ensures cause { CountsFailures result (M.faults memory.old) (M.faults memory.new) }
+    ensures reads { OnlyReads M.image M.files M.through M.most M.faults result memory.old memory.new }
 {
     if over.plan.version == 2 {
         return Ok(None);
@@ -106,8 +111,7 @@ pub(crate) fn judge_over<F: Frames>(
     ensures says { IfSome (with_paging over.now.paging (F.image memory))
         (λ image. IfOk result.answer (JudgesAs image over.now.plan.now)) }
     ensures fits { IfOk result.answer (FitsJudged (length over.now.plan.now.audits) (plan_seen over.now.plan.now)) }
-    ensures stays { FramesStay F.image F.files F.through memory result.memory }
-    ensures cause { CountsFailures result.answer (F.faults memory) (F.faults result.memory) }
+    ensures reads { OnlyReadsFrames F.image F.files F.through F.faults result.answer memory result.memory }
 {
     let question = Judging { over };
     let Returned { memory, answer } = ask_over(over.alloc, memory, over.paging, &question);

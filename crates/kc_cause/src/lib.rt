@@ -11,6 +11,7 @@ mod planned;
 mod repairs;
 mod rings;
 mod sentences;
+mod slabs;
 mod suspected;
 
 pub use files::{Asks, explain};

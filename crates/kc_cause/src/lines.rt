@@ -4,11 +4,11 @@ ghost use Rattle.kc_plan.specs.Inside.{IsInside};
 ghost use Rattle.kc_plan.specs.Planned.{audit_seen};
 ghost use Rattle.kc_plan.specs.Seen.{container_of};
 ghost use Rattle.kc_layout.specs.MemberPath.MemberPaths.{member_path};
-ghost use Rattle.kc_cause.specs.Lines.{about_part, bytes_line, element_lines, is_of_member, named_lines, number_line, number_lines, path_part, rule_line, type_name, typed_part};
+ghost use Rattle.kc_cause.specs.Lines.{about_part, bytes_line, confirmed_part, element_line, element_lines, is_of_member, named_lines, number_line, number_lines, path_part, rule_line, type_name, typed_part};
 
 use crate::sentences::sentence;
 use kc_btf::Btf;
-use kc_element::{Element, FoundNumber, element_of, part_of};
+use kc_element::{Element, FoundNumber, element_of, is_confirmed, part_of};
 use kc_found::{Found, Name};
 use kc_kinds::Kind;
 use kc_layout::push_member;
@@ -101,12 +101,42 @@ fn push_about(
     ensures { OnOk result (text.new.items ≡ text.old.items ++ about_part btf.now found.now element) }
 {
     if is_of_member(found.rule) {
-        push_path(alloc, text, btf, element, found.at)?;
+        push_path(alloc, text, btf, element, found.at)
+    } else {
+        Ok(())
     }
+}
+
+// That it may be no such element.
+fn push_confirmed(text: &mut Vec<u8>, confirmed: bool) -> Result<(), NoMemory>
+    ensures { OnOk result (text.new.items ≡ text.old.items ++ confirmed_part confirmed) }
+{
+    if confirmed {
+        Ok(())
+    } else {
+        push(text, b" unconfirmed")
+    }
+}
+
+// The line of an element.
+fn push_known(
+    alloc: Global,
+    text: &mut Vec<u8>,
+    btf: &Btf,
+    element: Element,
+    confirmed: bool,
+    found: &Found,
+) -> Result<(), NoMemory>
+    requires { element.ty ≤ length btf.now.records }
+    ensures { OnOk result (text.new.items ≡ text.old.items ++ element_line btf.now confirmed found.now element) }
+{
+    push_typed(text, btf, element)?;
+    push_about(alloc, text, btf, element, found)?;
+    push_confirmed(text, confirmed)?;
     push(text, b"\n")
 }
 
-/// Adds the line of the element that a violation is about, where that is told.
+/// Adds the line of the element that a violation is about, where that is told, and whether it leads back to where the walk came from.
 ///
 /// # Errors
 ///
@@ -116,16 +146,16 @@ pub fn push_element(
     text: &mut Vec<u8>,
     btf: &Btf,
     element: Option<Element>,
+    confirmed: bool,
     found: &Found,
 ) -> Result<(), NoMemory>
     requires { IfSome element (λ e. e.ty ≤ length btf.now.records) }
-    ensures { OnOk result (text.new.items ≡ text.old.items ++ element_lines btf.now found.now element) }
+    ensures { OnOk result (text.new.items ≡ text.old.items ++ element_lines btf.now confirmed found.now element) }
 {
-    let Some(element) = element else {
-        return Ok(());
-    };
-    push_typed(text, btf, element)?;
-    push_about(alloc, text, btf, element, found)
+    match element {
+        Some(element) => push_known(alloc, text, btf, element, confirmed, found),
+        None => Ok(()),
+    }
 }
 
 // The line of a number against the one that is expected.
@@ -171,5 +201,7 @@ pub fn push_named(
 {
     push_line(text, b"audit ", &audit.name)?;
     push_rule(text, found.rule)?;
-    push_element(alloc, text, btf, element_of(btf, audit, found), found)
+    let element = element_of(btf, audit, found);
+    let confirmed = is_confirmed(&audit.kind, found.rule);
+    push_element(alloc, text, btf, element, confirmed, found)
 }

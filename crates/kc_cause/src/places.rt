@@ -1,23 +1,33 @@
 // The list in which a violation lies, and the words that show it, with what is told of their addresses.
 ghost use Rattle.std.specs.Prelude.{◌≡◌, ◌<◌, ◌++◌, length, IfOk, IfSome, OnOk};
-ghost use Rattle.kc_memory.specs.Stays.{FramesStay, SpaceStays};
 ghost use Rattle.kc_mem.specs.Paged.{with_paging};
 ghost use Rattle.kc_text.specs.Compose.{texts};
 ghost use Rattle.kc_plan.specs.Inside.{AreInside};
-ghost use Rattle.kc_cause.specs.Explained.{place_told, shown_lines};
+ghost use Rattle.kc_repair.specs.Suspect.Answers.{OnlyReads, OnlyReadsFrames};
+ghost use Rattle.kc_sight.specs.Sights.{page_start};
+ghost use Rattle.kc_cause.specs.Explained.{listed_lines, place_told, shown_lines};
 ghost use Rattle.kc_cause.specs.Judged.{FitsTogether, TasksAreInside, over_plan};
 ghost use Rattle.kc_found.specs.Failures.{CountsFailures};
 
 use crate::judged::PlanOf;
 use crate::rings::push_ring;
+use crate::slabs::push_slabs;
 use kc_found::{Found, Places, ReadFailed, Space};
 use kc_memory::{Frames, Place};
 use kc_question::{Question, Returned, ask_over};
 use kc_report::push_place;
+use kc_sight::read_words;
 use kc_text::push;
-use kc_told::{push_told, read_told};
+use kc_told::{push_says, push_told, read_told};
 use kc_word::{NoMemory, Steps};
 use std::sync::ledger::Ledger;
+
+// Where the 4096 bytes begin that have an address.
+fn page_start(address: u64) -> u64
+    ensures { result ≡ page_start address }
+{
+    address / 4096 * 4096
+}
 
 // Adds a place, with what is told of its address.
 fn push_place_told<M: Space, L: Ledger>(
@@ -29,13 +39,14 @@ fn push_place_told<M: Space, L: Ledger>(
 ) -> Result<(), ReadFailed>
     requires { TasksAreInside over.now }
     ensures added { OnOk result (IfSome (M.image memory.old) (λ image. text.new.items ≡ text.old.items ++ place_told (over_plan over.now image) place.now)) }
-    ensures stays { SpaceStays M.image M.files M.through M.most memory.old memory.new }
-    ensures cause { CountsFailures result (M.faults memory.old) (M.faults memory.new) }
+    ensures reads { OnlyReads M.image M.files M.through M.most M.faults result memory.old memory.new }
 {
     push_place(text, *place)?;
     let Some(address) = place.va else {
         return Ok(());
     };
+    let page = read_words(over.alloc, memory, page_start(address), 512, steps)?;
+    push_says(text, &over.shapes.map, address, place.value, &page)?;
     let told = read_told(over.alloc, memory, over.types, &over.shapes, address, steps)?;
     Ok(push_told(text, &over.shapes.map, address, &told)?)
 }
@@ -50,8 +61,7 @@ fn push_places_told<M: Space, L: Ledger>(
 ) -> Result<(), ReadFailed>
     requires { TasksAreInside over.now }
     ensures added { OnOk result (IfSome (M.image memory.old) (λ image. text.new.items ≡ text.old.items ++ texts (place_told (over_plan over.now image)) places.now)) }
-    ensures stays { SpaceStays M.image M.files M.through M.most memory.old memory.new }
-    ensures cause { CountsFailures result (M.faults memory.old) (M.faults memory.new) }
+    ensures reads { OnlyReads M.image M.files M.through M.most M.faults result memory.old memory.new }
 {
     for i in 0..places.len() {
         push_place_told(text, over, memory, places.get(i), steps)?;
@@ -60,6 +70,25 @@ fn push_places_told<M: Space, L: Ledger>(
 }
 
 // Adds the list in which a violation lies, and the words that show it, each with what is told of its address.
+fn push_listed<M: Space, L: Ledger>(
+    text: &mut Vec<u8>,
+    over: &PlanOf<'_>,
+    memory: &mut M,
+    found: &Found,
+    steps: &mut Steps<L>,
+) -> Result<(), ReadFailed>
+    requires tasks { TasksAreInside over.now }
+    requires types { AreInside (length over.now.types.now.records) over.now.plan.now.audits }
+    requires found { found.now.audit < length over.now.plan.now.audits }
+    ensures added { OnOk result (IfSome (M.image memory.old) (λ image. text.new.items ≡ text.old.items ++ listed_lines (over_plan over.now image) found.now)) }
+    ensures reads { OnlyReads M.image M.files M.through M.most M.faults result memory.old memory.new }
+{
+    let audit = over.plan.audit(found.audit);
+    push_ring(text, over, memory, &audit.kind, found, steps)?;
+    push_places_told(text, over, memory, &found.places, steps)
+}
+
+// The same, and what kslab finds in the slabs of the cache in which it lies.
 fn push_shown<M: Space, L: Ledger>(
     text: &mut Vec<u8>,
     over: &PlanOf<'_>,
@@ -71,12 +100,11 @@ fn push_shown<M: Space, L: Ledger>(
     requires types { AreInside (length over.now.types.now.records) over.now.plan.now.audits }
     requires found { found.now.audit < length over.now.plan.now.audits }
     ensures added { OnOk result (IfSome (M.image memory.old) (λ image. text.new.items ≡ text.old.items ++ shown_lines (over_plan over.now image) found.now)) }
-    ensures stays { SpaceStays M.image M.files M.through M.most memory.old memory.new }
-    ensures cause { CountsFailures result (M.faults memory.old) (M.faults memory.new) }
+    ensures reads { OnlyReads M.image M.files M.through M.most M.faults result memory.old memory.new }
 {
+    push_listed(text, over, memory, found, steps)?;
     let audit = over.plan.audit(found.audit);
-    push_ring(text, over, memory, &audit.kind, found, steps)?;
-    push_places_told(text, over, memory, &found.places, steps)
+    push_slabs(text, over, memory, &audit.kind, found, steps)
 }
 
 // The question which lines show a violation.
@@ -120,8 +148,7 @@ pub(crate) fn push_shown_over<F: Frames>(
 
     ensures added { OnOk result.answer (IfSome (with_paging over.now.paging (F.image memory)) (λ image.
         text.new.items ≡ text.old.items ++ shown_lines (over_plan over.now image) found.now)) }
-    ensures stays { FramesStay F.image F.files F.through memory result.memory }
-    ensures cause { CountsFailures result.answer (F.faults memory) (F.faults result.memory) }
+    ensures reads { OnlyReadsFrames F.image F.files F.through F.faults result.answer memory result.memory }
 {
     let question = Showing { over, found };
     let Returned { memory, answer } = ask_over(over.alloc, memory, over.paging, &question);

@@ -4,6 +4,7 @@ ghost use Rattle.kc_memory.specs.Stays.{FramesStay};
 ghost use Rattle.kc_mem.specs.Paged.{with_paging};
 ghost use Rattle.kc_plan.specs.Inside.{AreInside as TypesAreInside};
 ghost use Rattle.kc_plan.specs.Views.{plan_seen};
+ghost use Rattle.kc_repair.specs.Suspect.Answers.{OnlyReadsFrames};
 ghost use Rattle.kc_repair.specs.Repairs.{repair_of};
 ghost use Rattle.kc_command.specs.Paging.{IsTable};
 ghost use Rattle.kc_cause.specs.Explained.{repairs_as, repairs_found};
@@ -169,8 +170,7 @@ fn push_repairs_as<F: Repairable>(
 
     ensures added { OnOk result.answer (IfSome (with_paging over.now.paging (F.image memory)) (λ image.
         text.new.items ≡ text.old.items ++ repairs_as (over_plan over.now image) root kind.now found.now)) }
-    ensures stays { FramesStay F.image F.files F.through memory result.memory }
-    ensures cause { CountsFailures result.answer (F.faults memory) (F.faults result.memory) }
+    ensures reads { OnlyReadsFrames F.image F.files F.through F.faults result.answer memory result.memory }
 {
     let PlanOf { plan, types, .. } = *over;
     let Some(root) = root_at(plan, root) else {
@@ -204,8 +204,7 @@ pub(crate) fn push_repairs<F: Repairable>(
 
     ensures added { OnOk result.answer (IfSome (with_paging over.now.paging (F.image memory)) (λ image.
         text.new.items ≡ text.old.items ++ repairs_found (over_plan over.now image) root found.now)) }
-    ensures stays { FramesStay F.image F.files F.through memory result.memory }
-    ensures cause { CountsFailures result.answer (F.faults memory) (F.faults result.memory) }
+    ensures reads { OnlyReadsFrames F.image F.files F.through F.faults result.answer memory result.memory }
 {
     let kind = &over.plan.audit(found.audit).kind;
     let Returned { memory, answer } = as_ring_over(memory, over, kind, found);

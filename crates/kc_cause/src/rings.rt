@@ -1,19 +1,18 @@
 // In which list of tasks or of a slab cache a violation lies, and what of it has the pointer.
 ghost use Rattle.std.specs.Prelude.{◌≡◌, ◌≤◌, ◌++◌, [], codes, length, max, option_map, option_and_then, IfOk, IfSome, OnOk};
 ghost use Rattle.std.specs.Option.{option_map_or};
-ghost use Rattle.kc_memory.specs.Stays.{SpaceStays};
 ghost use Rattle.kc_text.specs.Text.{hex};
 ghost use Rattle.kc_kinds.specs.Inside.{KindInside};
 ghost use Rattle.kc_view.specs.TaskLists.{IsInside};
 ghost use Rattle.kc_which.specs.CacheRings.{cache_ring, slab_in};
 ghost use Rattle.kc_which.specs.TaskRings.{task_in, task_ring};
+ghost use Rattle.kc_repair.specs.Suspect.Answers.{OnlyReads};
 ghost use Rattle.kc_cause.specs.Rings.{cache_lines, ring_lines, task_lines, task_list_line, typed_slab, typed_task};
-ghost use Rattle.kc_found.specs.Failures.{CountsFailures};
 
 use crate::judged::PlanOf;
 use crate::lines::push_element;
 use kc_btf::Btf;
-use kc_element::Element;
+use kc_element::{Element, leads_back};
 use kc_found::{Found, ReadFailed, Space, WalkStop};
 use kc_kinds::Kind;
 use kc_layout::find_type;
@@ -36,8 +35,7 @@ pub(crate) fn task_ring<M: Space, L: Ledger>(
 ) -> Result<Option<TaskRing>, ReadFailed>
     requires { IsInside shape.now over.now.types.now }
     ensures exact { IfSome (M.image memory.old) (λ image. IfOk result (λ r. r ≡ task_ring image shape.now found.now)) }
-    ensures stays { SpaceStays M.image M.files M.through M.most memory.old memory.new }
-    ensures cause { CountsFailures result (M.faults memory.old) (M.faults memory.new) }
+    ensures reads { OnlyReads M.image M.files M.through M.most M.faults result memory.old memory.new }
 {
     match find_task_ring(over.alloc, memory, over.types, shape, found, steps) {
         Ok(ring) => Ok(ring),
@@ -55,8 +53,7 @@ pub(crate) fn cache_ring<M: Space, L: Ledger>(
     steps: &mut Steps<L>,
 ) -> Result<Option<CacheRing>, ReadFailed>
     ensures exact { IfSome (M.image memory.old) (λ image. IfOk result (λ r. r ≡ cache_ring image shape.now found.now)) }
-    ensures stays { SpaceStays M.image M.files M.through M.most memory.old memory.new }
-    ensures cause { CountsFailures result (M.faults memory.old) (M.faults memory.new) }
+    ensures reads { OnlyReads M.image M.files M.through M.most M.faults result memory.old memory.new }
 {
     match find_cache_ring(over.alloc, memory, shape, found, steps) {
         Ok(list) => Ok(list),
@@ -121,7 +118,8 @@ fn push_tasks(
 {
     push_task_list(text, ring)?;
     let element = task_element(over.types, shape, found, ring);
-    push_element(over.alloc, text, over.types, element, found)
+    let confirmed = leads_back(found.rule);
+    push_element(over.alloc, text, over.types, element, confirmed, found)
 }
 
 fn push_task_ring<M: Space, L: Ledger>(
@@ -134,8 +132,7 @@ fn push_task_ring<M: Space, L: Ledger>(
 ) -> Result<(), ReadFailed>
     requires { shape.now.task ≤ length over.now.types.now.records }
     ensures added { OnOk result (IfSome (M.image memory.old) (λ image. text.new.items ≡ text.old.items ++ option_map_or (task_lines over.now.types.now shape.now found.now) (task_ring image shape.now found.now) [])) }
-    ensures stays { SpaceStays M.image M.files M.through M.most memory.old memory.new }
-    ensures cause { CountsFailures result (M.faults memory.old) (M.faults memory.new) }
+    ensures reads { OnlyReads M.image M.files M.through M.most M.faults result memory.old memory.new }
 {
     let Some(ring) = task_ring(over, memory, shape, found, steps)? else {
         return Ok(());
@@ -179,7 +176,8 @@ fn push_partial(
     push_numbered(text, b"list partial of node ", list.number)?;
     push(text, b"\n")?;
     let element = slab_element(shape, found, list);
-    push_element(over.alloc, text, over.types, element, found)
+    let confirmed = leads_back(found.rule);
+    push_element(over.alloc, text, over.types, element, confirmed, found)
 }
 
 fn push_cache_ring<M: Space, L: Ledger>(
@@ -193,8 +191,7 @@ fn push_cache_ring<M: Space, L: Ledger>(
     requires slab { shape.now.slab ≤ length over.now.types.now.records }
     requires knode { shape.now.knode ≤ length over.now.types.now.records }
     ensures added { OnOk result (IfSome (M.image memory.old) (λ image. text.new.items ≡ text.old.items ++ option_map_or (cache_lines over.now.types.now shape.now found.now) (cache_ring image shape.now found.now) [])) }
-    ensures stays { SpaceStays M.image M.files M.through M.most memory.old memory.new }
-    ensures cause { CountsFailures result (M.faults memory.old) (M.faults memory.new) }
+    ensures reads { OnlyReads M.image M.files M.through M.most M.faults result memory.old memory.new }
 {
     let Some(list) = cache_ring(over, memory, shape, found, steps)? else {
         return Ok(());
@@ -217,8 +214,7 @@ pub(crate) fn push_ring<M: Space, L: Ledger>(
 ) -> Result<(), ReadFailed>
     requires { KindInside (length over.now.types.now.records) kind.now }
     ensures added { OnOk result (IfSome (M.image memory.old) (λ image. text.new.items ≡ text.old.items ++ ring_lines over.now.types.now image found.now kind.now)) }
-    ensures stays { SpaceStays M.image M.files M.through M.most memory.old memory.new }
-    ensures cause { CountsFailures result (M.faults memory.old) (M.faults memory.new) }
+    ensures reads { OnlyReads M.image M.files M.through M.most M.faults result memory.old memory.new }
 {
     match kind {
         Kind::Tasks(shape) => push_task_ring(text, over, memory, shape, found, steps),

@@ -1,10 +1,10 @@
 // As what a violation is suspected.
 ghost use Rattle.std.specs.Prelude.{◌≡◌, length, IfOk, IfSome};
-ghost use Rattle.kc_memory.specs.Stays.{FramesStay, SpaceStays};
 ghost use Rattle.kc_mem.specs.Paged.{with_paging};
 ghost use Rattle.kc_kinds.specs.declared.kind.Kind.TheVariants.{Slub, Tasks};
 ghost use Rattle.kc_kinds.specs.Inside.{KindInside};
 ghost use Rattle.kc_view.specs.TaskLists.{IsInside};
+ghost use Rattle.kc_repair.specs.Suspect.Answers.{OnlyReads, OnlyReadsFrames};
 ghost use Rattle.kc_cause.specs.Judged.{FitsTogether};
 ghost use Rattle.kc_cause.specs.Suspected.{in_ring, suspected, suspected_view};
 ghost use Rattle.kc_found.specs.Failures.{CountsFailures};
@@ -41,8 +41,7 @@ fn walk_ring<M: Space, L: Ledger>(
     steps: &mut Steps<L>,
 ) -> Result<Option<AsRing>, ReadFailed>
     ensures exact { IfSome (M.image memory.old) (λ image. IfOk result (λ r. suspected_view kind.now found.now r ≡ in_ring image kind.now found.now list head)) }
-    ensures stays { SpaceStays M.image M.files M.through M.most memory.old memory.new }
-    ensures cause { CountsFailures result (M.faults memory.old) (M.faults memory.new) }
+    ensures reads { OnlyReads M.image M.files M.through M.most M.faults result memory.old memory.new }
 {
     match ring(over.alloc, memory, &list, head, found.audit, steps) {
         Ok(_) => Ok(None),
@@ -67,8 +66,7 @@ fn in_tasks<M: Space, L: Ledger>(
     requires kind { kind.now ≡ Tasks shape.now }
     requires inside { IsInside shape.now over.now.types.now }
     ensures exact { IfSome (M.image memory.old) (λ image. IfOk result (λ r. suspected_view kind.now found.now r ≡ suspected image found.now kind.now)) }
-    ensures stays { SpaceStays M.image M.files M.through M.most memory.old memory.new }
-    ensures cause { CountsFailures result (M.faults memory.old) (M.faults memory.new) }
+    ensures reads { OnlyReads M.image M.files M.through M.most M.faults result memory.old memory.new }
 {
     let Some(ring) = task_ring(over, memory, shape, found, steps)? else {
         return Ok(None);
@@ -88,8 +86,7 @@ fn in_cache<M: Space, L: Ledger>(
 ) -> Result<Option<AsRing>, ReadFailed>
     requires kind { kind.now ≡ Slub shape.now }
     ensures exact { IfSome (M.image memory.old) (λ image. IfOk result (λ r. suspected_view kind.now found.now r ≡ suspected image found.now kind.now)) }
-    ensures stays { SpaceStays M.image M.files M.through M.most memory.old memory.new }
-    ensures cause { CountsFailures result (M.faults memory.old) (M.faults memory.new) }
+    ensures reads { OnlyReads M.image M.files M.through M.most M.faults result memory.old memory.new }
 {
     let Some(list) = cache_ring(over, memory, shape, found, steps)? else {
         return Ok(None);
@@ -147,8 +144,7 @@ pub(crate) fn as_ring_over<F: Frames>(
 
     ensures exact { IfSome (with_paging over.now.paging (F.image memory))
         (λ image. IfOk result.answer (λ r. suspected_view kind.now found.now r ≡ suspected image found.now kind.now)) }
-    ensures stays { FramesStay F.image F.files F.through memory result.memory }
-    ensures cause { CountsFailures result.answer (F.faults memory) (F.faults result.memory) }
+    ensures reads { OnlyReadsFrames F.image F.files F.through F.faults result.answer memory result.memory }
 {
     let question = Suspecting { over, kind, found };
     let Returned { memory, answer } = ask_over(over.alloc, memory, over.paging, &question);

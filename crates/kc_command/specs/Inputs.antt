@@ -16,11 +16,16 @@ use Rattle.kc_command.specs.declared.refusal.Refusal.TheVariants as refusal
 use Rattle.kc_command.specs.declared.refusal.ReportFault.TheVariants.{F1}
 use Rattle.kc_command.specs.Made.{◌>>=◌, Made, bytes_in, checked, gives, refuses, short_file, wanted}
 
--- the segments and notes of a dump, or its first fault
-abbrev pub dump_parts : Option (List ℕ) → Made Parts
-dump_parts file = do
+-- At most so many program headers has the core file that stands for a compressed dump: one for each of 2^22 runs
+-- of pages, one for the notes, one for the top page table's page.
+abbrev pub view_headers : ℕ
+view_headers = 4194306
+
+-- the segments and notes of a dump of at most so many program headers, or its first fault
+abbrev pub dump_parts : (most : ℕ) → Option (List ℕ) → Made Parts
+dump_parts most file = do
   bytes ← bytes_in file
-  checked refusal.Core (core bytes)
+  checked refusal.Core (core most bytes)
 
 -- the types of a kernel, or the first fault of their file: the limit comes first
 abbrev pub types_in : Option (List ℕ) → Made Types

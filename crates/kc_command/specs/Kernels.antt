@@ -19,10 +19,10 @@ pub record NotedAt : Type 0 where
   pub parts : Parts
   pub told : Info
 
--- the faults of the file come before those of its notes
-abbrev pub noted_in : Option (List ℕ) → Made NotedAt
-noted_in dump = do
-  parts ← dump_parts dump
+-- the faults of the file, of at most so many program headers, come before those of its notes
+abbrev pub noted_in : (most : ℕ) → Option (List ℕ) → Made NotedAt
+noted_in most dump = do
+  parts ← dump_parts most dump
   told ← checked Notes (info parts.notes)
   gives (record { parts = parts; told = told })
 
@@ -34,9 +34,9 @@ pub record KernelAt : Type 0 where
   pub map : List ℕ
 
 -- the faults come in this order
-abbrev pub kernel_in : Option (List ℕ) → Option (List ℕ) → Option (List ℕ) → Made KernelAt
-kernel_in dump btf map = do
-  noted ← noted_in dump
+abbrev pub kernel_in : (most : ℕ) → Option (List ℕ) → Option (List ℕ) → Option (List ℕ) → Made KernelAt
+kernel_in most dump btf map = do
+  noted ← noted_in most dump
   types ← types_in btf
   listed ← map_in map
   gives (record { segments = noted.parts.segments; told = noted.told; types = types; map = listed })

@@ -23,15 +23,24 @@ use kc_outside::{Slot, Store};
 use kc_word::PageCfg;
 use std::alloc::Global;
 
-/// Opens a dump in slot Dump, and reads its segments and notes.
+/// At most so many program headers has the core file that stands for a compressed dump: one for each of
+/// 2^22 runs of pages, one for the notes, one for the top page table's page.
+pub const VIEW_HEADERS: u32 = 4_194_306;
+
+/// Opens a dump of at most `most` program headers in slot Dump, and reads its segments and notes.
 ///
 /// # Errors
 ///
 /// The first fault E1 to E10 of the file; a failed call of the store; no memory was left.
-pub fn read_dump<S: Store>(alloc: Global, store: &mut S, name: &str) -> Result<Core, Halt>
+pub fn read_dump<S: Store>(
+    alloc: Global,
+    store: &mut S,
+    most: u32,
+    name: &str,
+) -> Result<Core, Halt>
     requires may { S.may store.old Dump name.now }
 
-    ensures told { IsOf (λ core. core) (λ files. dump_parts (files Dump name.now)) (S.files store.old) result }
+    ensures told { IsOf (λ core. core) (λ files. dump_parts most (files Dump name.now)) (S.files store.old) result }
     ensures refused { RefusesIn Dump result }
     ensures content { OnOk result (content (S.files store.new) Dump (S.opened store.new Dump) ≡ named (S.files store.old) Dump name.now) }
     ensures inside { IfOk result (λ core. AreInside (S.sizes store.new Dump) core.segments) }
@@ -46,7 +55,7 @@ pub fn read_dump<S: Store>(alloc: Global, store: &mut S, name: &str) -> Result<C
     ensures cause { OnStore result (Rose (S.faults store.old) (S.faults store.new)) }
 {
     let size = open(store, Slot::Dump, name)?;
-    Ok(read_core_of(alloc, store, Slot::Dump, size)?)
+    Ok(read_core_of(alloc, store, Slot::Dump, most, size)?)
 }
 
 /// What the notes of a dump tell of its kernel.

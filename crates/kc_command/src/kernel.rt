@@ -32,15 +32,21 @@ pub struct Noted {
     pub info: Info,
 }
 
-/// Opens a dump in slot Dump, and reads its segments, its notes and what these tell.
+/// Opens a dump of at most `most` program headers in slot Dump, and reads its segments, its notes and what
+/// these tell.
 ///
 /// # Errors
 ///
 /// The first fault E1 to E10 of the file, or V1 to V7 of its notes; a failed call of the store; no memory was left.
-pub fn read_noted<S: Store>(alloc: Global, store: &mut S, name: &str) -> Result<Noted, Halt>
+pub fn read_noted<S: Store>(
+    alloc: Global,
+    store: &mut S,
+    most: u32,
+    name: &str,
+) -> Result<Noted, Halt>
     requires may { S.may store.old Dump name.now }
 
-    ensures told { IsOf noted_view (λ files. noted_in (files Dump name.now)) (S.files store.old) result }
+    ensures told { IsOf noted_view (λ files. noted_in most (files Dump name.now)) (S.files store.old) result }
     ensures refused { RefusesIn Dump result }
     ensures content { IfOk result (λ n. content (S.files store.new) Dump (S.opened store.new Dump) ≡ named (S.files store.old) Dump name.now) }
     ensures table { IfOk result (λ n. IsTable n.info.table) }
@@ -55,7 +61,7 @@ pub fn read_noted<S: Store>(alloc: Global, store: &mut S, name: &str) -> Result<
     ensures quiet { UnlessStore result (S.faults store.new ≡ S.faults store.old) }
     ensures cause { OnStore result (Rose (S.faults store.old) (S.faults store.new)) }
 {
-    let core = read_dump(alloc, store, name)?;
+    let core = read_dump(alloc, store, most, name)?;
     let info = read_info(&core)?;
     Ok(Noted { core, info })
 }
@@ -84,7 +90,7 @@ pub struct Kernel {
     pub map: Vec<u8>,
 }
 
-/// Reads the dump, the types and the map.
+/// Reads the dump, of at most `most` program headers, the types and the map.
 ///
 /// # Errors
 ///
@@ -92,6 +98,7 @@ pub struct Kernel {
 pub fn read_kernel<S: Store>(
     alloc: Global,
     store: &mut S,
+    most: u32,
     files: &KernelFiles<'_>,
 ) -> Result<Kernel, Halt>
     requires dump { S.may store.old Dump files.now.dump.now }
@@ -99,7 +106,7 @@ pub fn read_kernel<S: Store>(
     requires map { S.may store.old Map files.now.map.now }
 
     ensures told { IsOf kernel_view
-        (λ told. kernel_in (told Dump files.now.dump.now) (told Slot.Btf files.now.btf.now)
+        (λ told. kernel_in most (told Dump files.now.dump.now) (told Slot.Btf files.now.btf.now)
         (told Map files.now.map.now)) (S.files store.old) result }
     ensures content { IfOk result (λ k. content (S.files store.new) Dump (S.opened store.new Dump) ≡ named (S.files store.old) Dump files.now.dump.now) }
     ensures unopened { StayBehind (kernel_files files.now) result (S.opened store.old) (S.opened store.new) }
@@ -115,7 +122,7 @@ pub fn read_kernel<S: Store>(
     ensures quiet { UnlessStore result (S.faults store.new ≡ S.faults store.old) }
     ensures cause { OnStore result (Rose (S.faults store.old) (S.faults store.new)) }
 {
-    let noted = read_noted(alloc, store, files.dump)?;
+    let noted = read_noted(alloc, store, most, files.dump)?;
     let types = read_types(alloc, store, files.btf)?;
     let map = read_map(alloc, store, files.map)?;
     Ok(Kernel {

@@ -18,7 +18,7 @@ mod report;
 mod types;
 
 pub use cert::read_cert_file;
-pub use dump::{paging_by, read_dump, read_info};
+pub use dump::{VIEW_HEADERS, paging_by, read_dump, read_info};
 pub use ends::{Answer, Status, finish};
 pub use file::read_file;
 pub use find::{find_field, find_named, find_symbol};

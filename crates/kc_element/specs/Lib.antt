@@ -1,2 +1,3 @@
+pub mod Confirmed
 pub mod Elements
 pub mod Numbers

@@ -2,8 +2,10 @@
 //! that is expected.
 #![tactic(auto)]
 
+mod confirmed;
 mod element;
 mod number;
 
+pub use confirmed::{is_confirmed, leads_back};
 pub use element::{Element, element_of};
 pub use number::{FoundNumber, part_of};

@@ -41,43 +41,43 @@ record IsTable (bytes : List ℕ) (t : Table) : Type 0 where
   offset : t.offset ≡ number 8 bytes 32
   inside : t.offset + 56 * t.count ≤ length bytes
 
-table_at_ok : (offset count size : ℕ) (t : Table) → table_at offset count size ≡ Ok t → (t.offset ≡ offset) × (t.offset + 56 * t.count ≤ size)
-table_at_ok offset count size t is = grind (arith, nat_tests)
+table_at_ok : (most offset count size : ℕ) (t : Table) → table_at most offset count size ≡ Ok t → (t.offset ≡ offset) × (t.offset + 56 * t.count ≤ size)
+table_at_ok most offset count size t is = grind (arith, nat_tests)
 
-table_found : (bytes : List ℕ) (t : Table) → table_of (length bytes) bytes ≡ Ok t → IsTable bytes t
+table_found : (most : ℕ) (bytes : List ℕ) (t : Table) → table_of most (length bytes) bytes ≡ Ok t → IsTable bytes t
 unfolding table_of table_by
-table_found bytes t is =
+table_found most bytes t is =
     let header = part 0 64 bytes in
     let size = length bytes in
-    let judged : (unless (header_fault header) (header_count header size bytes >>= λ count. table_at (number 8 header 32) count size)) ≡ Ok t = grind (arith, nat_tests) in
-    let counted : (header_count header size bytes >>= λ count. table_at (number 8 header 32) count size) ≡ Ok t = unless_ok (header_fault header) (header_count header size bytes >>= λ count. table_at (number 8 header 32) count size) t judged in
-    let at = bind_ok (header_count header size bytes) (λ count. table_at (number 8 header 32) count size) t counted in
-    let facts = table_at_ok (number 8 header 32) at.0 size t at.2 in
+    let judged : (unless (header_fault header) (header_count header size bytes >>= λ count. table_at most (number 8 header 32) count size)) ≡ Ok t = grind (arith, nat_tests) in
+    let counted : (header_count header size bytes >>= λ count. table_at most (number 8 header 32) count size) ≡ Ok t = unless_ok (header_fault header) (header_count header size bytes >>= λ count. table_at most (number 8 header 32) count size) t judged in
+    let at = bind_ok (header_count header size bytes) (λ count. table_at most (number 8 header 32) count size) t counted in
+    let facts = table_at_ok most (number 8 header 32) at.0 size t at.2 in
     record { offset = facts.0 ∙ number_of_part bytes 0 64 8 32 (omega arith); inside = facts.1 }
 
 -- no fault before the program headers are looked at has an index
 count_unindexed : (header bytes : List ℕ) (size i : ℕ) → header_count header size bytes ≡ Err (E9 i) → ⊥
 count_unindexed header bytes size i is = grind (arith, nat_tests)
 
-place_unindexed : (offset count size i : ℕ) → table_at offset count size ≡ Err (E9 i) → ⊥
-place_unindexed offset count size i is = grind (arith, nat_tests)
+place_unindexed : (most offset count size i : ℕ) → table_at most offset count size ≡ Err (E9 i) → ⊥
+place_unindexed most offset count size i is = grind (arith, nat_tests)
 
 header_unindexed : (header : List ℕ) (i : ℕ) → header_fault header ≡ Some (E9 i) → ⊥
 unfolding header_fault
 header_unindexed header i is = grind (arith, nat_tests)
 
-table_unindexed : (bytes : List ℕ) (size i : ℕ) → table_of size bytes ≡ Err (E9 i) → ⊥
+table_unindexed : (most : ℕ) (bytes : List ℕ) (size i : ℕ) → table_of most size bytes ≡ Err (E9 i) → ⊥
 unfolding table_of table_by
-table_unindexed bytes size i is =
+table_unindexed most bytes size i is =
     let header = part 0 64 bytes in
-    let by = header_count header size bytes >>= λ count. table_at (number 8 header 32) count size in
+    let by = header_count header size bytes >>= λ count. table_at most (number 8 header 32) count size in
     let judged : unless (header_fault header) by ≡ Err (E9 i) = grind (arith, nat_tests) in
     ⊎_elim
     (header_unindexed header i)
     (λ (late : by ≡ Err (E9 i)). ⊎_elim
     (count_unindexed header bytes size i)
-    (λ at. place_unindexed (number 8 header 32) at.0 size i at.2)
-    (bind_err (header_count header size bytes) (λ count. table_at (number 8 header 32) count size) (E9 i) late))
+    (λ at. place_unindexed most (number 8 header 32) at.0 size i at.2)
+    (bind_err (header_count header size bytes) (λ count. table_at most (number 8 header 32) count size) (E9 i) late))
     (unless_err (header_fault header) by (E9 i) judged)
 
 -- The program header with an index is spelled so at its place.
@@ -161,12 +161,12 @@ none_bad size (h ∷ hs) none =
     All-cons (λ h. is_bad size h ≡ false) h hs step.0 (none_bad size hs step.1)
 
 -- Each segment is spelled by some PT_LOAD of the file, and its bytes are inside it.
-pub core_segments : (bytes : List ℕ) (parts : Parts) → core bytes ≡ Ok parts → All (IsLoaded bytes) parts.segments
-core_segments bytes parts is =
+pub core_segments : (most : ℕ) (bytes : List ℕ) (parts : Parts) → core most bytes ≡ Ok parts → All (IsLoaded bytes) parts.segments
+core_segments most bytes parts is =
     let size = length bytes in
-    let first = bind_ok (table_of size bytes) (split_and_shown bytes) parts is in
+    let first = bind_ok (table_of most size bytes) (split_and_shown bytes) parts is in
     let t : Table = first.0 in
-    let table : IsTable bytes t = table_found bytes t first.1 in
+    let table : IsTable bytes t = table_found most bytes t first.1 in
     let hs : List ProgramHeader = headers_of t bytes in
     let second = bind_ok (split_of size hs) (shown bytes) parts first.2 in
     let loads = split_loads size hs second.0 second.1 in
@@ -254,14 +254,14 @@ first_out bytes t i table found =
     )
 
 -- E9 has the index of the first program header that is out of bounds.
-pub core_E9 : (bytes : List ℕ) (i : ℕ) → core bytes ≡ Err (E9 i) → IsOutOfBounds bytes i × ((k : ℕ) → k < i → IsOutOfBounds bytes k → ⊥)
-core_E9 bytes i is =
+pub core_E9 : (most : ℕ) (bytes : List ℕ) (i : ℕ) → core most bytes ≡ Err (E9 i) → IsOutOfBounds bytes i × ((k : ℕ) → k < i → IsOutOfBounds bytes k → ⊥)
+core_E9 most bytes i is =
     let size = length bytes in
-    ⊎_elim (λ (early : table_of size bytes ≡ Err (E9 i)). absurd (table_unindexed bytes size i early))
-    (λ (late : (t : Table) × (table_of size bytes ≡ Ok t) × (split_and_shown bytes t ≡ Err (E9 i))).
+    ⊎_elim (λ (early : table_of most size bytes ≡ Err (E9 i)). absurd (table_unindexed most bytes size i early))
+    (λ (late : (t : Table) × (table_of most size bytes ≡ Ok t) × (split_and_shown bytes t ≡ Err (E9 i))).
     let t : Table = late.0 in
-    let table : IsTable bytes t = table_found bytes t late.1 in
+    let table : IsTable bytes t = table_found most bytes t late.1 in
     ⊎_elim (λ (bad : split_of size (headers_of t bytes) ≡ Err (E9 i)). first_out bytes t i table (split_first size (headers_of t bytes) i bad))
     (λ (none : (both : List Segment × List Segment) × (split_of size (headers_of t bytes) ≡ Ok both) × (shown bytes both ≡ Err (E9 i))). absurd (not_shown bytes none.0 (E9 i) none.2))
     (bind_err (split_of size (headers_of t bytes)) (shown bytes) (E9 i) late.2))
-    (bind_err (table_of size bytes) (split_and_shown bytes) (E9 i) is)
+    (bind_err (table_of most size bytes) (split_and_shown bytes) (E9 i) is)

@@ -21,16 +21,16 @@ unless None r = r
 unless (Some fault) r = Err fault
 
 -- where the program headers stand in a file of this size, by the file header
-unfoldable pub table_by : List ℕ → ℕ → List ℕ → Result Table CoreFault
-table_by header size bytes = do
+unfoldable pub table_by : (most : ℕ) → List ℕ → ℕ → List ℕ → Result Table CoreFault
+table_by most header size bytes = do
   count ← header_count header size bytes
-  table_at (number 8 header 32) count size
+  table_at most (number 8 header 32) count size
 
 -- where they stand, by the first 64 bytes, which are the file header
-unfoldable pub table_of : ℕ → List ℕ → Result Table CoreFault
-table_of size bytes =
+unfoldable pub table_of : (most : ℕ) → ℕ → List ℕ → Result Table CoreFault
+table_of most size bytes =
     if nat_lt size 64 then Err E1
-    else unless (header_fault (part 0 64 bytes)) (table_by (part 0 64 bytes) size bytes)
+    else unless (header_fault (part 0 64 bytes)) (table_by most (part 0 64 bytes) size bytes)
 
 -- the program headers of a table
 abbrev pub headers_of : Table → List ℕ → List ProgramHeader
@@ -53,12 +53,12 @@ abbrev pub parts_of : List Segment → List ℕ → List (List ℕ)
 parts_of ss bytes = map (λ (s : Segment). part s.offset s.filesz bytes) ss
 
 -- what a file of this size holds, or its first fault
-abbrev pub core_of : ℕ → List ℕ → Result Parts CoreFault
-core_of size bytes = do
-  table ← table_of size bytes
+abbrev pub core_of : (most : ℕ) → ℕ → List ℕ → Result Parts CoreFault
+core_of most size bytes = do
+  table ← table_of most size bytes
   both ← split_of size (headers_of table bytes)
   Ok (record { segments = both.0; notes = parts_of both.1 bytes })
 
--- what a core file holds, or its first fault
-abbrev pub core : List ℕ → Result Parts CoreFault
-core bytes = core_of (length bytes) bytes
+-- what a core file holds, or its first fault, where at most so many program headers are allowed
+abbrev pub core : (most : ℕ) → List ℕ → Result Parts CoreFault
+core most bytes = core_of most (length bytes) bytes

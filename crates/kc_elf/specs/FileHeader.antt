@@ -36,10 +36,11 @@ header_count header size bytes =
     then Ok (number 4 (part (number 8 header 40 + 44) 4 bytes) 0)
     else Err E7)
 
--- the table of so many program headers, each of 56 bytes, at an offset in a file of this size
-abbrev pub table_at : ℕ → ℕ → ℕ → Result Table CoreFault
-table_at offset count size =
-    if (count == 0) || nat_lt 65536 count then Err E8
+-- the table of so many program headers, each of 56 bytes, at an offset in a file of this size, where at most
+-- `most` are allowed
+abbrev pub table_at : (most : ℕ) → ℕ → ℕ → ℕ → Result Table CoreFault
+table_at most offset count size =
+    if (count == 0) || nat_lt most count then Err E8
     else (if nat_le (offset + 56 * count) size
     then Ok (record { offset = offset; count = count })
     else Err E7)

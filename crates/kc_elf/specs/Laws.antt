@@ -7,10 +7,10 @@ use Rattle.kc_elf.specs.Spelling.{IsLoaded, IsOutOfBounds}
 
 -- each segment is spelled by some PT_LOAD of the file, and its bytes are inside the file
 abbrev pub SegmentsAreSpelled : Type 0
-SegmentsAreSpelled = (bytes : List ℕ) (parts : Parts) → core bytes ≡ Ok parts → All (IsLoaded bytes) parts.segments
+SegmentsAreSpelled = (most : ℕ) (bytes : List ℕ) (parts : Parts) → core most bytes ≡ Ok parts → All (IsLoaded bytes) parts.segments
 
 -- E9 has the index of the first program header that is out of bounds
 abbrev pub FirstOutOfBounds : Type 0
 FirstOutOfBounds =
-    (bytes : List ℕ) (i : ℕ) → core bytes ≡ Err (E9 i)
+    (most : ℕ) (bytes : List ℕ) (i : ℕ) → core most bytes ≡ Err (E9 i)
     → IsOutOfBounds bytes i × ((k : ℕ) → k < i → IsOutOfBounds bytes k → ⊥)

@@ -17,7 +17,7 @@ pub struct Table {
 /// How many bytes the file header has.
 pub const FILE_HEADER_BYTES: u64 = 64;
 
-/// At most so many program headers are read.
+/// At most so many program headers has a core file of `kaudit`.
 pub const MOST_HEADERS: u32 = 65_536;
 
 /// What is wrong with the file header, but for the places that it names.
@@ -57,13 +57,12 @@ fn is_plain(header: &[u8]) -> bool
     header[4] == 2 && header[5] == 1 && header[6] == 1
 }
 
-/// The table of so many program headers at a file offset, in a file of this size.
-pub fn table_at(offset: u64, count: u32, size: u64) -> Result<Table, CoreFault>
-    ensures value { result ≡ table_at offset count size }
+/// The table of `count` program headers, at most `most`, at a file offset in a file of this size.
+pub fn table_at(most: u32, offset: u64, count: u32, size: u64) -> Result<Table, CoreFault>
+    ensures value { result ≡ table_at most offset count size }
     ensures inside { IfOk result (λ table. table.offset + 56 * table.count ≤ size) }
-    ensures few { IfOk result (λ table. table.count ≤ 65536) }
 {
-    if count == 0 || count > MOST_HEADERS {
+    if count == 0 || count > most {
         Err(CoreFault::E8)
     } else if is_inside(offset, HEADER_BYTES as u64 * u64::from(count), size) {
         Ok(Table { offset, count })

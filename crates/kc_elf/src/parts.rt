@@ -1,5 +1,5 @@
 // What is read of a core file.
-ghost use Rattle.std.specs.Prelude.{◌≡◌, ◌<◌, ◌≤◌, length, map, vec_len, Some, slice_get};
+ghost use Rattle.std.specs.Prelude.{◌≡◌, ◌<◌, ◌^◌, length, map, vec_len, Some, slice_get};
 
 use kc_word::Segment;
 use std::marker::Model;
@@ -12,7 +12,7 @@ pub struct Core {
 }
 
 impl Model for Core {
-    ghost use Rattle.std.specs.Prelude.{map, ◌≤◌, vec_len};
+    ghost use Rattle.std.specs.Prelude.{map, ◌<◌, ◌^◌, vec_len};
     ghost use Rattle.std.specs.Global.{Vec};
     ghost use Rattle.kc_elf.specs.Parts.{Parts};
 
@@ -20,13 +20,13 @@ impl Model for Core {
 
     ghost view = { λ c. record { segments = c.segments.items; notes = map (λ v. v.items) c.notes.items } };
 
-    ghost invariant = { λ c. vec_len c.notes ≤ 65536 };
+    ghost invariant = { λ c. vec_len c.notes < 2 ^ 32 };
 }
 
 impl Core {
     // The segments and the parts of notes.
     pub(crate) fn new(segments: Vec<Segment>, notes: Vec<Vec<u8>>) -> Self
-        requires { vec_len notes ≤ 65536 }
+        requires { vec_len notes < 2 ^ 32 }
         ensures segments { result.segments ≡ segments.items }
         ensures notes { result.notes ≡ map (λ v. v.items) notes.items }
     {
@@ -43,7 +43,7 @@ impl Core {
     /// How many parts of notes there are, one for each PT_NOTE.
     pub fn notes(&self) -> usize
         ensures count { result ≡ length self.now.notes }
-        ensures few { result ≤ 65536 }
+        ensures few { result < 2 ^ 32 }
     {
         self.notes.len()
     }

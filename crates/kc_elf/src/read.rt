@@ -1,5 +1,5 @@
 // Reading a core file from a store.
-ghost use Rattle.std.specs.Prelude.{◌≡◌, ℕ, ◌*◌, ◌+◌, ◌≤◌, ◌^◌, List, length, max, map, All, Some, IsSome, IfSome, IfOk, vec_len};
+ghost use Rattle.std.specs.Prelude.{◌≡◌, ℕ, ◌*◌, ◌+◌, ◌<◌, ◌≤◌, ◌^◌, List, length, max, map, All, Some, IsSome, IfSome, IfOk, vec_len};
 ghost use Rattle.std.specs.Option.{ForSome};
 ghost use Rattle.std.specs.Bool.{OnTrue};
 ghost use Rattle.kc_outside.specs.declared.store.Slot.{Slot};
@@ -12,7 +12,7 @@ ghost use Rattle.kc_elf.specs.CoreFile.{table_by, table_of, headers_of, split_of
 ghost use Rattle.kc_elf.specs.FileHeader.{header_count};
 
 use crate::fault::{CoreFault, CoreStop};
-use crate::file_header::{FILE_HEADER_BYTES, Table, header_fault, table_at};
+use crate::file_header::{FILE_HEADER_BYTES, MOST_HEADERS, Table, header_fault, table_at};
 use crate::parts::Core;
 use crate::program_header::{
     HEADER_BYTES, Kind, ProgramHeader, are_within, first_bad, is_inside, of_kind, read_headers,
@@ -58,31 +58,30 @@ fn read_count<S: Store>(
 fn place_table<S: Store>(
     store: &mut S,
     slot: Slot,
+    most: u32,
     header: &[u8],
     size: u64,
 ) -> Result<Table, CoreStop>
     requires learnt { S.sizes store.old slot ≡ Some size }
     requires whole { 64 ≤ length header.now }
 
-    ensures told { Answers (λ table. table) (content (S.files store.old) slot (S.opened store.old slot)) result (table_by header.now size) }
+    ensures told { Answers (λ table. table) (content (S.files store.old) slot (S.opened store.old slot)) result (table_by most header.now size) }
     ensures inside { IfOk result (λ table. table.offset + 56 * table.count ≤ size) }
-    ensures few { IfOk result (λ table. table.count ≤ 65536) }
 
     ensures stays { StoreStays S.opened S.sizes S.files S.may S.asked store.old store.new }
     ensures counts { CountsFaults result (S.faults store.old) (S.faults store.new) }
 {
     let count = read_count(store, slot, header, size)?;
-    Ok(table_at(LittleEndian::read_u64(&header[32..]), count, size)?)
+    Ok(table_at(most, LittleEndian::read_u64(&header[32..]), count, size)?)
 }
 
 // Where the program headers stand, and how many there are.
 #[tactic(auto, unfolding(crate::specs::CoreFile::table_of))]
-fn find_table<S: Store>(store: &mut S, slot: Slot, size: u64) -> Result<Table, CoreStop>
+fn find_table<S: Store>(store: &mut S, slot: Slot, most: u32, size: u64) -> Result<Table, CoreStop>
     requires { S.sizes store.old slot ≡ Some size }
 
-    ensures told { Answers (λ table. table) (content (S.files store.old) slot (S.opened store.old slot)) result (table_of size) }
+    ensures told { Answers (λ table. table) (content (S.files store.old) slot (S.opened store.old slot)) result (table_of most size) }
     ensures inside { IfOk result (λ table. table.offset + 56 * table.count ≤ size) }
-    ensures few { IfOk result (λ table. table.count ≤ 65536) }
 
     ensures stays { StoreStays S.opened S.sizes S.files S.may S.asked store.old store.new }
     ensures counts { CountsFaults result (S.faults store.old) (S.faults store.new) }
@@ -95,7 +94,7 @@ fn find_table<S: Store>(store: &mut S, slot: Slot, size: u64) -> Result<Table, C
     if let Some(fault) = header_fault(&header) {
         return Err(CoreStop::Fault(fault));
     }
-    place_table(store, slot, &header, size)
+    place_table(store, slot, most, &header, size)
 }
 
 // So many bytes of the file, from an offset on.
@@ -152,13 +151,13 @@ fn split(
     headers: &[ProgramHeader],
     size: u64,
 ) -> Result<(Vec<Segment>, Vec<Segment>), CoreStop>
-    requires { length headers.now ≤ 65536 }
+    requires { length headers.now < 2 ^ 32 }
 
     ensures exact { GivesTold told (λ both. (both.0.items, both.1.items)) result (split_of size headers.now) }
     ensures loads_inside { IfOk result (λ both. All (λ s. s.offset + s.filesz ≤ size) both.0.items) }
     ensures loads_below { IfOk result (λ both. All (λ s. s.paddr + max s.filesz s.memsz ≤ 2 ^ 64) both.0.items) }
     ensures notes_inside { IfOk result (λ both. All (λ s. s.offset + s.filesz ≤ size) both.1.items) }
-    ensures few { IfOk result (λ both. vec_len both.1 ≤ 65536) }
+    ensures few { IfOk result (λ both. vec_len both.1 < 2 ^ 32) }
     ensures unread { OnReadFault result ⊥ }
 {
     if let Some(index) = first_bad(headers, size) {
@@ -203,25 +202,27 @@ fn read_sized<S: Store>(
     alloc: Global,
     store: &mut S,
     slot: Slot,
+    most: u32,
     size: u64,
 ) -> Result<Core, CoreStop>
     requires { S.sizes store.old slot ≡ Some size }
 
-    ensures told { Answers (λ parts. parts) (content (S.files store.old) slot (S.opened store.old slot)) result (core_of size) }
+    ensures told { Answers (λ parts. parts) (content (S.files store.old) slot (S.opened store.old slot)) result (core_of most size) }
     ensures inside { IfOk result (λ parts. All (λ s. s.offset + s.filesz ≤ size) parts.segments) }
     ensures below { IfOk result (λ parts. All (λ s. s.paddr + max s.filesz s.memsz ≤ 2 ^ 64) parts.segments) }
 
     ensures stays { StoreStays S.opened S.sizes S.files S.may S.asked store.old store.new }
     ensures counts { CountsFaults result (S.faults store.old) (S.faults store.new) }
 {
-    let table = find_table(store, slot, size)?;
+    let table = find_table(store, slot, most, size)?;
     let headers = read_table(alloc, store, slot, table, size)?;
     let (loads, notes) = split(alloc, &headers, size)?;
     let parts = read_parts(alloc, store, slot, &notes, size)?;
     Ok(Core::new(loads, parts))
 }
 
-/// Reads a core file whose size was learnt, in bytes: the program headers and the notes, and of the memory only where it stands.
+/// Reads a core file of at most `most` program headers, whose size was learnt, in bytes: the program headers
+/// and the notes, and of the memory only where it stands.
 ///
 /// # Errors
 ///
@@ -231,12 +232,13 @@ pub fn read_core_of<S: Store>(
     alloc: Global,
     store: &mut S,
     slot: Slot,
+    most: u32,
     size: u64,
 ) -> Result<Core, CoreStop>
     requires { S.sizes store.old slot ≡ Some size }
 
     // Where files are told, the answer is what the file's bytes mean: what they hold, or the first fault.
-    ensures told { Answers (λ parts. parts) (content (S.files store.old) slot (S.opened store.old slot)) result core }
+    ensures told { Answers (λ parts. parts) (content (S.files store.old) slot (S.opened store.old slot)) result (core most) }
 
     // Of every store. A segment's bytes are inside the file, and its memory ends at 2^64 at the latest.
     ensures inside { IfOk result (λ parts. All (λ s. s.offset + s.filesz ≤ size) parts.segments) }
@@ -254,10 +256,10 @@ pub fn read_core_of<S: Store>(
     ensures asked_later { S.asked store.old ≤ S.asked store.new }
 {
     know_size(store, slot, size);
-    read_sized(alloc, store, slot, size)
+    read_sized(alloc, store, slot, most, size)
 }
 
-/// Asks the size of a core file again, and reads it as `read_core_of` does.
+/// Asks the size of a core file again, and reads it as `read_core_of` does, with at most 65,536 program headers.
 ///
 /// # Errors
 ///
@@ -267,7 +269,7 @@ pub fn read_core<S: Store>(alloc: Global, store: &mut S, slot: Slot) -> Result<C
     requires { IsSome (S.sizes store.old slot) }
 
     // Where files are told, the answer is what the file's bytes mean: what they hold, or the first fault.
-    ensures told { Answers (λ parts. parts) (content (S.files store.old) slot (S.opened store.old slot)) result core }
+    ensures told { Answers (λ parts. parts) (content (S.files store.old) slot (S.opened store.old slot)) result (core 65536) }
 
     // Of every store. A segment's bytes are inside the file, and its memory ends at 2^64 at the latest.
     ensures inside { IfOk result (λ parts. ForSome (S.sizes store.new slot) (λ size. All (λ s. s.offset + s.filesz ≤ size) parts.segments)) }
@@ -287,5 +289,5 @@ pub fn read_core<S: Store>(alloc: Global, store: &mut S, slot: Slot) -> Result<C
 {
     know_learnt(store, slot);
     let size = store.size(slot)?;
-    read_core_of(alloc, store, slot, size)
+    read_core_of(alloc, store, slot, MOST_HEADERS, size)
 }

@@ -74,7 +74,7 @@ bytes_are image (suc count) at bytes is =
 abbrev size : ℕ → Result ℕ Why
 size n = Ok n
 
-there : (fault : TableFault) (o : Option ℕ) (a : ℕ) → wanted fault o ≡ Ok a → o ≡ Some a
+pub there : (fault : TableFault) (o : Option ℕ) (a : ℕ) → wanted fault o ≡ Ok a → o ≡ Some a
 there fault (Some x) a is = cc
 there fault None a is = absurd (let none : ⊥ = cc in none)
 
@@ -97,7 +97,7 @@ pub record Between (image : Image) (frame : RowFrame) (first last : Option ℕ) 
   pub whole : start + length bytes ≡ end
   pub stand : BytesStand image start bytes
 
-between : (image : Image) (frame : RowFrame) (first last : Option ℕ) (bytes : List ℕ) → types_between image frame first last ≡ Ok bytes → Between image frame first last bytes
+pub between : (image : Image) (frame : RowFrame) (first last : Option ℕ) (bytes : List ℕ) → types_between image frame first last ≡ Ok bytes → Between image frame first last bytes
 unfolding types_between
 between image frame first last bytes is =
     let a = went (wanted S10 (address_by frame first)) (λ start. wanted S10 (address_by frame last) >>= (λ end. size_between start end >>= (λ size. bytes_at image size start))) bytes is in

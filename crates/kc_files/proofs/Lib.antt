@@ -4,4 +4,5 @@ mod FileLaws
 mod LineLaws
 mod MapLaws
 mod ModuleLaws
+mod RingLaws
 mod Told

@@ -2,6 +2,7 @@ pub mod Answered
 pub mod Laws
 pub mod Made
 pub mod Reading
+pub mod Ring
 pub mod Sought
 pub mod Wished
 pub mod Wishes

@@ -14,16 +14,17 @@ ghost use Rattle.kc_command.specs.Slots.{RefusesIn};
 ghost use Rattle.kc_command.specs.Ends.Answers.{OnNone, OnStoreIn, PrintsOf, PrintsOfBytes, Runs, StayBehind, UnlessStoreIn};
 ghost use Rattle.kc_command.specs.Ends.Asked.{word_in};
 ghost use Rattle.kc_files.specs.Answered.{IsAnswer, IsStopped};
-ghost use Rattle.kc_files.specs.Made.{files_asks, files_made, files_view, files_written, shown_by};
+ghost use Rattle.kc_files.specs.Made.{files_asks, files_made, files_view, files_written, memory_made, shown_by};
 ghost use Rattle.kc_files.specs.Sought.{sought_view};
 ghost use Rattle.kc_files.specs.Wished.{wished};
-ghost use Rattle.kc_files.specs.Wishes.{wish_view};
+ghost use Rattle.kc_files.specs.Wishes.{request_view, wish_view};
 
 use crate::memory::read_file;
+use crate::note::note;
 use crate::sought::{SoughtFile, sought_by};
 use crate::unread::Unread;
-use crate::wish::{Wish, wish_of, wish_of_two};
-use kc_command::{Answer, Halt, Noted, Refusal, read_noted};
+use crate::wish::{Request, Wish, request_of, request_of_two};
+use kc_command::{Answer, Halt, Noted, Refusal, VIEW_HEADERS, read_noted};
 use kc_outside::Store;
 use kc_report::broken_text;
 use std::alloc::Global;
@@ -33,8 +34,8 @@ use std::alloc::Global;
 pub struct Asks<'w> {
     /// The name of the dump.
     pub dump: &'w str,
-    /// What is wished of it.
-    pub wish: Wish<'w>,
+    /// What is asked of it.
+    pub request: Request<'w>,
 }
 
 // What the words ask.
@@ -44,11 +45,11 @@ fn read(words: &[String]) -> Option<Asks<'_>>
     match words {
         [dump, word] => Some(Asks {
             dump: dump.as_str(),
-            wish: wish_of(word.as_str())?,
+            request: request_of(word.as_str())?,
         }),
         [dump, word, name] => Some(Asks {
             dump: dump.as_str(),
-            wish: wish_of_two(word.as_str(), name.as_str())?,
+            request: request_of_two(word.as_str(), name.as_str())?,
         }),
         _ => None,
     }
@@ -76,15 +77,38 @@ fn file<S: Store>(alloc: Global, store: &mut S, asks: Asks<'_>) -> Result<Answer
     requires may { S.may store.old Dump asks.dump.now }
 
     ensures output { PrintsOf files_written
-        (λ files. files_made (wish_view asks.entry.wish) (files Dump asks.entry.dump.now)) (S.files store.old) result }
+        (λ files. files_made (request_view asks.entry.request) (files Dump asks.entry.dump.now)) (S.files store.old) result }
     ensures unopened { StayBehind (files_view asks.entry).named result (S.opened store.old) (S.opened store.new) }
     ensures files { S.files store.new ≡ S.files store.old }
     ensures later { S.faults store.old ≤ S.faults store.new }
     ensures quiet { UnlessStore result (S.faults store.new ≡ S.faults store.old) }
     ensures cause { OnStore result (Rose (S.faults store.old) (S.faults store.new)) }
 {
-    let noted = read_noted(alloc, store, asks.dump)?;
-    let sought = sought_by(&noted.core, asks.wish)?;
+    match asks.request {
+        Request::Note => note(alloc, store, asks.dump),
+        Request::Wish(wish) => memory_file(alloc, store, asks.dump, wish),
+    }
+}
+
+// The answer to what is wished of a kernel's memory.
+fn memory_file<S: Store>(
+    alloc: Global,
+    store: &mut S,
+    dump: &str,
+    wish: Wish<'_>,
+) -> Result<Answer, Halt>
+    requires may { S.may store.old Dump dump.now }
+
+    ensures output { PrintsOf files_written
+        (λ files. memory_made (wish_view wish.entry) (files Dump dump.now)) (S.files store.old) result }
+    ensures refused { RefusesIn Dump result }
+    ensures files { S.files store.new ≡ S.files store.old }
+    ensures later { S.faults store.old ≤ S.faults store.new }
+    ensures quiet { UnlessStore result (S.faults store.new ≡ S.faults store.old) }
+    ensures cause { OnStore result (Rose (S.faults store.old) (S.faults store.new)) }
+{
+    let noted = read_noted(alloc, store, VIEW_HEADERS, dump)?;
+    let sought = sought_by(&noted.core, wish)?;
     make(alloc, store, &noted, &sought)
 }
 

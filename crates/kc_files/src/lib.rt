@@ -1,9 +1,10 @@
-//! kfiles: the map, the types, the log and the modules of a kernel out of the memory of its dump.
+//! kfiles: the map, the types, the log, the modules and the note of a kernel out of the memory of its dump.
 #![tactic(auto)]
 
 mod files;
 mod laws;
 mod memory;
+mod note;
 mod sought;
 mod top;
 mod unread;

@@ -22,7 +22,7 @@ use std::alloc::Global;
 
 /// The lines that say how the program is called.
 const USAGE: &[u8] =
-    b"usage: kfiles DUMP map\n       kfiles DUMP types\n       kfiles DUMP log\n       kfiles DUMP modules\n       kfiles DUMP module NAME\n";
+    b"usage: kfiles DUMP map\n       kfiles DUMP types\n       kfiles DUMP log\n       kfiles DUMP modules\n       kfiles DUMP module NAME\n       kfiles DUMP note\n";
 
 /// The program. It answers the status that it ends with: done where the file is put that is wished, and broken where a word on the way to it
 /// can't be read. What it puts is made whole before a byte of it is put.

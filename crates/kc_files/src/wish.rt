@@ -1,8 +1,8 @@
-// What is wished of a dump.
+// What is asked of a dump.
 ghost use Rattle.std.specs.Prelude.{◌≡◌, option_map};
-ghost use Rattle.kc_files.specs.Wishes.{wish_of, wish_of_two, wish_view};
+ghost use Rattle.kc_files.specs.Wishes.{request_of, request_of_two, request_view, wish_of, wish_of_two, wish_view};
 
-/// What is wished of a dump.
+/// What is wished of the memory of a dump's kernel.
 #[derive(Clone, Copy)]
 pub enum Wish<'w> {
     /// The map of its kernel.
@@ -17,8 +17,17 @@ pub enum Wish<'w> {
     Module(&'w str),
 }
 
-/// The wish of a word.
-pub fn wish_of(word: &str) -> Option<Wish<'_>>
+/// What is asked of a dump.
+#[derive(Clone, Copy)]
+pub enum Request<'w> {
+    /// The text of its VMCOREINFO note.
+    Note,
+    /// What is wished of its kernel's memory.
+    Wish(Wish<'w>),
+}
+
+// The wish of a word.
+fn wish_of(word: &str) -> Option<Wish<'_>>
     ensures { option_map wish_view result ≡ wish_of word.now }
 {
     if word == "map" {
@@ -34,8 +43,8 @@ pub fn wish_of(word: &str) -> Option<Wish<'_>>
     }
 }
 
-/// The wish of two words.
-pub fn wish_of_two<'w>(word: &str, name: &'w str) -> Option<Wish<'w>>
+// The wish of two words.
+fn wish_of_two<'w>(word: &str, name: &'w str) -> Option<Wish<'w>>
     ensures { option_map wish_view result ≡ wish_of_two word.now name.now }
 {
     if word == "module" {
@@ -43,4 +52,22 @@ pub fn wish_of_two<'w>(word: &str, name: &'w str) -> Option<Wish<'w>>
     } else {
         None
     }
+}
+
+/// The request of a word.
+pub fn request_of(word: &str) -> Option<Request<'_>>
+    ensures { option_map request_view result ≡ request_of word.now }
+{
+    if word == "note" {
+        Some(Request::Note)
+    } else {
+        Some(Request::Wish(wish_of(word)?))
+    }
+}
+
+/// The request of two words.
+pub fn request_of_two<'w>(word: &str, name: &'w str) -> Option<Request<'w>>
+    ensures { option_map request_view result ≡ request_of_two word.now name.now }
+{
+    Some(Request::Wish(wish_of_two(word, name)?))
 }

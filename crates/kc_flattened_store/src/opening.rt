@@ -4,6 +4,7 @@ ghost use Rattle.kc_outside.specs.declared.store.Slot.{Slot};
 ghost use Rattle.kc_outside.specs.declared.store.Slot.TheVariants.{Dump};
 ghost use Rattle.kc_outside.specs.Files.{content, named, OthersStay};
 ghost use Rattle.kc_flattened.specs.Stays.{StoreStays};
+ghost use Rattle.kc_flattened_store.specs.Counts.{CountsOpening, fault_of};
 ghost use Rattle.kc_flattened_store.specs.Seen.{seen_bytes};
 ghost use Rattle.kc_flattened_store.specs.Shapes.{file_size, shape_bytes, shape_size};
 
@@ -21,6 +22,7 @@ fn shape_of<S: Store>(alloc: Global, store: &mut S, size: u64) -> Result<FlatSha
     ensures size { IfOk result (λ shape. file_size shape ≡ size) }
     ensures fits { IfOk result (λ shape. shape_size shape < 2 ^ 64) }
     ensures stays { StoreStays S.opened S.sizes S.files S.may S.asked store.old store.new }
+    ensures counts { CountsOpening result (S.faults store.old) (S.faults store.new) }
 {
     know_size(store, Slot::Dump, size);
     let found = match read_flat(alloc, store, Slot::Dump, size) {
@@ -41,7 +43,9 @@ fn shape_of<S: Store>(alloc: Global, store: &mut S, size: u64) -> Result<FlatSha
 }
 
 // Why the records weren't read.
-fn fault_of(stop: FlatStop) -> FlattenedFault {
+fn fault_of(stop: FlatStop) -> FlattenedFault
+    ensures { result ≡ fault_of stop }
+{
     match stop {
         FlatStop::Fault(fault) => FlattenedFault::Refused(fault),
         FlatStop::ReadFault => FlattenedFault::Store,
@@ -67,6 +71,7 @@ pub(crate) fn open_shape<S: Store>(
     ensures may { (s : Slot) (n : List ℕ) → S.may store.old s n → S.may store.new s n }
     ensures may_no_more { (s : Slot) (n : List ℕ) → S.may store.new s n → S.may store.old s n }
     ensures files { S.files store.new ≡ S.files store.old }
+    ensures counts { CountsOpening result (S.faults store.old) (S.faults store.new) }
 {
     match store.open_file(Slot::Dump, name) {
         Ok(()) => (),

@@ -8,6 +8,7 @@ use Rattle.kc_outside.specs.Files.{Files}
 use Rattle.kc_outside.specs.Texts.{with_piece}
 use Rattle.kc_command.specs.declared.ends.status.Status.{Status}
 use Rattle.kc_command.specs.declared.ends.status.Status.TheVariants.{Done, Broken, Refused, StoreFailed, SinkFailed, OutOfMemory, NoCommand}
+use Rattle.kc_command.specs.Inputs.{view_headers}
 use Rattle.kc_command.specs.Ends.Failures.{memory_refused, store_failed}
 use Rattle.kc_command.specs.Ends.Last.{FailedLast, StopsAtFailure}
 use Rattle.kc_command.specs.Ends.Status.{At, is_answer, is_silent, is_sink_quiet, is_store_quiet, number}
@@ -23,15 +24,15 @@ use Rattle.kc_kplain.specs.Outcomes.{AuditEnds, SaysAfter, is_settled}
 
 -- what kaudit says of its own end, as far as it is wanted
 pub record OwnEnds (words : List (List ℕ)) (files : Option Files) (opened_old opened_new : Slot → Option (List ℕ)) (ends : Status) (out_old out_new err_old err_new : Option (List ℕ)) : Type 0 where
-  pub told : OnTrue (is_answer ends) (IsToldBy words files ends out_old out_new err_old err_new)
-  pub stands : OnTrue (is_answer ends) (IfSome files (λ f. CheckEnds words f ends))
-  pub stands_with_module : OnTrue (is_answer ends) (IfSome files (λ f. ModuleCheckEnds words f ends))
-  pub roots : OnTrue (is_answer ends) (IfSome files (λ f. CheckPrints words f out_old out_new))
-  pub roots_with_module : OnTrue (is_answer ends) (IfSome files (λ f. ModuleCheckPrints words f out_old out_new))
-  pub shown : OnTrue (is_answer ends) (IfSome files (λ f. TookTrue (out_of words f) out_old out_new))
-  pub certified : OnTrue (is_answer ends) (IfSome files (λ f. CertifyEnds words f ends out_old out_new))
-  pub rechecked : OnTrue (is_answer ends) (IfSome files (λ f. RecheckEnds words f ends out_old out_new err_old err_new))
-  pub unopened : At ends Refused (AskedStay (program words) files opened_old opened_new)
+  pub told : OnTrue (is_answer ends) (IsToldBy view_headers words files ends out_old out_new err_old err_new)
+  pub stands : OnTrue (is_answer ends) (IfSome files (λ f. CheckEnds view_headers words f ends))
+  pub stands_with_module : OnTrue (is_answer ends) (IfSome files (λ f. ModuleCheckEnds view_headers words f ends))
+  pub roots : OnTrue (is_answer ends) (IfSome files (λ f. CheckPrints view_headers words f out_old out_new))
+  pub roots_with_module : OnTrue (is_answer ends) (IfSome files (λ f. ModuleCheckPrints view_headers words f out_old out_new))
+  pub shown : OnTrue (is_answer ends) (IfSome files (λ f. TookTrue (out_of view_headers words f) out_old out_new))
+  pub certified : OnTrue (is_answer ends) (IfSome files (λ f. CertifyEnds view_headers words f ends out_old out_new))
+  pub rechecked : OnTrue (is_answer ends) (IfSome files (λ f. RecheckEnds view_headers words f ends out_old out_new err_old err_new))
+  pub unopened : At ends Refused (AskedStay (program view_headers words) files opened_old opened_new)
   pub store_text : At ends StoreFailed (err_new ≡ with_piece err_old store_failed)
   pub memory_text : At ends OutOfMemory (err_new ≡ with_piece err_old memory_refused)
   pub silent : OnTrue (is_silent ends) (out_new ≡ out_old)

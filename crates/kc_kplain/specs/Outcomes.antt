@@ -7,6 +7,7 @@ use Rattle.kc_outside.specs.Files.{Files, named}
 use Rattle.kc_outside.specs.Texts.{with_piece}
 use Rattle.kc_command.specs.declared.ends.status.Status.{Status}
 use Rattle.kc_command.specs.declared.ends.status.Status.TheVariants.{Done, Broken, Refused, StoreFailed, SinkFailed, OutOfMemory, NoCommand}
+use Rattle.kc_command.specs.Inputs.{view_headers}
 use Rattle.kc_command.specs.Ends.Failures.{memory_refused, store_failed}
 use Rattle.kc_command.specs.Ends.Status.{At, is_silent}
 use Rattle.kc_command.specs.Ends.Unopened.{AskedStay}
@@ -81,15 +82,15 @@ SaysAfter ends old new = (cause : Cause) × SaysCause cause ends (with_piece old
 -- An answer is kaudit's over the files that are shown, and so is a refusal; but for the refusal of the dump's form, whose line follows the
 -- one that the store failed.
 pub record AuditEnds (words : List (List ℕ)) (files : Option Files) (opened_old opened_new : Slot → Option (List ℕ)) (ends : Status) (out_old out_new err_old err_new : Option (List ℕ)) : Type 0 where
-  pub told : OnTrue (is_settled ends) (IsToldBy words files ends out_old out_new err_old err_new)
-  pub stands : OnTrue (is_settled ends) (IfSome files (λ f. CheckEnds words f ends))
-  pub stands_with_module : OnTrue (is_settled ends) (IfSome files (λ f. ModuleCheckEnds words f ends))
-  pub roots : OnTrue (is_settled ends) (IfSome files (λ f. CheckPrints words f out_old out_new))
-  pub roots_with_module : OnTrue (is_settled ends) (IfSome files (λ f. ModuleCheckPrints words f out_old out_new))
-  pub shown : OnTrue (is_settled ends) (IfSome files (λ f. TookTrue (out_of words f) out_old out_new))
-  pub certified : OnTrue (is_settled ends) (IfSome files (λ f. CertifyEnds words f ends out_old out_new))
-  pub rechecked : OnTrue (is_settled ends) (IfSome files (λ f. RecheckEnds words f ends out_old out_new err_old err_new))
-  pub refused : At ends Refused ((IsToldBy words files ends out_old out_new err_old err_new × AskedStay (program words) files opened_old opened_new) ⊎ SaysAfter ends err_old err_new)
+  pub told : OnTrue (is_settled ends) (IsToldBy view_headers words files ends out_old out_new err_old err_new)
+  pub stands : OnTrue (is_settled ends) (IfSome files (λ f. CheckEnds view_headers words f ends))
+  pub stands_with_module : OnTrue (is_settled ends) (IfSome files (λ f. ModuleCheckEnds view_headers words f ends))
+  pub roots : OnTrue (is_settled ends) (IfSome files (λ f. CheckPrints view_headers words f out_old out_new))
+  pub roots_with_module : OnTrue (is_settled ends) (IfSome files (λ f. ModuleCheckPrints view_headers words f out_old out_new))
+  pub shown : OnTrue (is_settled ends) (IfSome files (λ f. TookTrue (out_of view_headers words f) out_old out_new))
+  pub certified : OnTrue (is_settled ends) (IfSome files (λ f. CertifyEnds view_headers words f ends out_old out_new))
+  pub rechecked : OnTrue (is_settled ends) (IfSome files (λ f. RecheckEnds view_headers words f ends out_old out_new err_old err_new))
+  pub refused : At ends Refused ((IsToldBy view_headers words files ends out_old out_new err_old err_new × AskedStay (program view_headers words) files opened_old opened_new) ⊎ SaysAfter ends err_old err_new)
   pub store : At ends StoreFailed ((err_new ≡ with_piece err_old store_failed) ⊎ SaysAfter ends err_old err_new)
   pub memory : At ends OutOfMemory ((err_new ≡ with_piece err_old memory_refused) ⊎ SaysAfter ends err_old err_new)
   pub silent : OnTrue (is_silent ends) (out_new ≡ out_old)

@@ -6,6 +6,7 @@ ghost use Rattle.std.specs.String.{string_bytes};
 ghost use Rattle.kc_outside.specs.declared.store.Slot.{Slot};
 ghost use Rattle.kc_outside.specs.Counts.{Rose};
 ghost use Rattle.kc_command.specs.declared.ends.status.Status.TheVariants.{SinkFailed, StoreFailed};
+ghost use Rattle.kc_command.specs.Inputs.{view_headers};
 ghost use Rattle.kc_command.specs.Ends.Asked.{word_in};
 ghost use Rattle.kc_command.specs.Ends.Last.{StopsAtFailure};
 ghost use Rattle.kc_command.specs.Ends.Status.{At, is_answer, is_silent, is_sink_quiet, number};
@@ -14,12 +15,12 @@ ghost use Rattle.kc_app.specs.Program.{program};
 ghost use Rattle.kc_kplain.specs.Outcomes.{AuditEnds, is_settled};
 
 use kc_any_dump::{TellsCause, end_with_cause};
-use kc_app::kaudit;
-use kc_command::Status;
+use kc_app::kaudit_within;
+use kc_command::{Status, VIEW_HEADERS};
 use kc_outside::{Sink, Store};
 use std::alloc::Global;
 
-/// Runs kaudit on its words. Where it ends since the store failed, and the dump's form has to do with that, the line of the cause
+/// Runs kaudit on its words, over dumps of up to 2^22 runs of pages. Where it ends since the store failed, and the dump's form has to do with that, the line of the cause
 /// follows its own.
 pub fn audit<D: Store + TellsCause, O: Sink, E: Sink>(
     alloc: Global,
@@ -28,7 +29,7 @@ pub fn audit<D: Store + TellsCause, O: Sink, E: Sink>(
     out: &mut O,
     err: &mut E,
 ) -> Status
-    requires { (slot : Slot) → ForSome (word_in (program (map string_bytes words.now)) slot) (D.may dump.old slot) }
+    requires { (slot : Slot) → ForSome (word_in (program view_headers (map string_bytes words.now)) slot) (D.may dump.old slot) }
 
     ensures ends { AuditEnds (map string_bytes words.now) (D.files dump.old) (D.opened dump.old) (D.opened dump.new) result
         (O.taken out.old) (O.taken out.new) (E.taken err.old) (E.taken err.new) }
@@ -51,7 +52,7 @@ pub fn audit<D: Store + TellsCause, O: Sink, E: Sink>(
 
     // What standard output took where it failed.
     ensures out_part { At result SinkFailed (O.faults out.old < O.faults out.new
-        → TookPartBy (map string_bytes words.now) (D.files dump.old) (O.taken out.old) (O.taken out.new)) }
+        → TookPartBy view_headers (map string_bytes words.now) (D.files dump.old) (O.taken out.old) (O.taken out.new)) }
     ensures out_nothing { At result SinkFailed (O.faults out.old < 2 ^ 64 - 1 → O.faults out.new ≡ O.faults out.old
         → O.taken out.new ≡ O.taken out.old) }
 
@@ -65,6 +66,6 @@ pub fn audit<D: Store + TellsCause, O: Sink, E: Sink>(
     ensures out_later { O.faults out.old ≤ O.faults out.new }
     ensures err_later { E.faults err.old ≤ E.faults err.new }
 {
-    let status = kaudit(alloc, words, dump, out, err);
+    let status = kaudit_within(alloc, VIEW_HEADERS, words, dump, out, err);
     end_with_cause(alloc, status, dump, err)
 }

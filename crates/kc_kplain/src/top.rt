@@ -8,6 +8,7 @@ ghost use Rattle.kc_outside.specs.declared.store.Slot.TheVariants.{Dump};
 ghost use Rattle.kc_outside.specs.Counts.{Rose};
 ghost use Rattle.kc_outside.specs.Texts.{with_piece};
 ghost use Rattle.kc_command.specs.declared.ends.status.Status.TheVariants.{NoCommand, SinkFailed, StoreFailed};
+ghost use Rattle.kc_command.specs.Inputs.{view_headers};
 ghost use Rattle.kc_command.specs.Ends.Asked.{word_in};
 ghost use Rattle.kc_command.specs.Ends.Last.{StopsAtFailure};
 ghost use Rattle.kc_command.specs.Ends.Status.{At, is_answer, is_sink_quiet, number};
@@ -37,7 +38,7 @@ pub fn kplain<D: Store + TellsCause, O: Sink, E: Sink>(
 ) -> Status
     requires core { (name : List ℕ) → form_of (map string_bytes words.now) ≡ Core name → D.may dump.old Dump name }
     requires audit { form_of (map string_bytes words.now) ≡ Audit
-        → (slot : Slot) → ForSome (word_in (program (map string_bytes words.now)) slot) (D.may dump.old slot) }
+        → (slot : Slot) → ForSome (word_in (program view_headers (map string_bytes words.now)) slot) (D.may dump.old slot) }
 
     // `core` writes the file that is shown for the dump; kaudit's commands end as kaudit does over the files that are shown.
     ensures core { (name : List ℕ) → form_of (map string_bytes words.now) ≡ Core name

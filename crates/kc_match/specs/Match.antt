@@ -9,7 +9,7 @@ use Rattle.kc_syms.specs.Rows.{RowText, addresses}
 use Rattle.kc_command.specs.declared.refusal.Refusal.TheVariants.{Notes}
 use Rattle.kc_command.specs.declared.refusal.Refusal.TheVariants as refusals
 use Rattle.kc_command.specs.declared.kernel.KernelFiles.{KernelFiles}
-use Rattle.kc_command.specs.Inputs.{map_in, rows_in}
+use Rattle.kc_command.specs.Inputs.{map_in, rows_in, view_headers}
 use Rattle.kc_command.specs.Kernels.{noted_in}
 use Rattle.kc_command.specs.Made.{◌>>=◌, Made, checked, gives, short_file}
 use Rattle.kc_command.specs.declared.ends.status.Status.{Status}
@@ -52,7 +52,7 @@ matched_in note types kaslr told map = rows_in map >>= (λ rows. gives (matched 
 -- the faults come in the order dump, types and map
 abbrev pub match_made : Option (List ℕ) → Option (List ℕ) → Option (List ℕ) → Made Matched
 match_made dump btf map = do
-  noted ← noted_in dump
+  noted ← noted_in view_headers dump
   note ← checked Notes (text_in noted.parts.notes)
   file ← short_file slot.Btf btf
   types ← checked refusals.Types (btf_types file)

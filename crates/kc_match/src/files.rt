@@ -24,7 +24,8 @@ use crate::kernel::Compared;
 use crate::text::{agree, match_text};
 use kc_btf::Btf;
 use kc_command::{
-    Answer, Halt, KernelFiles, Refusal, read_file, read_map, read_noted, read_symbols, take_types,
+    Answer, Halt, KernelFiles, Refusal, VIEW_HEADERS, read_file, read_map, read_noted,
+    read_symbols, take_types,
 };
 use kc_elf::Core;
 use kc_notes::vmcoreinfo;
@@ -79,7 +80,7 @@ fn compare<S: Store>(alloc: Global, store: &mut S, files: &KernelFiles<'_>) -> R
     ensures quiet { UnlessStore result (S.faults store.new ≡ S.faults store.old) }
     ensures cause { OnStore result (Rose (S.faults store.old) (S.faults store.new)) }
 {
-    let noted = read_noted(alloc, store, files.dump)?;
+    let noted = read_noted(alloc, store, VIEW_HEADERS, files.dump)?;
     let note = read_note(&noted.core)?;
     let file = read_file(alloc, store, Slot::Btf, files.btf)?;
     check_types(alloc, &file)?;

@@ -9,7 +9,7 @@ use Rattle.kc_kallsyms.specs.declared.stop.TableStop.TheVariants.{Table}
 use Rattle.kc_kallsyms.specs.Bytes.{eight_at, four_at}
 use Rattle.kc_kallsyms.specs.Reading.{ReadsAs, Why}
 use Rattle.kc_modules.specs.declared.entry.ModuleEntry.{ModuleEntry}
-use Rattle.kc_modules.specs.declared.shape.ModuleShape.{ModuleShape}
+use Rattle.kc_modules.specs.declared.shape.ModuleFields.{ModuleFields}
 use Rattle.kc_modules.specs.declared.shape.TypedShape.{TypedShape}
 use Rattle.kc_modules.specs.Lines.{entry_at, line, lines_at, sizes_from, text_of}
 use Rattle.kc_modules.specs.Lists.{nodes_from}
@@ -84,26 +84,26 @@ sizes_come o stride count first i at sum so_far past =
     follows_ends o (λ image. sizes_from image stride count first 0) (λ image. sizes_from image stride (count - i) at sum) (λ (n : ℕ). n) sum so_far (λ image. sizes_end image stride count i at sum past)
 
 -- lines
-abbrev pub LinesLeft : Option Image → ModuleShape → List ℕ → List ℕ → List ℕ → Type 0
+abbrev pub LinesLeft : Option Image → ModuleFields → List ℕ → List ℕ → List ℕ → Type 0
 LinesLeft o shape nodes done left = Follows o (λ image. lines_at image shape nodes) (λ image. prefixed done (lines_at image shape left))
 
-pub lines_first : (o : Option Image) (shape : ModuleShape) (nodes done : List ℕ) → done ≡ [] → LinesLeft o shape nodes done (drop 0 nodes)
+pub lines_first : (o : Option Image) (shape : ModuleFields) (nodes done : List ℕ) → done ≡ [] → LinesLeft o shape nodes done (drop 0 nodes)
 lines_first o shape nodes done empty =
     follows_first o (λ image. lines_at image shape nodes) (λ image. prefixed done (lines_at image shape nodes)) (λ image. none_before done (lines_at image shape nodes) empty)
 
-pub lines_go : (o : Option Image) (shape : ModuleShape) (nodes : List ℕ) (i node : ℕ) (entry : ModuleEntry) (done more : List ℕ) → LinesLeft o shape nodes done (drop i nodes) → ReadsAs entry_view (λ image. entry_at image shape node) o (Ok entry)
+pub lines_go : (o : Option Image) (shape : ModuleFields) (nodes : List ℕ) (i node : ℕ) (entry : ModuleEntry) (done more : List ℕ) → LinesLeft o shape nodes done (drop i nodes) → ReadsAs entry_view (λ image. entry_at image shape node) o (Ok entry)
     → i < length nodes → node ≡ get_or nodes i 0 → more ≡ done ++ line (entry_view entry) → LinesLeft o shape nodes more (drop (i + 1) nodes)
 lines_go o shape nodes i node entry done more so_far read lt at is =
     follows_more o (λ image. lines_at image shape nodes) (λ image. prefixed done (lines_at image shape (drop i nodes))) (λ image. prefixed more (lines_at image shape (drop (i + 1) nodes)))
     (λ image. entry_at image shape node) entry_view entry so_far read (λ image one. lines_more image shape nodes i node (entry_view entry) done more lt at is one)
 
-pub lines_halt : (o : Option Image) (shape : ModuleShape) (nodes : List ℕ) (i node : ℕ) (done : List ℕ) (stop : TableStop) → LinesLeft o shape nodes done (drop i nodes) → ReadsAs entry_view (λ image. entry_at image shape node) o (Err stop)
+pub lines_halt : (o : Option Image) (shape : ModuleFields) (nodes : List ℕ) (i node : ℕ) (done : List ℕ) (stop : TableStop) → LinesLeft o shape nodes done (drop i nodes) → ReadsAs entry_view (λ image. entry_at image shape node) o (Err stop)
     → i < length nodes → node ≡ get_or nodes i 0 → Bytes o (λ image. lines_at image shape nodes) (Err stop)
 lines_halt o shape nodes i node done stop so_far read lt at =
     follows_stops o (λ image. lines_at image shape nodes) (λ image. prefixed done (lines_at image shape (drop i nodes))) (λ image. entry_at image shape node) entry_view (λ (v : Vec ℕ). v.items) stop
     so_far read (λ image e one. lines_stop image shape nodes i node done e lt at one)
 
-pub lines_come : (o : Option Image) (shape : ModuleShape) (nodes : List ℕ) (i : ℕ) (text : Vec ℕ) → LinesLeft o shape nodes text.items (drop i nodes) → length nodes ≤ i
+pub lines_come : (o : Option Image) (shape : ModuleFields) (nodes : List ℕ) (i : ℕ) (text : Vec ℕ) → LinesLeft o shape nodes text.items (drop i nodes) → length nodes ≤ i
     → Bytes o (λ image. lines_at image shape nodes) (Ok text)
 lines_come o shape nodes i text so_far past =
     follows_ends o (λ image. lines_at image shape nodes) (λ image. prefixed text.items (lines_at image shape (drop i nodes))) (λ (v : Vec ℕ). v.items) text so_far (λ image. lines_end image shape nodes i text.items past)

@@ -8,7 +8,7 @@ use Rattle.kc_memory.specs.Image.{Image}
 use Rattle.kc_kallsyms.specs.declared.fault.TableFault.TheVariants.{S15, S16}
 use Rattle.kc_kallsyms.specs.Bytes.{eight_at, four_at}
 use Rattle.kc_kallsyms.specs.Reading.{Bad, Why}
-use Rattle.kc_modules.specs.declared.shape.ModuleShape.{ModuleShape}
+use Rattle.kc_modules.specs.declared.shape.ModuleFields.{ModuleFields}
 use Rattle.kc_modules.specs.declared.shape.TypedShape.{TypedShape}
 use Rattle.kc_modules.specs.Lines.{Entry, entry_at, line, lines_at, sizes_from}
 use Rattle.kc_modules.specs.Lists.{nodes_from}
@@ -89,33 +89,33 @@ here nodes i node lt is =
     drop-cons nodes i 0 lt ∙ ap (λ n. n ∷ drop (suc i) nodes) (sym is) ∙ ap (λ n. node ∷ drop n nodes) one
 
 -- lines
-line_next : (image : Image) (shape : ModuleShape) (nodes : List ℕ) (node : ℕ) (entry : Entry) → entry_at image shape node ≡ Ok entry
+line_next : (image : Image) (shape : ModuleFields) (nodes : List ℕ) (node : ℕ) (entry : Entry) → entry_at image shape node ≡ Ok entry
     → lines_at image shape (node ∷ nodes) ≡ prefixed (line entry) (lines_at image shape nodes)
 unfolding lines_at
 line_next image shape nodes node entry read = rw read refl
 
-pub lines_more : (image : Image) (shape : ModuleShape) (nodes : List ℕ) (i node : ℕ) (entry : Entry) (done more : List ℕ) → i < length nodes → node ≡ get_or nodes i 0 → more ≡ done ++ line entry
+pub lines_more : (image : Image) (shape : ModuleFields) (nodes : List ℕ) (i node : ℕ) (entry : Entry) (done more : List ℕ) → i < length nodes → node ≡ get_or nodes i 0 → more ≡ done ++ line entry
     → entry_at image shape node ≡ Ok entry → prefixed done (lines_at image shape (drop i nodes)) ≡ prefixed more (lines_at image shape (drop (i + 1) nodes))
 lines_more image shape nodes i node entry done more lt at is read =
     ap (λ (l : List ℕ). prefixed done (lines_at image shape l)) (here nodes i node lt at)
     ∙ ap (λ (r : Result (List ℕ) Why). prefixed done r) (line_next image shape (drop (i + 1) nodes) node entry read)
     ∙ some_before done (line entry) more (lines_at image shape (drop (i + 1) nodes)) is
 
-line_stop : (image : Image) (shape : ModuleShape) (nodes : List ℕ) (node : ℕ) (e : Why) → entry_at image shape node ≡ Err e → lines_at image shape (node ∷ nodes) ≡ Err e
+line_stop : (image : Image) (shape : ModuleFields) (nodes : List ℕ) (node : ℕ) (e : Why) → entry_at image shape node ≡ Err e → lines_at image shape (node ∷ nodes) ≡ Err e
 unfolding lines_at
 line_stop image shape nodes node e read = rw read refl
 
-pub lines_stop : (image : Image) (shape : ModuleShape) (nodes : List ℕ) (i node : ℕ) (done : List ℕ) (e : Why) → i < length nodes → node ≡ get_or nodes i 0 → entry_at image shape node ≡ Err e
+pub lines_stop : (image : Image) (shape : ModuleFields) (nodes : List ℕ) (i node : ℕ) (done : List ℕ) (e : Why) → i < length nodes → node ≡ get_or nodes i 0 → entry_at image shape node ≡ Err e
     → prefixed done (lines_at image shape (drop i nodes)) ≡ Err e
 lines_stop image shape nodes i node done e lt at read =
     ap (λ (l : List ℕ). prefixed done (lines_at image shape l)) (here nodes i node lt at)
     ∙ ap (λ (r : Result (List ℕ) Why). prefixed done r) (line_stop image shape (drop (i + 1) nodes) node e read)
 
-no_lines : (image : Image) (shape : ModuleShape) (nodes : List ℕ) → nodes ≡ [] → lines_at image shape nodes ≡ Ok []
+no_lines : (image : Image) (shape : ModuleFields) (nodes : List ℕ) → nodes ≡ [] → lines_at image shape nodes ≡ Ok []
 unfolding lines_at
 no_lines image shape nodes is = rw is refl
 
-pub lines_end : (image : Image) (shape : ModuleShape) (nodes : List ℕ) (i : ℕ) (done : List ℕ) → length nodes ≤ i → prefixed done (lines_at image shape (drop i nodes)) ≡ Ok done
+pub lines_end : (image : Image) (shape : ModuleFields) (nodes : List ℕ) (i : ℕ) (done : List ℕ) → length nodes ≤ i → prefixed done (lines_at image shape (drop i nodes)) ≡ Ok done
 lines_end image shape nodes i done past =
     all_before done (lines_at image shape (drop i nodes)) (no_lines image shape (drop i nodes) (drop_all i nodes past))
 

@@ -11,10 +11,10 @@ use Rattle.kc_kallsyms.specs.Bytes.{bytes_at, eight_at, four_at}
 use Rattle.kc_kallsyms.specs.Modules.{ListStart, start_at}
 use Rattle.kc_kallsyms.specs.Reading.{◌>>=◌, Why, judged}
 use Rattle.kc_text.specs.Text.{hex, name_text}
-use Rattle.kc_modules.specs.declared.shape.ModuleShape.{ModuleShape}
+use Rattle.kc_modules.specs.declared.shape.ModuleFields.{ModuleFields}
 use Rattle.kc_modules.specs.Lists.{nodes_at}
 use Rattle.kc_modules.specs.Parts.{back}
-use Rattle.kc_modules.specs.Shapes.{module_shape, sound}
+use Rattle.kc_modules.specs.Shapes.{module_fields, sound}
 
 -- the bytes before the first NUL, or all where there is none
 abbrev pub text_of : List ℕ → List ℕ
@@ -36,7 +36,7 @@ pub record Entry : Type 0 where
   pub base : ℕ
 
 -- by the address of its node
-unfoldable pub entry_at : Image → ModuleShape → ℕ → Result Entry Why
+unfoldable pub entry_at : Image → ModuleFields → ℕ → Result Entry Why
 entry_at image shape node = do
   name ← name_at image (onward (back node shape.list) shape.name)
   size ← sizes_from image shape.parts.stride shape.parts.count (onward (back node shape.list) shape.parts.size) 0
@@ -48,7 +48,7 @@ abbrev pub line : Entry → List ℕ
 line e = name_text e.name ++ codes " " ++ decimal e.size ++ codes " " ++ hex e.base ++ codes "\n"
 
 -- the lines of those at some nodes
-unfoldable pub lines_at : Image → ModuleShape → List ℕ → Result (List ℕ) Why
+unfoldable pub lines_at : Image → ModuleFields → List ℕ → Result (List ℕ) Why
 lines_at image shape [] = Ok []
 lines_at image shape (node ∷ nodes) = do
   entry ← entry_at image shape node
@@ -59,7 +59,7 @@ lines_at image shape (node ∷ nodes) = do
 abbrev pub lines_of : Image → ListStart → Result (List ℕ) Why
 lines_of image start = do
   types ← judged (sound (btf start.types))
-  shape ← judged (module_shape types)
+  shape ← judged (module_fields types)
   nodes ← nodes_at image start.head
   lines_at image shape nodes
 

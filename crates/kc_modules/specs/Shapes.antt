@@ -8,7 +8,7 @@ use Rattle.kc_kallsyms.specs.declared.fault.ModuleMember.TheVariants as members
 use Rattle.kc_kallsyms.specs.declared.fault.TableFault.{TableFault}
 use Rattle.kc_kallsyms.specs.declared.fault.TableFault.TheVariants.{S12, S14}
 use Rattle.kc_kallsyms.specs.Reading.{◌>>=◌}
-use Rattle.kc_modules.specs.declared.shape.ModuleShape.{ModuleShape}
+use Rattle.kc_modules.specs.declared.shape.ModuleFields.{ModuleFields}
 use Rattle.kc_modules.specs.declared.shape.TypedShape.{TypedShape}
 use Rattle.kc_modules.specs.Parts.{member, parts_in}
 
@@ -22,8 +22,8 @@ abbrev pub needed : Types → ModuleMember → List ℕ → List ℕ → Result 
 needed types key name path = ok_or (member types name path) (S14 key)
 
 -- of a module
-unfoldable pub module_shape : Types → Result ModuleShape TableFault
-module_shape types = do
+unfoldable pub module_fields : Types → Result ModuleFields TableFault
+module_fields types = do
   list ← needed types members.List (codes "module") (codes "list")
   name ← needed types members.Name (codes "module") (codes "name")
   parts ← ok_or (parts_in types) (S14 members.Memory)

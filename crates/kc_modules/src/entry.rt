@@ -7,7 +7,7 @@ ghost use Rattle.kc_modules.specs.Lines.{entry_at, name_at, sizes_from, text_of}
 ghost use Rattle.kc_modules.specs.Views.{entry_view};
 
 use crate::nodes::read_address;
-use crate::shape::{ModuleShape, back};
+use crate::shape::{ModuleFields, back};
 use kc_bytes::{onward, read_bytes, read_four};
 use kc_kallsyms::TableStop;
 use kc_memory::Space;
@@ -98,7 +98,7 @@ fn sum_sizes<S: Space, L: Ledger>(
 pub fn read_entry<S: Space, L: Ledger>(
     alloc: Global,
     space: &mut S,
-    shape: &ModuleShape,
+    shape: &ModuleFields,
     node: u64,
     steps: &mut Steps<L>,
 ) -> Result<ModuleEntry, TableStop>

@@ -11,6 +11,6 @@ mod types;
 pub use entry::{ModuleEntry, read_entry};
 pub use lines::read_modules;
 pub use nodes::read_nodes;
-pub use shape::{ModuleParts, ModuleShape, TypedShape, module_shape, typed_shape};
+pub use shape::{ModuleFields, ModuleParts, TypedShape, module_fields, typed_shape};
 pub use typed::read_module_types;
 pub use types::sound_types;

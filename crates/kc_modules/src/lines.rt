@@ -7,7 +7,7 @@ ghost use Rattle.kc_modules.specs.Views.{entry_view};
 
 use crate::entry::{ModuleEntry, read_entry, text_of};
 use crate::nodes::read_nodes;
-use crate::shape::{ModuleShape, module_shape};
+use crate::shape::{ModuleFields, module_fields};
 use crate::types::sound_types;
 use kc_kallsyms::{ListStart, ModuleList, Places, TableStop, read_list_start};
 use kc_memory::Space;
@@ -31,7 +31,7 @@ fn push_entry(text: &mut Vec<u8>, entry: &ModuleEntry) -> Result<(), NoMemory>
 fn read_lines<S: Space, L: Ledger>(
     alloc: Global,
     space: &mut S,
-    shape: &ModuleShape,
+    shape: &ModuleFields,
     nodes: &[u64],
     steps: &mut Steps<L>,
 ) -> Result<Vec<u8>, TableStop>
@@ -74,7 +74,7 @@ pub fn read_modules<S: Space, L: Ledger>(
         steps,
     )?;
     let types = sound_types(alloc, types)?;
-    let shape = module_shape(&types)?;
+    let shape = module_fields(&types)?;
     let nodes = read_nodes(alloc, space, head, steps)?;
     read_lines(alloc, space, &shape, &nodes, steps)
 }

@@ -1,7 +1,7 @@
 // Where the structs have the words that lead to modules and their types.
 ghost use Rattle.std.specs.Prelude.{◌≡◌, ok_or};
 ghost use Rattle.kc_modules.specs.Parts.{array_parts, back, elements, layout_parts, member, parts_in};
-ghost use Rattle.kc_modules.specs.Shapes.{module_shape, needed, typed_shape};
+ghost use Rattle.kc_modules.specs.Shapes.{module_fields, needed, typed_shape};
 
 use kc_btf::Btf;
 use kc_kallsyms::{ModuleMember, TableFault};
@@ -22,7 +22,7 @@ pub struct ModuleParts {
 
 /// Where a `struct module` has what is read of it, in bytes from its start.
 #[derive(Clone, Copy, Debug, PartialEq, Eq)]
-pub struct ModuleShape {
+pub struct ModuleFields {
     /// The node of the list of modules.
     pub list: u64,
     /// The name.
@@ -131,14 +131,14 @@ fn needed(btf: &Btf, key: ModuleMember, name: &[u8], path: &[u8]) -> Result<u64,
 /// # Errors
 ///
 /// S14 with the first member that they lack.
-#[tactic(auto, unfolding(crate::specs::Shapes::module_shape))]
-pub fn module_shape(btf: &Btf) -> Result<ModuleShape, TableFault>
-    ensures { result ≡ module_shape btf.now }
+#[tactic(auto, unfolding(crate::specs::Shapes::module_fields))]
+pub fn module_fields(btf: &Btf) -> Result<ModuleFields, TableFault>
+    ensures { result ≡ module_fields btf.now }
 {
     let list = needed(btf, ModuleMember::List, b"module", b"list")?;
     let name = needed(btf, ModuleMember::Name, b"module", b"name")?;
     let parts = parts_in(btf).ok_or(TableFault::S14(ModuleMember::Memory))?;
-    Ok(ModuleShape { list, name, parts })
+    Ok(ModuleFields { list, name, parts })
 }
 
 /// Where the structs have what leads to a module's types, by the kernel's types.

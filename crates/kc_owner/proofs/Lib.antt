@@ -1,4 +1,5 @@
 pub mod KnownLemmas
 pub mod TextLemmas
+pub mod GivesLemmas
 pub mod ObjectLemmas
 pub mod AreaLemmas

@@ -1,3 +1,4 @@
 pub mod SlabLemmas
 pub mod ObjectLaws
 pub mod KeyLemmas
+pub mod HoldLaws

@@ -11,7 +11,7 @@ mod views;
 
 pub use area::{
     AreaShape, Areas, InModule, InProcessor, InStack, ModuleShape, PartShape, ProcessorShape,
-    StackShape, area_shape, read_areas,
+    StackShape, area_shape, know_areas, read_areas,
 };
 pub use kc_kinds::{inner_in, scalar_in, struct_named};
 pub use kernel::{Elements, elements_in, list_words, single};

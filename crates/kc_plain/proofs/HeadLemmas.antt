@@ -1,5 +1,5 @@
 -- The headers of runs, as they are put, and zeros after bytes.
-use Rattle.std.proofs.Common.{◌≡◌, ℕ, zero, suc, ◌+◌, ◌-◌, ◌*◌, ◌≤◌, ◌<◌, max, Bool, true, false, cond, List, [], ◌∷◌, ◌++◌, length, replicate, get_or, drop, Option, Some, None, refl, sym, ap, ◌∙◌, arith, add-one, append_assoc, append-nil, length-append}
+use Rattle.std.proofs.Common.{◌≡◌, ℕ, zero, suc, ◌+◌, ◌-◌, ◌*◌, ◌≤◌, ◌<◌, Bool, true, false, cond, List, [], ◌∷◌, ◌++◌, length, replicate, get_or, drop, Option, Some, None, refl, sym, ap, ◌∙◌, arith, add-one, append_assoc, append-nil, length-append}
 use Rattle.std.proofs.Math.Seq.{drop-cons}
 use Rattle.kc_kdump.specs.declared.run.PageRun.{PageRun}
 use Rattle.kc_kdump.specs.Runs.{end_of, page_count, reach}
@@ -110,6 +110,9 @@ length-either : (b : Bool) (xs : List ℕ) (n : ℕ) → length xs ≡ n → len
 length-either true xs n long = long
 length-either false xs n long = refl
 
+pub length-section : (count : ℕ) → length (section_header count) ≡ cond (is_extended count) 64 0
+length-section count = length-either (is_extended count) (spelled (section_fields count)) 64 (sections count)
+
 root_one : (first : ℕ) (root : Root) → length (spelled (root_fields first root)) ≡ 56
 unfolding width
 root_one first root = length-spelled (root_fields first root)
@@ -126,7 +129,6 @@ length-headers runs root notes =
     let two = spelled (note_fields (notes_at count) (length notes)) in
     let three = load_headers (start runs root notes) runs in
     let four = root_header (start runs root notes) root in
-    let section : length (section_header count) ≡ cond (is_extended count) 64 0 = length-either (is_extended count) (spelled (section_fields count)) 64 (sections count) in
     omega (
       arith,
       length-append (one ++ two ++ three ++ four) (section_header count),
@@ -137,5 +139,5 @@ length-headers runs root notes =
       note_header (notes_at count) (length notes),
       length-load_headers (start runs root notes) runs,
       length-root (start runs root notes) root,
-      section,
+      length-section count,
     )

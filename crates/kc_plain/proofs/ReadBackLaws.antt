@@ -1,5 +1,5 @@
 -- The plain core file, read by the definition of core files.
-use Rattle.std.proofs.Common.{◌≡◌, ℕ, zero, suc, ◌+◌, ◌-◌, ◌*◌, ◌/◌, ◌%◌, ◌^◌, ◌≤◌, ◌<◌, ◌==◌, max, Bool, true, false, cond, nat_le, nat_lt, List, [], ◌∷◌, ◌++◌, length, replicate, take, drop, position, Option, Some, None, Ok, Err, IfSome, if◌then◌else◌, refl, sym, ap, ◌∙◌, subst, arith, append_assoc, append-nil, length-append}
+use Rattle.std.proofs.Common.{◌≡◌, ℕ, suc, ◌+◌, ◌-◌, ◌*◌, ◌^◌, ◌≤◌, ◌<◌, max, Bool, true, false, nat_lt, List, [], ◌∷◌, ◌++◌, length, replicate, take, drop, position, Option, Some, None, Ok, Err, IfSome, if◌then◌else◌, refl, sym, ap, ◌∙◌, subst, arith, append_assoc, append-nil, length-append}
 use Rattle.std.proofs.lemmas.List.{drop_at, take_at, drop-drop, length-replicate}
 use Rattle.std.proofs.lemmas.Bool.{cond-false, cond-true, le-leb, le-ltb}
 use Rattle.std.proofs.lemmas.Bool.Decides.{nat_tests}
@@ -7,16 +7,13 @@ use Rattle.kc_word.specs.declared.plain.Segment.{Segment}
 use Rattle.kc_elf.specs.declared.fault.CoreFault.{CoreFault}
 use Rattle.kc_elf.specs.declared.fault.CoreFault.TheVariants.{E1}
 use Rattle.kc_elf.specs.declared.file_header.Table.{Table}
-use Rattle.kc_elf.specs.declared.program_header.Kind.{Kind}
-use Rattle.kc_elf.specs.declared.program_header.Kind.TheVariants.{Load, Note, Other}
+use Rattle.kc_elf.specs.declared.program_header.Kind.TheVariants.{Load, Note}
 use Rattle.kc_elf.specs.declared.program_header.ProgramHeader.{ProgramHeader}
 use Rattle.kc_elf.specs.CoreFile.{core, core_of, parts_of, split_of, table_by, table_of, unless}
 use Rattle.kc_elf.specs.FileHeader.{header_count, header_fault, is_elf, is_plain, table_at}
 use Rattle.kc_elf.specs.Headers.{byte_sum, headers, is_bad, number, of_kind, part}
-use Rattle.kc_elf.specs.Parts.{Parts}
 use Rattle.kc_kdump.specs.declared.run.PageRun.{PageRun}
-use Rattle.kc_kdump.specs.Runs.{end_of, page_count, reach}
-use Rattle.kc_plain.specs.declared.fields.Field.{Field}
+use Rattle.kc_kdump.specs.Runs.{page_count, reach}
 use Rattle.kc_plain.specs.declared.fields.Field.TheVariants.{U16, U32, U64}
 use Rattle.kc_plain.specs.declared.root.Root.{Root}
 use Rattle.kc_plain.specs.Fields.{spelled}
@@ -24,9 +21,9 @@ use Rattle.kc_plain.specs.Head.{file_fields, head_by, header_count as plain_coun
 use Rattle.kc_plain.specs.Pages.{AreWhole, pages}
 use Rattle.kc_plain.specs.ReadBack.{ReadsBack, root_segments, segments_of}
 use Rattle.kc_plain.specs.Root.{IsPage}
-use Rattle.kc_plain.proofs.HeadLemmas.{file_header, length-headers, length-load_headers, length-root, note_header}
+use Rattle.kc_plain.proofs.HeadLemmas.{file_header, length-headers, length-load_headers, length-root, length-section, note_header}
 use Rattle.kc_plain.proofs.PageLaws.{length-pages}
-use Rattle.kc_plain.proofs.ReadBackLemmas.{eight, header_read, load_of, loads_of, loads_read, long_eight, one_read, read_field}
+use Rattle.kc_plain.proofs.ReadBackLemmas.{header_read, load_of, loads_of, loads_read, long_eight, one_read, part_field, read_field}
 
 -- ---- the file header
 
@@ -56,17 +53,25 @@ header_good n =
     (at_end n 2 18 ∙ read_field 4 fs (U16 62) _ [] refl (omega arith))
     (at_end n 2 54 ∙ read_field 11 fs (U16 56) _ [] refl (omega arith))
 
--- how many program headers it says, where that is below 0xffff
-not_extended : (n : ℕ) → n < 65535 → is_extended n ≡ false
-not_extended n few = grind (arith, nat_tests)
+-- how many program headers it says: below 0xffff that many
+not_large : (n : ℕ) → is_extended n ≡ false → n < 65535
+not_large n ext = grind (arith, nat_tests)
 
-count_field : (n : ℕ) → n < 65535 → (if is_extended n then 0xffff else n) ≡ n
-count_field n few = ap (λ (b : Bool). if b then 0xffff else n) (not_extended n few)
+says_few : (n : ℕ) → is_extended n ≡ false → number 2 (header_bytes n) 56 ≡ n
+says_few n ext =
+    let value : (if is_extended n then 0xffff else n) ≡ n = ap (λ (b : Bool). if b then 0xffff else n) ext in
+    at_end n 2 56 ∙ read_field 12 (file_fields n) (U16 (if is_extended n then 0xffff else n)) _ [] refl (omega (arith, value, not_large n ext)) ∙ value
 
-says_count : (n : ℕ) → n < 65535 → number 2 (header_bytes n) 56 ≡ n
-says_count n few =
-    let value = count_field n few in
-    at_end n 2 56 ∙ read_field 12 (file_fields n) (U16 (if is_extended n then 0xffff else n)) _ [] refl (omega (arith, value, few)) ∙ value
+-- from there on 0xffff, and where the section header stands that says it
+says_many : (n : ℕ) → is_extended n ≡ true → number 2 (header_bytes n) 56 ≡ 65535
+says_many n ext =
+    let value : (if is_extended n then 0xffff else n) ≡ 65535 = ap (λ (b : Bool). if b then 0xffff else n) ext in
+    at_end n 2 56 ∙ read_field 12 (file_fields n) (U16 (if is_extended n then 0xffff else n)) _ [] refl (omega (arith, value)) ∙ value
+
+says_section : (n : ℕ) → is_extended n ≡ true → n < 4294967296 → number 8 (header_bytes n) 40 ≡ table_end n
+says_section n ext small =
+    let value : (if is_extended n then table_end n else 0) ≡ table_end n = ap (λ (b : Bool). if b then table_end n else 0) ext in
+    at_end n 8 40 ∙ read_field 8 (file_fields n) (U64 (if is_extended n then table_end n else 0)) _ [] refl (omega (arith, value, small)) ∙ value
 
 says_place : (n : ℕ) → number 8 (header_bytes n) 32 ≡ 64
 says_place n = at_end n 8 32 ∙ read_field 7 (file_fields n) (U64 64) _ [] refl (omega arith)
@@ -74,19 +79,39 @@ says_place n = at_end n 8 32 ∙ read_field 7 (file_fields n) (U64 64) _ [] refl
 count_by : (h bytes : List ℕ) (size n : ℕ) → number 2 h 56 ≡ n → n < 65535 → header_count h size bytes ≡ Ok n
 count_by h bytes size n is few = grind (arith, nat_tests)
 
-placed_by : (n size : ℕ) → 0 < n → n < 65535 → 64 + 56 * n ≤ size → table_at 64 n size ≡ Ok (record { offset = 64; count = n })
-placed_by n size some few inside = grind (arith, nat_tests)
+count_by_section : (h bytes : List ℕ) (size n at : ℕ) → number 2 h 56 ≡ 65535 → number 8 h 40 ≡ at → at + 64 ≤ size → number 4 (part (at + 44) 4 bytes) 0 ≡ n
+    → header_count h size bytes ≡ Ok n
+count_by_section h bytes size n at is place inside says = rw (is, place, says) (cond-true _ _ _ (le-leb (at + 64) size inside))
 
-table_read : (n size : ℕ) (bytes : List ℕ) → 0 < n → n < 65535 → 64 + 56 * n ≤ size → part 0 64 bytes ≡ header_bytes n → table_of size bytes ≡ Ok (record { offset = 64; count = n })
+section_says : (n : ℕ) (bytes more : List ℕ) → is_extended n ≡ true → n < 4294967296 → drop (table_end n) bytes ≡ section_header n ++ more
+    → number 4 (part (table_end n + 44) 4 bytes) 0 ≡ n
+section_says n bytes more ext small after =
+    let section : section_header n ≡ spelled (section_fields n) = ap (λ (b : Bool). if b then spelled (section_fields n) else []) ext in
+    ap (λ (xs : List ℕ). number 4 (take 4 xs) 0)
+    (sym (drop-drop 44 (table_end n) bytes) ∙ ap (drop 44) (after ∙ ap (λ (xs : List ℕ). xs ++ more) section))
+    ∙ part_field 7 (section_fields n) (U32 n) _ more refl small
+
+count_either : (b : Bool) (n size : ℕ) (bytes more : List ℕ) → is_extended n ≡ b → n < 4294967296 → notes_at n ≤ size → drop (table_end n) bytes ≡ section_header n ++ more
+    → header_count (header_bytes n) size bytes ≡ Ok n
+count_either false n size bytes more ext small inside after = count_by (header_bytes n) bytes size n (says_few n ext) (not_large n ext)
+count_either true n size bytes more ext small inside after =
+    let place : notes_at n ≡ table_end n + 64 = ap (λ (b : Bool). table_end n + (if b then 64 else 0)) ext in
+    count_by_section (header_bytes n) bytes size n (table_end n) (says_many n ext) (says_section n ext small) (omega (arith, inside, place)) (section_says n bytes more ext small after)
+
+placed_by : (most n size : ℕ) → 0 < n → n ≤ most → 64 + 56 * n ≤ size → table_at most 64 n size ≡ Ok (record { offset = 64; count = n })
+placed_by most n size some few inside = grind (arith, nat_tests)
+
+table_read : (most n size : ℕ) (bytes : List ℕ) → 0 < n → n ≤ most → 64 + 56 * n ≤ size → part 0 64 bytes ≡ header_bytes n → header_count (header_bytes n) size bytes ≡ Ok n
+    → table_of most size bytes ≡ Ok (record { offset = 64; count = n })
 unfolding table_of table_by
-table_read n size bytes some few inside is =
+table_read most n size bytes some within inside is counts =
     let header = header_bytes n in
-    let by : table_by header size bytes ≡ Ok (record { offset = 64; count = n }) =
-    rw (count_by header bytes size n (says_count n few) few, says_place n) (placed_by n size some few inside) in
+    let by : table_by most header size bytes ≡ Ok (record { offset = 64; count = n }) =
+    rw (counts, says_place n) (placed_by most n size some within inside) in
     let large : 64 ≤ size = omega (arith, inside) in
-    ap (λ (h : List ℕ). if nat_lt size 64 then Err E1 else unless (header_fault h) (table_by h size bytes)) is
+    ap (λ (h : List ℕ). if nat_lt size 64 then Err E1 else unless (header_fault h) (table_by most h size bytes)) is
     ∙ cond-false _ _ _ (le-ltb size 64 large)
-    ∙ ap (λ (fault : Option CoreFault). unless fault (table_by header size bytes)) (header_good n)
+    ∙ ap (λ (fault : Option CoreFault). unless fault (table_by most header size bytes)) (header_good n)
     ∙ by
 
 -- ---- the program headers
@@ -195,20 +220,20 @@ split_read size first at n runs root small page inside noted few =
 
 -- ---- the whole
 
-core_by : (size : ℕ) (bytes : List ℕ) (t : Table) (hs : List ProgramHeader) (ss ns : List Segment) → table_of size bytes ≡ Ok t → headers t.count (part t.offset (56 * t.count) bytes) ≡ hs
-    → split_of size hs ≡ Ok (ss, ns) → core_of size bytes ≡ Ok (record { segments = ss; notes = parts_of ns bytes })
-core_by size bytes t hs ss ns found read parted = rw (found, read, parted) refl
+core_by : (most size : ℕ) (bytes : List ℕ) (t : Table) (hs : List ProgramHeader) (ss ns : List Segment) → table_of most size bytes ≡ Ok t → headers t.count (part t.offset (56 * t.count) bytes) ≡ hs
+    → split_of size hs ≡ Ok (ss, ns) → core_of most size bytes ≡ Ok (record { segments = ss; notes = parts_of ns bytes })
+core_by most size bytes t hs ss ns found read parted = rw (found, read, parted) refl
 
 -- what stands one after another, in two orders of brackets
-in_order : (f n l r o z p : List ℕ) → (((((((f ++ n) ++ l) ++ r) ++ []) ++ o) ++ z) ++ p) ≡ f ++ (n ++ (l ++ (r ++ (o ++ (z ++ p)))))
-in_order f n l r o z p =
+in_order : (f n l r s o z p : List ℕ) → (((((((f ++ n) ++ l) ++ r) ++ s) ++ o) ++ z) ++ p) ≡ f ++ (n ++ (l ++ (r ++ (s ++ (o ++ (z ++ p))))))
+in_order f n l r s o z p =
     let a = ((f ++ n) ++ l) ++ r in
-    ap (λ (xs : List ℕ). ((xs ++ o) ++ z) ++ p) (append-nil a)
-    ∙ append_assoc (a ++ o) z p
-    ∙ append_assoc a o (z ++ p)
-    ∙ append_assoc ((f ++ n) ++ l) r (o ++ (z ++ p))
-    ∙ append_assoc (f ++ n) l (r ++ (o ++ (z ++ p)))
-    ∙ append_assoc f n (l ++ (r ++ (o ++ (z ++ p))))
+    append_assoc ((a ++ s) ++ o) z p
+    ∙ append_assoc (a ++ s) o (z ++ p)
+    ∙ append_assoc a s (o ++ (z ++ p))
+    ∙ append_assoc ((f ++ n) ++ l) r (s ++ (o ++ (z ++ p)))
+    ∙ append_assoc (f ++ n) l (r ++ (s ++ (o ++ (z ++ p))))
+    ∙ append_assoc f n (l ++ (r ++ (s ++ (o ++ (z ++ p)))))
 
 -- a table, and what stands after it
 table_first : (n l r rest : List ℕ) → n ++ (l ++ (r ++ rest)) ≡ (n ++ (l ++ (r ++ []))) ++ rest
@@ -216,12 +241,20 @@ table_first n l r rest =
     sym (append_assoc n (l ++ (r ++ [])) rest
     ∙ ap (λ (xs : List ℕ). n ++ xs) (append_assoc l (r ++ []) rest ∙ ap (λ (xs : List ℕ). l ++ (xs ++ rest)) (append-nil r)))
 
-core_read : (runs : List PageRun) (root : Option Root) (notes : List ℕ) (page : ℕ → List ℕ) → reach runs ≤ 2 ^ 47 → page_count runs ≤ 2 ^ 47 → length notes ≤ 16777216
-    → IfSome root (IsPage (page_count runs)) → plain_count runs root < 65535 → AreWhole page
-    → core (head_by runs root notes ++ pages page (page_count runs))
+either_small : (b : Bool) → (if b then 64 else 0) ≤ 64
+either_small true = omega arith
+either_small false = omega arith
+
+root_few : (root : Option Root) → root_count root ≤ 1
+root_few None = omega arith
+root_few (Some root) = omega arith
+
+core_read : (runs : List PageRun) (root : Option Root) (notes : List ℕ) (page : ℕ → List ℕ) → reach runs ≤ 2 ^ 47 → length runs ≤ 4194304 → page_count runs ≤ 2 ^ 47 → length notes ≤ 16777216
+    → IfSome root (IsPage (page_count runs)) → (most : ℕ) → plain_count runs root ≤ most → AreWhole page
+    → core most (head_by runs root notes ++ pages page (page_count runs))
     ≡ Ok (record { segments = segments_of (start runs root notes) runs ++ root_segments (start runs root notes) root; notes = notes ∷ [] })
 unfolding head_by headers_of
-core_read runs root notes page small many noted is_page few whole =
+core_read runs root notes page small few many noted is_page most within whole =
     let count = plain_count runs root in
     let first = start runs root notes in
     let at = notes_at count in
@@ -229,22 +262,25 @@ core_read runs root notes page small many noted is_page few whole =
     let n = spelled (note_fields at (length notes)) in
     let l = load_headers first runs in
     let r = root_header first root in
+    let s = section_header count in
     let z : List ℕ = replicate (first - length (headers_of runs root notes ++ notes)) 0 in
     let p = pages page (page_count runs) in
     let file = head_by runs root notes ++ p in
-    let none : section_header count ≡ [] = ap (λ (b : Bool). if b then spelled (section_fields count) else []) (not_extended count few) in
-    let no_more : table_end count + 0 ≡ 64 + 56 * count = omega arith in
-    let place : at ≡ 64 + 56 * count = ap (λ (b : Bool). table_end count + (if b then 64 else 0)) (not_extended count few) ∙ no_more in
-    let rest = notes ++ (z ++ p) in
+    let counted : count ≡ suc (length runs + root_count root) = omega arith in
+    let below : count < 4294967296 = omega (arith, few, root_few root, counted) in
+    let extra : ℕ = if is_extended count then 64 else 0 in
+    let extra_few : extra ≤ 64 = either_small (is_extended count) in
+    let place : at ≡ 64 + 56 * count + extra = omega arith in
+    let more = notes ++ (z ++ p) in
+    let rest = s ++ more in
     let table = n ++ (l ++ (r ++ [])) in
     let same : file ≡ f ++ (table ++ rest) =
-    ap (λ (xs : List ℕ). ((((((f ++ n) ++ l) ++ r) ++ xs) ++ notes) ++ z) ++ p) none
-    ∙ in_order f n l r notes z p
-    ∙ ap (λ (xs : List ℕ). f ++ xs) (table_first n l r rest) in
+    in_order f n l r s notes z p ∙ ap (λ (xs : List ℕ). f ++ xs) (table_first n l r rest) in
     let long_f : length f ≡ 64 = file_header count in
     let long_n : length n ≡ 56 = note_header at (length notes) in
     let long_l = length-load_headers first runs in
     let long_r = length-root first root in
+    let long_s : length s ≡ extra = length-section count in
     let long_table : length table ≡ 56 * count =
     omega (arith, length-append n (l ++ (r ++ [])), length-append l (r ++ []), append-nil r, ap (length {A = ℕ}) (append-nil r), long_n, long_l, long_r) in
     let long_p : length p ≡ 4096 * page_count runs = length-pages page (page_count runs) whole in
@@ -257,10 +293,12 @@ core_read runs root notes page small many noted is_page few whole =
       ap (length {A = ℕ}) same,
       length-append f (table ++ rest),
       length-append table rest,
+      length-append s more,
       length-append notes (z ++ p),
       length-append z p,
       long_f,
       long_table,
+      long_s,
       long_p,
       long_head,
       long_z,
@@ -268,25 +306,28 @@ core_read runs root notes page small many noted is_page few whole =
       place,
     ) in
     let header : part 0 64 file ≡ f = ap (take 64) same ∙ take_at f (table ++ rest) 64 long_f in
-    let found : table_of (length file) file ≡ Ok (record { offset = 64; count = count }) =
-    table_read count (length file) file (omega arith) few (omega (arith, size, place)) header in
     let after_header : drop 64 file ≡ table ++ rest = ap (drop 64) same ∙ drop_at f (table ++ rest) 64 long_f in
-    let counted : count ≡ suc (length runs + root_count root) = omega arith in
+    let after_table : drop (64 + 56 * count) file ≡ rest =
+    sym (drop-drop (56 * count) 64 file) ∙ ap (drop (56 * count)) after_header ∙ drop_at table rest (56 * count) long_table in
+    let counts : header_count f (length file) file ≡ Ok count =
+    count_either (is_extended count) count (length file) file more refl below (omega (arith, size)) after_table in
+    let found : table_of most (length file) file ≡ Ok (record { offset = 64; count = count }) =
+    table_read most count (length file) file (omega arith) within (omega (arith, size, place)) header counts in
     let read : headers count (part 64 (56 * count) file) ≡ note_of at (length notes) ∷ (loads_of first runs ++ roots_of first root) =
     ap (λ (xs : List ℕ). headers count (take (56 * count) xs)) after_header
     ∙ ap (headers count) (take_at table rest (56 * count) long_table)
     ∙ ap (λ (k : ℕ). headers k table) counted
-    ∙ all_read runs root first at (length notes) small (omega (arith, many, place, noted, few)) is_page (omega (arith, place, few)) (omega (arith, noted)) in
+    ∙ all_read runs root first at (length notes) small (omega (arith, many, place, noted, below, extra_few)) is_page (omega (arith, place, below, extra_few)) (omega (arith, noted)) in
     let parted = split_read (length file) first at (length notes) runs root small is_page (omega (arith, size)) (omega (arith, size, place)) noted in
-    let after_table : drop (64 + 56 * count) file ≡ rest =
-    sym (drop-drop (56 * count) 64 file) ∙ ap (drop (56 * count)) after_header ∙ drop_at table rest (56 * count) long_table in
+    let after_section : drop (64 + 56 * count + extra) file ≡ more =
+    sym (drop-drop extra (64 + 56 * count) file) ∙ ap (drop extra) after_table ∙ drop_at s more extra long_s in
     let noted_at : part at (length notes) file ≡ notes =
-    ap (λ (k : ℕ). take (length notes) (drop k file)) place ∙ ap (take (length notes)) after_table ∙ take_at notes (z ++ p) (length notes) refl in
-    core_by (length file) file (record { offset = 64; count = count }) _ _ _ found read parted
+    ap (λ (k : ℕ). take (length notes) (drop k file)) place ∙ ap (take (length notes)) after_section ∙ take_at notes (z ++ p) (length notes) refl in
+    core_by most (length file) file (record { offset = 64; count = count }) _ _ _ found read parted
     ∙ ap (λ (xs : List ℕ). Ok (record { segments = segments_of first runs ++ root_segments first root; notes = xs ∷ [] })) noted_at
 
-pub reads_back : (runs : List PageRun) (root : Option Root) (notes : List ℕ) (count : ℕ) → reach runs ≤ 2 ^ 47 → count ≡ page_count runs → count ≤ 2 ^ 47 → length notes ≤ 16777216
+pub reads_back : (runs : List PageRun) (root : Option Root) (notes : List ℕ) (count : ℕ) → reach runs ≤ 2 ^ 47 → length runs ≤ 4194304 → count ≡ page_count runs → count ≤ 2 ^ 47 → length notes ≤ 16777216
     → IfSome root (IsPage count) → ReadsBack runs root notes count
-reads_back runs root notes count small is many noted is_page = λ few page whole.
-    ap (λ (k : ℕ). core (head_by runs root notes ++ pages page k)) is
-    ∙ core_read runs root notes page small (omega (arith, is, many)) noted (subst (λ (k : ℕ). IfSome root (IsPage k)) is is_page) few whole
+reads_back runs root notes count small few is many noted is_page = λ most within page whole.
+    ap (λ (k : ℕ). core most (head_by runs root notes ++ pages page k)) is
+    ∙ core_read runs root notes page small few (omega (arith, is, many)) noted (subst (λ (k : ℕ). IfSome root (IsPage k)) is is_page) most within whole

@@ -1,10 +1,9 @@
 -- Numbers are read back where they are put, and so are program headers.
-use Rattle.std.proofs.Common.{◌≡◌, ℕ, zero, suc, ◌+◌, ◌-◌, ◌*◌, ◌/◌, ◌%◌, ◌^◌, ◌≤◌, ◌<◌, List, [], ◌∷◌, ◌++◌, length, take, drop, refl, sym, ap, ◌∙◌, subst, arith, append_assoc, append-nil, length-append}
+use Rattle.std.proofs.Common.{◌≡◌, ℕ, zero, suc, ◌+◌, ◌*◌, ◌/◌, ◌%◌, ◌^◌, ◌≤◌, ◌<◌, List, [], ◌∷◌, ◌++◌, length, take, drop, refl, sym, ap, ◌∙◌, arith, append_assoc, append-nil, length-append}
 use Rattle.std.proofs.lemmas.List.{drop-drop, drop_at, take_at}
 use Rattle.byteorder.specs.Endian.{little_number}
 use Rattle.byteorder.specs.Numbers.{length-bytes_low_first, little_from-bytes}
-use Rattle.kc_word.specs.declared.plain.Segment.{Segment}
-use Rattle.kc_elf.specs.declared.program_header.Kind.TheVariants.{Load, Note}
+use Rattle.kc_elf.specs.declared.program_header.Kind.TheVariants.{Load}
 use Rattle.kc_elf.specs.declared.program_header.ProgramHeader.{ProgramHeader}
 use Rattle.kc_elf.specs.Headers.{headers, kind_of, number, program_header_of}
 use Rattle.kc_kdump.specs.declared.run.PageRun.{PageRun}
@@ -75,6 +74,16 @@ unfolding spelled
 read_field k fs f more rest here fits =
     ap (little_number (wide f)) (at_field k fs rest ∙ ap (λ (gs : List Field). spelled gs ++ rest) here ∙ append_assoc (field_bytes f) (spelled more) rest)
     ∙ field_read f (spelled more ++ rest) fits
+
+-- the same among the number's own bytes alone
+pub part_field : (k : ℕ) (fs : List Field) (f : Field) (more : List Field) (rest : List ℕ) → drop k fs ≡ f ∷ more → Fits f
+    → little_number (wide f) (take (wide f) (drop (place k fs) (spelled fs ++ rest))) ≡ value_of f
+unfolding spelled
+part_field k fs f more rest here fits =
+    ap (λ (xs : List ℕ). little_number (wide f) (take (wide f) xs))
+    (at_field k fs rest ∙ ap (λ (gs : List Field). spelled gs ++ rest) here ∙ append_assoc (field_bytes f) (spelled more) rest)
+    ∙ ap (little_number (wide f)) (take_at (field_bytes f) (spelled more ++ rest) (wide f) (long_field f) ∙ sym (append-nil (field_bytes f)))
+    ∙ field_read f [] fits
 
 -- ---- a program header
 

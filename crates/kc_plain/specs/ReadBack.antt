@@ -1,5 +1,5 @@
 -- What the plain core file holds by the definition of core files.
-use Rattle.std.specs.Prelude.{◌≡◌, ℕ, ◌+◌, ◌*◌, ◌<◌, List, [], ◌∷◌, ◌++◌, Option, Some, None, Ok}
+use Rattle.std.specs.Prelude.{◌≡◌, ℕ, ◌+◌, ◌*◌, ◌≤◌, List, [], ◌∷◌, ◌++◌, Option, Some, None, Ok}
 use Rattle.kc_word.specs.declared.plain.Segment.{Segment}
 use Rattle.kc_elf.specs.CoreFile.{core}
 use Rattle.kc_kdump.specs.declared.run.PageRun.{PageRun}
@@ -21,9 +21,9 @@ root_segments first None = []
 root_segments first (Some root) = record { paddr = root.physical; filesz = 4096; memsz = 4096; offset = first + 4096 * root.number } ∷ []
 
 -- The plain core file of runs, of so many pages together, is by the definition of core files one that has these segments and these notes,
--- whatever the pages hold: where it has fewer than 0xffff program headers.
+-- whatever the pages hold: under each bound on program headers that leaves room for its own.
 abbrev pub ReadsBack : List PageRun → Option Root → List ℕ → ℕ → Type 0
 ReadsBack runs root notes count =
-    header_count runs root < 65535 → (page : ℕ → List ℕ) → AreWhole page
-    → core (head_by runs root notes ++ pages page count)
+    (most : ℕ) → header_count runs root ≤ most → (page : ℕ → List ℕ) → AreWhole page
+    → core most (head_by runs root notes ++ pages page count)
     ≡ Ok (record { segments = segments_of (start runs root notes) runs ++ root_segments (start runs root notes) root; notes = notes ∷ [] })

@@ -1,3 +1,4 @@
+pub mod BackLemmas
 pub mod BitLemmas
 pub mod LinkLemmas
 pub mod MadeLemmas

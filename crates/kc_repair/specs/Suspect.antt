@@ -1,4 +1,5 @@
 pub mod Answers
+pub mod Backs
 pub mod Bases
 pub mod Changes
 pub mod Fields

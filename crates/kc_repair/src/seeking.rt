@@ -7,6 +7,7 @@ ghost use Rattle.kc_phys.specs.Stored.{stored};
 ghost use Rattle.kc_mem.specs.Paged.{with_paging};
 ghost use Rattle.kc_plan.specs.Inside.{AreInside as TypesAreInside};
 ghost use Rattle.kc_plan.specs.Views.{plan_seen};
+ghost use Rattle.kc_repair.specs.Suspect.Answers.{OnlyReadsFrames};
 ghost use Rattle.kc_repair.specs.Suspect.Suspects.{suspects};
 ghost use Rattle.kc_repair.specs.Repairs.{IsRepair, breach_of, repair_of, verdict_with};
 ghost use Rattle.kc_found.specs.Failures.{CountsFailures};
@@ -66,8 +67,7 @@ fn try_found<'s, S: Store>(
 
     ensures exact { IfOk result.repair (λ repair. IfSome (with_paging paging (stored memory.entry.segments.items memory.entry.tail (content (S.files memory.entry.store.now) Dump (S.opened memory.entry.store.now Dump))))
         (λ image. IsRepair (verdict_with image (plan_seen audit.now.plan.now) (audit.now.root.audit, audit.now.root.start)) (breach_of found.now) suspects.now repair)) }
-    ensures stays { FramesStay (λ p. stored p.segments.items p.tail (content (S.files p.store.now) Dump (S.opened p.store.now Dump))) (λ p. S.files p.store.now) (λ p. p.store.ghost_name ∷ []) memory.entry result.memory }
-    ensures cause { CountsFailures result.repair (S.faults memory.entry.store.now) (S.faults result.memory.store.now) }
+    ensures reads { OnlyReadsFrames (λ p. stored p.segments.items p.tail (content (S.files p.store.now) Dump (S.opened p.store.now Dump))) (λ p. S.files p.store.now) (λ p. p.store.ghost_name ∷ []) (λ p. S.faults p.store.now) result.repair memory.entry result.memory }
 {
     let breach = Breach {
         rule: found.rule,

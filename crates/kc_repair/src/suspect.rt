@@ -1,6 +1,7 @@
 //! The words of a dump that may be why an audit's structure is broken, each with another number that may have stood there, in
 //! a fixed order by the rule that is broken. None is proved to be the cause: the audit over the changed memory judges that.
 
+mod backs;
 mod bases;
 mod change;
 mod fields;

@@ -2,12 +2,12 @@
 ghost use Rattle.std.specs.Prelude.{◌≡◌, ◌∷◌, [], ◌%◌, ◌^◌, ◌<◌, ◌≤◌, length, IfOk, IfSome};
 ghost use Rattle.kc_outside.specs.declared.store.Slot.TheVariants.{Dump};
 ghost use Rattle.kc_outside.specs.Files.{content};
-ghost use Rattle.kc_memory.specs.Stays.{FramesStay};
 ghost use Rattle.kc_phys.specs.Stored.{AreInside, stored};
 ghost use Rattle.kc_mem.specs.Paged.{with_paging};
 ghost use Rattle.kc_plan.specs.Inside.{AreInside as TypesAreInside};
 ghost use Rattle.kc_plan.specs.Views.{plan_seen};
 ghost use Rattle.kc_question.specs.Memory.{image_of};
+ghost use Rattle.kc_repair.specs.Suspect.Answers.{OnlyReadsFrames};
 ghost use Rattle.kc_repair.specs.Repairs.{GoesOn, IsRepair, Judges, StandsAs, verdict_with};
 ghost use Rattle.kc_found.specs.Failures.{CountsFailures};
 
@@ -91,8 +91,7 @@ pub(crate) fn try_all<'s, S: Store>(
 
     ensures exact { IfOk result.repair (λ repair. IfSome (with_paging paging (stored memory.entry.segments.items memory.entry.tail (content (S.files memory.entry.store.now) Dump (S.opened memory.entry.store.now Dump))))
         (λ image. IsRepair (verdict_with image (plan_seen audit.now.plan.now) (audit.now.root.audit, audit.now.root.start)) found suspects.now repair)) }
-    ensures stays { FramesStay (λ p. stored p.segments.items p.tail (content (S.files p.store.now) Dump (S.opened p.store.now Dump))) (λ p. S.files p.store.now) (λ p. p.store.ghost_name ∷ []) memory.entry result.memory }
-    ensures cause { CountsFailures result.repair (S.faults memory.entry.store.now) (S.faults result.memory.store.now) }
+    ensures reads { OnlyReadsFrames (λ p. stored p.segments.items p.tail (content (S.files p.store.now) Dump (S.opened p.store.now Dump))) (λ p. S.files p.store.now) (λ p. p.store.ghost_name ∷ []) (λ p. S.faults p.store.now) result.repair memory.entry result.memory }
 {
     let mut memory = memory;
     let tried = suspects.len().min(MOST);

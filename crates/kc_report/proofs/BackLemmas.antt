@@ -149,13 +149,6 @@ pub too_many : (bytes : List ℕ) (many left : ℕ) (done : List RootLines) (res
     → read_roots many bytes ≡ Err rest
 too_many bytes many left done rest none goes some = too_long bytes many done rest (subst (λ (n : ℕ). GoesOn many bytes n done rest) none goes) some
 
--- how many roots there are
-pub few_roots : (bytes rest : List ℕ) (count : ℕ) → (after (codes "roots ") (decimal_below 257 10)).read bytes ≡ Ok (count, rest) → count ≤ 256
-few_roots bytes rest count said =
-    let number = below-law 257 10 (lit≤ tt) (lit≤ tt) refl in
-    let small = ((after-law Anything (codes "roots ") (decimal_below 257 10) number (0, lit< tt)).takes bytes rest count said).0 in
-    omega arith
-
 -- what is read is a report whose text the bytes are
 pub report_is : (bytes rest : List ℕ) (report : Report) → report_format.read bytes ≡ Ok (report, rest) → IsReport bytes report
 report_is bytes rest report read =

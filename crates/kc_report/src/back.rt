@@ -205,7 +205,6 @@ fn add_root(
     name: &[u8],
     verdict: RootResult,
 ) -> Result<(), NoMemory>
-    requires few { length roots.old < 256 }
     requires name { IsTrue (is_name name.now) }
     ensures { OnOk result (roots.new ≡ roots.old ++ record { name = name.now; verdict = verdict } ∷ []) }
 {
@@ -229,7 +228,6 @@ fn next_result<'a>(
     bytes: &'a [u8],
     more: bool,
 ) -> Result<&'a [u8], ReadStop<'a>>
-    requires few { length roots.old < 256 }
     requires name { IsTrue (is_name name.now) }
     ensures { AddsOne (and_then ((result_format more).read bytes.now) (λ r. Ok (record { name = name.now; verdict = r.0 }, r.1))) roots.old roots.new result }
 {
@@ -249,7 +247,6 @@ fn next_root<'a>(
     bytes: &'a [u8],
     more: bool,
 ) -> Result<&'a [u8], ReadStop<'a>>
-    requires { length roots.old < 256 }
     ensures { AddsOne ((root_format more).read bytes.now) roots.old roots.new result }
 {
     match read_root_name(bytes) {
@@ -260,7 +257,6 @@ fn next_root<'a>(
 
 // Reads this number of roots, to the end of the bytes.
 fn read_roots(alloc: Global, bytes: &[u8], count: u64) -> Result<(RootTexts, &[u8]), ReadStop<'_>>
-    requires { count ≤ 256 }
     ensures { ReadsOne ((roots_format count).read bytes.now) result }
 {
     let mut roots = RootTexts::new(alloc);

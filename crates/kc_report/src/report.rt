@@ -95,6 +95,9 @@ impl Model for RootText {
     ghost invariant = { λ r. IsTrue (is_name r.name) };
 }
 
+// A report has at most so many roots.
+const MOST_ROOTS: usize = 256;
+
 /// The root audits of a report, in the order of the plan. There are at most 256.
 #[derive(Drop)]
 pub struct RootTexts {
@@ -122,16 +125,18 @@ impl RootTexts {
         }
     }
 
-    /// Adds the next root, of which there are at most 256.
+    /// Adds the next root.
     ///
     /// # Errors
     ///
-    /// Out of memory, where the roots stay as they were.
+    /// No room: out of memory, or there are 256 roots already. The roots stay as they were.
     pub fn push(&mut self, root: RootText) -> Result<(), NoMemory>
-        requires { length self.old < 256 }
         ensures added { OnOk result (self.new ≡ self.old ++ root ∷ []) }
         ensures kept { OnErr result (self.new ≡ self.old) }
     {
+        if self.roots.len() >= MOST_ROOTS {
+            return Err(NoMemory);
+        }
         self.roots.push(root)
     }
 

@@ -40,14 +40,14 @@ unfolding rows
 in_rows map_bytes listed e = all_rows 1 (lines map_bytes) listed e
 
 pub holders_are_rows : HoldersAreRows
-holders_are_rows image m listed value e = ap (holding image m.text_end m.end m.kaslr value) (in_rows m.map.now listed e)
+holders_are_rows image m listed value e = ap (holding image m.parts m.kaslr value) (in_rows m.map.now listed e)
 
 -- the lines that are left, one by one
 module _ (i : Image) (m : ImageMap) (value : ℕ) where
   abbrev left : List (List ℕ) → List SymbolAt
-  left lines = holding i m.text_end m.end m.kaslr value (map row_in lines)
+  left lines = holding i m.parts m.kaslr value (map row_in lines)
 
-  left_at : (line : List ℕ) (lines : List (List ℕ)) → left (line ∷ lines) ≡ with_holder (holder_by i m.text_end m.end m.kaslr value (row_in line)) (left lines)
+  left_at : (line : List ℕ) (lines : List (List ℕ)) → left (line ∷ lines) ≡ with_holder (holder_by i m.parts m.kaslr value (row_in line)) (left lines)
   unfolding holding
   left_at line lines = refl
 
@@ -55,17 +55,17 @@ module _ (i : Image) (m : ImageMap) (value : ℕ) where
   unfolding holding
   left_none = refl
 
-  one_left : (old : List SymbolAt) (line : List ℕ) (lines : List (List ℕ)) (row : Option RowText) (s : Option SymbolAt) → row ≡ row_in line → s ≡ holder_by i m.text_end m.end m.kaslr value row
+  one_left : (old : List SymbolAt) (line : List ℕ) (lines : List (List ℕ)) (row : Option RowText) (s : Option SymbolAt) → row ≡ row_in line → s ≡ holder_by i m.parts m.kaslr value row
       → old ++ with_holder s (left lines) ≡ old ++ left (line ∷ lines)
   one_left old line lines row s is tells =
-      ap (λ (h : Option SymbolAt). old ++ with_holder h (left lines)) (tells ∙ ap (holder_by i m.text_end m.end m.kaslr value) is) ∙ ap (λ (l : List SymbolAt). old ++ l) (sym (left_at line lines))
+      ap (λ (h : Option SymbolAt). old ++ with_holder h (left lines)) (tells ∙ ap (holder_by i m.parts m.kaslr value) is) ∙ ap (λ (l : List SymbolAt). old ++ l) (sym (left_at line lines))
 
 -- what was found and what the lines that are left have come to all
 abbrev pub FoundSo : Option Image → ImageMap → ℕ → List SymbolAt → List (List ℕ) → Type 0
-FoundSo image m value old lines = IfSome image (λ i. old ++ holding i m.text_end m.end m.kaslr value (map row_in lines) ≡ symbols_holding i m value)
+FoundSo image m value old lines = IfSome image (λ i. old ++ holding i m.parts m.kaslr value (map row_in lines) ≡ symbols_holding i m value)
 
 abbrev pub Tells : Option Image → ImageMap → ℕ → Option RowText → Option Symbol → Type 0
-Tells image m value row s = LooksAs {A = Option SymbolAt} (λ (s : Option Symbol). option_map symbol_view s) (λ i. holder_by i m.text_end m.end m.kaslr value row) image (Ok s)
+Tells image m value row s = LooksAs {A = Option SymbolAt} (λ (s : Option Symbol). option_map symbol_view s) (λ i. holder_by i m.parts m.kaslr value row) image (Ok s)
 
 pub skipped : (image : Option Image) (m : ImageMap) (value : ℕ) (old : List SymbolAt) (line : List ℕ) (lines : List (List ℕ)) (row : Option RowText) → row ≡ row_in line
     → FoundSo image m value old (line ∷ lines) → Tells image m value row None → FoundSo image m value old lines
@@ -76,7 +76,7 @@ pub added : (image : Option Image) (m : ImageMap) (value : ℕ) (old new : List 
     → FoundSo image m value (map symbol_view old) (line ∷ lines) → Tells image m value row (Some s) → new ≡ old ++ s ∷ [] → FoundSo image m value (map symbol_view new) lines
 added None m value old new line lines row s is so_far tells pushed = tt
 added (Some i) m value old new line lines row s is so_far tells pushed =
-    let rest : List SymbolAt = holding i m.text_end m.end m.kaslr value (map row_in lines) in
+    let rest : List SymbolAt = holding i m.parts m.kaslr value (map row_in lines) in
     ap (λ (l : List Symbol). map symbol_view l ++ rest) pushed ∙ ap (λ (l : List SymbolAt). l ++ rest) (map-append symbol_view old (s ∷ []))
     ∙ append_assoc (map symbol_view old) (symbol_view s ∷ []) rest ∙ one_left i m value (map symbol_view old) line lines row (Some (symbol_view s)) is tells ∙ so_far
 

@@ -4,9 +4,10 @@ use Rattle.std.proofs.lemmas.Bool.Decides.{nat_tests}
 use Rattle.std.proofs.lemmas.List.{drop-drop, length-drop}
 use Rattle.kc_word.specs.Hex.{hex_number}
 use Rattle.kc_syms.specs.Rows.{RowText, listed_in, lines, name_behind, name_in, row_before, row_of, row_with, rows, rows_from}
+use Rattle.kc_sight.specs.declared.symbol.ImageParts.{ImageParts}
 use Rattle.kc_sight.specs.Laws.{SymbolsAreRows}
 use Rattle.kc_sight.specs.Lines.{in_line, in_lines, row_in}
-use Rattle.kc_sight.specs.Nearest.{SymbolAt, below, higher, higher_of, in_image, nearest}
+use Rattle.kc_sight.specs.Nearest.{SymbolAt, below, higher, higher_of, is_kept, nearest}
 
 -- which of two is higher doesn't hang on the order in which they are met
 higher_three : (a b c : SymbolAt) → higher_of a (higher_of b c) ≡ higher_of (higher_of a b) c
@@ -108,5 +109,5 @@ in_image_or_not true from kaslr address map listed e = in_map from kaslr address
 in_image_or_not false from kaslr address map listed e = refl
 
 pub symbols_are_rows : SymbolsAreRows
-symbols_are_rows m listed address e end =
-    in_image_or_not (in_image m.end address) 0xffffffff80000000 m.kaslr address m.map.now listed e ∙ ap (λ (end : Option ℕ). if in_image end address then nearest 0xffffffff80000000 m.kaslr address listed else None) end
+symbols_are_rows m listed address e parts =
+    in_image_or_not (is_kept m.parts address) 0xffffffff80000000 m.kaslr address m.map.now listed e ∙ ap (λ (p : ImageParts). if is_kept p address then nearest 0xffffffff80000000 m.kaslr address listed else None) parts

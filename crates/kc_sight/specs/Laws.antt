@@ -7,7 +7,7 @@ use Rattle.kc_syms.specs.Rows.{RowText, rows}
 use Rattle.kc_sight.specs.declared.aliases.Rules.{Rules}
 use Rattle.kc_sight.specs.declared.symbol.ImageMap.{ImageMap}
 use Rattle.kc_sight.specs.Holders.{holders}
-use Rattle.kc_sight.specs.Nearest.{SymbolAt, below, image_end, image_symbol, nearest}
+use Rattle.kc_sight.specs.Nearest.{SymbolAt, below, image_parts, image_symbol, nearest}
 use Rattle.kc_sight.specs.Sights.{places, sight}
 use Rattle.kc_sight.specs.Views.{image_symbols, symbols_from, symbols_holding}
 
@@ -15,9 +15,9 @@ use Rattle.kc_sight.specs.Views.{image_symbols, symbols_from, symbols_holding}
 abbrev pub SightsStand : Type 0
 SightsStand = (image : Image) (rules : Rules) (address : ℕ) → AllStandIn image (places (sight image rules address))
 
--- the symbols of a map that is read are those of its rows, by its bytes, how far KASLR moved the image, and where that ends
+-- the symbols of a map that is read are those of its rows, by its bytes, how far KASLR moved the image, and its parts
 abbrev pub SymbolsAreRows : Type 0
-SymbolsAreRows = (m : ImageMap) (listed : List RowText) (address : ℕ) → rows m.map.now ≡ Ok listed → m.end ≡ image_end m.kaslr listed → image_symbols m address ≡ image_symbol m.kaslr listed address
+SymbolsAreRows = (m : ImageMap) (listed : List RowText) (address : ℕ) → rows m.map.now ≡ Ok listed → m.parts ≡ image_parts m.kaslr listed → image_symbols m address ≡ image_symbol m.kaslr listed address
 
 -- and so are those from an address on
 abbrev pub SymbolsFromAreRows : Type 0
@@ -45,4 +45,4 @@ SymbolsAreNearest = (from kaslr address : ℕ) (rows : List RowText) → Nearest
 abbrev pub HoldersAreRows : Type 0
 HoldersAreRows =
     (image : Image) (m : ImageMap) (listed : List RowText) (value : ℕ) → rows m.map.now ≡ Ok listed
-    → symbols_holding image m value ≡ holders image m.text_end m.end m.kaslr value listed
+    → symbols_holding image m value ≡ holders image m.parts m.kaslr value listed

@@ -34,11 +34,11 @@ fn is_holder<S: Space, L: Ledger>(
     at: u64,
     steps: &mut Steps<L>,
 ) -> Result<bool, ReadFailed>
-    ensures holder { LooksAs (λ b. b) (λ i. is_holder i image.now.text_end image.now.end value at) (S.image space.old) result }
+    ensures holder { LooksAs (λ b. b) (λ i. is_holder i image.now.parts value at) (S.image space.old) result }
     ensures stays { SpaceStays S.image S.files S.through S.most space.old space.new }
     ensures cause { CountsFailures result (S.faults space.old) (S.faults space.new) }
 {
-    if at % 8 != 0 || !image.has_data(at) {
+    if at % 8 != 0 || !image.parts.have_data(at) {
         return Ok(false);
     }
     Ok(has_value(value, &read_word(space, at, steps)?))
@@ -52,7 +52,7 @@ fn holder_by<'m, S: Space, L: Ledger>(
     row: Option<Row<'m>>,
     steps: &mut Steps<L>,
 ) -> Result<Option<Symbol<'m>>, ReadFailed>
-    ensures holder { LooksAs (λ s. option_map symbol_view s) (λ i. holder_by i image.now.text_end image.now.end image.now.kaslr value (option_map row_view row.entry)) (S.image space.old) result }
+    ensures holder { LooksAs (λ s. option_map symbol_view s) (λ i. holder_by i image.now.parts image.now.kaslr value (option_map row_view row.entry)) (S.image space.old) result }
     ensures stays { SpaceStays S.image S.files S.through S.most space.old space.new }
     ensures cause { CountsFailures result (S.faults space.old) (S.faults space.new) }
 {
@@ -70,7 +70,8 @@ fn holder_by<'m, S: Space, L: Ledger>(
     }
 }
 
-/// The symbols of the image's data, from `_etext` to `_end`, whose word holds a value, in the order of the map; of symbols that stand at multiples of 8.
+/// The symbols of the image's data, from `_etext` to `_end` without what is freed, whose word holds a value, in the order of the map; of
+/// symbols that stand at multiples of 8.
 ///
 /// # Errors
 ///

@@ -21,5 +21,5 @@ pub use meaning::{Meaning, meaning_of};
 pub use refs::{FoundWord, Sought, WordPlace, Writing, find_words};
 pub use sight::{Sight, read_sight, word_start};
 pub use span::{Span, is_fill, span_of};
-pub use symbol::{ImageMap, Symbol, nearest};
+pub use symbol::{ImageMap, ImageParts, Symbol, nearest};
 pub use words::{Seen, read_word, read_words};

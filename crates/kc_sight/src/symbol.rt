@@ -2,7 +2,7 @@
 ghost use Rattle.std.specs.Prelude.{◌≡◌, List, Ok, option_map};
 ghost use Rattle.kc_syms.specs.Addresses.{at_run};
 ghost use Rattle.kc_syms.specs.Rows.{RowText, lines, rows};
-ghost use Rattle.kc_sight.specs.Nearest.{below, higher, is_area_start, nearest};
+ghost use Rattle.kc_sight.specs.Nearest.{below, higher, is_between, names_none, nearest};
 ghost use Rattle.kc_sight.specs.Views.{row_view, symbol_view};
 ghost use Rattle.kc_sight.specs.Lines.{in_line, in_lines, row_in};
 
@@ -32,11 +32,11 @@ pub(crate) fn at_run(kaslr: u64, listed: u64) -> u64
     }
 }
 
-// Whether a name is that of where the variables of processors begin: at the same address stands the first of these.
-fn is_area_start(name: &[u8]) -> bool
-    ensures { result ≡ is_area_start name.now }
+// Whether a row names no variable: where the variables of processors begin, at the address of the first of these, or a number of bytes.
+fn names_none(name: &[u8]) -> bool
+    ensures { result ≡ names_none name.now }
 {
-    name == b"__per_cpu_start".as_slice()
+    name == b"__per_cpu_start".as_slice() || name == b"kexec_control_code_size".as_slice()
 }
 
 // A symbol at an address or above it, where it isn't above another one.
@@ -44,7 +44,7 @@ fn below(from: u64, kaslr: u64, address: u64, listed: u64, name: &[u8]) -> Optio
     ensures { option_map symbol_view result ≡ below from kaslr address listed name.now }
 {
     let at = at_run(kaslr, listed);
-    if at >= from && at <= address && !is_area_start(name) {
+    if at >= from && at <= address && !names_none(name) {
         Some(Symbol { name, address: at })
     } else {
         None
@@ -91,7 +91,7 @@ fn higher<'m>(a: Option<Symbol<'m>>, b: Option<Symbol<'m>>) -> Option<Symbol<'m>
 }
 
 /// The symbol that stands nearest below an address, or at it, of those from another address on, where KASLR moved the image by `kaslr`
-/// bytes; of several at one address the first row's. `__per_cpu_start` is passed over, for it names no variable. `map` is a System.map
+/// bytes; of several at one address the first row's. `__per_cpu_start` and `kexec_control_code_size` name no variable, and are passed over. `map` is a System.map
 /// that `kc_syms::Symbols` reads. It takes no memory.
 pub fn nearest(map: &[u8], from: u64, kaslr: u64, address: u64) -> Option<Symbol<'_>>
     ensures lines { option_map symbol_view result ≡ in_lines from kaslr address (lines map.now) }
@@ -104,27 +104,35 @@ pub fn nearest(map: &[u8], from: u64, kaslr: u64, address: u64) -> Option<Symbol
     found
 }
 
-/// A System.map that `kc_syms::Symbols` reads, with what is asked of it: the symbols of the kernel's image.
-#[derive(Clone, Copy)]
-pub struct ImageMap<'m> {
-    /// Its bytes.
-    pub map: &'m [u8],
-    /// How far KASLR moved the image, in bytes.
-    pub kaslr: u64,
-    /// Where its text ends and its data begins at run time, which is at the symbol `_etext`; where there is none, no address is in its data.
-    pub text_end: Option<u64>,
-    /// The address behind the image at run time, which is that of the symbol `_end`; where there is none, no address is in the
-    /// image.
-    pub end: Option<u64>,
+// Whether an address isn't below one and is below another one, where both are known.
+fn is_between(start: Option<u64>, end: Option<u64>, address: u64) -> bool
+    ensures { result ≡ is_between start end address }
+{
+    match (start, end) {
+        (Some(start), Some(end)) => address >= start && address < end,
+        _ => false,
+    }
 }
 
-impl<'m> ImageMap<'m> {
-    ghost use Rattle.kc_sight.specs.Views.{image_symbols, symbols_from};
-    ghost use Rattle.kc_sight.specs.Nearest.{in_image};
+/// Where parts of the kernel's image begin and end at run time: the addresses of symbols, `None` where a map has none of them, or several.
+#[derive(Clone, Copy, Debug, PartialEq, Eq)]
+pub struct ImageParts {
+    /// Where its text ends and its data begins, `_etext`; where there is none, no address is in its data.
+    pub text_end: Option<u64>,
+    /// The address behind the image, `_end`; where there is none, no address is in the image.
+    pub end: Option<u64>,
+    /// Where the memory begins that the kernel frees when it has started, `__init_begin`.
+    pub init_start: Option<u64>,
+    /// The address behind that memory, `__init_end`; where it or `__init_begin` isn't there, nothing counts as freed.
+    pub init_end: Option<u64>,
+}
+
+impl ImageParts {
+    ghost use Rattle.kc_sight.specs.Nearest.{in_image, is_kept};
     ghost use Rattle.kc_sight.specs.Holders.{in_data};
 
     /// Whether an address is in the image.
-    pub fn holds(&self, address: u64) -> bool
+    pub fn hold(&self, address: u64) -> bool
         ensures { result ≡ in_image self.now.end address }
     {
         match self.end {
@@ -133,21 +141,41 @@ impl<'m> ImageMap<'m> {
         }
     }
 
-    // Whether an address is in the image's data.
-    pub(crate) fn has_data(&self, address: u64) -> bool
-        ensures { result ≡ in_data self.now.text_end self.now.end address }
+    // Whether an address is in the image, and isn't freed.
+    fn keep(&self, address: u64) -> bool
+        ensures { result ≡ is_kept self.now address }
     {
-        match (self.text_end, self.end) {
-            (Some(start), Some(end)) => address >= start && address < end,
-            _ => false,
-        }
+        self.hold(address) && !is_between(self.init_start, self.init_end, address)
     }
 
-    /// The symbol that stands nearest below an address of the image, or at it. `None` for other addresses.
+    // Whether an address is in the image's data, and isn't freed.
+    pub(crate) fn have_data(&self, address: u64) -> bool
+        ensures { result ≡ in_data self.now address }
+    {
+        is_between(self.text_end, self.end, address) && self.keep(address)
+    }
+}
+
+/// A System.map that `kc_syms::Symbols` reads, with what is asked of it: the symbols of the kernel's image.
+#[derive(Clone, Copy)]
+pub struct ImageMap<'m> {
+    /// Its bytes.
+    pub map: &'m [u8],
+    /// How far KASLR moved the image, in bytes.
+    pub kaslr: u64,
+    /// Where the image's parts begin and end.
+    pub parts: ImageParts,
+}
+
+impl<'m> ImageMap<'m> {
+    ghost use Rattle.kc_sight.specs.Views.{image_symbols, symbols_from};
+
+    /// The symbol that stands nearest below an address of the image, or at it. `None` for other addresses, and for those in memory that the
+    /// kernel frees when it has started.
     pub fn symbol(&self, address: u64) -> Option<Symbol<'m>>
         ensures { option_map symbol_view result ≡ image_symbols self.now address }
     {
-        if self.holds(address) {
+        if self.parts.keep(address) {
             nearest(self.map, IMAGE_START, self.kaslr, address)
         } else {
             None

@@ -16,7 +16,7 @@ use Rattle.kc_slab_page.specs.declared.mark.Mark.{Mark}
 use Rattle.kc_slab_page.specs.declared.page.PageSeen.{PageSeen}
 use Rattle.kc_slab_page.specs.declared.shape.PageShape.{PageShape}
 use Rattle.kc_slab_page.specs.Caches.{Caches}
-use Rattle.kc_slab_page.specs.Pages.{by_cache, by_mark, by_seen}
+use Rattle.kc_slab_page.specs.Pages.{by_cache, by_mark, by_seen, unnamed}
 
 -- a cache that is there
 pub by_found : (image : Option Image) (shape : PageShape) (caches : Caches) (page : ℕ) (cache : FieldNumber) (value : ℕ) (seen : CacheSeen) (r : Result PageSeen WalkStop)
@@ -25,7 +25,17 @@ pub by_found : (image : Option Image) (shape : PageShape) (caches : Caches) (pag
     → WalksAs {A = PageSeen} {B = PageSeen} (λ p. p) (λ i. Ok (by_cache i shape caches page cache)) image r
 by_found None shape caches page cache value seen r same is walks = tt
 by_found (Some i) shape caches page cache value seen r same is walks =
-    subst (λ (o : Option CacheSeen). IsWalk {A = PageSeen} {B = PageSeen} (λ p. p) (Ok (by_seen i shape caches.bases page cache o)) r)
+    subst (λ (o : Option CacheSeen). IsWalk {A = PageSeen} {B = PageSeen} (λ p. p) (Ok (by_seen i shape caches page cache o)) r)
+    (is ∙ ap (λ (v : ℕ). lookup (is_at (nat_cmp v)) caches.entries) same) walks
+
+-- and one that isn't
+pub by_none : (image : Option Image) (shape : PageShape) (caches : Caches) (page : ℕ) (cache : FieldNumber) (value : ℕ) (r : Result PageSeen WalkStop)
+    → value ≡ value_of cache → None ≡ lookup (is_at (nat_cmp value)) caches.entries
+    → WalksAs {A = PageSeen} {B = PageSeen} (λ p. p) (λ i. Ok (unnamed i shape caches.all page cache)) image r
+    → WalksAs {A = PageSeen} {B = PageSeen} (λ p. p) (λ i. Ok (by_cache i shape caches page cache)) image r
+by_none None shape caches page cache value r same is walks = tt
+by_none (Some i) shape caches page cache value r same is walks =
+    subst (λ (o : Option CacheSeen). IsWalk {A = PageSeen} {B = PageSeen} (λ p. p) (Ok (by_seen i shape caches page cache o)) r)
     (is ∙ ap (λ (v : ℕ). lookup (is_at (nat_cmp v)) caches.entries) same) walks
 
 -- a shape whose parts are there

@@ -43,7 +43,7 @@ use Rattle.kc_slab_page.specs.Caches.{Caches}
 use Rattle.kc_slab_page.specs.Guarding.{guarded_by, guards_checked, is_guarded}
 use Rattle.kc_slab_page.specs.Laws.{AreKept, GuardsAreKept, IsWhole, SlabsStand, WholeSlabs, page_places, state_places}
 use Rattle.kc_slab_page.specs.Marks.{marked}
-use Rattle.kc_slab_page.specs.Pages.{by_cache, by_mark, by_read, by_seen, page_seen, state_by, state_of, state_with, with_mark}
+use Rattle.kc_slab_page.specs.Pages.{by_cache, by_mark, by_read, by_seen, page_seen, state_by, state_of, state_with, stray, unnamed, with_mark}
 use Rattle.kc_slab_page.specs.Slabs.{counted, free_of, is_laid, own_list, slab_free}
 
 -- what is known of the fields and free lists of a dump
@@ -139,12 +139,24 @@ mark_stands image state page cache None here = tt
 mark_stands image state page cache (Some false) here = tt
 mark_stands image state page cache (Some true) here = here
 
-seen_stands : Known → (image : Image) (shape : PageShape) (b : SlubBases) (page : ℕ) (cache : FieldNumber) (seen : Option CacheSeen)
-    → AllStandIn image (breaks_field (looked_at page) U4 page cache.number None).places → AllStandIn image (page_places (by_seen image shape b page cache seen))
-seen_stands known image shape b page cache None here = tt
-seen_stands known image shape b page cache (Some seen) here =
-    mark_stands image (state_by image shape.objects.slub b page cache seen.runs seen.objects) page (value_of cache) (marked image shape.mark page)
-    (by_stands known image shape.objects.slub b page cache seen.runs seen.objects here)
+-- a page whose descriptor names none of the caches
+stray_stands : (image : Image) (page : ℕ) (cache : FieldNumber) (mark : Option Bool) → AllStandIn image (breaks_field (looked_at page) U4 page cache.number None).places
+    → AllStandIn image (page_places (stray page cache mark))
+stray_stands image page cache None here = tt
+stray_stands image page cache (Some false) here = tt
+stray_stands image page cache (Some true) here = here
+
+unnamed_stands : (image : Image) (shape : PageShape) (all : Bool) (page : ℕ) (cache : FieldNumber) → AllStandIn image (breaks_field (looked_at page) U4 page cache.number None).places
+    → AllStandIn image (page_places (unnamed image shape all page cache))
+unnamed_stands image shape true page cache here = stray_stands image page cache (marked image shape.mark page) here
+unnamed_stands image shape false page cache here = tt
+
+seen_stands : Known → (image : Image) (shape : PageShape) (caches : Caches) (page : ℕ) (cache : FieldNumber) (seen : Option CacheSeen)
+    → AllStandIn image (breaks_field (looked_at page) U4 page cache.number None).places → AllStandIn image (page_places (by_seen image shape caches page cache seen))
+seen_stands known image shape caches page cache None here = unnamed_stands image shape caches.all page cache here
+seen_stands known image shape caches page cache (Some seen) here =
+    mark_stands image (state_by image shape.objects.slub caches.bases page cache seen.runs seen.objects) page (value_of cache) (marked image shape.mark page)
+    (by_stands known image shape.objects.slub caches.bases page cache seen.runs seen.objects here)
 
 -- what was read is what the field gives
 was_read : (asked : Asked) (r : Result FieldNumber Stopped) (n : FieldNumber) → readable r ≡ Some n → or_missed asked r ≡ Ok n
@@ -155,7 +167,7 @@ read_stands : Known → (image : Image) (shape : PageShape) (caches : Caches) (p
     → AllStandIn image (page_places (by_read image shape caches page r))
 read_stands known image shape caches page None is = tt
 read_stands known image shape caches page (Some cache) is =
-    seen_stands known image shape caches.bases page cache (lookup (is_at (nat_cmp (value_of cache))) caches.entries)
+    seen_stands known image shape caches page cache (lookup (is_at (nat_cmp (value_of cache))) caches.entries)
     (number_stands known.values image (looked_at page) page shape.objects.slub.slab_cache cache
     (was_read (looked_at page) (field_of image page shape.objects.slub.slab_cache) cache is))
 

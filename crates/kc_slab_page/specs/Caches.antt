@@ -1,6 +1,6 @@
 -- The slab caches of a kernel. Source: the kernel's mm/slab_common.c, the ring `slab_caches`; include/linux/slub_def.h, `struct kmem_cache`
 -- (from 6.8 on in mm/slab.h).
-use Rattle.std.specs.Prelude.{ℕ, Bool, true, if◌then◌else◌, List, [], ◌∷◌, Option, Some, None, Result, Ok, Err}
+use Rattle.std.specs.Prelude.{ℕ, Bool, true, ◌&&◌, is_none, if◌then◌else◌, List, [], ◌∷◌, Option, Some, None, Result, Ok, Err}
 use Rattle.std.specs.BTreeMap.{insert_entry}
 use Rattle.std.specs.Ordering.{nat_cmp}
 use Rattle.std.specs.Str.{bytes_eq}
@@ -54,18 +54,26 @@ unfoldable pub caches_from : Image → PageShape → Option (List ℕ) → Entri
 caches_from image shape wanted caches [] = caches
 caches_from image shape wanted caches (n ∷ ns) = caches_from image shape wanted (with_cache image shape wanted caches n) ns
 
--- where page descriptors and physical memory begin, the nodes of the ring of all caches, the rule that it breaks, where it does, and the caches
+-- where page descriptors and physical memory begin, the nodes of the ring of all caches, the rule that it breaks, where it does, the caches, and
+-- whether they are all of the kernel's
 pub record Caches : Type 0 where
   pub bases : SlubBases
   pub nodes : List ℕ
   pub broken : Option Violation
   pub entries : Entries
+  pub all : Bool
 
 abbrev pub caches_view : SlabCaches → Caches
-caches_view c = record { bases = c.bases; nodes = c.nodes; broken = c.broken; entries = c.caches.entries }
+caches_view c = record { bases = c.bases; nodes = c.nodes; broken = c.broken; entries = c.caches.entries; all = c.all }
 
 abbrev pub caches_by : Image → PageShape → Option (List ℕ) → SlubBases → RingParts → Caches
-caches_by image shape wanted b ring = record { bases = b; nodes = ring.nodes; broken = ring.broken; entries = caches_from image shape wanted [] ring.nodes }
+caches_by image shape wanted b ring = record {
+  bases = b;
+  nodes = ring.nodes;
+  broken = ring.broken;
+  entries = caches_from image shape wanted [] ring.nodes;
+  all = is_none wanted && is_none ring.broken;
+}
 
 -- those of the ring of all caches that are wanted, also where it is broken
 abbrev pub caches_in : Image → PageShape → Option (List ℕ) → Result Caches Violation

@@ -4,6 +4,7 @@ use Rattle.std.specs.Prelude.{◌≡◌, ℕ, Bool, true, false, if◌then◌els
 use Rattle.std.specs.BTreeMap.{is_at}
 use Rattle.std.specs.Ordering.{nat_cmp}
 use Rattle.std.specs.Map.{lookup}
+use Rattle.kc_memory.specs.declared.rule.Rule.TheVariants.{U1}
 use Rattle.kc_memory.specs.declared.space.Stop.{Stop}
 use Rattle.kc_memory.specs.declared.space.Stop.TheVariants as stops
 use Rattle.kc_memory.specs.Image.{Image}
@@ -11,11 +12,12 @@ use Rattle.kc_view.specs.declared.fields.FieldNumber.{FieldNumber}
 use Rattle.kc_view.specs.declared.slub.SlabObjects.{SlabObjects}
 use Rattle.kc_view.specs.declared.slub.SlubBases.{SlubBases}
 use Rattle.kc_view.specs.declared.slub.SlubShape.{SlubShape}
-use Rattle.kc_view.specs.Fields.{field_of, value_of}
+use Rattle.kc_view.specs.Fields.{breaks_at, field_of, value_of}
 use Rattle.kc_found.specs.declared.found.WalkStop.{WalkStop}
 use Rattle.kc_found.specs.declared.found.WalkStop.TheVariants as ends
 use Rattle.kc_found.specs.Nodes.{readable}
 use Rattle.kc_found.specs.Violations.{Violation}
+use Rattle.kc_owner.specs.Looked.{looked_at}
 use Rattle.kc_owner.specs.Object.Pages.{descriptor_of}
 use Rattle.kc_guard.specs.declared.guards.GuardRun.{GuardRun}
 use Rattle.kc_slab_page.specs.declared.caches.CacheSeen.{CacheSeen}
@@ -54,14 +56,24 @@ abbrev pub by_mark : Image → PageShape → SlubBases → ℕ → FieldNumber �
 by_mark image shape b page cache seen =
     with_mark (state_by image shape.objects.slub b page cache seen.runs seen.objects) page (value_of cache) (marked image shape.mark page)
 
+-- one whose descriptor names none of the kernel's caches: a slab's first page breaks U1 then
+abbrev pub stray : ℕ → FieldNumber → Option Bool → PageSeen
+stray page cache None = Absent
+stray page cache (Some false) = Other
+stray page cache (Some true) = Slab (record { slab = page; cache = value_of cache; state = Broken (Words (breaks_at (looked_at page) U1 cache None)) })
+
+-- where those are known
+abbrev pub unnamed : Image → PageShape → Bool → ℕ → FieldNumber → PageSeen
+unnamed image shape all page cache = if all then stray page cache (marked image shape.mark page) else Other
+
 -- a page, by what its descriptor has as its cache
-abbrev pub by_seen : Image → PageShape → SlubBases → ℕ → FieldNumber → Option CacheSeen → PageSeen
-by_seen image shape b page cache None = Other
-by_seen image shape b page cache (Some seen) = by_mark image shape b page cache seen
+abbrev pub by_seen : Image → PageShape → Caches → ℕ → FieldNumber → Option CacheSeen → PageSeen
+by_seen image shape caches page cache None = unnamed image shape caches.all page cache
+by_seen image shape caches page cache (Some seen) = by_mark image shape caches.bases page cache seen
 
 abbrev pub by_cache : Image → PageShape → Caches → ℕ → FieldNumber → PageSeen
 by_cache image shape caches page cache =
-    by_seen image shape caches.bases page cache (lookup (is_at (nat_cmp (value_of cache))) caches.entries)
+    by_seen image shape caches page cache (lookup (is_at (nat_cmp (value_of cache))) caches.entries)
 
 -- and where that can't be read
 abbrev pub by_read : Image → PageShape → Caches → ℕ → Option FieldNumber → PageSeen

@@ -51,6 +51,8 @@ pub struct SlabCaches {
     pub broken: Option<Found>,
     /// The caches.
     pub caches: BTreeMap<u64, CacheSeen>,
+    /// Whether they are all of the kernel's: no name was asked for, and the ring is whole.
+    pub all: bool,
 }
 
 // The address of the cache that has a node of the ring of all caches.
@@ -245,10 +247,12 @@ pub fn read_caches<S: Space, L: Ledger>(
     let ring = read_ring(alloc, space, list, shape.objects.caches, steps)?;
     let asks = CachesAsked { btf, shape, wanted };
     let caches = read_nodes(alloc, space, &asks, &ring.nodes, steps)?;
+    let all = wanted.is_none() && ring.broken.is_none();
     Ok(SlabCaches {
         bases,
         nodes: ring.nodes,
         broken: ring.broken,
         caches,
+        all,
     })
 }

@@ -85,12 +85,12 @@ fn guarded_by<S: Space, L: Ledger>(
 ) -> Result<SlabState, WalkStop>
     requires { IsGrid grid.now }
     ensures exact { WalksAs (λ s. s)
-        (λ i. Ok (guarded_by guards.now.free (guards_checked i shape.now grid.now slab.now.at guards.now.runs.now))) (S.image space.old) result }
+        (λ i. Ok (guarded_by guards.now.free (guards_checked i shape.now grid.now slab.now.at guards.now.laid.now.runs.now))) (S.image space.old) result }
     ensures broken { OnBroken result ⊥ }
     ensures stays { SpaceStays S.image S.files S.through S.most space.old space.new }
     ensures cause { CountsWalkFaults result (S.faults space.old) (S.faults space.new) }
 {
-    match check_guards(alloc, space, shape, grid, slab, guards.runs, steps) {
+    match check_guards(alloc, space, shape, grid, slab, guards.laid.runs, steps) {
         Ok(None) => Ok(SlabState::Whole(SlabFree {
             guarded: true,
             ..guards.free
@@ -102,11 +102,18 @@ fn guarded_by<S: Space, L: Ledger>(
     }
 }
 
-// A slab whose list is whole, and the bytes that its cache keeps at its objects.
+// How the objects of a cache lie, and the bytes that it keeps at each.
+#[derive(Clone, Copy)]
+pub(crate) struct Laid<'o> {
+    pub(crate) objects: &'o SlabObjects,
+    pub(crate) runs: &'o GuardRuns,
+}
+
+// A slab whose list is whole, of such a cache.
 #[derive(Clone, Copy)]
 pub(crate) struct Guards<'g> {
     pub(crate) free: SlabFree,
-    pub(crate) runs: &'g GuardRuns,
+    pub(crate) laid: &'g Laid<'g>,
 }
 
 // What a slab is whose list is whole, also by the bytes at its objects where they are looked at.
@@ -115,19 +122,20 @@ pub(crate) fn with_guards<S: Space, L: Ledger>(
     space: &mut S,
     shape: &SlubShape,
     bases: &SlubBases,
-    objects: &SlabObjects,
     slab: &View<'_>,
     guards: &Guards<'_>,
     steps: &mut Steps<L>,
 ) -> Result<SlabState, WalkStop>
-    requires { IsTrue (is_laid objects.now) }
+    requires { IsTrue (is_laid guards.now.laid.now.objects.now) }
     ensures exact { WalksAs (λ s. s)
-        (λ i. Ok (with_guards i shape.now bases.now slab.now.at objects.now guards.now.runs.now guards.now.free)) (S.image space.old) result }
+        (λ i. Ok (with_guards i shape.now bases.now slab.now.at guards.now.laid.now.objects.now guards.now.laid.now.runs.now guards.now.free))
+        (S.image space.old) result }
     ensures broken { OnBroken result ⊥ }
     ensures stays { SpaceStays S.image S.files S.through S.most space.old space.new }
     ensures cause { CountsWalkFaults result (S.faults space.old) (S.faults space.new) }
 {
-    if !is_guarded(guards.runs, objects, guards.free) {
+    let Laid { objects, runs } = *guards.laid;
+    if !is_guarded(runs, objects, guards.free) {
         return Ok(SlabState::Whole(guards.free));
     }
     let grid = grid_of(shape, bases, objects, slab.at(), guards.free.objects);

@@ -1,21 +1,20 @@
 // A page, by its descriptor.
-ghost use Rattle.std.specs.Prelude.{◌≡◌, Ok};
+ghost use Rattle.std.specs.Prelude.{◌≡◌, Ok, Some, true};
 ghost use Rattle.kc_memory.specs.Stays.{SpaceStays};
-ghost use Rattle.kc_found.specs.Walks.{CountsWalkFaults, OnBroken, WalksAs};
+ghost use Rattle.kc_found.specs.Walks.{CountsWalkFaults, IsWalk, OnBroken, OnWalkFault, WalksAs};
 ghost use Rattle.kc_owner.specs.Object.Pages.{descriptor_of};
 ghost use Rattle.kc_slab_page.specs.Caches.{caches_view};
-ghost use Rattle.kc_slab_page.specs.Pages.{IsAbsent, by_cache, by_mark, page_seen, state_by, state_with};
+ghost use Rattle.kc_slab_page.specs.Pages.{IsAbsent, by_cache, by_mark, page_seen, state_by, state_with, stray, unnamed};
 
 use crate::caches::{CacheSeen, SlabCaches};
-use crate::guarding::{Guards, SlabFault, SlabState, with_guards};
+use crate::guarding::{Guards, Laid, SlabFault, SlabState, with_guards};
 use crate::mark::read_mark;
 use crate::shape::PageShape;
 use crate::slab::{NamedPage, is_laid, read_slab};
 use kc_btf::Btf;
-use kc_found::{Space, Stop, WalkStop};
-use kc_guard::GuardRuns;
-use kc_owner::view_at;
-use kc_view::{FieldNumber, SlabObjects, SlubBases, View, field_of};
+use kc_found::{Rule, Space, Stop, WalkStop, broken_field};
+use kc_owner::{looked_at, view_at};
+use kc_view::{FieldNumber, SlubBases, View, field_of};
 use kc_word::Steps;
 use std::alloc::Global;
 use std::sync::ledger::Ledger;
@@ -36,7 +35,7 @@ pub struct SlabSeen {
 pub enum PageSeen {
     /// Its descriptor can't be read.
     Absent,
-    /// Its descriptor names none of the caches.
+    /// Its descriptor names none of the caches; where these are all of the kernel's, it hasn't the mark of a slab's first page either.
     Other,
     /// Its descriptor names one of the caches, and hasn't the mark of a slab's first page.
     Unmarked,
@@ -58,27 +57,25 @@ fn state_with<S: Space, L: Ledger>(
     space: &mut S,
     shape: &PageShape,
     bases: &SlubBases,
-    objects: &SlabObjects,
-    runs: &GuardRuns,
+    laid: &Laid<'_>,
     slab: &NamedPage<'_>,
     steps: &mut Steps<L>,
 ) -> Result<SlabState, WalkStop>
     ensures exact { WalksAs (λ s. s)
-        (λ i. Ok (state_with i shape.now.objects.slub bases.now slab.now.view.now.at slab.now.cache.now runs.now objects.now)) (S.image space.old) result }
+        (λ i. Ok (state_with i shape.now.objects.slub bases.now slab.now.view.now.at slab.now.cache.now laid.now.runs.now laid.now.objects.now))
+        (S.image space.old) result }
     ensures broken { OnBroken result ⊥ }
     ensures stays { SpaceStays S.image S.files S.through S.most space.old space.new }
     ensures cause { CountsWalkFaults result (S.faults space.old) (S.faults space.new) }
 {
-    if !is_laid(*objects) {
+    if !is_laid(*laid.objects) {
         return Ok(SlabState::Untold);
     }
     let slub = &shape.objects.slub;
-    match read_slab(alloc, space, slub, bases, objects, slab, steps) {
+    match read_slab(alloc, space, slub, bases, laid.objects, slab, steps) {
         Ok(free) => {
-            let guards = Guards { free, runs };
-            with_guards(
-                alloc, space, slub, bases, objects, slab.view, &guards, steps,
-            )
+            let guards = Guards { free, laid };
+            with_guards(alloc, space, slub, bases, slab.view, &guards, steps)
         }
         Err(WalkStop::Broken(found)) => Ok(SlabState::Broken(SlabFault::Words(found))),
         Err(WalkStop::Fault) => Err(WalkStop::Fault),
@@ -103,7 +100,13 @@ fn state_by<S: Space, L: Ledger>(
     ensures cause { CountsWalkFaults result (S.faults space.old) (S.faults space.new) }
 {
     match &seen.objects {
-        Ok(objects) => state_with(alloc, space, shape, bases, objects, &seen.runs, slab, steps),
+        Ok(objects) => {
+            let laid = Laid {
+                objects,
+                runs: &seen.runs,
+            };
+            state_with(alloc, space, shape, bases, &laid, slab, steps)
+        }
         Err(_) => Ok(SlabState::Untold),
     }
 }
@@ -138,6 +141,59 @@ fn by_mark<S: Space, L: Ledger>(
     }
 }
 
+// A slab's first page whose descriptor names none of the kernel's caches: rule U1.
+fn stray(alloc: Global, page: &NamedPage<'_>) -> Result<PageSeen, WalkStop>
+    ensures exact { IsWalk (λ p. p) (Ok (stray page.now.view.now.at page.now.cache.now (Some true))) result }
+    ensures broken { OnBroken result ⊥ }
+    ensures no_fault { OnWalkFault result ⊥ }
+{
+    let cache = page.cache;
+    let slab = page.view.at();
+    match broken_field(
+        alloc,
+        &looked_at(slab),
+        Rule::U1,
+        cache.at,
+        &cache.number,
+        None,
+    ) {
+        WalkStop::Broken(found) => Ok(PageSeen::Slab(SlabSeen {
+            slab,
+            cache: cache.value(),
+            state: SlabState::Broken(SlabFault::Words(found)),
+        })),
+        WalkStop::Fault => Err(WalkStop::Fault),
+        WalkStop::NoMemory => Err(WalkStop::NoMemory),
+    }
+}
+
+// A page whose descriptor names none of the caches: where these are all of the kernel's, it breaks rule U1 if it has the mark of a slab's first page.
+fn unnamed<S: Space, L: Ledger>(
+    alloc: Global,
+    space: &mut S,
+    shape: &PageShape,
+    all: bool,
+    page: &NamedPage<'_>,
+    steps: &mut Steps<L>,
+) -> Result<PageSeen, WalkStop>
+    ensures exact { WalksAs (λ p. p) (λ i. Ok (unnamed i shape.now all page.now.view.now.at page.now.cache.now)) (S.image space.old) result }
+    ensures broken { OnBroken result ⊥ }
+    ensures stays { SpaceStays S.image S.files S.through S.most space.old space.new }
+    ensures cause { CountsWalkFaults result (S.faults space.old) (S.faults space.new) }
+{
+    if !all {
+        return Ok(PageSeen::Other);
+    }
+    let Some(marked) = read_mark(alloc, space, page.view, &shape.mark, steps)? else {
+        return Ok(PageSeen::Absent);
+    };
+    if marked {
+        stray(alloc, page)
+    } else {
+        Ok(PageSeen::Other)
+    }
+}
+
 // A page, by what its descriptor has as its cache.
 fn by_cache<S: Space, L: Ledger>(
     alloc: Global,
@@ -154,12 +210,10 @@ fn by_cache<S: Space, L: Ledger>(
     ensures stays { SpaceStays S.image S.files S.through S.most space.old space.new }
     ensures cause { CountsWalkFaults result (S.faults space.old) (S.faults space.new) }
 {
+    let named = NamedPage { view: page, cache };
     match caches.caches.get(&cache.value()) {
-        Some(seen) => {
-            let named = NamedPage { view: page, cache };
-            by_mark(alloc, space, shape, &caches.bases, seen, &named, steps)
-        }
-        None => Ok(PageSeen::Other),
+        Some(seen) => by_mark(alloc, space, shape, &caches.bases, seen, &named, steps),
+        None => unnamed(alloc, space, shape, caches.all, &named, steps),
     }
 }
 

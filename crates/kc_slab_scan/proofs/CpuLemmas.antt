@@ -20,12 +20,12 @@ use Rattle.kc_slab_scan.specs.Cpus.{cpus_from, with_cpu}
 use Rattle.kc_slab_scan.specs.CpuLists.{again, cpu_seen, taken_all, taken_with}
 use Rattle.kc_slab_scan.specs.CpuScans.{cache_from, nodes_from, none_seen, with_node, with_seen}
 
-drop_next : {X : Type 0} (xs : List X) (n : ℕ) (x : X) → slice_get xs n ≡ Some x → drop n xs ≡ x ∷ drop (suc n) xs
+pub drop_next : {X : Type 0} (xs : List X) (n : ℕ) (x : X) → slice_get xs n ≡ Some x → drop n xs ≡ x ∷ drop (suc n) xs
 drop_next [] n x is = absurd (let none : ⊥ = cc in none)
 drop_next (y ∷ ys) zero x is = let same : y ≡ x = cc in ap (λ z. z ∷ ys) same
 drop_next (y ∷ ys) (suc n) x is = drop_next ys n x is
 
-dropped : {X : Type 0} (xs : List X) (n : ℕ) → length xs ≤ n → drop n xs ≡ []
+pub dropped : {X : Type 0} (xs : List X) (n : ℕ) → length xs ≤ n → drop n xs ≡ []
 dropped [] zero all = refl
 dropped [] (suc n) all = refl
 dropped (x ∷ xs) zero all = absurd (omega (arith, all))

@@ -1,5 +1,6 @@
 pub mod CpuLaws
 pub mod CpuLists
+pub mod CpuObjects
 pub mod CpuScans
 pub mod CpuShapes
 pub mod Cpus

@@ -17,7 +17,7 @@ use Rattle.kc_command.specs.declared.halt.Halt.{Halt}
 use Rattle.kc_command.specs.declared.halt.Halt.TheVariants.{Refused, Store, Memory}
 use Rattle.kc_command.specs.declared.kernel.Noted.{Noted}
 use Rattle.kc_command.specs.declared.refusal.Refusal.TheVariants.{Notes}
-use Rattle.kc_command.specs.Inputs.{map_in, rows_in, types_in}
+use Rattle.kc_command.specs.Inputs.{map_in, rows_in, types_in, view_headers}
 use Rattle.kc_command.specs.Kernels.{NotedAt, noted_in, noted_view}
 use Rattle.kc_command.specs.Made.{◌>>=◌, Halts, IsOf, Made, checked, gives}
 use Rattle.kc_command.specs.declared.ends.answer.Answer.{Answer}
@@ -88,6 +88,13 @@ three_counted (Ok x) old a b c d e f one two new begins goes ends =
     ends ∙ ap (λ (l : List ℕ). l ++ (e ++ f)) (goes ∙ ap (λ (l : List ℕ). l ++ (c ++ d)) begins) ∙ simp append_assoc
 three_counted (Err x) old a b c d e f one two new begins goes ends = tt
 
+-- and what comes after two of them
+pub two_counted : {A E : Type 0} (r : Result A E) (old a b c d f one two new : List ℕ) → one ≡ old ++ (a ++ b) → two ≡ one ++ (c ++ d) → OnOk r (new ≡ two ++ f)
+    → OnOk r (new ≡ old ++ (a ++ b ++ c ++ d ++ f))
+two_counted (Ok x) old a b c d f one two new begins goes ends =
+    ends ∙ ap (λ (l : List ℕ). l ++ f) (goes ∙ ap (λ (l : List ℕ). l ++ (c ++ d)) begins) ∙ simp append_assoc
+two_counted (Err x) old a b c d f one two new begins goes ends = tt
+
 -- what is answered is what is written of what was seen
 pub answered : (seen : Result Seen Violation) (text : List ℕ) (sound : Bool) → text ≡ told_text seen → sound ≡ are_sound seen
     → ◌≡◌ {A = Written} (record { out = text; err = []; status = if sound then Done else Broken }) (slabs_written seen)
@@ -106,13 +113,13 @@ told_of (Some bytes) image shapes cache runs all (Err stop) same says = tt
 
 -- what is printed of files that were read is made of them
 made_of : (cache dump btf map : Option (List ℕ)) (noted : NotedAt) (note : List ℕ) (types : Types) (listed : List ℕ) (r : Result Answer Halt)
-    → noted_in dump ≡ Some (Ok noted) → checked Notes (text_in noted.parts.notes) ≡ Some (Ok note) → types_in btf ≡ Some (Ok types) → map_in map ≡ Some (Ok listed)
+    → noted_in view_headers dump ≡ Some (Ok noted) → checked Notes (text_in noted.parts.notes) ≡ Some (Ok note) → types_in btf ≡ Some (Ok types) → map_in map ≡ Some (Ok listed)
     → PrintsOfBytes slabs_written (λ bytes. seen_made cache bytes noted.parts.segments noted.told note types listed) dump r → Prints slabs_written (slabs_made cache dump btf map) r
 made_of cache None btf map noted note types listed r is told typed mapped prints = absurd (let none : ⊥ = cc in none)
 made_of cache (Some bytes) btf map noted note types listed r is told typed mapped prints = rw (is, told, typed, mapped) prints
 
 pub prints_made : (cache : Option (List ℕ)) (files : Option Files) (dump btf map : List ℕ) (noted : Noted) (note : List ℕ) (types : Types) (listed : Vec ℕ) (content : Option (List ℕ)) (r : Result Answer Halt)
-    → IsOf noted_view (λ told. noted_in (told slot.Dump dump)) files (Ok noted) → checked Notes (text_in noted.core.notes) ≡ Some (Ok note)
+    → IsOf noted_view (λ told. noted_in view_headers (told slot.Dump dump)) files (Ok noted) → checked Notes (text_in noted.core.notes) ≡ Some (Ok note)
     → IsOf {X = Types} (λ x. x) (λ told. types_in (told slot.Btf btf)) files (Ok types)
     → IsOf {X = Vec ℕ} (λ m. m.items) (λ told. map_in (told slot.Map map)) files (Ok listed) → content ≡ named files slot.Dump dump
     → PrintsOfBytes slabs_written (λ bytes. seen_made cache bytes noted.core.segments noted.info note types listed.items) content r

@@ -13,7 +13,7 @@ use Rattle.kc_found.specs.Violations.{Violation}
 use Rattle.kc_question.specs.Memory.{bare_image, bytes_of}
 use Rattle.kc_slab_page.specs.Frames.Frames.{frames}
 use Rattle.kc_command.specs.declared.refusal.Refusal.TheVariants.{NoType, Notes}
-use Rattle.kc_command.specs.Inputs.{map_in, rows_in, types_in}
+use Rattle.kc_command.specs.Inputs.{map_in, rows_in, types_in, view_headers}
 use Rattle.kc_command.specs.Kernels.{noted_in}
 use Rattle.kc_command.specs.Made.{◌>>=◌, Made, checked, gives, wanted}
 use Rattle.kc_command.specs.Paging.{by_info}
@@ -22,11 +22,10 @@ use Rattle.kc_command.specs.declared.ends.status.Status.TheVariants.{Done, Broke
 use Rattle.kc_command.specs.Ends.Asked.{Asked}
 use Rattle.kc_command.specs.Ends.Output.{written_files}
 use Rattle.kc_command.specs.Ends.Written.{Written}
-use Rattle.kc_slab_scan.specs.CpuShapes.{cpu_shape}
-use Rattle.kc_slab_page.specs.Shapes.{page_shape}
 use Rattle.kc_slabs.specs.declared.files.Asks.{Asks}
 use Rattle.kc_slabs.specs.declared.looking.SlabShapes.{SlabShapes}
 use Rattle.kc_slabs.specs.Looking.{Seen, seen_in}
+use Rattle.kc_slabs.specs.OfCache.{slab_shapes}
 use Rattle.kc_slabs.specs.Text.{are_sound, told_text}
 
 -- what is written of a dump's slabs: the status says whether they are sound
@@ -45,7 +44,7 @@ kernel_by types rows told = kernel_with types (λ name. addresses name rows) tol
 
 -- where it has what tells of its slabs; types that lack it are refused
 abbrev pub shape_made : Kernel → List ℕ → Made SlabShapes
-shape_made kernel note = wanted NoType (page_shape kernel note) >>= (λ pages. gives (record { pages = pages; cpus = cpu_shape kernel }))
+shape_made kernel note = wanted NoType (slab_shapes kernel note)
 
 -- what is seen of the slabs of a cache, or of all, by a dump's bytes, segments and notes, and by the kernel's types and the bytes of a map
 abbrev pub seen_by : Option (List ℕ) → List ℕ → List Segment → Info → SlabShapes → Result Seen Violation
@@ -58,7 +57,7 @@ seen_made cache bytes segments told note types map =
 -- the faults come in the order dump, types and map
 abbrev pub slabs_made : Option (List ℕ) → Option (List ℕ) → Option (List ℕ) → Option (List ℕ) → Made (Result Seen Violation)
 slabs_made cache dump btf map = do
-  noted ← noted_in dump
+  noted ← noted_in view_headers dump
   note ← checked Notes (text_in noted.parts.notes)
   types ← types_in btf
   listed ← map_in map

@@ -17,14 +17,16 @@ ghost use Rattle.kc_command.specs.Paging.{IsTable};
 ghost use Rattle.kc_command.specs.Slots.{IsAbout, RefusesAbout};
 ghost use Rattle.kc_command.specs.Ends.Answers.{OnNone, OnStoreIn, PrintsOf, PrintsOfBytes, RefusesLast, Runs, StayBehind, UnlessStoreIn, written_by};
 ghost use Rattle.kc_command.specs.Ends.Asked.{word_in};
-ghost use Rattle.kc_slab_page.specs.Shapes.{page_shape};
 ghost use Rattle.kc_slabs.specs.Looking.{told_view};
+ghost use Rattle.kc_slabs.specs.OfCache.{slab_shapes};
 ghost use Rattle.kc_slabs.specs.Slabs.{asking, kernel_with, seen_made, shape_made, slabs_asked, slabs_asks, slabs_made, slabs_view, slabs_written};
 
 use crate::looking::{SlabShapes, SlabsSeen, look_at};
 use crate::text::{are_sound, told_text};
 use kc_btf::Btf;
-use kc_command::{Answer, Halt, Refusal, read_map, read_noted, read_symbols, read_types};
+use kc_command::{
+    Answer, Halt, Refusal, VIEW_HEADERS, read_map, read_noted, read_symbols, read_types,
+};
 use kc_elf::Core;
 use kc_found::Found;
 use kc_kinds::Known;
@@ -104,7 +106,7 @@ fn look_over<S: Store>(alloc: Global, store: &mut S, asks: &Asks<'_>) -> Result<
     ensures quiet { UnlessStore result (S.faults store.new ≡ S.faults store.old) }
     ensures cause { OnStore result (Rose (S.faults store.old) (S.faults store.new)) }
 {
-    let noted = read_noted(alloc, store, asks.dump)?;
+    let noted = read_noted(alloc, store, VIEW_HEADERS, asks.dump)?;
     let note = read_note(&noted.core)?;
     let types = read_types(alloc, store, asks.btf)?;
     let map = read_map(alloc, store, asks.map)?;
@@ -136,7 +138,39 @@ struct Kernel<'k> {
     map: &'k [u8],
 }
 
-// Where the kernel has what tells of its slabs, or the refusal of its types.
+/// Where a kernel has what tells of its slabs, by its types, the symbols of its map and the text of its dump's VMCOREINFO, or `None` where it
+/// lacks that.
+///
+/// # Errors
+///
+/// Out of memory.
+pub fn slab_shapes(
+    alloc: Global,
+    types: &Btf,
+    symbols: &Symbols<'_>,
+    info: Info,
+    note: &[u8],
+) -> Result<Option<SlabShapes>, NoMemory>
+    ensures { IfOk result (λ s. s ≡ slab_shapes (kernel_with types.now (symbol symbols.now) info) note.now) }
+{
+    let names = Names::new(alloc, types)?;
+    let known = Known {
+        btf: types,
+        names: &names,
+        symbols,
+        kaslr: info.kaslr,
+        five: info.five,
+    };
+    match page_shape(&known, note) {
+        Some(pages) => Ok(Some(SlabShapes {
+            pages,
+            cpus: cpu_shape(&known),
+        })),
+        None => Ok(None),
+    }
+}
+
+// The same, or the refusal of its types.
 fn shape_of(
     alloc: Global,
     types: &Btf,
@@ -148,19 +182,8 @@ fn shape_of(
     ensures refused { RefusesAbout None result }
     ensures no_call { NotStore result }
 {
-    let names = Names::new(alloc, types)?;
-    let known = Known {
-        btf: types,
-        names: &names,
-        symbols,
-        kaslr: info.kaslr,
-        five: info.five,
-    };
-    match page_shape(&known, note) {
-        Some(pages) => Ok(SlabShapes {
-            pages,
-            cpus: cpu_shape(&known),
-        }),
+    match slab_shapes(alloc, types, symbols, info, note)? {
+        Some(shapes) => Ok(shapes),
         None => Err(Halt::Refused(Refusal::NoType)),
     }
 }

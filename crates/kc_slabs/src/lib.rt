@@ -4,9 +4,12 @@
 mod files;
 mod laws;
 mod looking;
+mod of_cache;
 mod text;
 mod top;
 
+pub use files::slab_shapes;
 pub use laws::know_slabs;
-pub use looking::SlabsSeen;
+pub use looking::{CpusSeen, SlabShapes, SlabsSeen};
+pub use of_cache::{SlabFrames, push_cache_line, see_cache};
 pub use top::kslab;

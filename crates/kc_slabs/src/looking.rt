@@ -62,12 +62,12 @@ pub struct SlabsSeen {
 
 // The question what the slabs of these page frames are: of a cache, or all.
 #[derive(Drop)]
-struct EachSlab<'q> {
-    alloc: Global,
-    btf: &'q Btf,
-    shapes: &'q SlabShapes,
-    wanted: Option<&'q [u8]>,
-    runs: &'q [FrameRun],
+pub(crate) struct EachSlab<'q> {
+    pub(crate) alloc: Global,
+    pub(crate) btf: &'q Btf,
+    pub(crate) shapes: &'q SlabShapes,
+    pub(crate) wanted: Option<&'q [u8]>,
+    pub(crate) runs: &'q [FrameRun],
 }
 
 // What processors have of these caches.
@@ -116,7 +116,7 @@ fn tell_owned<S: Space, L: Ledger>(
 }
 
 // What the slabs are that are asked for.
-fn read_seen<S: Space, L: Ledger>(
+pub(crate) fn read_seen<S: Space, L: Ledger>(
     space: &mut S,
     asks: &EachSlab<'_>,
     steps: &mut Steps<L>,

@@ -39,7 +39,7 @@ fn push_rule(text: &mut Vec<u8>, found: &Found) -> Result<(), NoMemory>
 }
 
 // The letters of a rule of the bytes that slub_debug keeps.
-fn guard_code(rule: GuardRule) -> &'static [u8]
+pub(crate) fn guard_code(rule: GuardRule) -> &'static [u8]
     ensures { result.now ≡ guard_code rule }
 {
     match rule {
@@ -83,7 +83,7 @@ fn push_fault(text: &mut Vec<u8>, fault: &SlabFault) -> Result<(), NoMemory>
 }
 
 // The name of a cache, by its address.
-fn name_in(caches: &SlabCaches, cache: u64) -> &[u8]
+pub(crate) fn name_in(caches: &SlabCaches, cache: u64) -> &[u8]
     ensures { result.now ≡ name_in (caches_view caches.now) cache }
 {
     match caches.caches.get(&cache) {

@@ -1,6 +1,6 @@
 // What words say, how far it goes on, and symbols of a map. What is read of a dump is tried by kc_why.
 use kc_memory::{Origin, VWord};
-use kc_sight::{ImageMap, Meaning, Seen, meaning_of, nearest, span_of};
+use kc_sight::{ImageMap, ImageParts, Meaning, Seen, meaning_of, nearest, span_of};
 use std::alloc::{AllocError, Global};
 use std::test::Fail;
 
@@ -68,8 +68,12 @@ fn symbols_stand_below(rt: HostRuntime) -> Result<(), Fail> {
     let image = ImageMap {
         map: MAP,
         kaslr: 0x10,
-        text_end: None,
-        end: Some(0xffff_ffff_8200_0010),
+        parts: ImageParts {
+            text_end: None,
+            end: Some(0xffff_ffff_8200_0010),
+            init_start: None,
+            init_end: None,
+        },
     };
     for (address, wanted) in [
         (0xffff_ffff_8100_000f, None),

@@ -1,3 +1,4 @@
+mod SaysLemmas
 pub mod NearLemmas
 pub mod ShapeLemmas
 pub mod TextLemmas

@@ -1,8 +1,9 @@
 pub mod AreaText
 pub mod Near
 pub mod NearText
-pub mod Objects
 pub mod ObjectText
+pub mod Objects
+pub mod SaysText
 pub mod SeenText
 pub mod Text
 pub mod Views

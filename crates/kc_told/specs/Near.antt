@@ -6,15 +6,17 @@ use Rattle.kc_memory.specs.Stopped.{Stopped}
 use Rattle.kc_memory.specs.Translation.{vword}
 use Rattle.kc_found.specs.Violations.{Violation}
 use Rattle.kc_owner.specs.declared.object.described.Described.{Described}
+use Rattle.kc_owner.specs.declared.object.held.Held.{Held}
 use Rattle.kc_owner.specs.declared.object.shape.ObjectShape.{ObjectShape}
 use Rattle.kc_owner.specs.Object.Described.{described}
+use Rattle.kc_slab_scan.specs.declared.cpu_words.CpuShape.{CpuShape}
 use Rattle.kc_sight.specs.declared.meaning.Meaning.{Meaning}
 use Rattle.kc_sight.specs.declared.meaning.Meaning.TheVariants.{Number}
 use Rattle.kc_sight.specs.Meanings.{meaning}
 use Rattle.kc_sight.specs.Sights.{near, word_start}
 use Rattle.kc_told.specs.declared.near.Lead.{Lead}
 use Rattle.kc_told.specs.declared.near.NearWord.{NearWord}
-use Rattle.kc_told.specs.Objects.{Shapes, held_by}
+use Rattle.kc_told.specs.Objects.{Kept, Shapes, held_by, kept_by, sought}
 
 -- the page whose descriptor has an address, by the address's word; none where that can't be read or told
 abbrev pub page_told : Result (Option Described) Violation → Option Described
@@ -26,35 +28,40 @@ described_by image None address word = None
 described_by image (Some shape) address (Err s) = None
 described_by image (Some shape) address (Ok w) = page_told (described image shape address)
 
--- what an address leads to: what holds it, and the page whose descriptor has it
-abbrev pub lead_by : Image → Option ObjectShape → ℕ → Result VWord Stopped → Lead
-lead_by image shape address word = record { held = held_by image shape address word; described = described_by image shape address word }
+-- what an address leads to: what holds it, where a processor's own free list has the object, and the page whose descriptor has it
+abbrev pub lead_with : Option (Result Held Violation) → Kept → Option Described → Lead
+lead_with held kept page = record { held = held; kept = kept; described = page }
 
-abbrev pub lead_at : Image → Option ObjectShape → ℕ → Lead
-lead_at image shape address = lead_by image shape address (vword image (word_start address))
+abbrev pub lead_by : Image → Option ObjectShape → Option CpuShape → ℕ → Result VWord Stopped → Lead
+lead_by image shape cpus address word =
+    let held = held_by image shape address word in
+    lead_with held (kept_by image cpus (sought held)) (described_by image shape address word)
+
+abbrev pub lead_at : Image → Option ObjectShape → Option CpuShape → ℕ → Lead
+lead_at image shape cpus address = lead_by image shape cpus address (vword image (word_start address))
 
 abbrev pub nothing : Lead
-nothing = record { held = None; described = None }
+nothing = lead_with None None None
 
 -- what a word leads to, by what it says: a number is taken as an address
-abbrev pub lead_with : Image → Option ObjectShape → Meaning → ℕ → Lead
-lead_with image shape Number value = lead_at image shape value
-lead_with image shape _ value = nothing
+abbrev pub lead_as : Image → Option ObjectShape → Option CpuShape → Meaning → ℕ → Lead
+lead_as image shape cpus Number value = lead_at image shape cpus value
+lead_as image shape cpus _ value = nothing
 
-abbrev pub lead_of : Image → Option ObjectShape → VWord → Lead
-lead_of image shape w = lead_with image shape (meaning w.va w.value) w.value
+abbrev pub lead_of : Image → Option ObjectShape → Option CpuShape → VWord → Lead
+lead_of image shape cpus w = lead_as image shape cpus (meaning w.va w.value) w.value
 
-abbrev pub seen_lead : Image → Option ObjectShape → Result VWord Stopped → Lead
-seen_lead image shape (Ok w) = lead_of image shape w
-seen_lead image shape (Err s) = nothing
+abbrev pub seen_lead : Image → Option ObjectShape → Option CpuShape → Result VWord Stopped → Lead
+seen_lead image shape cpus (Ok w) = lead_of image shape cpus w
+seen_lead image shape cpus (Err s) = nothing
 
 -- a word with what it leads to
-abbrev pub near_word : Image → Option ObjectShape → Result VWord Stopped → NearWord
-near_word image shape seen = record { seen = seen; lead = seen_lead image shape seen }
+abbrev pub near_word : Image → Option ObjectShape → Option CpuShape → Result VWord Stopped → NearWord
+near_word image shape cpus seen = record { seen = seen; lead = seen_lead image shape cpus seen }
 
-unfoldable pub near_words : Image → Option ObjectShape → List (Result VWord Stopped) → List NearWord
-near_words image shape near = map (near_word image shape) near
+unfoldable pub near_words : Image → Option ObjectShape → Option CpuShape → List (Result VWord Stopped) → List NearWord
+near_words image shape cpus near = map (near_word image shape cpus) near
 
 -- those beside an address
 abbrev pub near_of : Image → Shapes → ℕ → List NearWord
-near_of image shapes address = near_words image shapes.objects (near image address)
+near_of image shapes address = near_words image shapes.objects shapes.cpus (near image address)

@@ -13,6 +13,7 @@ use Rattle.kc_owner.specs.declared.object.slab.Slab.{Slab}
 use Rattle.kc_owner.specs.declared.object.spot.ObjectSpot.{ObjectSpot}
 use Rattle.kc_owner.specs.declared.object.spot.Spot.{Spot}
 use Rattle.kc_owner.specs.declared.object.spot.Spot.TheVariants.{Before, Pad, Object, Past}
+use Rattle.kc_told.specs.Objects.{Kept}
 
 -- why something can't be told: the rule, and what it is about
 abbrev pub unknown_text : Violation → List ℕ
@@ -38,26 +39,34 @@ slab_line head s =
     codes "slab " ++ hex head ++ codes " first " ++ hex s.first ++ codes " objects " ++ decimal s.counts.objects ++ codes " inuse " ++ decimal s.counts.inuse
     ++ codes "\n"
 
--- where the slab's own free list has the object; where it doesn't, a processor that owns the slab may have it in its list
-abbrev pub place_text : Option ℕ → ℕ → Bool → List ℕ
-place_text (Some place) length frozen = codes " free " ++ decimal place ++ codes " of " ++ decimal length ++ codes "\n"
-place_text None length true = codes " frozen\n"
-place_text None length false = codes " used\n"
+-- where the list of a processor that owns the slab has the object; `frozen` where that can't be told
+abbrev pub kept_text : Kept → List ℕ
+kept_text None = codes " frozen\n"
+kept_text (Some (Ok (Some s))) =
+    codes " free " ++ decimal s.place ++ codes " of " ++ decimal s.length ++ codes " processor " ++ decimal s.cpu ++ codes "\n"
+kept_text (Some (Ok None)) = codes " used\n"
+kept_text (Some (Err v)) = codes " frozen" ++ unknown_text v
 
-abbrev pub free_text : Result FreeSpot Violation → Bool → List ℕ
-free_text (Ok free) frozen = place_text free.place free.length frozen
-free_text (Err v) frozen = unknown_text v
+-- where the slab's own free list has it, or else such a processor's
+abbrev pub place_text : Option ℕ → ℕ → Bool → Kept → List ℕ
+place_text (Some place) length frozen kept = codes " free " ++ decimal place ++ codes " of " ++ decimal length ++ codes "\n"
+place_text None length true kept = kept_text kept
+place_text None length false kept = codes " used\n"
+
+abbrev pub free_text : Result FreeSpot Violation → Bool → Kept → List ℕ
+free_text (Ok free) frozen kept = place_text free.place free.length frozen kept
+free_text (Err v) frozen kept = unknown_text v
 
 -- the object, its number in the slab, and the byte in it
 abbrev pub object_text : ObjectSpot → List ℕ
 object_text o = codes "object " ++ hex o.first ++ codes " number " ++ decimal o.number ++ codes " byte " ++ decimal o.byte
 
 -- where in its slab the address lies
-abbrev pub spot_line : Spot → Result FreeSpot Violation → Bool → List ℕ
-spot_line (Object o) free frozen = object_text o ++ free_text free frozen
-spot_line (Pad number) free frozen = codes "pad number " ++ decimal number ++ codes "\n"
-spot_line Past free frozen = codes "past\n"
-spot_line Before free frozen = codes "before\n"
+abbrev pub spot_line : Spot → Result FreeSpot Violation → Bool → Kept → List ℕ
+spot_line (Object o) free frozen kept = object_text o ++ free_text free frozen kept
+spot_line (Pad number) free frozen kept = codes "pad number " ++ decimal number ++ codes "\n"
+spot_line Past free frozen kept = codes "past\n"
+spot_line Before free frozen kept = codes "before\n"
 
 -- a symbol's name
 abbrev pub holder_text : SymbolAt → List ℕ
@@ -68,20 +77,20 @@ abbrev pub holder_line : List SymbolAt → List ℕ
 holder_line [] = []
 holder_line (s ∷ others) = codes "held by" ++ texts holder_text (s ∷ others) ++ codes "\n"
 
-abbrev pub whole_slab : ℕ → List SymbolAt → Slab → List ℕ
-whole_slab head holders s =
-    cache_line s.cache s.objects.size ++ holder_line holders ++ slab_line head s ++ spot_line s.spot s.free s.counts.frozen
+abbrev pub whole_slab : ℕ → List SymbolAt → Kept → Slab → List ℕ
+whole_slab head holders kept s =
+    cache_line s.cache s.objects.size ++ holder_line holders ++ slab_line head s ++ spot_line s.spot s.free s.counts.frozen kept
 
-abbrev pub slab_lines : ℕ → List SymbolAt → Result (Option Slab) Violation → List ℕ
-slab_lines head holders (Ok None) = []
-slab_lines head holders (Ok (Some s)) = whole_slab head holders s
-slab_lines head holders (Err v) = codes "slab" ++ unknown_text v
+abbrev pub slab_lines : ℕ → List SymbolAt → Kept → Result (Option Slab) Violation → List ℕ
+slab_lines head holders kept (Ok None) = []
+slab_lines head holders kept (Ok (Some s)) = whole_slab head holders kept s
+slab_lines head holders kept (Err v) = codes "slab" ++ unknown_text v
 
 -- what holds an address
-abbrev pub held_lines : List SymbolAt → Result Held Violation → List ℕ
-held_lines holders (Ok h) = page_line h.page ++ slab_lines h.page.head holders h.slab
-held_lines holders (Err v) = codes "descriptor" ++ unknown_text v
+abbrev pub held_lines : List SymbolAt → Kept → Result Held Violation → List ℕ
+held_lines holders kept (Ok h) = page_line h.page ++ slab_lines h.page.head holders kept h.slab
+held_lines holders kept (Err v) = codes "descriptor" ++ unknown_text v
 
-abbrev pub object_lines : List SymbolAt → Option (Result Held Violation) → List ℕ
-object_lines holders None = []
-object_lines holders (Some held) = held_lines holders held
+abbrev pub object_lines : List SymbolAt → Kept → Option (Result Held Violation) → List ℕ
+object_lines holders kept None = []
+object_lines holders kept (Some held) = held_lines holders kept held

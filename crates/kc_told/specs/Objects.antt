@@ -1,14 +1,14 @@
 -- What is told of an address, beside what is seen of it: the areas in which it lies, and which object has it.
-use Rattle.std.specs.Prelude.{ℕ, ◌+◌, ◌%◌, ◌^◌, ◌&&◌, Bool, true, false, not, nat_lt, if◌then◌else◌, codes, List, [], Option, Some, None, Result, Ok, Err}
-use Rattle.std.specs.Result.{result_ok}
+use Rattle.std.specs.Prelude.{ℕ, ◌+◌, ◌%◌, ◌^◌, ◌&&◌, Bool, true, false, not, nat_lt, is_none, if◌then◌else◌, List, [], Option, Some, None, Result, Ok, Err}
 use Rattle.kc_btf.specs.Btf.{Types}
 use Rattle.kc_memory.specs.declared.words.VWord.{VWord}
 use Rattle.kc_memory.specs.Image.{Image}
 use Rattle.kc_memory.specs.Stopped.{Stopped}
 use Rattle.kc_memory.specs.Translation.{vword}
 use Rattle.kc_notes.specs.declared.info.Info.{Info}
-use Rattle.kc_syms.specs.Addresses.{common_of}
 use Rattle.kc_syms.specs.Rows.{RowText, addresses}
+use Rattle.kc_found.specs.declared.free.Grid.{Grid}
+use Rattle.kc_found.specs.Nodes.{at_offset}
 use Rattle.kc_found.specs.Violations.{Violation}
 use Rattle.kc_kinds.specs.Kernels.{Kernel}
 use Rattle.kc_owner.specs.declared.area.areas.Areas.{Areas}
@@ -16,27 +16,43 @@ use Rattle.kc_owner.specs.declared.area.shape.AreaShape.{AreaShape}
 use Rattle.kc_owner.specs.Area.Areas.{areas}
 use Rattle.kc_owner.specs.Area.Shapes.{area_shape}
 use Rattle.kc_owner.specs.declared.object.cache.Cache.{Cache}
+use Rattle.kc_owner.specs.declared.object.free.FreeSpot.{FreeSpot}
 use Rattle.kc_owner.specs.declared.object.held.Held.{Held}
 use Rattle.kc_owner.specs.declared.object.shape.ObjectShape.{ObjectShape}
 use Rattle.kc_owner.specs.declared.object.slab.Slab.{Slab}
+use Rattle.kc_owner.specs.declared.object.spot.Spot.{Spot}
+use Rattle.kc_owner.specs.declared.object.spot.Spot.TheVariants.{Before, Pad, Object, Past}
 use Rattle.kc_owner.specs.Object.Shapes.{object_shape}
 use Rattle.kc_owner.specs.Object.Slabs.{held}
+use Rattle.kc_slab_page.specs.Slabs.{is_laid}
+use Rattle.kc_slab_scan.specs.declared.cpu_object.CpuSpot.{CpuSpot}
+use Rattle.kc_slab_scan.specs.declared.cpu_object.SlabObject.{SlabObject}
+use Rattle.kc_slab_scan.specs.declared.cpu_words.CpuShape.{CpuShape}
+use Rattle.kc_slab_scan.specs.CpuObjects.{object_spot}
+use Rattle.kc_slab_scan.specs.CpuShapes.{cpu_shape}
 use Rattle.kc_sight.specs.Holders.{holders}
-use Rattle.kc_sight.specs.Nearest.{SymbolAt, image_end, in_image}
+use Rattle.kc_sight.specs.Nearest.{SymbolAt, image_parts, in_image}
 use Rattle.kc_sight.specs.Sights.{word_start}
 
--- where a kernel has what tells of an address: page descriptors and slab caches, areas, where its image ends, and the symbols whose words
--- hold a value in a memory
+-- where a kernel has what tells of an address: page descriptors and slab caches, the slabs that processors own, areas, where its image ends, and the
+-- symbols whose words hold a value in a memory
 pub record Shapes : Type 0 where
   pub objects : Option ObjectShape
+  pub cpus : Option CpuShape
   pub areas : AreaShape
   pub end : Option ℕ
   pub holding : Image → ℕ → List SymbolAt
 
--- the areas in which an address lies, what holds it, and the symbols whose words hold the address of the object's cache
+-- where a processor's own free list has an object
+abbrev pub Kept : Type 0
+Kept = Option (Result (Option CpuSpot) Violation)
+
+-- the areas in which an address lies, what holds it, where a processor's own free list has the object, where that is asked for, and the symbols
+-- whose words hold the address of the object's cache
 pub record Told : Type 0 where
   pub areas : Areas
   pub held : Option (Result Held Violation)
+  pub kept : Kept
   pub holders : List SymbolAt
 
 -- what holds an address, by its word; nothing is told where the word can't be read, or the kernel lacks what that asks for
@@ -85,11 +101,52 @@ abbrev pub holders_by : (ℕ → List SymbolAt) → Option ℕ → List SymbolAt
 holders_by holding None = []
 holders_by holding (Some cache) = holding cache
 
+-- where a slab's objects lie
+abbrev pub grid_in : Slab → Grid
+grid_in s = record {
+  base = at_offset s.first s.objects.left_pad;
+  size = s.objects.size;
+  objects = s.counts.objects;
+  offset = s.objects.offset;
+  random = s.objects.random;
+}
+
+-- the object for which processors are asked: a processor owns its slab, whose own free list doesn't have it
+abbrev pub sought_at : ℕ → Slab → Spot → Option SlabObject
+sought_at head s (Object o) = if is_laid s.objects then Some (record { cache = s.cache.at; slab = head; grid = grid_in s; object = o.first }) else None
+sought_at head s (Pad number) = None
+sought_at head s Past = None
+sought_at head s Before = None
+
+abbrev pub sought_free : ℕ → Slab → Result FreeSpot Violation → Option SlabObject
+sought_free head s (Ok free) = if s.counts.frozen && is_none free.place then sought_at head s s.spot else None
+sought_free head s (Err v) = None
+
+abbrev pub sought_slab : ℕ → Result (Option Slab) Violation → Option SlabObject
+sought_slab head (Ok (Some s)) = sought_free head s s.free
+sought_slab head (Ok None) = None
+sought_slab head (Err v) = None
+
+abbrev pub sought : Option (Result Held Violation) → Option SlabObject
+sought None = None
+sought (Some (Ok h)) = sought_slab h.page.head h.slab
+sought (Some (Err v)) = None
+
+-- where a processor's own free list has it
+abbrev pub kept_of : Image → SlabObject → Option CpuShape → Kept
+kept_of image o None = None
+kept_of image o (Some c) = Some (object_spot image c o)
+
+abbrev pub kept_by : Image → Option CpuShape → Option SlabObject → Kept
+kept_by image cpus None = None
+kept_by image cpus (Some o) = kept_of image o cpus
+
 -- what is told of an address, by its word
 abbrev pub told_with : Image → Shapes → ℕ → Option (Result Held Violation) → Told
 told_with image shapes address held = record {
   areas = areas_by image shapes address held;
   held = held;
+  kept = kept_by image shapes.cpus (sought held);
   holders = holders_by (shapes.holding image) (shared_in held);
 }
 
@@ -106,15 +163,12 @@ kernel_with types symbols told = record { types = types; symbols = symbols; kasl
 abbrev pub kernel_by : Types → List RowText → Info → Kernel
 kernel_by types rows told = kernel_with types (λ name. addresses name rows) told
 
--- where the image's data begins, at the symbol `_etext`
-abbrev pub data_start : ℕ → List RowText → Option ℕ
-data_start kaslr rows = result_ok (common_of kaslr (addresses (codes "_etext") rows))
-
 -- and what it has to tell of an address
 abbrev pub shapes_by : Types → List RowText → Info → Shapes
 shapes_by types rows told = record {
   objects = object_shape (kernel_by types rows told);
+  cpus = cpu_shape (kernel_by types rows told);
   areas = area_shape (kernel_by types rows told);
-  end = image_end told.kaslr rows;
-  holding = λ image value. holders image (data_start told.kaslr rows) (image_end told.kaslr rows) told.kaslr value rows;
+  end = (image_parts told.kaslr rows).end;
+  holding = λ image value. holders image (image_parts told.kaslr rows) told.kaslr value rows;
 }

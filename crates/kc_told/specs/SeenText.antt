@@ -27,8 +27,8 @@ map_symbols m = record { image = image_symbols m; from = symbols_from m }
 -- all lines
 abbrev pub seen_text : MapSymbols → Sight → Told → List NearWord → List ℕ
 seen_text m s t near =
-    head_lines m.image s.address ++ area_lines m.from t.areas ++ sight_lines m.image s near ++ object_lines t.holders t.held
+    head_lines m.image s.address ++ area_lines m.from t.areas ++ sight_lines m.image s near ++ object_lines t.holders t.kept t.held
 
 -- what is told of an address alone: its symbol, its areas, and what holds it
 abbrev pub told_lines : MapSymbols → ℕ → Told → List ℕ
-told_lines m address t = symbol_line (m.image address) address ++ area_lines m.from t.areas ++ object_lines t.holders t.held
+told_lines m address t = symbol_line (m.image address) address ++ area_lines m.from t.areas ++ object_lines t.holders t.kept t.held

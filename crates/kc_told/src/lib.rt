@@ -6,6 +6,7 @@ mod area_text;
 mod near;
 mod near_text;
 mod object_text;
+mod says;
 mod seen;
 mod shapes;
 mod text;
@@ -13,6 +14,7 @@ mod told;
 
 pub use near::{Lead, NearWord};
 pub use object_text::push_unknown;
+pub use says::push_says;
 pub use seen::{push_told, seen_text};
 pub use shapes::shapes_in;
 pub use told::{Shapes, Sighted, Told, Words, read_sighted, read_told};

@@ -5,7 +5,7 @@ ghost use Rattle.kc_sight.specs.Looks.{LooksAs};
 ghost use Rattle.kc_told.specs.Near.{described_by, lead_at, lead_of, near_word, near_words, nothing};
 ghost use Rattle.kc_found.specs.Failures.{CountsFailures};
 
-use crate::told::tell_held;
+use crate::told::{Kept, Words, sought, tell_held, tell_kept};
 use kc_btf::Btf;
 use kc_found::{Found, ReadFailed, Space, WalkStop};
 use kc_memory::VWord;
@@ -20,6 +20,8 @@ use std::sync::ledger::Ledger;
 pub struct Lead {
     /// What holds that address, or why its page can't be told; `None` where its word can't be read, or the kernel lacks what that asks for.
     pub held: Option<Result<Held, Found>>,
+    /// Where a processor's own free list has the object.
+    pub kept: Kept,
     /// The page whose descriptor has it, where its word can be read.
     pub described: Option<Described>,
 }
@@ -34,11 +36,12 @@ pub struct NearWord {
 }
 
 // Nothing is led to.
-fn nothing() -> Lead
+pub(crate) fn nothing() -> Lead
     ensures { result ≡ nothing }
 {
     Lead {
         held: None,
+        kept: None,
         described: None,
     }
 }
@@ -75,21 +78,27 @@ fn lead_at<S: Space, L: Ledger>(
     alloc: Global,
     space: &mut S,
     types: &Btf,
-    shape: &Option<ObjectShape>,
+    words: &Words,
     address: u64,
     steps: &mut Steps<L>,
 ) -> Result<Lead, ReadFailed>
-    ensures told { LooksAs (λ l. l) (λ image. lead_at image shape.now address) (S.image space.old) result }
+    ensures told { LooksAs (λ l. l) (λ image. lead_at image words.now.objects words.now.cpus address) (S.image space.old) result }
     ensures stays { SpaceStays S.image S.files S.through S.most space.old space.new }
     ensures cause { CountsFailures result (S.faults space.old) (S.faults space.new) }
 {
+    let shape = &words.objects;
     if shape.is_none() {
         return Ok(nothing());
     }
     let word = read_word(space, word_start(address), steps)?;
     let held = tell_held(alloc, space, types, shape, address, &word, steps)?;
+    let kept = tell_kept(alloc, space, types, &words.cpus, sought(&held), steps)?;
     let described = tell_described(alloc, space, shape, address, &word, steps)?;
-    Ok(Lead { held, described })
+    Ok(Lead {
+        held,
+        kept,
+        described,
+    })
 }
 
 // What a word leads to.
@@ -97,16 +106,16 @@ fn lead_of<S: Space, L: Ledger>(
     alloc: Global,
     space: &mut S,
     types: &Btf,
-    shape: &Option<ObjectShape>,
+    words: &Words,
     word: &VWord,
     steps: &mut Steps<L>,
 ) -> Result<Lead, ReadFailed>
-    ensures told { LooksAs (λ l. l) (λ image. lead_of image shape.now word.now) (S.image space.old) result }
+    ensures told { LooksAs (λ l. l) (λ image. lead_of image words.now.objects words.now.cpus word.now) (S.image space.old) result }
     ensures stays { SpaceStays S.image S.files S.through S.most space.old space.new }
     ensures cause { CountsFailures result (S.faults space.old) (S.faults space.new) }
 {
     match meaning_of(word.va, word.value) {
-        Meaning::Number => lead_at(alloc, space, types, shape, word.value, steps),
+        Meaning::Number => lead_at(alloc, space, types, words, word.value, steps),
         _ => Ok(nothing()),
     }
 }
@@ -116,16 +125,16 @@ fn near_word<S: Space, L: Ledger>(
     alloc: Global,
     space: &mut S,
     types: &Btf,
-    shape: &Option<ObjectShape>,
+    words: &Words,
     seen: &Seen,
     steps: &mut Steps<L>,
 ) -> Result<NearWord, ReadFailed>
-    ensures told { LooksAs (λ w. w) (λ image. near_word image shape.now seen.now) (S.image space.old) result }
+    ensures told { LooksAs (λ w. w) (λ image. near_word image words.now.objects words.now.cpus seen.now) (S.image space.old) result }
     ensures stays { SpaceStays S.image S.files S.through S.most space.old space.new }
     ensures cause { CountsFailures result (S.faults space.old) (S.faults space.new) }
 {
     let lead = match seen {
-        Ok(word) => lead_of(alloc, space, types, shape, word, steps)?,
+        Ok(word) => lead_of(alloc, space, types, words, word, steps)?,
         Err(_) => nothing(),
     };
     Ok(NearWord { seen: *seen, lead })
@@ -136,18 +145,18 @@ pub(crate) fn near_words<S: Space, L: Ledger>(
     alloc: Global,
     space: &mut S,
     types: &Btf,
-    shape: &Option<ObjectShape>,
+    words: &Words,
     near: &[Seen],
     steps: &mut Steps<L>,
 ) -> Result<Vec<NearWord>, ReadFailed>
-    ensures told { LooksAs (λ words. words.items) (λ image. near_words image shape.now near.now) (S.image space.old) result }
+    ensures told { LooksAs (λ found. found.items) (λ image. near_words image words.now.objects words.now.cpus near.now) (S.image space.old) result }
     ensures stays { SpaceStays S.image S.files S.through S.most space.old space.new }
     ensures cause { CountsFailures result (S.faults space.old) (S.faults space.new) }
 {
-    let mut words = Vec::new(alloc);
+    let mut found = Vec::new(alloc);
     for seen in near {
-        let word = near_word(alloc, space, types, shape, seen, steps)?;
-        words.push(word)?;
+        let word = near_word(alloc, space, types, words, seen, steps)?;
+        found.push(word)?;
     }
-    Ok(words)
+    Ok(found)
 }

@@ -1,11 +1,12 @@
 // What is printed of where a word beside an address leads to.
 ghost use Rattle.std.specs.Prelude.{◌≡◌, ◌++◌, option_map, OnOk};
-ghost use Rattle.kc_told.specs.NearText.{described_text, descriptor_text, free_mark, in_object_text, lead_text, object_in, place_mark};
+ghost use Rattle.kc_told.specs.NearText.{described_text, descriptor_text, free_mark, in_object_text, kept_mark, lead_text, object_in, place_mark};
 ghost use Rattle.kc_told.specs.Views.{in_object_view};
 
 use crate::near::Lead;
+use crate::told::Kept;
 use kc_found::{Found, Name};
-use kc_owner::{Described, FreeSpot, Held, Spot};
+use kc_owner::{Described, FreeSpot, Spot};
 use kc_text::{push, push_hex, push_name, push_numbered};
 use kc_word::NoMemory;
 
@@ -20,33 +21,43 @@ pub(crate) struct InObject<'h> {
     pub(crate) mark: &'static [u8],
 }
 
-// What is said of an object by where its slab's own free list has it; where it doesn't, a processor that owns the slab may have it in a
-// list of its own.
-fn place_mark(place: Option<u64>, frozen: bool) -> &'static [u8]
-    ensures { result.now ≡ place_mark place frozen }
+// What is said of an object by where the list of a processor that owns its slab has it.
+fn kept_mark(kept: &Kept) -> &'static [u8]
+    ensures { result.now ≡ kept_mark kept.now }
+{
+    match kept {
+        Some(Ok(Some(_))) => b" free",
+        Some(Ok(None)) => b"",
+        Some(Err(_)) | None => b" frozen",
+    }
+}
+
+// The same by where its slab's own free list has it, or else such a processor's.
+fn place_mark(place: Option<u64>, frozen: bool, kept: &Kept) -> &'static [u8]
+    ensures { result.now ≡ place_mark place frozen kept.now }
 {
     match place {
         Some(_) => b" free",
-        None if frozen => b" frozen",
+        None if frozen => kept_mark(kept),
         None => b"",
     }
 }
 
 // The same, where that list may be broken before it comes to the object.
-fn free_mark(free: &Result<FreeSpot, Found>, frozen: bool) -> &'static [u8]
-    ensures { result.now ≡ free_mark free.now frozen }
+fn free_mark(free: &Result<FreeSpot, Found>, frozen: bool, kept: &Kept) -> &'static [u8]
+    ensures { result.now ≡ free_mark free.now frozen kept.now }
 {
     match free {
-        Ok(free) => place_mark(free.place, frozen),
+        Ok(free) => place_mark(free.place, frozen, kept),
         Err(_) => b" unknown",
     }
 }
 
 // The object that holds an address.
-fn object_in(held: &Option<Result<Held, Found>>) -> Option<InObject<'_>>
-    ensures { option_map in_object_view result ≡ object_in held.now }
+fn object_in(lead: &Lead) -> Option<InObject<'_>>
+    ensures { option_map in_object_view result ≡ object_in lead.now.kept lead.now.held }
 {
-    let Some(Ok(held)) = held else {
+    let Some(Ok(held)) = &lead.held else {
         return None;
     };
     let Ok(Some(slab)) = &held.slab else {
@@ -56,7 +67,7 @@ fn object_in(held: &Option<Result<Held, Found>>) -> Option<InObject<'_>>
         Spot::Object(object) => Some(InObject {
             name: &slab.cache.name,
             byte: object.byte,
-            mark: free_mark(&slab.free, slab.counts.frozen),
+            mark: free_mark(&slab.free, slab.counts.frozen, &lead.kept),
         }),
         _ => None,
     }
@@ -94,7 +105,7 @@ fn push_described(text: &mut Vec<u8>, page: Option<Described>) -> Result<(), NoM
 pub(crate) fn push_lead(text: &mut Vec<u8>, lead: &Lead) -> Result<(), NoMemory>
     ensures { OnOk result (text.new.items ≡ text.old.items ++ lead_text lead.now) }
 {
-    match object_in(&lead.held) {
+    match object_in(lead) {
         Some(object) => push_in_object(text, &object),
         None => push_described(text, lead.described),
     }

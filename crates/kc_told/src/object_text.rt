@@ -3,8 +3,9 @@ ghost use Rattle.std.specs.Prelude.{◌≡◌, ◌++◌, map, OnOk};
 ghost use Rattle.kc_text.specs.Compose.{texts};
 ghost use Rattle.kc_text.specs.Text.{hex};
 ghost use Rattle.kc_sight.specs.Views.{symbol_view};
-ghost use Rattle.kc_told.specs.ObjectText.{cache_line, free_text, held_lines, holder_line, holder_text, object_lines, object_text, page_line, place_text, slab_line, slab_lines, spot_line, unknown_text, users_text, whole_slab};
+ghost use Rattle.kc_told.specs.ObjectText.{cache_line, free_text, held_lines, holder_line, holder_text, kept_text, object_lines, object_text, page_line, place_text, slab_line, slab_lines, spot_line, unknown_text, users_text, whole_slab};
 
+use crate::told::Kept;
 use kc_found::Found;
 use kc_owner::{Cache, FreeSpot, Held, ObjectSpot, Page, Slab, Spot};
 use kc_report::rule_code;
@@ -82,14 +83,35 @@ fn push_slab(text: &mut Vec<u8>, head: u64, slab: &Slab) -> Result<(), NoMemory>
     push(text, b"\n")
 }
 
-// Where the slab's own free list has the object.
+// Where the list of a processor that owns the slab has the object.
+fn push_kept(text: &mut Vec<u8>, kept: &Kept) -> Result<(), NoMemory>
+    ensures { OnOk result (text.new.items ≡ text.old.items ++ kept_text kept.now) }
+{
+    match kept {
+        Some(Ok(Some(spot))) => {
+            push_numbered(text, b" free ", spot.place)?;
+            push_numbered(text, b" of ", spot.length)?;
+            push_numbered(text, b" processor ", spot.cpu)?;
+            push(text, b"\n")
+        }
+        Some(Ok(None)) => push(text, b" used\n"),
+        Some(Err(found)) => {
+            push(text, b" frozen")?;
+            push_unknown(text, found)
+        }
+        None => push(text, b" frozen\n"),
+    }
+}
+
+// Where the slab's own free list has it, or else such a processor's.
 fn push_place(
     text: &mut Vec<u8>,
     place: Option<u64>,
     length: u64,
     frozen: bool,
+    kept: &Kept,
 ) -> Result<(), NoMemory>
-    ensures { OnOk result (text.new.items ≡ text.old.items ++ place_text place length frozen) }
+    ensures { OnOk result (text.new.items ≡ text.old.items ++ place_text place length frozen kept.now) }
 {
     match place {
         Some(place) => {
@@ -97,7 +119,7 @@ fn push_place(
             push_numbered(text, b" of ", length)?;
             push(text, b"\n")
         }
-        None if frozen => push(text, b" frozen\n"),
+        None if frozen => push_kept(text, kept),
         None => push(text, b" used\n"),
     }
 }
@@ -106,11 +128,12 @@ fn push_free(
     text: &mut Vec<u8>,
     free: &Result<FreeSpot, Found>,
     frozen: bool,
+    kept: &Kept,
 ) -> Result<(), NoMemory>
-    ensures { OnOk result (text.new.items ≡ text.old.items ++ free_text free.now frozen) }
+    ensures { OnOk result (text.new.items ≡ text.old.items ++ free_text free.now frozen kept.now) }
 {
     match free {
-        Ok(free) => push_place(text, free.place, free.length, frozen),
+        Ok(free) => push_place(text, free.place, free.length, frozen, kept),
         Err(found) => push_unknown(text, found),
     }
 }
@@ -131,13 +154,14 @@ fn push_spot(
     spot: &Spot,
     free: &Result<FreeSpot, Found>,
     frozen: bool,
+    kept: &Kept,
 ) -> Result<(), NoMemory>
-    ensures { OnOk result (text.new.items ≡ text.old.items ++ spot_line spot.now free.now frozen) }
+    ensures { OnOk result (text.new.items ≡ text.old.items ++ spot_line spot.now free.now frozen kept.now) }
 {
     match spot {
         Spot::Object(object) => {
             push_object(text, object)?;
-            push_free(text, free, frozen)
+            push_free(text, free, frozen, kept)
         }
         Spot::Pad(number) => {
             push_numbered(text, b"pad number ", *number)?;
@@ -175,14 +199,15 @@ fn push_whole_slab(
     text: &mut Vec<u8>,
     head: u64,
     holders: &[Symbol<'_>],
+    kept: &Kept,
     slab: &Slab,
 ) -> Result<(), NoMemory>
-    ensures { OnOk result (text.new.items ≡ text.old.items ++ whole_slab head (map symbol_view holders.now) slab.now) }
+    ensures { OnOk result (text.new.items ≡ text.old.items ++ whole_slab head (map symbol_view holders.now) kept.now slab.now) }
 {
     push_cache(text, &slab.cache, slab.objects.size)?;
     push_holder_line(text, holders)?;
     push_slab(text, head, slab)?;
-    push_spot(text, &slab.spot, &slab.free, slab.counts.frozen)
+    push_spot(text, &slab.spot, &slab.free, slab.counts.frozen, kept)
 }
 
 // The lines of a slab, where there is one.
@@ -190,12 +215,13 @@ fn push_slab_lines(
     text: &mut Vec<u8>,
     head: u64,
     holders: &[Symbol<'_>],
+    kept: &Kept,
     slab: &Result<Option<Slab>, Found>,
 ) -> Result<(), NoMemory>
-    ensures { OnOk result (text.new.items ≡ text.old.items ++ slab_lines head (map symbol_view holders.now) slab.now) }
+    ensures { OnOk result (text.new.items ≡ text.old.items ++ slab_lines head (map symbol_view holders.now) kept.now slab.now) }
 {
     match slab {
-        Ok(Some(slab)) => push_whole_slab(text, head, holders, slab),
+        Ok(Some(slab)) => push_whole_slab(text, head, holders, kept, slab),
         Ok(None) => Ok(()),
         Err(found) => {
             push(text, b"slab")?;
@@ -208,14 +234,15 @@ fn push_slab_lines(
 fn push_held(
     text: &mut Vec<u8>,
     holders: &[Symbol<'_>],
+    kept: &Kept,
     held: &Result<Held, Found>,
 ) -> Result<(), NoMemory>
-    ensures { OnOk result (text.new.items ≡ text.old.items ++ held_lines (map symbol_view holders.now) held.now) }
+    ensures { OnOk result (text.new.items ≡ text.old.items ++ held_lines (map symbol_view holders.now) kept.now held.now) }
 {
     match held {
         Ok(held) => {
             push_page(text, &held.page)?;
-            push_slab_lines(text, held.page.head, holders, &held.slab)
+            push_slab_lines(text, held.page.head, holders, kept, &held.slab)
         }
         Err(found) => {
             push(text, b"descriptor")?;
@@ -224,16 +251,18 @@ fn push_held(
     }
 }
 
-/// Adds the lines of what holds an address, where that is told, with the symbols whose words hold the cache's address.
+/// Adds the lines of what holds an address, where that is told, with the symbols whose words hold the cache's address, and where a processor's
+/// own free list has the object.
 pub fn push_objects(
     text: &mut Vec<u8>,
     holders: &[Symbol<'_>],
+    kept: &Kept,
     held: &Option<Result<Held, Found>>,
 ) -> Result<(), NoMemory>
-    ensures { OnOk result (text.new.items ≡ text.old.items ++ object_lines (map symbol_view holders.now) held.now) }
+    ensures { OnOk result (text.new.items ≡ text.old.items ++ object_lines (map symbol_view holders.now) kept.now held.now) }
 {
     match held {
-        Some(held) => push_held(text, holders, held),
+        Some(held) => push_held(text, holders, kept, held),
         None => Ok(()),
     }
 }

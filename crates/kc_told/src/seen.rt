@@ -28,7 +28,12 @@ pub fn seen_text(
     push_head(&mut text, image, seen.sight.address)?;
     push_areas(&mut text, image, &seen.told.areas)?;
     push_sight(&mut text, image, &seen.sight, &seen.near)?;
-    push_objects(&mut text, &seen.told.holders, &seen.told.held)?;
+    push_objects(
+        &mut text,
+        &seen.told.holders,
+        &seen.told.kept,
+        &seen.told.held,
+    )?;
     Ok(text)
 }
 
@@ -47,5 +52,5 @@ pub fn push_told(
 {
     push_symbol_line(text, image.symbol(address), address)?;
     push_areas(text, image, &told.areas)?;
-    push_objects(text, &told.holders, &told.held)
+    push_objects(text, &told.holders, &told.kept, &told.held)
 }

@@ -6,6 +6,8 @@ ghost use Rattle.kc_syms.specs.Symbols.{symbol};
 ghost use Rattle.kc_view.specs.TaskLists.{IsInside};
 ghost use Rattle.kc_owner.specs.Area.Shapes.{area_shape};
 ghost use Rattle.kc_owner.specs.Object.Shapes.{object_shape};
+ghost use Rattle.kc_sight.specs.Nearest.{parts_by};
+ghost use Rattle.kc_slab_scan.specs.CpuShapes.{cpu_shape};
 ghost use Rattle.kc_told.specs.Objects.{kernel_with, shapes_by};
 ghost use Rattle.kc_told.specs.SeenText.{map_symbols, symbols_by};
 ghost use Rattle.kc_told.specs.Views.{shapes_view};
@@ -16,7 +18,8 @@ use kc_kinds::Known;
 use kc_layout::Names;
 use kc_notes::Info;
 use kc_owner::{area_shape, object_shape};
-use kc_sight::{ImageMap, know_sights};
+use kc_sight::{ImageMap, ImageParts, know_sights};
+use kc_slab_scan::cpu_shape;
 use kc_syms::Symbols;
 use kc_word::NoMemory;
 use std::alloc::Global;
@@ -29,6 +32,7 @@ fn words_in(
     info: Info,
 ) -> Result<Words, NoMemory>
     ensures objects { IfOk result (λ words. words.objects ≡ object_shape (kernel_with types.now (symbol symbols.now) info)) }
+    ensures cpus { IfOk result (λ words. words.cpus ≡ cpu_shape (kernel_with types.now (symbol symbols.now) info)) }
     ensures areas { IfOk result (λ words. words.areas ≡ area_shape (kernel_with types.now (symbol symbols.now) info)) }
     ensures tasks { IfOk result (λ words. IfSome words.areas.stacks (λ shape. IsInside shape.tasks types.now)) }
 {
@@ -42,8 +46,21 @@ fn words_in(
     };
     Ok(Words {
         objects: object_shape(&known),
+        cpus: cpu_shape(&known),
         areas: area_shape(&known),
     })
+}
+
+// Where the parts of a kernel's image begin and end.
+fn parts_in(symbols: &Symbols<'_>, kaslr: u64) -> ImageParts
+    ensures { result ≡ parts_by kaslr (symbol symbols.now) }
+{
+    ImageParts {
+        text_end: symbols.address(b"_etext", kaslr).ok(),
+        end: symbols.address(b"_end", kaslr).ok(),
+        init_start: symbols.address(b"__init_begin", kaslr).ok(),
+        init_end: symbols.address(b"__init_end", kaslr).ok(),
+    }
 }
 
 /// What tells of an address, by a kernel's types, and by the symbols of its map, which has these bytes.
@@ -71,8 +88,7 @@ pub fn shapes_in<'m>(
         map: ImageMap {
             map,
             kaslr: info.kaslr,
-            text_end: symbols.address(b"_etext", info.kaslr).ok(),
-            end: symbols.address(b"_end", info.kaslr).ok(),
+            parts: parts_in(symbols, info.kaslr),
         },
     })
 }

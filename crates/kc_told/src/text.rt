@@ -188,7 +188,7 @@ fn pattern_text(byte: u8) -> &'static [u8]
 }
 
 // What a word says.
-fn push_meaning(
+pub(crate) fn push_meaning(
     text: &mut Vec<u8>,
     image: &ImageMap<'_>,
     lead: &Lead,
@@ -272,7 +272,12 @@ fn push_bounds(text: &mut Vec<u8>, va: u64, span: Span) -> Result<(), NoMemory>
 }
 
 // How far what the word at an address says goes on in its 4096 bytes.
-fn push_span(text: &mut Vec<u8>, va: u64, meaning: Meaning, page: &[Seen]) -> Result<(), NoMemory>
+pub(crate) fn push_span(
+    text: &mut Vec<u8>,
+    va: u64,
+    meaning: Meaning,
+    page: &[Seen],
+) -> Result<(), NoMemory>
     ensures { OnOk result (text.new.items ≡ text.old.items ++ span_line va meaning page.now) }
 {
     if !is_fill(meaning) {

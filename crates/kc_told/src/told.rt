@@ -2,6 +2,7 @@
 ghost use Rattle.std.specs.Prelude.{◌≡◌, map, Ok, IfOk, IfSome};
 ghost use Rattle.kc_memory.specs.Stays.{SpaceStays};
 ghost use Rattle.kc_memory.specs.Translation.{vword};
+ghost use Rattle.kc_found.specs.FreeLists.{IsGrid};
 ghost use Rattle.kc_view.specs.TaskLists.{IsInside};
 ghost use Rattle.kc_owner.specs.Area.Areas.{areas};
 ghost use Rattle.kc_sight.specs.Aliases.{aliases};
@@ -9,20 +10,22 @@ ghost use Rattle.kc_sight.specs.Looks.{FaultsAfter, LooksAs, words};
 ghost use Rattle.kc_sight.specs.Sights.{near, page_start, word_start};
 ghost use Rattle.kc_sight.specs.Views.{symbol_view, symbols_holding};
 ghost use Rattle.kc_told.specs.Near.{near_of};
-ghost use Rattle.kc_told.specs.Objects.{areas_by, held_by, holders_by, is_slab, shared, shared_in, told_by, told_of};
+ghost use Rattle.kc_told.specs.Objects.{areas_by, grid_in, held_by, holders_by, is_slab, kept_by, shared, shared_in, sought, sought_at, sought_free, told_by, told_of};
 ghost use Rattle.kc_told.specs.Views.{shapes_view, told_view};
 ghost use Rattle.kc_found.specs.Failures.{CountsFailures};
 
 use crate::near::{NearWord, near_words};
 use crate::object_text::NEGATIVE;
 use kc_btf::Btf;
-use kc_found::{Found, ReadFailed, WalkStop};
+use kc_found::{Found, Grid, ReadFailed, WalkStop};
 use kc_memory::Space;
-use kc_owner::{AreaShape, Areas, Cache, Held, ObjectShape, find_object, read_areas};
+use kc_owner::{AreaShape, Areas, Cache, Held, ObjectShape, Slab, Spot, find_object, read_areas};
 use kc_sight::{
     ImageMap, Rules, Seen, Sight, Symbol, TableEntry, find_holders, read_sight, read_word,
     word_start,
 };
+use kc_slab_page::is_laid;
+use kc_slab_scan::{CpuShape, CpuSpot, SlabObject, find_spot};
 use kc_word::Steps;
 use std::alloc::Global;
 use std::sync::ledger::Ledger;
@@ -32,6 +35,8 @@ use std::sync::ledger::Ledger;
 pub struct Words {
     /// Those of page descriptors and slab caches, where it has all that these ask for.
     pub objects: Option<ObjectShape>,
+    /// Those that tell which slabs processors own, where it has them.
+    pub cpus: Option<CpuShape>,
     /// Those of areas.
     pub areas: AreaShape,
 }
@@ -45,6 +50,9 @@ pub struct Shapes<'m> {
     pub map: ImageMap<'m>,
 }
 
+/// Where a processor's own free list has an object, which none may have, or why that can't be told; `None` where it isn't asked for.
+pub type Kept = Option<Result<Option<CpuSpot>, Found>>;
+
 /// What is told of an address.
 #[derive(Drop)]
 pub struct Told<'m> {
@@ -52,6 +60,9 @@ pub struct Told<'m> {
     pub areas: Areas,
     /// What holds it, or why its page can't be told; `None` where its word can't be read, or the kernel lacks what that asks for.
     pub held: Option<Result<Held, Found>>,
+    /// Where a processor's own free list has the object. It is asked for where a processor owns the slab, whose own free list doesn't have it, and
+    /// where the kernel has the words that tell it.
+    pub kept: Kept,
     /// The symbols whose words hold the address of the object's cache, where this has several users.
     pub holders: Vec<Symbol<'m>>,
 }
@@ -129,6 +140,92 @@ fn shared_in(held: &Option<Result<Held, Found>>) -> Option<u64>
     }
 }
 
+// Where the objects of a slab lie.
+fn grid_in(slab: &Slab) -> Grid
+    ensures { result ≡ grid_in slab.now }
+{
+    let objects = &slab.objects;
+    Grid {
+        base: slab.first.wrapping_add(objects.left_pad),
+        size: objects.size,
+        objects: slab.counts.objects,
+        offset: objects.offset,
+        random: objects.random,
+    }
+}
+
+// The object of a slab for which processors are asked.
+fn sought_at(head: u64, slab: &Slab) -> Option<SlabObject>
+    ensures exact { result ≡ sought_at head slab.now slab.now.spot }
+    ensures grid { IfSome result (λ o. IsGrid o.grid) }
+{
+    let Spot::Object(object) = &slab.spot else {
+        return None;
+    };
+    if !is_laid(slab.objects) {
+        return None;
+    }
+    Some(SlabObject {
+        cache: slab.cache.at,
+        slab: head,
+        grid: grid_in(slab),
+        object: object.first,
+    })
+}
+
+// The same where a processor owns the slab, whose own free list doesn't have the object.
+fn sought_free(head: u64, slab: &Slab) -> Option<SlabObject>
+    ensures exact { result ≡ sought_free head slab.now slab.now.free }
+    ensures grid { IfSome result (λ o. IsGrid o.grid) }
+{
+    match &slab.free {
+        Ok(free) if slab.counts.frozen && free.place.is_none() => sought_at(head, slab),
+        _ => None,
+    }
+}
+
+// The object at an address for which processors are asked.
+pub(crate) fn sought(held: &Option<Result<Held, Found>>) -> Option<SlabObject>
+    ensures exact { result ≡ sought held.now }
+    ensures grid { IfSome result (λ o. IsGrid o.grid) }
+{
+    let Some(Ok(held)) = held else {
+        return None;
+    };
+    match &held.slab {
+        Ok(Some(slab)) => sought_free(held.page.head, slab),
+        _ => None,
+    }
+}
+
+// Where a processor's own free list has it.
+pub(crate) fn tell_kept<S: Space, L: Ledger>(
+    alloc: Global,
+    space: &mut S,
+    types: &Btf,
+    shape: &Option<CpuShape>,
+    object: Option<SlabObject>,
+    steps: &mut Steps<L>,
+) -> Result<Kept, ReadFailed>
+    requires { IfSome object (λ o. IsGrid o.grid) }
+    ensures told { LooksAs (λ k. k) (λ image. kept_by image shape.now object) (S.image space.old) result }
+    ensures stays { SpaceStays S.image S.files S.through S.most space.old space.new }
+    ensures cause { CountsFailures result (S.faults space.old) (S.faults space.new) }
+{
+    let Some(object) = object else {
+        return Ok(None);
+    };
+    let Some(shape) = shape else {
+        return Ok(None);
+    };
+    match find_spot(alloc, space, types, shape, &object, steps) {
+        Ok(spot) => Ok(Some(Ok(spot))),
+        Err(WalkStop::Broken(why)) => Ok(Some(Err(why))),
+        Err(WalkStop::Fault) => Err(ReadFailed::Fault),
+        Err(WalkStop::NoMemory) => Err(ReadFailed::NoMemory),
+    }
+}
+
 // The areas in which an address lies, which isn't one of the image.
 fn tell_areas<S: Space, L: Ledger>(
     alloc: Global,
@@ -166,7 +263,7 @@ fn tell_outside<S: Space, L: Ledger>(
     ensures stays { SpaceStays S.image S.files S.through S.most space.old space.new }
     ensures cause { CountsFailures result (S.faults space.old) (S.faults space.new) }
 {
-    if shapes.map.holds(address) {
+    if shapes.map.parts.hold(address) {
         return Ok(Areas {
             module_found: Ok(None),
             processor_found: Ok(None),
@@ -228,10 +325,19 @@ fn tell<'m, S: Space, L: Ledger>(
         steps,
     )?;
     let areas = tell_outside(alloc, space, types, shapes, address, &held, steps)?;
+    let kept = tell_kept(
+        alloc,
+        space,
+        types,
+        &shapes.words.cpus,
+        sought(&held),
+        steps,
+    )?;
     let holders = tell_holders(alloc, space, &shapes.map, shared_in(&held), steps)?;
     Ok(Told {
         areas,
         held,
+        kept,
         holders,
     })
 }
@@ -286,14 +392,7 @@ pub fn read_sighted<'m, S: Space, L: Ledger>(
     ensures cause { FaultsAfter entries result (S.faults space.old) (S.faults space.new) }
 {
     let sight = read_sight(alloc, space, address, rules, entries, steps)?;
-    let near = near_words(
-        alloc,
-        space,
-        types,
-        &shapes.words.objects,
-        &sight.near,
-        steps,
-    )?;
+    let near = near_words(alloc, space, types, &shapes.words, &sight.near, steps)?;
     let told = tell(alloc, space, types, shapes, address, &sight.word, steps)?;
     Ok(Sighted { sight, near, told })
 }

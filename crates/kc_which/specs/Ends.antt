@@ -1,6 +1,9 @@
 -- How a search among rings ends at the first that is broken: with this one, where it has the violation that is looked for.
 use denote.Enum.Bare.{sameb}
 use Rattle.std.specs.Prelude.{ℕ, Bool, ◌&&◌, nat_eq, if◌then◌else◌, List, Option, Some, None, Result, Ok, Err}
+use Rattle.kc_outside.specs.Files.{Files}
+use Rattle.kc_memory.specs.Image.{Image}
+use Rattle.kc_memory.specs.Stays.{SpaceStays}
 use Rattle.kc_memory.specs.contracts.rule.Rule.{the_type}
 use Rattle.kc_memory.specs.declared.rule.Rule.{Rule}
 use Rattle.kc_memory.specs.declared.rule.Rule.TheVariants.{K, L1, N}
@@ -9,6 +12,7 @@ use Rattle.kc_found.specs.declared.found.WalkStop.{WalkStop}
 use Rattle.kc_found.specs.declared.found.WalkStop.TheVariants as ends
 use Rattle.kc_found.specs.declared.shapes.ListShape.{ListShape}
 use Rattle.kc_found.specs.Violations.{Violation}
+use Rattle.kc_found.specs.Walks.{CountsWalkFaults}
 use Rattle.kc_view.specs.TaskLists.{task_of}
 
 -- the audit that a violation names
@@ -41,3 +45,8 @@ broken_node list L1 at = Some (task_of list.prev at)
 broken_node list K at = Some (task_of list.next at)
 broken_node list N at = Some (task_of list.next at)
 broken_node list _ at = None
+
+-- A walk that only reads a memory: that is of the same dump after it, and its count of failures rose only where reading failed.
+pub record OnlyWalks {M A : Type 0} (image : M → Option Image) (files : M → Option Files) (through : M → List ℕ) (most faults : M → ℕ) (result : Result A WalkStop) (old new : M) : Type 0 where
+  pub stays : SpaceStays image files through most old new
+  pub cause : CountsWalkFaults result (faults old) (faults new)

@@ -5,7 +5,7 @@ ghost use Rattle.kc_memory.specs.Stays.{SpaceStays};
 ghost use Rattle.kc_found.specs.Walks.{CountsWalkFaults, OnBroken, WalksAs};
 ghost use Rattle.kc_view.specs.Caches.{count_of, slab_of};
 ghost use Rattle.kc_which.specs.CacheRings.{cache_ring, element_at, in_cache, in_node, in_partial, nodes_on, partial_head, pointer_at, slab_in};
-ghost use Rattle.kc_which.specs.Ends.{asked_of};
+ghost use Rattle.kc_which.specs.Ends.{OnlyWalks, asked_of};
 ghost use Rattle.kc_which.specs.Firsts.{first_of};
 
 use crate::ends::{asked_of, broken_node, told};
@@ -58,8 +58,7 @@ fn walk_list<S: Space, L: Ledger>(
     steps: &mut Steps<L>,
 ) -> Result<Walked, WalkStop>
     ensures exact { WalksAs (λ nodes. nodes) (λ i. nodes_on i shape.now found.now which) (S.image space.old) result }
-    ensures stays { SpaceStays S.image S.files S.through S.most space.old space.new }
-    ensures cause { CountsWalkFaults result (S.faults space.old) (S.faults space.new) }
+    ensures reads { OnlyWalks S.image S.files S.through S.most S.faults result space.old space.new }
 {
     let head = partial_head(shape, which);
     ring(alloc, space, &shape.list, head, found.audit, steps)
@@ -75,8 +74,7 @@ fn in_partial<S: Space, L: Ledger>(
     steps: &mut Steps<L>,
 ) -> Result<Option<CacheRing>, WalkStop>
     ensures exact { WalksAs (λ list. list) (λ i. in_partial i shape.now found.now which) (S.image space.old) result }
-    ensures stays { SpaceStays S.image S.files S.through S.most space.old space.new }
-    ensures cause { CountsWalkFaults result (S.faults space.old) (S.faults space.new) }
+    ensures reads { OnlyWalks S.image S.files S.through S.most S.faults result space.old space.new }
 {
     match walk_list(alloc, space, shape, found, which, steps) {
         Ok(_) => Ok(None),
@@ -94,8 +92,7 @@ fn read_pointer<S: Space, L: Ledger>(
     steps: &mut Steps<L>,
 ) -> Result<u64, WalkStop>
     ensures exact { WalksAs (λ n. n) (λ i. pointer_at i shape.now found.now number) (S.image space.old) result }
-    ensures stays { SpaceStays S.image S.files S.through S.most space.old space.new }
-    ensures cause { CountsWalkFaults result (S.faults space.old) (S.faults space.new) }
+    ensures reads { OnlyWalks S.image S.files S.through S.most S.faults result space.old space.new }
 {
     let asked = asked_of(found);
     let bits = Bits {
@@ -123,8 +120,7 @@ fn in_node<S: Space, L: Ledger>(
     steps: &mut Steps<L>,
 ) -> Result<Option<CacheRing>, WalkStop>
     ensures exact { WalksAs (λ list. list) (λ i. in_node i shape.now found.now number) (S.image space.old) result }
-    ensures stays { SpaceStays S.image S.files S.through S.most space.old space.new }
-    ensures cause { CountsWalkFaults result (S.faults space.old) (S.faults space.new) }
+    ensures reads { OnlyWalks S.image S.files S.through S.most S.faults result space.old space.new }
 {
     let knode = read_pointer(alloc, space, shape, found, number, steps)?;
     if knode == 0 {
@@ -144,8 +140,7 @@ fn in_nodes<S: Space, L: Ledger>(
     steps: &mut Steps<L>,
 ) -> Result<Option<CacheRing>, WalkStop>
     ensures exact { WalksAs (λ list. list) (λ i. first_of (in_node i shape.now found.now) (range_with_len 0 count)) (S.image space.old) result }
-    ensures stays { SpaceStays S.image S.files S.through S.most space.old space.new }
-    ensures cause { CountsWalkFaults result (S.faults space.old) (S.faults space.new) }
+    ensures reads { OnlyWalks S.image S.files S.through S.most S.faults result space.old space.new }
 {
     for number in 0..count {
         match in_node(alloc, space, shape, found, number, steps) {
@@ -166,8 +161,7 @@ fn read_count<S: Space, L: Ledger>(
     steps: &mut Steps<L>,
 ) -> Result<u64, WalkStop>
     ensures exact { WalksAs (λ n. n) (λ i. count_of i (asked_of found.now) shape.now.nodes shape.now.node_ids) (S.image space.old) result }
-    ensures stays { SpaceStays S.image S.files S.through S.most space.old space.new }
-    ensures cause { CountsWalkFaults result (S.faults space.old) (S.faults space.new) }
+    ensures reads { OnlyWalks S.image S.files S.through S.most S.faults result space.old space.new }
 {
     let asked = asked_of(found);
     let nodes = u64::from(shape.nodes);
@@ -194,8 +188,7 @@ fn in_cache<S: Space, L: Ledger>(
     steps: &mut Steps<L>,
 ) -> Result<Option<CacheRing>, WalkStop>
     ensures exact { WalksAs (λ list. list) (λ i. in_cache i shape.now found.now) (S.image space.old) result }
-    ensures stays { SpaceStays S.image S.files S.through S.most space.old space.new }
-    ensures cause { CountsWalkFaults result (S.faults space.old) (S.faults space.new) }
+    ensures reads { OnlyWalks S.image S.files S.through S.most S.faults result space.old space.new }
 {
     let count = read_count(alloc, space, shape, found, steps)?;
     in_nodes(alloc, space, shape, found, count, steps)

@@ -3,6 +3,7 @@ ghost use Rattle.std.specs.Prelude.{◌≡◌, Ok};
 ghost use Rattle.kc_memory.specs.Stays.{SpaceStays};
 ghost use Rattle.kc_found.specs.Walks.{CountsWalkFaults, OnBroken, WalksAs};
 ghost use Rattle.kc_view.specs.TaskLists.{IsInside, task_of};
+ghost use Rattle.kc_which.specs.Ends.{OnlyWalks};
 ghost use Rattle.kc_which.specs.Firsts.{first_of};
 ghost use Rattle.kc_which.specs.TaskRings.{element_at, in_children, in_group, in_leaders, in_tasks, in_threads, link_of, nodes_on, ring_head, task_ring, task_in, with_head};
 
@@ -76,8 +77,7 @@ fn walk_ring<S: Space, L: Ledger>(
     steps: &mut Steps<L>,
 ) -> Result<Walked, WalkStop>
     ensures exact { WalksAs (λ nodes. nodes) (λ i. nodes_on i shape.now found.now which) (S.image space.old) result }
-    ensures stays { SpaceStays S.image S.files S.through S.most space.old space.new }
-    ensures cause { CountsWalkFaults result (S.faults space.old) (S.faults space.new) }
+    ensures reads { OnlyWalks S.image S.files S.through S.most S.faults result space.old space.new }
 {
     let head = ring_head(shape, found.start, which);
     ring(alloc, space, &shape.list, head, found.audit, steps)
@@ -93,8 +93,7 @@ fn in_children<S: Space, L: Ledger>(
     steps: &mut Steps<L>,
 ) -> Result<Option<TaskRing>, WalkStop>
     ensures exact { WalksAs (λ ring. ring) (λ i. in_children i shape.now found.now parent) (S.image space.old) result }
-    ensures stays { SpaceStays S.image S.files S.through S.most space.old space.new }
-    ensures cause { CountsWalkFaults result (S.faults space.old) (S.faults space.new) }
+    ensures reads { OnlyWalks S.image S.files S.through S.most S.faults result space.old space.new }
 {
     let which = TaskRing::Children { parent };
     match walk_ring(alloc, space, shape, found, which, steps) {
@@ -115,8 +114,7 @@ fn in_all_children<S: Space, L: Ledger>(
     ensures exact { WalksAs (λ ring. ring)
         (λ i. first_of (λ node. in_children i shape.now found.now (task_of shape.now.thread_node node)) nodes.now)
         (S.image space.old) result }
-    ensures stays { SpaceStays S.image S.files S.through S.most space.old space.new }
-    ensures cause { CountsWalkFaults result (S.faults space.old) (S.faults space.new) }
+    ensures reads { OnlyWalks S.image S.files S.through S.most S.faults result space.old space.new }
 {
     let mut i = 0;
     while i < nodes.len() {
@@ -143,8 +141,7 @@ fn in_threads<S: Space, L: Ledger>(
     steps: &mut Steps<L>,
 ) -> Result<Option<TaskRing>, WalkStop>
     ensures exact { WalksAs (λ ring. ring) (λ i. in_threads i shape.now found.now leader signal) (S.image space.old) result }
-    ensures stays { SpaceStays S.image S.files S.through S.most space.old space.new }
-    ensures cause { CountsWalkFaults result (S.faults space.old) (S.faults space.new) }
+    ensures reads { OnlyWalks S.image S.files S.through S.most S.faults result space.old space.new }
 {
     let which = TaskRing::Threads { leader, signal };
     match walk_ring(alloc, space, shape, found, which, steps) {
@@ -165,8 +162,7 @@ fn in_group<S: Space, L: Ledger>(
 ) -> Result<Option<TaskRing>, WalkStop>
     requires { IsInside shape.now btf.now }
     ensures exact { WalksAs (λ ring. ring) (λ i. in_group i shape.now found.now leader) (S.image space.old) result }
-    ensures stays { SpaceStays S.image S.files S.through S.most space.old space.new }
-    ensures cause { CountsWalkFaults result (S.faults space.old) (S.faults space.new) }
+    ensures reads { OnlyWalks S.image S.files S.through S.most S.faults result space.old space.new }
 {
     let asked = asked_of(found);
     let task = View::new(btf, shape.task, leader);
@@ -188,8 +184,7 @@ fn in_all_groups<S: Space, L: Ledger>(
     ensures exact { WalksAs (λ ring. ring)
         (λ i. first_of (λ node. in_group i shape.now found.now (task_of shape.now.tasks node)) nodes.now)
         (S.image space.old) result }
-    ensures stays { SpaceStays S.image S.files S.through S.most space.old space.new }
-    ensures cause { CountsWalkFaults result (S.faults space.old) (S.faults space.new) }
+    ensures reads { OnlyWalks S.image S.files S.through S.most S.faults result space.old space.new }
 {
     let mut i = 0;
     while i < nodes.len() {
@@ -217,8 +212,7 @@ fn in_leaders<S: Space, L: Ledger>(
 ) -> Result<Option<TaskRing>, WalkStop>
     requires { IsInside shape.now btf.now }
     ensures exact { WalksAs (λ ring. ring) (λ i. in_leaders i shape.now found.now nodes.now) (S.image space.old) result }
-    ensures stays { SpaceStays S.image S.files S.through S.most space.old space.new }
-    ensures cause { CountsWalkFaults result (S.faults space.old) (S.faults space.new) }
+    ensures reads { OnlyWalks S.image S.files S.through S.most S.faults result space.old space.new }
 {
     match in_group(alloc, space, btf, shape, found, found.start, steps)? {
         Some(which) => Ok(Some(which)),
@@ -237,8 +231,7 @@ fn in_tasks<S: Space, L: Ledger>(
 ) -> Result<Option<TaskRing>, WalkStop>
     requires { IsInside shape.now btf.now }
     ensures exact { WalksAs (λ ring. ring) (λ i. in_tasks i shape.now found.now) (S.image space.old) result }
-    ensures stays { SpaceStays S.image S.files S.through S.most space.old space.new }
-    ensures cause { CountsWalkFaults result (S.faults space.old) (S.faults space.new) }
+    ensures reads { OnlyWalks S.image S.files S.through S.most S.faults result space.old space.new }
 {
     let which = TaskRing::Tasks;
     match walk_ring(alloc, space, shape, found, which, steps) {

@@ -11,7 +11,7 @@ use Rattle.kc_command.specs.declared.halt.Halt.{Halt}
 use Rattle.kc_command.specs.declared.halt.Halt.TheVariants as halts
 use Rattle.kc_command.specs.declared.refusal.Refusal.TheVariants.{MapLine}
 use Rattle.kc_command.specs.declared.kernel.Kernel.{Kernel}
-use Rattle.kc_command.specs.Inputs.{rows_in}
+use Rattle.kc_command.specs.Inputs.{rows_in, view_headers}
 use Rattle.kc_command.specs.Kernels.{KernelAt, kernel_in, kernel_view}
 use Rattle.kc_command.specs.Made.{IsOf, Made, checked}
 use Rattle.kc_command.specs.declared.ends.answer.Answer.{Answer}
@@ -63,13 +63,13 @@ prints_why (Some bytes) memory address kernel symbols rules shapes read seen ans
     rw is (ap (λ (w : Written). Some w) (sym all))
 
 -- what is shown of a kernel is what is made of its files
-made_of : (question : Question) (dump btf map : Option (List ℕ)) (kernel : KernelAt) (r : Result Answer Halt) → kernel_in dump btf map ≡ Some (Ok kernel)
+made_of : (question : Question) (dump btf map : Option (List ℕ)) (kernel : KernelAt) (r : Result Answer Halt) → kernel_in view_headers dump btf map ≡ Some (Ok kernel)
     → PrintsOfBytes why_written (λ bytes. shown_in question bytes kernel) dump r → Prints why_written (why_made question dump btf map) r
 made_of question None btf map kernel r is prints = absurd (let none : ⊥ = cc in none)
 made_of question (Some bytes) btf map kernel r is prints = rw is prints
 
 pub prints_made : (question : Question) (files : Option Files) (dump btf map : List ℕ) (kernel : Kernel) (content : Option (List ℕ)) (r : Result Answer Halt)
-    → IsOf kernel_view (λ told. kernel_in (told slot.Dump dump) (told slot.Btf btf) (told slot.Map map)) files (Ok kernel) → content ≡ named files slot.Dump dump
+    → IsOf kernel_view (λ told. kernel_in view_headers (told slot.Dump dump) (told slot.Btf btf) (told slot.Map map)) files (Ok kernel) → content ≡ named files slot.Dump dump
     → PrintsOfBytes why_written (λ bytes. shown_in question bytes (kernel_view kernel)) content r
     → PrintsOf why_written (λ told. why_made question (told slot.Dump dump) (told slot.Btf btf) (told slot.Map map)) files r
 prints_made question None dump btf map kernel content r is same prints = tt

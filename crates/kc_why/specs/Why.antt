@@ -10,7 +10,7 @@ use Rattle.kc_notes.specs.declared.info.Info.{Info}
 use Rattle.kc_syms.specs.Addresses.{common_of}
 use Rattle.kc_syms.specs.Rows.{RowText, addresses}
 use Rattle.kc_question.specs.Memory.{bytes_of}
-use Rattle.kc_command.specs.Inputs.{rows_in}
+use Rattle.kc_command.specs.Inputs.{rows_in, view_headers}
 use Rattle.kc_command.specs.Kernels.{KernelAt, kernel_in}
 use Rattle.kc_command.specs.Made.{◌>>=◌, Made, gives}
 use Rattle.kc_command.specs.declared.ends.status.Status.TheVariants.{Done}
@@ -107,7 +107,7 @@ shown_in (Words value) bytes kernel = found_in bytes value kernel
 
 -- the faults come in the order dump, types and map
 abbrev pub why_made : Question → Option (List ℕ) → Option (List ℕ) → Option (List ℕ) → Made Shown
-why_made question dump btf map = kernel_in dump btf map >>= (λ kernel. shown_in question (bytes_of dump) kernel)
+why_made question dump btf map = kernel_in view_headers dump btf map >>= (λ kernel. shown_in question (bytes_of dump) kernel)
 
 -- what is asked of three files by their names
 pub record Asking : Type 0 where

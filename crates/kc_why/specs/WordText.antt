@@ -4,6 +4,7 @@ use Rattle.std.specs.List.{find}
 use Rattle.kc_memory.specs.declared.words.Origin.TheVariants.{File}
 use Rattle.kc_memory.specs.declared.words.Place.{Place}
 use Rattle.kc_found.specs.Violations.{Violation}
+use Rattle.kc_owner.specs.declared.object.cache.Cache.{Cache}
 use Rattle.kc_owner.specs.declared.object.keys.CacheKey.{CacheKey}
 use Rattle.kc_owner.specs.declared.object.keys.FreeKeys.{FreeKeys}
 use Rattle.kc_sight.specs.declared.refs.place.FoundWord.{FoundWord}
@@ -32,12 +33,16 @@ writing_text keys (Encoded random) = key_line (find (λ (k : CacheKey). nat_eq k
 abbrev pub found_lines : List CacheKey → FoundWord → List ℕ
 found_lines keys f = place_line (place_in f) ++ writing_text keys f.writing
 
--- why it can't be told what free pointers are encoded with; none is found then but as it is
-abbrev pub untold_line : Option (Result FreeKeys Violation) → List ℕ
-untold_line None = []
-untold_line (Some (Ok keys)) = []
-untold_line (Some (Err v)) = codes "encoded" ++ unknown_text v
+-- a cache whose random number can't be read, so that none of its free pointers is found
+abbrev pub unread_line : Cache → List ℕ
+unread_line c = codes "unread " ++ hex c.at ++ codes " " ++ map visible c.name ++ codes "\n"
+
+-- such caches; or why it can't be told what free pointers are encoded with, and none is found then but as it is
+abbrev pub untold_lines : Option (Result FreeKeys Violation) → List ℕ
+untold_lines None = []
+untold_lines (Some (Ok keys)) = texts unread_line keys.unread
+untold_lines (Some (Err v)) = codes "encoded" ++ unknown_text v
 
 -- the lines of each word, and how many they are
 abbrev pub words_text : Option (Result FreeKeys Violation) → List FoundWord → List ℕ
-words_text told found = texts (found_lines (keys_in told)) found ++ untold_line told ++ codes "words " ++ decimal (length found) ++ codes "\n"
+words_text told found = texts (found_lines (keys_in told)) found ++ untold_lines told ++ codes "words " ++ decimal (length found) ++ codes "\n"

@@ -20,7 +20,7 @@ ghost use Rattle.kc_why.specs.Why.{asks_view, form_view, found_in, question_aske
 use crate::looking::look_at;
 use crate::searching::find_written;
 use kc_cause::{Asks as CauseAsks, explain};
-use kc_command::{Answer, Halt, Kernel, KernelFiles, read_kernel, read_symbols};
+use kc_command::{Answer, Halt, Kernel, KernelFiles, VIEW_HEADERS, read_kernel, read_symbols};
 use kc_outside::Store;
 use kc_sight::Rules;
 use kc_told::{seen_text, shapes_in};
@@ -149,7 +149,7 @@ fn why<S: Store>(alloc: Global, store: &mut S, asks: &Asks<'_>) -> Result<Answer
     ensures quiet { UnlessStore result (S.faults store.new ≡ S.faults store.old) }
     ensures cause { OnStore result (Rose (S.faults store.old) (S.faults store.new)) }
 {
-    let kernel = read_kernel(alloc, store, &asks.files)?;
+    let kernel = read_kernel(alloc, store, VIEW_HEADERS, &asks.files)?;
     answer(alloc, store, &kernel, asks.question)
 }
 

@@ -4,11 +4,11 @@ ghost use Rattle.std.specs.List.{find};
 ghost use Rattle.kc_owner.specs.declared.object.keys.CacheKey.{CacheKey as Key};
 ghost use Rattle.kc_text.specs.Compose.{texts};
 ghost use Rattle.kc_why.specs.Searching.{keys_in};
-ghost use Rattle.kc_why.specs.WordText.{found_lines, key_line, place_in, untold_line, words_text, writing_text};
+ghost use Rattle.kc_why.specs.WordText.{found_lines, key_line, place_in, unread_line, untold_lines, words_text, writing_text};
 
 use crate::searching::ToldKeys;
 use kc_memory::{Origin, Place};
-use kc_owner::CacheKey;
+use kc_owner::{Cache, CacheKey};
 use kc_report::push_place;
 use kc_sight::{FoundWord, Writing};
 use kc_text::{push, push_hex, push_name, push_numbered};
@@ -72,15 +72,39 @@ fn push_found(text: &mut Vec<u8>, keys: &[CacheKey], found: &[FoundWord]) -> Res
     Ok(())
 }
 
-// Why it can't be told what free pointers are encoded with.
-fn push_untold(text: &mut Vec<u8>, told: &ToldKeys) -> Result<(), NoMemory>
-    ensures { OnOk result (text.new.items ≡ text.old.items ++ untold_line told.now) }
+// A cache whose random number can't be read.
+fn push_unread(text: &mut Vec<u8>, cache: &Cache) -> Result<(), NoMemory>
+    ensures { OnOk result (text.new.items ≡ text.old.items ++ unread_line cache.now) }
 {
-    let Some(Err(found)) = told else {
-        return Ok(());
-    };
-    push(text, b"encoded")?;
-    push_unknown(text, found)
+    push(text, b"unread ")?;
+    push_hex(text, cache.at)?;
+    push(text, b" ")?;
+    push_name(text, cache.name.as_slice())?;
+    push(text, b"\n")
+}
+
+// Such caches.
+fn push_all_unread(text: &mut Vec<u8>, caches: &[Cache]) -> Result<(), NoMemory>
+    ensures { OnOk result (text.new.items ≡ text.old.items ++ texts unread_line caches.now) }
+{
+    for cache in caches {
+        push_unread(text, cache)?;
+    }
+    Ok(())
+}
+
+// Such caches, or why it can't be told what free pointers are encoded with.
+fn push_untold(text: &mut Vec<u8>, told: &ToldKeys) -> Result<(), NoMemory>
+    ensures { OnOk result (text.new.items ≡ text.old.items ++ untold_lines told.now) }
+{
+    match told {
+        None => Ok(()),
+        Some(Ok(keys)) => push_all_unread(text, keys.unread.as_slice()),
+        Some(Err(found)) => {
+            push(text, b"encoded")?;
+            push_unknown(text, found)
+        }
+    }
 }
 
 // The caches that encode free pointers.

@@ -1,4 +1,4 @@
-//! kfiles: the map, the types, the log and the modules of a kernel out of the memory of its dump.
+//! kfiles: the map, the types, the log, the modules and the note of a kernel out of the memory of its dump.
 #![tactic(auto)]
 
 ghost use Rattle.std.specs.Prelude.{ℕ, List};

@@ -73,7 +73,7 @@ const KMATCH: [&str; 3] = ["facts", "own_types", "endings"];
 const KWHY: [&str; 3] = ["sights", "written", "why_endings"];
 
 // Those of kfiles.
-const KFILES: [&str; 2] = ["tables", "logs"];
+const KFILES: [&str; 3] = ["tables", "logs", "notes"];
 
 fn main(rt: HostRuntime) -> io::Result<()> {
     let texts = Texts::read(&rt)?;

@@ -2,7 +2,7 @@
 ghost use Rattle.std.specs.Prelude.{◌≡◌, ◌++◌, option_to_list, Ok, OnOk};
 ghost use Rattle.kc_memory.specs.Stays.{SpaceStays};
 ghost use Rattle.kc_found.specs.Walks.{CountsWalkFaults, OnBroken, OnWalkFault, WalksAs};
-ghost use Rattle.kc_owner.specs.Object.Keys.{cache_by, free_keys, key_of, keys_of};
+ghost use Rattle.kc_owner.specs.Object.Keys.{cache_by, free_keys, key_of, keys_of, unread, unread_in, unread_of};
 
 use crate::object::bases::read_bases;
 use crate::object::cache::{Cache, read_cache};
@@ -31,6 +31,8 @@ pub struct FreeKeys {
     pub direct: u64,
     /// The caches that encode them, in the order of the ring of all caches.
     pub keys: Items<CacheKey>,
+    /// The caches whose random number can't be read, where the kernel's caches have one.
+    pub unread: Items<Cache>,
 }
 
 // The cache that has a node of the ring of all caches.
@@ -98,8 +100,86 @@ fn read_keys<S: Space, L: Ledger>(
     Ok(keys)
 }
 
+// A cache whose random number can't be read.
+fn read_unkeyed<S: Space, L: Ledger>(
+    alloc: Global,
+    space: &mut S,
+    btf: &Btf,
+    shape: &ObjectShape,
+    cache: u64,
+    steps: &mut Steps<L>,
+) -> Result<Option<Cache>, WalkStop>
+    ensures exact { WalksAs (λ c. c) (λ i. Ok (unread_of i shape.now cache)) (S.image space.old) result }
+    ensures stays { SpaceStays S.image S.files S.through S.most space.old space.new }
+    ensures cause { CountsWalkFaults result (S.faults space.old) (S.faults space.new) }
+{
+    let view = view_at(btf, cache);
+    if let Some(_) = read_known(alloc, space, &view, &shape.slub.random, steps)? {
+        return Ok(None);
+    }
+    let cache = read_cache(alloc, space, &view, shape, steps)?;
+    Ok(Some(cache))
+}
+
+// Adds a cache, where there is one.
+fn push_cache(caches: &mut Items<Cache>, cache: Option<Cache>) -> Result<(), WalkStop>
+    ensures added { OnOk result (caches.new ≡ caches.old ++ option_to_list cache) }
+    ensures broken { OnBroken result ⊥ }
+    ensures no_fault { OnWalkFault result ⊥ }
+{
+    let Some(cache) = cache else {
+        return Ok(());
+    };
+    match caches.push(cache) {
+        Ok(()) => Ok(()),
+        Err(NoMemory) => Err(WalkStop::NoMemory),
+    }
+}
+
+// Those of the caches that have these nodes of the ring of all caches.
+fn read_unread_in<S: Space, L: Ledger>(
+    alloc: Global,
+    space: &mut S,
+    btf: &Btf,
+    shape: &ObjectShape,
+    nodes: &Walked,
+    steps: &mut Steps<L>,
+) -> Result<Items<Cache>, WalkStop>
+    ensures exact { WalksAs (λ caches. caches) (λ i. Ok (unread_in i shape.now nodes.now)) (S.image space.old) result }
+    ensures stays { SpaceStays S.image S.files S.through S.most space.old space.new }
+    ensures cause { CountsWalkFaults result (S.faults space.old) (S.faults space.new) }
+{
+    let mut caches = Items::new(alloc);
+    for i in 0..nodes.len() {
+        let at = cache_by(shape, *nodes.get(i));
+        let cache = read_unkeyed(alloc, space, btf, shape, at, steps)?;
+        push_cache(&mut caches, cache)?;
+    }
+    Ok(caches)
+}
+
+// The same in any kernel: its caches may have no such number.
+fn read_unread<S: Space, L: Ledger>(
+    alloc: Global,
+    space: &mut S,
+    btf: &Btf,
+    shape: &ObjectShape,
+    nodes: &Walked,
+    steps: &mut Steps<L>,
+) -> Result<Items<Cache>, WalkStop>
+    ensures exact { WalksAs (λ caches. caches) (λ i. Ok (unread i shape.now nodes.now)) (S.image space.old) result }
+    ensures stays { SpaceStays S.image S.files S.through S.most space.old space.new }
+    ensures cause { CountsWalkFaults result (S.faults space.old) (S.faults space.new) }
+{
+    if shape.slub.random.is_some() {
+        read_unread_in(alloc, space, btf, shape, nodes, steps)
+    } else {
+        Ok(Items::new(alloc))
+    }
+}
+
 /// What the free pointers of a kernel are encoded with: the random numbers of the caches of the ring `slab_caches`, of those that have
-/// one and where it can be read.
+/// one and where it can be read, and the caches where it can't.
 ///
 /// # Errors
 ///
@@ -118,8 +198,10 @@ pub fn free_keys<S: Space, L: Ledger>(
     let bases = read_bases(alloc, space, &looked_at(shape.caches), &shape.slub, steps)?;
     let nodes = ring(alloc, space, &shape.slub.list, shape.caches, 0, steps)?;
     let keys = read_keys(alloc, space, btf, shape, &nodes, steps)?;
+    let unread = read_unread(alloc, space, btf, shape, &nodes, steps)?;
     Ok(FreeKeys {
         direct: bases.direct,
         keys,
+        unread,
     })
 }

@@ -7,7 +7,7 @@ use Rattle.std.proofs.lemmas.List.FromFn.{filter_of_map_range_with_len_more, map
 use Rattle.kc_memory.specs.declared.words.VWord.{VWord}
 use Rattle.kc_memory.specs.Image.{Image}
 use Rattle.kc_found.specs.XaLayouts.{XaLayout}
-use Rattle.kc_repair.specs.Suspect.Changes.{bits_below, flipped, is_no_value, no_value_of, pointers_below, suspect_of}
+use Rattle.kc_repair.specs.Suspect.Changes.{bits_below, flipped, suspect_of, taken_below, taken_if}
 use Rattle.kc_repair.specs.declared.suspect.change.Change.{Change}
 use Rattle.kc_repair.specs.declared.suspect.suspect.Suspect.{Suspect}
 use Rattle.kc_repair.specs.Suspect.FreePointers.{free_pointer, free_pointers, object_near}
@@ -29,31 +29,29 @@ pub no_bits : (w : VWord) (before : List Suspect) → before ≡ before ++ flat_
 unfolding bits_below
 no_bits w before = sym (append-nil before)
 
--- the same where only numbers that are no value of an xarray are taken
-one_pointer : (w : VWord) (i : ℕ) (taken : Bool) (before old : List Suspect) → is_no_value (flipped w.value i) ≡ taken
-    → old ≡ before ++ flat_map (suspect_of w) (pointers_below w.value i)
-    → old ++ flat_map (suspect_of w) (cond taken (flipped w.value i ∷ []) []) ≡ before ++ flat_map (suspect_of w) (pointers_below w.value (i + 1))
-unfolding pointers_below bits_below
-one_pointer w i taken before old is so_far =
-    let all : flat_map (suspect_of w) (pointers_below w.value (i + 1))
-    ≡ flat_map (suspect_of w) (pointers_below w.value i) ++ flat_map (suspect_of w) (cond taken (flipped w.value i ∷ []) [])
-    = ap (flat_map (suspect_of w)) (filter_of_map_range_with_len_more is_no_value (flipped w.value) 0 i i (omega arith) ∙ ap (λ t. pointers_below w.value i ++ cond t (flipped w.value i ∷ []) []) is)
-    ∙ flat_map-append (suspect_of w) (pointers_below w.value i) (cond taken (flipped w.value i ∷ []) []) in
-    ap (λ l. l ++ flat_map (suspect_of w) (cond taken (flipped w.value i ∷ []) [])) so_far ∙ append_assoc before _ _ ∙ ap (λ l. before ++ l) (sym all)
+-- one number more of those that can have stood there
+one_taken : (may : ℕ → Bool) (one : ℕ → ℕ) (w : VWord) (i : ℕ) (taken : Bool) (before old : List Suspect) → may (one i) ≡ taken
+    → old ≡ before ++ flat_map (suspect_of w) (taken_below may one i)
+    → old ++ flat_map (suspect_of w) (cond taken (one i ∷ []) []) ≡ before ++ flat_map (suspect_of w) (taken_below may one (i + 1))
+unfolding taken_below
+one_taken may one w i taken before old is so_far =
+    let all : flat_map (suspect_of w) (taken_below may one (i + 1))
+    ≡ flat_map (suspect_of w) (taken_below may one i) ++ flat_map (suspect_of w) (cond taken (one i ∷ []) [])
+    = ap (flat_map (suspect_of w)) (filter_of_map_range_with_len_more may one 0 i i (omega arith) ∙ ap (λ t. taken_below may one i ++ cond t (one i ∷ []) []) is)
+    ∙ flat_map-append (suspect_of w) (taken_below may one i) (cond taken (one i ∷ []) []) in
+    ap (λ l. l ++ flat_map (suspect_of w) (cond taken (one i ∷ []) [])) so_far ∙ append_assoc before _ _ ∙ ap (λ l. before ++ l) (sym all)
 
-suspected_if : (w : VWord) (value : ℕ) (taken : Bool) → is_no_value value ≡ taken → no_value_of w value ≡ flat_map (suspect_of w) (cond taken (value ∷ []) [])
-suspected_if w value true is = ap (λ t. if t then suspect_of w value else []) is ∙ sym (append-nil (suspect_of w value))
-suspected_if w value false is = ap (λ t. if t then suspect_of w value else []) is
+suspected_if : (w : VWord) (value : ℕ) (taken : Bool) → taken_if taken w value ≡ flat_map (suspect_of w) (cond taken (value ∷ []) [])
+suspected_if w value true = sym (append-nil (suspect_of w value))
+suspected_if w value false = refl
 
-pub more_taken : (w : VWord) (i : ℕ) (before old new : List Suspect) → old ≡ before ++ flat_map (suspect_of w) (pointers_below w.value i)
-    → new ≡ old ++ no_value_of w (flipped w.value i) → new ≡ before ++ flat_map (suspect_of w) (pointers_below w.value (i + 1))
-more_taken w i before old new so_far more =
-    let taken : Bool = is_no_value (flipped w.value i) in
-    more ∙ ap (λ l. old ++ l) (suspected_if w (flipped w.value i) taken refl) ∙ one_pointer w i taken before old refl so_far
+pub more_taken : (may : ℕ → Bool) (one : ℕ → ℕ) (w : VWord) (i : ℕ) (taken : Bool) (before old new : List Suspect) → may (one i) ≡ taken → old ≡ before ++ flat_map (suspect_of w) (taken_below may one i)
+    → new ≡ old ++ taken_if taken w (one i) → new ≡ before ++ flat_map (suspect_of w) (taken_below may one (i + 1))
+more_taken may one w i taken before old new is so_far more = more ∙ ap (λ l. old ++ l) (suspected_if w (one i) taken) ∙ one_taken may one w i taken before old is so_far
 
-pub no_taken : (w : VWord) (before : List Suspect) → before ≡ before ++ flat_map (suspect_of w) (pointers_below w.value 0)
-unfolding pointers_below bits_below
-no_taken w before = sym (append-nil before)
+pub no_taken : (may : ℕ → Bool) (one : ℕ → ℕ) (w : VWord) (before : List Suspect) → before ≡ before ++ flat_map (suspect_of w) (taken_below may one 0)
+unfolding taken_below
+no_taken may one w before = sym (append-nil before)
 
 -- one free pointer more
 pub more_pointers : (random : Option ℕ) (at size object i : ℕ) (before old new : List Change) → old ≡ before ++ free_pointers random at size object i

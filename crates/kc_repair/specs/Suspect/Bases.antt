@@ -7,17 +7,17 @@ use Rattle.kc_view.specs.declared.slub.Base.TheVariants.{At, Is}
 use Rattle.kc_kinds.specs.declared.kind.Kind.{Kind}
 use Rattle.kc_kinds.specs.declared.kind.Kind.TheVariants.{Slub}
 use Rattle.kc_repair.specs.declared.suspect.change.Change.{Change}
-use Rattle.kc_repair.specs.Suspect.Changes.{each, to}
+use Rattle.kc_repair.specs.Suspect.Changes.{each, each_count, to}
 
 -- such a word with any bit changed, or with what it holds without KASLR, with four and with five levels
 abbrev pub base_changes : Base → ℕ → ℕ → List Change
 base_changes (Is n) four five = []
 base_changes (At a) four five = each a ∷ to a four ∷ to a five ∷ []
 
--- how many memory nodes there are: the word `nr_node_ids` with any bit changed. Source: mm/page_alloc.c
+-- how many memory nodes there are, at least one: the word of `nr_node_ids`, of 32 bits, with any bit changed. Source: mm/page_alloc.c, `setup_nr_node_ids`
 abbrev pub count_changes : Base → List Change
 count_changes (Is n) = []
-count_changes (At a) = each a ∷ []
+count_changes (At a) = each_count a ∷ []
 
 -- of a cache: where page descriptors begin, where physical memory does, the number of memory nodes, and the cache's pointer to the first of them
 abbrev pub bases_of : Kind → ℕ → List Change

@@ -1,5 +1,5 @@
 -- What may have stood where a word stands.
-use Rattle.std.specs.Prelude.{ℕ, ◌+◌, ◌*◌, ◌/◌, ◌%◌, ◌^◌, ◌==◌, nat_le, bit_xor, Bool, if◌then◌else◌, List, [], ◌∷◌, map, Option, Some, None}
+use Rattle.std.specs.Prelude.{ℕ, ◌+◌, ◌*◌, ◌/◌, ◌%◌, ◌^◌, ◌==◌, nat_le, bit_xor, Bool, not, if◌then◌else◌, List, [], ◌∷◌, map, Option, Some, None}
 use Rattle.std.specs.List.{filter, flat_map, range_with_len}
 use Rattle.kc_memory.specs.declared.words.Origin.{Origin}
 use Rattle.kc_memory.specs.declared.words.Origin.TheVariants.{File, Tail}
@@ -9,7 +9,7 @@ use Rattle.kc_memory.specs.Translation.{vword}
 use Rattle.kc_found.specs.Nodes.{readable}
 use Rattle.kc_repair.specs.declared.suspect.change.Change.{Change}
 use Rattle.kc_repair.specs.declared.suspect.change.How.{How}
-use Rattle.kc_repair.specs.declared.suspect.change.How.TheVariants.{Number, Lowest, Each, Pointer}
+use Rattle.kc_repair.specs.declared.suspect.change.How.TheVariants.{Number, Lowest, Each, Pointer, Counted}
 use Rattle.kc_repair.specs.declared.suspect.suspect.Suspect.{Suspect}
 
 -- a word is suspected where its bytes stand in the file and another number may have stood there
@@ -32,21 +32,30 @@ bits_below word count = map (flipped word) (range_with_len 0 count)
 abbrev pub is_no_value : ℕ → Bool
 is_no_value n = n % 2 == 0
 
--- those of them that are none
-unfoldable pub pointers_below : ℕ → ℕ → List ℕ
-pointers_below word count = filter is_no_value (bits_below word count)
+-- an entry with one bit changed: the third bit first, and the two lowest, which say what an entry is, at last
+abbrev pub turned : ℕ → ℕ → ℕ
+turned word i = flipped word ((i + 2) % 64)
+
+-- the lower half of a word isn't zero
+abbrev pub is_counted : ℕ → Bool
+is_counted n = not (n % 2 ^ 32 == 0)
+
+-- the first so many of some numbers, but for those that can't have stood there
+unfoldable pub taken_below : (ℕ → Bool) → (ℕ → ℕ) → ℕ → List ℕ
+taken_below may one count = filter may (map one (range_with_len 0 count))
 
 -- the numbers that may have stood where a word stands: this one, the word with its lowest bit changed, or the word with one bit
--- changed, the lowest first
+-- changed, the lowest first; of an entry those that are no value, and of a number in the lower half of a word those that aren't zero
 abbrev pub numbers : How → ℕ → List ℕ
 numbers (Number n) word = n ∷ []
 numbers Lowest word = flipped word 0 ∷ []
 numbers Each word = bits_below word 64
-numbers Pointer word = pointers_below word 64
+numbers Pointer word = taken_below is_no_value (turned word) 64
+numbers Counted word = taken_below is_counted (flipped word) 64
 
--- a word that may have held a number which is no value of an xarray
-abbrev pub no_value_of : VWord → ℕ → List Suspect
-no_value_of w value = if is_no_value value then suspect_of w value else []
+-- a word that may have held a number, where the number can have stood there
+abbrev pub taken_if : Bool → VWord → ℕ → List Suspect
+taken_if may w value = if may then suspect_of w value else []
 
 -- what is suspected of a word, where it can be read
 abbrev pub made_of : Option VWord → How → List Suspect
@@ -67,6 +76,10 @@ to at n = record { at = at; how = Number n }
 -- each single bit of it changes
 abbrev pub each : ℕ → Change
 each at = record { at = at; how = Each }
+
+-- or where its lower half isn't zero then
+abbrev pub each_count : ℕ → Change
+each_count at = record { at = at; how = Counted }
 
 -- or where it is then no value of an xarray
 abbrev pub each_pointer : ℕ → Change

@@ -1,5 +1,5 @@
 -- Where a slab's free list may begin. Source: the kernel's mm/slab.h, `struct slab`, whose `freelist` isn't encoded, and its `slab_address`.
-use Rattle.std.specs.Prelude.{ℕ, ◌*◌, ◌/◌, ◌%◌, ◌^◌, ◌==◌, Bool, false, min, if◌then◌else◌, List, [], ◌∷◌, map, Option, Some, None, option_and_then, option_map}
+use Rattle.std.specs.Prelude.{ℕ, ◌*◌, ◌/◌, ◌%◌, ◌^◌, ◌==◌, Bool, false, min, if◌then◌else◌, List, [], ◌∷◌, ◌++◌, map, Option, Some, None, option_and_then, option_map}
 use Rattle.std.specs.List.{range_with_len}
 use Rattle.std.specs.Option.{option_map_or, unwrap_or}
 use Rattle.kc_memory.specs.declared.words.VWord.{VWord}
@@ -59,6 +59,37 @@ heads_of image s cache at page =
 abbrev pub heads_in : Image → SlubShape → ℕ → ℕ → List Change
 heads_in image s cache at = option_map_or (heads_of image s cache at) (slab_address image s (slab_of s at)) []
 
+-- where the `freelist` of the slab stands that has an object's word, if the slab has so many pages, a power of two, and begins at a page whose number is
+-- a multiple of that. Source: the kernel's mm/page_alloc.c, whose blocks of 2^order pages begin so
+abbrev pub freelist_at : SlubShape → ℕ → ℕ → ℕ → ℕ → ℕ
+freelist_at s direct vmemmap at pages =
+    at_offset (at_offset vmemmap (s.page_size * (node_of at direct / (4096 * pages) * pages) % 2 ^ 64)) (s.freelist.bits.bit / 8)
+
+-- of the first slab of this cache, of one page, two, four or eight
+abbrev pub head_if : Image → SlubShape → ℕ → ℕ → Option ℕ → Option ℕ
+head_if image s cache at other = if is_head image s cache at then Some at else other
+
+abbrev pub head_among : Image → SlubShape → ℕ → ℕ → ℕ → ℕ → Option ℕ
+head_among image s cache at direct vmemmap =
+    head_if image s cache (freelist_at s direct vmemmap at 1) (head_if image s cache (freelist_at s direct vmemmap at 2)
+    (head_if image s cache (freelist_at s direct vmemmap at 4) (head_if image s cache (freelist_at s direct vmemmap at 8) None)))
+
+abbrev pub head_of : Image → SlubShape → ℕ → ℕ → Option ℕ
+head_of image s cache at =
+    option_and_then (λ direct. option_and_then (head_among image s cache at direct) (base_at image s.vmemmap)) (base_at image s.direct)
+
+-- its free list begins with the object whose free pointer stands at an address
+abbrev pub begins_here : Image → SlubShape → ℕ → ℕ → ℕ → Bool
+begins_here image s cache at head =
+    option_map_or (λ offset. option_map_or (λ first. first == node_of at offset) (number_at image s.freelist (slab_of s head)) false) (number_at image s.offset cache) false
+
+-- then it may begin elsewhere
+abbrev pub heads_if : Image → SlubShape → ℕ → ℕ → Option ℕ → List Change
+heads_if image s cache at None = []
+heads_if image s cache at (Some head) = if begins_here image s cache at head then heads_in image s cache head else []
+
 -- a pointer of a free list: that of a slab's descriptor, or of an object
 abbrev pub free_at : Image → SlubShape → ℕ → ℕ → List Change
-free_at image s cache at = if is_head image s cache at then heads_in image s cache at else free_in image s cache at
+free_at image s cache at =
+    if is_head image s cache at then heads_in image s cache at
+    else heads_if image s cache at (head_of image s cache at) ++ free_in image s cache at

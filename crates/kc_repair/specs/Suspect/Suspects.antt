@@ -5,6 +5,7 @@ use Rattle.std.specs.List.{flat_map}
 use Rattle.std.specs.Option.{option_map_or}
 use Rattle.kc_memory.specs.declared.words.Place.{Place}
 use Rattle.kc_memory.specs.Image.{Image}
+use Rattle.kc_found.specs.declared.shapes.ListShape.{ListShape}
 use Rattle.kc_found.specs.Nodes.{at_offset}
 use Rattle.kc_found.specs.Violations.{Violation}
 use Rattle.kc_kinds.specs.declared.kind.Kind.{Kind}
@@ -12,11 +13,12 @@ use Rattle.kc_kinds.specs.declared.kind.Kind.TheVariants.{Ring, Hlist, Rbtree, X
 use Rattle.kc_repair.specs.declared.suspect.change.Change.{Change}
 use Rattle.kc_repair.specs.declared.suspect.suspect.Suspect.{Suspect}
 use Rattle.kc_repair.specs.declared.suspect.way.Way.{Way}
-use Rattle.kc_repair.specs.declared.suspect.way.Way.TheVariants.{Led, Met, Word, Byte, Bytes, Count, Member, Own, Before, Pointed, Parent, Top, Colour, Balance, Entry, Free, Laid, Check, Process, Shown}
+use Rattle.kc_repair.specs.declared.suspect.way.Way.TheVariants.{Led, Met, Word, Byte, Bytes, Count, Member, Named, Own, Before, Pointed, Parent, Top, Colour, Balance, Entry, Free, Listed, Laid, Check, Process, Shown}
+use Rattle.kc_repair.specs.Suspect.Backs.{back_changes, entry_backs, hash_backs, head_backs, tree_backs}
 use Rattle.kc_repair.specs.Suspect.Bases.{bases_of}
 use Rattle.kc_repair.specs.Suspect.Changes.{each, each_pointer, made, to, with_bits}
 use Rattle.kc_repair.specs.Suspect.Fields.{bit_changes, member_changes, own_changes}
-use Rattle.kc_repair.specs.Suspect.Heads.{free_at}
+use Rattle.kc_repair.specs.Suspect.Heads.{free_at, heads_in}
 use Rattle.kc_repair.specs.Suspect.Links.{chain_link, leading_to, node_behind, node_of, tree_links}
 use Rattle.kc_repair.specs.Suspect.NodeBytes.{whole_words}
 use Rattle.kc_repair.specs.Suspect.Slots.{slots_of}
@@ -35,9 +37,14 @@ abbrev pub first_address : List Place → Option ℕ
 first_address [] = None
 first_address (p ∷ ps) = option_map_or Some p.va (first_address ps)
 
+-- of a ring's word that was met before: the second link that leads to the node of which it is the `next`, or the first to the one whose `prev` it is
+abbrev pub ring_link : Image → ListShape → Violation → Option ℕ → Option ℕ
+ring_link image s v (Some link) = Some link
+ring_link image s v None = chain_link image s.next (at_offset v.start s.next) (node_of v.at s.prev) 0
+
 -- the link that led to a word which was met before: the second that leads to its node
 abbrev pub second_link : Image → Kind → Violation → Option ℕ
-second_link image (Ring s) v = chain_link image s.next (at_offset v.start s.next) (node_of v.at s.next) 1
+second_link image (Ring s) v = ring_link image s v (chain_link image s.next (at_offset v.start s.next) (node_of v.at s.next) 1)
 second_link image (Hlist s) v = chain_link image s.next (at_offset v.start s.first) (node_of v.at s.next) 1
 second_link image (Rbtree s) v = leading_to (node_of v.at s.parent_color) 1 (tree_links image s v.start)
 second_link image _ v = None
@@ -46,18 +53,22 @@ second_link image _ v = None
 abbrev pub entry_changes : ℕ → List Change
 entry_changes at = each_pointer at ∷ to at 0 ∷ []
 
+-- or it leads to a node near that points back
+abbrev pub entry_by : Image → Kind → Violation → ℕ → List Change
+entry_by image kind v at = entry_backs image kind v at ++ entry_changes at
+
 -- the words that show it, or those by which the kernel finds its memory, and a cache its slabs
 abbrev pub laid_changes : Kind → Violation → List Change
 laid_changes kind v = shown v.places ++ bases_of kind v.start
 
--- A link that can't be right, of a structure that starts here: in a ring it leads to the node whose `prev` leads to its own, in a chain, a tree or
--- an array perhaps nowhere. Of the lists inside slab caches and tasks no head is told.
+-- A link that can't be right, of a structure that starts here: in a ring it leads to the node whose `prev` leads to its own, in a chain or a tree to
+-- one near that points back, in an array to such a node too, and in a chain, a tree or an array perhaps nowhere. Of the lists inside slab caches and tasks no head is told.
 abbrev pub relinked : Image → Kind → Violation → ℕ → List Change
 relinked image (Ring s) v link = option_to_list (option_map (to link) (node_behind image s v.start (node_of link s.next))) ++ each link ∷ []
-relinked image (Hlist s) v link = each link ∷ to link 0 ∷ []
-relinked image (Rbtree s) v link = each link ∷ to link 0 ∷ []
-relinked image (Xarray s) v link = entry_changes link
-relinked image (Pids s) v link = entry_changes link
+relinked image (Hlist s) v link = hash_backs image (Hlist s) link ++ to link 0 ∷ []
+relinked image (Rbtree s) v link = tree_backs image s link ++ each link ∷ to link 0 ∷ []
+relinked image (Xarray s) v link = entry_by image (Xarray s) v link
+relinked image (Pids s) v link = hash_backs image (Pids s) link ++ entry_by image (Pids s) v link
 relinked image (Slub s) v link = laid_changes (Slub s) v
 relinked image _ v link = shown v.places
 
@@ -77,9 +88,9 @@ passed_changes image _ v node = []
 abbrev pub before_changes : Image → Kind → Violation → List Change
 before_changes image kind v = option_map_or (passed_changes image kind v) v.expected [] ++ word_changes v
 
--- the `pprev` of a chain's node, or the link that led there
-abbrev pub pointed_changes : Violation → List Change
-pointed_changes v = word_changes v ++ option_to_list (option_map each v.expected)
+-- the link that led to a chain's node where another node near points back to it, else the node's `pprev`
+abbrev pub pointed_changes : Image → Kind → Violation → List Change
+pointed_changes image kind v = back_changes image kind v ++ word_changes v
 
 abbrev pub free_changes : Image → Kind → Violation → List Change
 free_changes image (Slub s) v = option_map_or (free_at image s v.start) (first_address v.places) []
@@ -106,6 +117,16 @@ alone _ v n = []
 abbrev pub number_changes : Image → Kind → Violation → List Change
 number_changes image kind v = option_map_or (alone kind v) v.expected [] ++ member_changes image kind v
 
+-- the cache's pointer to its first memory node
+abbrev pub node_changes : Kind → Violation → List Change
+node_changes (Slub s) v = each (at_offset v.start s.node) ∷ []
+node_changes _ v = []
+
+-- where the free list of a slab begins that has a wrong number of free objects
+abbrev pub listed_changes : Image → Kind → Violation → List Change
+listed_changes image (Slub s) v = heads_in image s v.start (at_offset (node_of v.at (s.inuse.bits.bit / 8)) (s.freelist.bits.bit / 8))
+listed_changes image _ v = []
+
 -- the byte at the violation's address becomes what is expected there
 abbrev pub byte_changes : Image → Violation → List Change
 byte_changes image v = bit_changes image v.at 0 8 v.expected
@@ -118,20 +139,22 @@ red_changes image kind v = word_changes v ++ colours image kind v
 abbrev pub by_way : Image → Kind → Violation → Way → List Change
 by_way image kind v Led = led_by image kind v (first_address v.places)
 by_way image kind v Met = led_by image kind v (second_link image kind v)
-by_way image kind v Word = word_changes v
+by_way image kind v Word = word_changes v ++ head_backs image kind v
 by_way image kind v Byte = byte_changes image v
-by_way image kind v Bytes = byte_changes image v ++ whole_words image kind v
+by_way image kind v Bytes = byte_changes image v ++ whole_words image kind v ++ head_backs image kind v
 by_way image kind v Count = slots_of image kind v ++ byte_changes image v
 by_way image kind v Member = member_changes image kind v
+by_way image kind v Named = member_changes image kind v ++ node_changes kind v
 by_way image kind v Own = own_changes image kind v
 by_way image kind v Before = before_changes image kind v
-by_way image kind v Pointed = pointed_changes v
+by_way image kind v Pointed = pointed_changes image kind v
 by_way image kind v Parent = parent_changes image kind v
 by_way image kind v Top = top_bits image kind v ++ red_changes image kind v
 by_way image kind v Colour = red_changes image kind v
 by_way image kind v Balance = colours image kind v
-by_way image kind v Entry = entry_changes v.at
+by_way image kind v Entry = entry_by image kind v v.at
 by_way image kind v Free = free_changes image kind v ++ laid_changes kind v
+by_way image kind v Listed = shown v.places ++ listed_changes image kind v
 by_way image kind v Laid = laid_changes kind v
 by_way image kind v Check = check_changes v
 by_way image kind v Process = number_changes image kind v

@@ -12,6 +12,7 @@ use Rattle.kc_kinds.specs.declared.kind.Kind.{Kind}
 use Rattle.kc_kinds.specs.declared.kind.Kind.TheVariants.{Rbtree}
 use Rattle.kc_repair.specs.declared.suspect.change.Change.{Change}
 use Rattle.kc_repair.specs.declared.suspect.change.How.TheVariants.{Lowest}
+use Rattle.kc_repair.specs.Suspect.Backs.{child_backs}
 use Rattle.kc_repair.specs.Suspect.Changes.{each, to}
 use Rattle.kc_repair.specs.Suspect.Links.{node_of, tree_links}
 
@@ -45,11 +46,13 @@ hangs_there image s v = option_map_or (has_child image s (node_of v.at s.parent_
 abbrev pub parent_words : Violation → ℕ → List Change
 parent_words v parent = to v.at parent ∷ to v.at (at_offset parent 1) ∷ []
 
--- the parent word, or the link that led to the node: where the node hangs as that word says, in another tree perhaps, the link comes first
+-- The parent's links to nodes near that point back, the parent word, or the link that led to the node: where the node hangs as that word says, in
+-- another tree perhaps, the link comes before the word.
 abbrev pub parent_by : Image → RbShape → Violation → ℕ → List Change
 parent_by image s v parent =
-    if hangs_there image s v then upper_bits image s v.start (node_of v.at s.parent_color) parent ++ parent_words v parent
-    else parent_words v parent ++ upper_bits image s v.start (node_of v.at s.parent_color) parent
+    child_backs image s parent
+    ++ (if hangs_there image s v then upper_bits image s v.start (node_of v.at s.parent_color) parent ++ parent_words v parent
+    else parent_words v parent ++ upper_bits image s v.start (node_of v.at s.parent_color) parent)
 
 abbrev pub parent_changes : Image → Kind → Violation → List Change
 parent_changes image (Rbtree s) v = option_map_or (parent_by image s v) v.expected []

@@ -2,7 +2,7 @@
 ghost use Rattle.std.specs.Prelude.{◌≡◌, ◌++◌, OnOk};
 ghost use Rattle.kc_repair.specs.Suspect.Bases.{base_changes, bases_of, count_changes};
 
-use crate::suspect::change::Changes;
+use crate::suspect::change::{Change, Changes, How};
 use crate::suspect::rules::{each, to};
 use kc_kinds::Kind;
 use kc_view::Base;
@@ -38,7 +38,10 @@ fn push_count(changes: &mut Changes, count: Base) -> Result<(), NoMemory>
 {
     match count {
         Base::Is(_) => Ok(()),
-        Base::At(at) => changes.push(each(at)),
+        Base::At(at) => changes.push(Change {
+            at,
+            how: How::Counted,
+        }),
     }
 }
 

@@ -10,8 +10,10 @@ pub(crate) enum How {
     Lowest,
     // The word with one bit changed, each in turn, the lowest first.
     Each,
-    // The same, where the number is then no value of an xarray, whose lowest bit is set.
+    // The same of an entry of an xarray, the two lowest bits at last, where it is then no value, whose lowest bit is set.
     Pointer,
+    // The same of a word whose lower half has a number that isn't zero.
+    Counted,
 }
 
 // A word that may have held something else.

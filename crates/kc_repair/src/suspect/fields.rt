@@ -1,8 +1,7 @@
 // Fields that may have held another number.
 ghost use Rattle.std.specs.Prelude.{◌≡◌, ◌++◌, ◌<◌, ◌≤◌, option_to_list, OnOk, IfOk, IfSome};
-ghost use Rattle.kc_memory.specs.Stays.{SpaceStays};
+ghost use Rattle.kc_repair.specs.Suspect.Answers.{OnlyReads};
 ghost use Rattle.kc_repair.specs.Suspect.Fields.{bit_changes, field_changes, field_in, member_changes, number_at, own_changes, pid_field, slab_field, task_field};
-ghost use Rattle.kc_found.specs.Failures.{CountsFailures};
 
 use crate::suspect::change::{Change, Changes};
 use crate::suspect::links::node_of;
@@ -37,8 +36,7 @@ pub(crate) fn push_bits<S: Space, L: Ledger>(
     requires bit { bit < 8 }
     requires width { width ≤ 64 }
     ensures added { OnOk result (IfSome (S.image space.old) (λ image. changes.new ≡ changes.old ++ bit_changes image at bit width number)) }
-    ensures stays { SpaceStays S.image S.files S.through S.most space.old space.new }
-    ensures cause { CountsFailures result (S.faults space.old) (S.faults space.new) }
+    ensures reads { OnlyReads S.image S.files S.through S.most S.faults result space.old space.new }
 {
     if let Some(number) = number {
         let change = field_to(space, at, bit, width, number, steps)?;
@@ -105,8 +103,7 @@ fn push_field<S: Space, L: Ledger>(
     steps: &mut Steps<L>,
 ) -> Result<(), ReadFailed>
     ensures added { OnOk result (IfSome (S.image space.old) (λ image. changes.new ≡ changes.old ++ field_changes image at number field.now)) }
-    ensures stays { SpaceStays S.image S.files S.through S.most space.old space.new }
-    ensures cause { CountsFailures result (S.faults space.old) (S.faults space.new) }
+    ensures reads { OnlyReads S.image S.files S.through S.most S.faults result space.old space.new }
 {
     let bit = (field.bits.bit % 8) as u32;
     push_bits(changes, at, bit, field.bits.width, number, space, steps)
@@ -121,8 +118,7 @@ pub(crate) fn push_member<S: Space, L: Ledger>(
     steps: &mut Steps<L>,
 ) -> Result<(), ReadFailed>
     ensures added { OnOk result (IfSome (S.image space.old) (λ image. changes.new ≡ changes.old ++ member_changes image kind.now found.now)) }
-    ensures stays { SpaceStays S.image S.files S.through S.most space.old space.new }
-    ensures cause { CountsFailures result (S.faults space.old) (S.faults space.new) }
+    ensures reads { OnlyReads S.image S.files S.through S.most S.faults result space.old space.new }
 {
     match field_in(kind, found.rule) {
         Some(field) => push_field(changes, found.at, found.expected, &field, space, steps),
@@ -138,8 +134,7 @@ pub(crate) fn number_at<S: Space, L: Ledger>(
     steps: &mut Steps<L>,
 ) -> Result<Option<u64>, ReadFailed>
     ensures number { IfOk result (λ number. IfSome (S.image space.old) (λ image. number ≡ number_at image field.now at)) }
-    ensures stays { SpaceStays S.image S.files S.through S.most space.old space.new }
-    ensures cause { CountsFailures result (S.faults space.old) (S.faults space.new) }
+    ensures reads { OnlyReads S.image S.files S.through S.most S.faults result space.old space.new }
 {
     match read_bits(space, at, field.bits, steps) {
         Ok(number) => Ok(Some(low_word(&number))),
@@ -156,8 +151,7 @@ pub(crate) fn push_own<S: Space, L: Ledger>(
     steps: &mut Steps<L>,
 ) -> Result<(), ReadFailed>
     ensures added { OnOk result (IfSome (S.image space.old) (λ image. changes.new ≡ changes.old ++ own_changes image kind.now found.now)) }
-    ensures stays { SpaceStays S.image S.files S.through S.most space.old space.new }
-    ensures cause { CountsFailures result (S.faults space.old) (S.faults space.new) }
+    ensures reads { OnlyReads S.image S.files S.through S.most S.faults result space.old space.new }
 {
     let Kind::Tasks(shape) = kind else {
         return Ok(());

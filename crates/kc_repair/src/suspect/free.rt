@@ -1,9 +1,8 @@
 // Free pointers that may have led elsewhere.
 ghost use Rattle.std.specs.Prelude.{◌≡◌, ◌++◌, OnOk, IfOk, IfSome};
-ghost use Rattle.kc_memory.specs.Stays.{SpaceStays};
+ghost use Rattle.kc_repair.specs.Suspect.Answers.{OnlyReads};
 ghost use Rattle.kc_repair.specs.Suspect.FreePointers.{free_by, free_in, free_pointer, free_pointers, object_near, random_at};
 ghost use Rattle.kc_repair.specs.Suspect.Suspects.{free_changes};
-ghost use Rattle.kc_found.specs.Failures.{CountsFailures};
 
 use crate::suspect::change::{Change, Changes};
 use crate::suspect::fields::number_at;
@@ -72,8 +71,7 @@ fn random_at<S: Space, L: Ledger>(
     steps: &mut Steps<L>,
 ) -> Result<Option<u64>, ReadFailed>
     ensures random { IfOk result (λ random. IfSome (S.image space.old) (λ image. random ≡ random_at image shape.now cache)) }
-    ensures stays { SpaceStays S.image S.files S.through S.most space.old space.new }
-    ensures cause { CountsFailures result (S.faults space.old) (S.faults space.new) }
+    ensures reads { OnlyReads S.image S.files S.through S.most S.faults result space.old space.new }
 {
     match &shape.random {
         Some(field) => number_at(space, field, cache, steps),
@@ -91,8 +89,7 @@ pub(crate) fn push_in_cache<S: Space, L: Ledger>(
     steps: &mut Steps<L>,
 ) -> Result<(), ReadFailed>
     ensures added { OnOk result (IfSome (S.image space.old) (λ image. changes.new ≡ changes.old ++ free_in image shape.now cache at)) }
-    ensures stays { SpaceStays S.image S.files S.through S.most space.old space.new }
-    ensures cause { CountsFailures result (S.faults space.old) (S.faults space.new) }
+    ensures reads { OnlyReads S.image S.files S.through S.most S.faults result space.old space.new }
 {
     let random = random_at(space, shape, cache, steps)?;
     let size = number_at(space, &shape.size, cache, steps)?;
@@ -112,8 +109,7 @@ pub(crate) fn push_free<S: Space, L: Ledger>(
     steps: &mut Steps<L>,
 ) -> Result<(), ReadFailed>
     ensures added { OnOk result (IfSome (S.image space.old) (λ image. changes.new ≡ changes.old ++ free_changes image kind.now found.now)) }
-    ensures stays { SpaceStays S.image S.files S.through S.most space.old space.new }
-    ensures cause { CountsFailures result (S.faults space.old) (S.faults space.new) }
+    ensures reads { OnlyReads S.image S.files S.through S.most S.faults result space.old space.new }
 {
     let Kind::Slub(shape) = kind else {
         return Ok(());

@@ -1,8 +1,7 @@
 // The words that hold the links of chains and trees.
 ghost use Rattle.std.specs.Prelude.{◌≡◌, ◌++◌, reverse, option_to_list, OnOk, IfOk, IfSome};
-ghost use Rattle.kc_memory.specs.Stays.{SpaceStays};
+ghost use Rattle.kc_repair.specs.Suspect.Answers.{OnlyReads};
 ghost use Rattle.kc_repair.specs.Suspect.Links.{below_link, chain_link, leading_to, links_below, node_behind, node_of, tree_links};
-ghost use Rattle.kc_found.specs.Failures.{CountsFailures};
 
 use crate::suspect::words::read_word;
 use kc_found::{Items, ListShape, RbShape, ReadFailed, Space, VWord};
@@ -33,8 +32,7 @@ pub(crate) fn chain_link<S: Space, L: Ledger>(
     steps: &mut Steps<L>,
 ) -> Result<Option<u64>, ReadFailed>
     ensures link { IfOk result (λ link. IfSome (S.image space.old) (λ image. link ≡ chain_link image offset first node others)) }
-    ensures stays { SpaceStays S.image S.files S.through S.most space.old space.new }
-    ensures cause { CountsFailures result (S.faults space.old) (S.faults space.new) }
+    ensures reads { OnlyReads S.image S.files S.through S.most S.faults result space.old space.new }
 {
     let mut at = first;
     let mut others = others;
@@ -64,8 +62,7 @@ pub(crate) fn node_behind<S: Space, L: Ledger>(
     steps: &mut Steps<L>,
 ) -> Result<Option<u64>, ReadFailed>
     ensures node { IfOk result (λ behind. IfSome (S.image space.old) (λ image. behind ≡ node_behind image shape.now head node)) }
-    ensures stays { SpaceStays S.image S.files S.through S.most space.old space.new }
-    ensures cause { CountsFailures result (S.faults space.old) (S.faults space.new) }
+    ensures reads { OnlyReads S.image S.files S.through S.most S.faults result space.old space.new }
 {
     let first = head.wrapping_add(shape.prev);
     match chain_link(space, shape.prev, first, node, 0, steps)? {
@@ -111,8 +108,7 @@ pub(crate) fn tree_links<S: Space, L: Ledger>(
     steps: &mut Steps<L>,
 ) -> Result<Items<VWord>, ReadFailed>
     ensures links { IfOk result (λ links. IfSome (S.image space.old) (λ image. links ≡ tree_links image shape.now head)) }
-    ensures stays { SpaceStays S.image S.files S.through S.most space.old space.new }
-    ensures cause { CountsFailures result (S.faults space.old) (S.faults space.new) }
+    ensures reads { OnlyReads S.image S.files S.through S.most S.faults result space.old space.new }
 {
     let mut links = Items::new(alloc);
     let mut ahead = Vec::new(alloc);

@@ -1,9 +1,8 @@
 // The suspects that changes make.
 ghost use Rattle.std.specs.Prelude.{◌≡◌, ◌<◌, ◌++◌, Some, OnOk, IfOk, IfSome};
 ghost use Rattle.std.specs.List.{flat_map};
-ghost use Rattle.kc_memory.specs.Stays.{SpaceStays};
-ghost use Rattle.kc_repair.specs.Suspect.Changes.{bits_below, flipped, made, made_of, no_value_of, pointers_below, suspect_of};
-ghost use Rattle.kc_found.specs.Failures.{CountsFailures};
+ghost use Rattle.kc_repair.specs.Suspect.Answers.{OnlyReads};
+ghost use Rattle.kc_repair.specs.Suspect.Changes.{bits_below, flipped, is_counted, is_no_value, made, made_of, suspect_of, taken_below, taken_if, turned};
 
 use crate::suspect::change::{Change, Changes, How};
 use crate::suspect::suspect::{Suspect, Suspects};
@@ -33,7 +32,7 @@ fn push_suspect(suspects: &mut Suspects, word: &VWord, value: u64) -> Result<(),
 }
 
 // The word with one bit changed.
-fn flipped(word: u64, bit: u32) -> u64
+pub(crate) fn flipped(word: u64, bit: u32) -> u64
     requires { bit < 64 }
     ensures { result ≡ flipped word bit }
 {
@@ -50,22 +49,42 @@ fn push_bits(suspects: &mut Suspects, word: &VWord) -> Result<(), NoMemory>
     Ok(())
 }
 
-// Adds it, where the number is no value of an xarray.
-fn push_no_value(suspects: &mut Suspects, word: &VWord, value: u64) -> Result<(), NoMemory>
-    ensures { OnOk result (suspects.new ≡ suspects.old ++ no_value_of word.now value) }
+// Adds it, where the number is one that can have stood there.
+fn push_if(suspects: &mut Suspects, word: &VWord, may: bool, value: u64) -> Result<(), NoMemory>
+    ensures { OnOk result (suspects.new ≡ suspects.old ++ taken_if may word.now value) }
 {
-    if value % 2 == 0 {
+    if may {
         return push_suspect(suspects, word, value);
     }
     Ok(())
 }
 
-// Adds it with each bit changed, the lowest first, where it is then no value of an xarray.
+// An entry of an xarray with one bit changed, the third first.
+fn turned(word: u64, i: u32) -> u64
+    requires { i < 64 }
+    ensures { result ≡ turned word i }
+{
+    flipped(word, (i + 2) % 64)
+}
+
+// Adds an entry of an xarray with each bit changed, the two lowest at last, where it is then no value.
 fn push_pointers(suspects: &mut Suspects, word: &VWord) -> Result<(), NoMemory>
-    ensures { OnOk result (suspects.new ≡ suspects.old ++ flat_map (suspect_of word.now) (pointers_below word.now.value 64)) }
+    ensures { OnOk result (suspects.new ≡ suspects.old ++ flat_map (suspect_of word.now) (taken_below is_no_value (turned word.now.value) 64)) }
+{
+    for i in 0..64u32 {
+        let value = turned(word.value, i);
+        push_if(suspects, word, value % 2 == 0, value)?;
+    }
+    Ok(())
+}
+
+// Adds it with each bit changed, the lowest first, where its lower half isn't zero then.
+fn push_counts(suspects: &mut Suspects, word: &VWord) -> Result<(), NoMemory>
+    ensures { OnOk result (suspects.new ≡ suspects.old ++ flat_map (suspect_of word.now) (taken_below is_counted (flipped word.now.value) 64)) }
 {
     for bit in 0..64u32 {
-        push_no_value(suspects, word, flipped(word.value, bit))?;
+        let value = flipped(word.value, bit);
+        push_if(suspects, word, value % (1 << 32) != 0, value)?;
     }
     Ok(())
 }
@@ -79,6 +98,7 @@ fn push_word(suspects: &mut Suspects, word: &VWord, how: How) -> Result<(), NoMe
         How::Lowest => push_suspect(suspects, word, flipped(word.value, 0)),
         How::Each => push_bits(suspects, word),
         How::Pointer => push_pointers(suspects, word),
+        How::Counted => push_counts(suspects, word),
     }
 }
 
@@ -90,8 +110,7 @@ fn push_made<S: Space, L: Ledger>(
     steps: &mut Steps<L>,
 ) -> Result<(), ReadFailed>
     ensures made { OnOk result (IfSome (S.image space.old) (λ image. suspects.new ≡ suspects.old ++ made image change)) }
-    ensures stays { SpaceStays S.image S.files S.through S.most space.old space.new }
-    ensures cause { CountsFailures result (S.faults space.old) (S.faults space.new) }
+    ensures reads { OnlyReads S.image S.files S.through S.most S.faults result space.old space.new }
 {
     if let Some(word) = read_word(space, change.at, steps)? {
         push_word(suspects, &word, change.how)?;
@@ -107,8 +126,7 @@ pub(crate) fn make_all<S: Space, L: Ledger>(
     steps: &mut Steps<L>,
 ) -> Result<Suspects, ReadFailed>
     ensures made { IfOk result (λ found. IfSome (S.image space.old) (λ image. found ≡ flat_map (made image) changes.now)) }
-    ensures stays { SpaceStays S.image S.files S.through S.most space.old space.new }
-    ensures cause { CountsFailures result (S.faults space.old) (S.faults space.new) }
+    ensures reads { OnlyReads S.image S.files S.through S.most S.faults result space.old space.new }
 {
     let mut suspects = Suspects::new(alloc);
     for change in changes.as_slice() {

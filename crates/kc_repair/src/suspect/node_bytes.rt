@@ -1,10 +1,9 @@
 // The bytes of an xarray's node, all of which one write may have destroyed.
 ghost use Rattle.std.specs.Prelude.{◌≡◌, ◌+◌, ◌*◌, ◌%◌, ◌≤◌, ◌++◌, [], ◌∷◌, option_to_list, position, OnOk, IfOk, IfSome};
-ghost use Rattle.kc_memory.specs.Stays.{SpaceStays};
 ghost use Rattle.kc_memory.specs.Translation.{vword};
-ghost use Rattle.kc_found.specs.Failures.{CountsFailures};
 ghost use Rattle.kc_found.specs.Nodes.{at_offset, readable};
 ghost use Rattle.kc_found.specs.XaNodes.{chunk_shift, filled, odd};
+ghost use Rattle.kc_repair.specs.Suspect.Answers.{OnlyReads};
 ghost use Rattle.kc_repair.specs.Suspect.NodeBytes.{bytes_by, first_word, has_entry, offset_below, offset_by, slot_in, slot_number, slots_in, whole_by, whole_word, whole_words, with_byte, with_shift, with_shifts};
 
 use crate::suspect::change::{Change, Changes};
@@ -37,8 +36,7 @@ fn push_slot<S: Space, L: Ledger>(
     steps: &mut Steps<L>,
 ) -> Result<(), ReadFailed>
     ensures added { OnOk result (IfSome (S.image space.old) (λ image. slots.new ≡ slots.old ++ slot_in image at)) }
-    ensures stays { SpaceStays S.image S.files S.through S.most space.old space.new }
-    ensures cause { CountsFailures result (S.faults space.old) (S.faults space.new) }
+    ensures reads { OnlyReads S.image S.files S.through S.most S.faults result space.old space.new }
 {
     if let Some(slot) = read_word(space, at, steps)? {
         slots.push(slot)?;
@@ -55,8 +53,7 @@ fn read_slots<S: Space, L: Ledger>(
     steps: &mut Steps<L>,
 ) -> Result<Items<VWord>, ReadFailed>
     ensures slots { IfOk result (λ slots. IfSome (S.image space.old) (λ image. slots ≡ slots_in image shape.now node shape.now.chunk)) }
-    ensures stays { SpaceStays S.image S.files S.through S.most space.old space.new }
-    ensures cause { CountsFailures result (S.faults space.old) (S.faults space.new) }
+    ensures reads { OnlyReads S.image S.files S.through S.most S.faults result space.old space.new }
 {
     let mut slots = Items::new(alloc);
     for k in 0..shape.chunk {
@@ -92,8 +89,7 @@ fn offset_below<S: Space, L: Ledger>(
     steps: &mut Steps<L>,
 ) -> Result<u64, ReadFailed>
     ensures offset { IfOk result (λ offset. IfSome (S.image space.old) (λ image. offset ≡ offset_below image shape.now node parent)) }
-    ensures stays { SpaceStays S.image S.files S.through S.most space.old space.new }
-    ensures cause { CountsFailures result (S.faults space.old) (S.faults space.new) }
+    ensures reads { OnlyReads S.image S.files S.through S.most S.faults result space.old space.new }
 {
     if parent == 0 {
         return Ok(0);
@@ -111,8 +107,7 @@ fn read_offset<S: Space, L: Ledger>(
     steps: &mut Steps<L>,
 ) -> Result<u64, ReadFailed>
     ensures offset { IfOk result (λ offset. IfSome (S.image space.old) (λ image. offset ≡ offset_by image shape.now node (readable (vword image (at_offset node shape.now.parent))))) }
-    ensures stays { SpaceStays S.image S.files S.through S.most space.old space.new }
-    ensures cause { CountsFailures result (S.faults space.old) (S.faults space.new) }
+    ensures reads { OnlyReads S.image S.files S.through S.most S.faults result space.old space.new }
 {
     match read_word(space, node.wrapping_add(shape.parent), steps)? {
         Some(parent) => offset_below(alloc, shape, node, parent.value, space, steps),
@@ -147,8 +142,7 @@ fn read_bytes<S: Space, L: Ledger>(
     steps: &mut Steps<L>,
 ) -> Result<NodeBytes, ReadFailed>
     ensures bytes { IfOk result (λ bytes. IfSome (S.image space.old) (λ image. bytes ≡ bytes_by image shape.now node (slots_in image shape.now node shape.now.chunk))) }
-    ensures stays { SpaceStays S.image S.files S.through S.most space.old space.new }
-    ensures cause { CountsFailures result (S.faults space.old) (S.faults space.new) }
+    ensures reads { OnlyReads S.image S.files S.through S.most S.faults result space.old space.new }
 {
     let offset = read_offset(alloc, shape, node, space, steps)?;
     let slots = read_slots(alloc, shape, node, space, steps)?;
@@ -236,8 +230,7 @@ pub(crate) fn push_first_word<S: Space, L: Ledger>(
     steps: &mut Steps<L>,
 ) -> Result<(), ReadFailed>
     ensures added { OnOk result (IfSome (S.image space.old) (λ image. changes.new ≡ changes.old ++ whole_words image kind.now found.now)) }
-    ensures stays { SpaceStays S.image S.files S.through S.most space.old space.new }
-    ensures cause { CountsFailures result (S.faults space.old) (S.faults space.new) }
+    ensures reads { OnlyReads S.image S.files S.through S.most S.faults result space.old space.new }
 {
     let shape = match kind {
         Kind::Xarray(shape) => shape,

@@ -2,22 +2,26 @@
 ghost use Rattle.std.specs.Prelude.{◌≡◌, ◌+◌, ◌*◌, ◌/◌, ◌%◌, ◌++◌, ◌<◌, ◌≤◌, ◌∷◌, [], option_to_list, OnOk, IfOk, IfSome};
 ghost use Rattle.std.specs.List.{flat_map};
 ghost use Rattle.std.specs.Option.{option_map_or};
-ghost use Rattle.kc_memory.specs.Stays.{SpaceStays};
+ghost use Rattle.kc_kinds.specs.declared.kind.Kind.TheVariants.{Ring};
+ghost use Rattle.kc_repair.specs.Suspect.Answers.{OnlyReads};
 ghost use Rattle.kc_repair.specs.Suspect.Changes.{each, each_pointer, to};
-ghost use Rattle.kc_repair.specs.Suspect.Suspects.{alone, alone_from, before_changes, by_way, byte_changes, changes, check_changes, entry_changes, first_address, laid_changes, led_by, number_changes, passed_changes, place_bits, pointed_changes, red_changes, relinked, second_link, shown, word_changes, zeroed};
-ghost use Rattle.kc_found.specs.Failures.{CountsFailures};
+ghost use Rattle.kc_repair.specs.Suspect.Suspects.{alone, alone_from, before_changes, by_way, byte_changes, changes, check_changes, entry_by, entry_changes, first_address, laid_changes, led_by, listed_changes, node_changes, number_changes, passed_changes, place_bits, pointed_changes, red_changes, relinked, second_link, shown, word_changes, zeroed};
 
+use crate::suspect::backs::{
+    push_backs, push_entry_backs, push_hash_backs, push_head_backs, push_tree_backs,
+};
 use crate::suspect::bases::push_bases;
 use crate::suspect::change::{Change, Changes, How};
 use crate::suspect::fields::{push_bits, push_member, push_own, push_some};
 use crate::suspect::free::push_free;
+use crate::suspect::heads::push_heads_in;
 use crate::suspect::links::{chain_link, node_behind, node_of, second_to, tree_links};
 use crate::suspect::node_bytes::push_first_word;
 use crate::suspect::slots::push_slots;
 use crate::suspect::trees::{push_colours, push_parent, push_top};
 use crate::suspect::way::{Way, way_of};
 use crate::suspect::words::with_bits;
-use kc_found::{Found, Place, ReadFailed, Space};
+use kc_found::{Found, ListShape, Place, ReadFailed, Space};
 use kc_kinds::Kind;
 use kc_view::PidShape;
 use kc_word::{NoMemory, Steps};
@@ -98,6 +102,27 @@ fn push_laid(changes: &mut Changes, kind: &Kind, found: &Found) -> Result<(), No
     push_bases(changes, kind, found.start)
 }
 
+// The link that led to a ring's word that was met before.
+fn ring_link<S: Space, L: Ledger>(
+    shape: &ListShape,
+    found: &Found,
+    space: &mut S,
+    steps: &mut Steps<L>,
+) -> Result<Option<u64>, ReadFailed>
+    ensures link { IfOk result (λ link. IfSome (S.image space.old) (λ image. link ≡ second_link image (Ring shape.now) found.now)) }
+    ensures reads { OnlyReads S.image S.files S.through S.most S.faults result space.old space.new }
+{
+    let first = found.start.wrapping_add(shape.next);
+    let node = node_of(found.at, shape.next);
+    match chain_link(space, shape.next, first, node, 1, steps)? {
+        Some(link) => Ok(Some(link)),
+        None => {
+            let other = node_of(found.at, shape.prev);
+            chain_link(space, shape.next, first, other, 0, steps)
+        }
+    }
+}
+
 // The second link that leads to the node of a word that was met before.
 fn second_link<S: Space, L: Ledger>(
     alloc: Global,
@@ -107,15 +132,10 @@ fn second_link<S: Space, L: Ledger>(
     steps: &mut Steps<L>,
 ) -> Result<Option<u64>, ReadFailed>
     ensures link { IfOk result (λ link. IfSome (S.image space.old) (λ image. link ≡ second_link image kind.now found.now)) }
-    ensures stays { SpaceStays S.image S.files S.through S.most space.old space.new }
-    ensures cause { CountsFailures result (S.faults space.old) (S.faults space.new) }
+    ensures reads { OnlyReads S.image S.files S.through S.most S.faults result space.old space.new }
 {
     match kind {
-        Kind::Ring(shape) => {
-            let first = found.start.wrapping_add(shape.next);
-            let node = node_of(found.at, shape.next);
-            chain_link(space, shape.next, first, node, 1, steps)
-        }
+        Kind::Ring(shape) => ring_link(shape, found, space, steps),
         Kind::Hlist(shape) => {
             let first = found.start.wrapping_add(shape.first);
             let node = node_of(found.at, shape.next);
@@ -137,6 +157,22 @@ fn push_entry(changes: &mut Changes, at: u64) -> Result<(), NoMemory>
     changes.push(to(at, 0))
 }
 
+// Adds it as one to a node near that points back, and so.
+fn push_entry_by<S: Space, L: Ledger>(
+    changes: &mut Changes,
+    kind: &Kind,
+    found: &Found,
+    at: u64,
+    space: &mut S,
+    steps: &mut Steps<L>,
+) -> Result<(), ReadFailed>
+    ensures added { OnOk result (IfSome (S.image space.old) (λ image. changes.new ≡ changes.old ++ entry_by image kind.now found.now at)) }
+    ensures reads { OnlyReads S.image S.files S.through S.most S.faults result space.old space.new }
+{
+    push_entry_backs(changes, kind, found, at, space, steps)?;
+    Ok(push_entry(changes, at)?)
+}
+
 // Adds what a link may have held that can't be right.
 fn push_relinked<S: Space, L: Ledger>(
     changes: &mut Changes,
@@ -147,8 +183,7 @@ fn push_relinked<S: Space, L: Ledger>(
     steps: &mut Steps<L>,
 ) -> Result<(), ReadFailed>
     ensures added { OnOk result (IfSome (S.image space.old) (λ image. changes.new ≡ changes.old ++ relinked image kind.now found.now link)) }
-    ensures stays { SpaceStays S.image S.files S.through S.most space.old space.new }
-    ensures cause { CountsFailures result (S.faults space.old) (S.faults space.new) }
+    ensures reads { OnlyReads S.image S.files S.through S.most S.faults result space.old space.new }
 {
     match kind {
         Kind::Ring(shape) => {
@@ -157,11 +192,20 @@ fn push_relinked<S: Space, L: Ledger>(
             push_some(changes, behind.map(|node| to(link, node)))?;
             changes.push(each(link))?;
         }
-        Kind::Hlist(_) | Kind::Rbtree(_) => {
+        Kind::Hlist(_) => {
+            push_hash_backs(changes, kind, link, space, steps)?;
+            changes.push(to(link, 0))?;
+        }
+        Kind::Rbtree(shape) => {
+            push_tree_backs(changes, shape, link, space, steps)?;
             changes.push(each(link))?;
             changes.push(to(link, 0))?;
         }
-        Kind::Xarray(_) | Kind::Pids(_) => push_entry(changes, link)?,
+        Kind::Xarray(_) => push_entry_by(changes, kind, found, link, space, steps)?,
+        Kind::Pids(_) => {
+            push_hash_backs(changes, kind, link, space, steps)?;
+            push_entry_by(changes, kind, found, link, space, steps)?;
+        }
         Kind::Slub(_) => push_laid(changes, kind, found)?,
         Kind::Tasks(_) => push_shown(changes, found.places.as_slice())?,
     }
@@ -178,8 +222,7 @@ fn push_led<S: Space, L: Ledger>(
     steps: &mut Steps<L>,
 ) -> Result<(), ReadFailed>
     ensures added { OnOk result (IfSome (S.image space.old) (λ image. changes.new ≡ changes.old ++ led_by image kind.now found.now link)) }
-    ensures stays { SpaceStays S.image S.files S.through S.most space.old space.new }
-    ensures cause { CountsFailures result (S.faults space.old) (S.faults space.new) }
+    ensures reads { OnlyReads S.image S.files S.through S.most S.faults result space.old space.new }
 {
     match link {
         Some(link) => push_relinked(changes, kind, found, link, space, steps),
@@ -204,8 +247,7 @@ fn push_passed<S: Space, L: Ledger>(
     steps: &mut Steps<L>,
 ) -> Result<(), ReadFailed>
     ensures added { OnOk result (IfSome (S.image space.old) (λ image. changes.new ≡ changes.old ++ passed_changes image kind.now found.now node)) }
-    ensures stays { SpaceStays S.image S.files S.through S.most space.old space.new }
-    ensures cause { CountsFailures result (S.faults space.old) (S.faults space.new) }
+    ensures reads { OnlyReads S.image S.files S.through S.most S.faults result space.old space.new }
 {
     if let Kind::Ring(shape) = kind {
         let link = node.wrapping_add(shape.next);
@@ -224,8 +266,7 @@ fn push_passed_by<S: Space, L: Ledger>(
     steps: &mut Steps<L>,
 ) -> Result<(), ReadFailed>
     ensures added { OnOk result (IfSome (S.image space.old) (λ image. changes.new ≡ changes.old ++ option_map_or (passed_changes image kind.now found.now) found.now.expected [])) }
-    ensures stays { SpaceStays S.image S.files S.through S.most space.old space.new }
-    ensures cause { CountsFailures result (S.faults space.old) (S.faults space.new) }
+    ensures reads { OnlyReads S.image S.files S.through S.most S.faults result space.old space.new }
 {
     match found.expected {
         Some(node) => push_passed(changes, kind, found, node, space, steps),
@@ -242,19 +283,25 @@ fn push_before<S: Space, L: Ledger>(
     steps: &mut Steps<L>,
 ) -> Result<(), ReadFailed>
     ensures added { OnOk result (IfSome (S.image space.old) (λ image. changes.new ≡ changes.old ++ before_changes image kind.now found.now)) }
-    ensures stays { SpaceStays S.image S.files S.through S.most space.old space.new }
-    ensures cause { CountsFailures result (S.faults space.old) (S.faults space.new) }
+    ensures reads { OnlyReads S.image S.files S.through S.most S.faults result space.old space.new }
 {
     push_passed_by(changes, kind, found, space, steps)?;
     Ok(push_word(changes, found)?)
 }
 
-// Adds the `pprev` of a chain's node, and the link that led there.
-fn push_pointed(changes: &mut Changes, found: &Found) -> Result<(), NoMemory>
-    ensures { OnOk result (changes.new ≡ changes.old ++ pointed_changes found.now) }
+// Adds the link that led to a chain's node as one to a node that points back to it, and the node's `pprev`.
+fn push_pointed<S: Space, L: Ledger>(
+    changes: &mut Changes,
+    kind: &Kind,
+    found: &Found,
+    space: &mut S,
+    steps: &mut Steps<L>,
+) -> Result<(), ReadFailed>
+    ensures added { OnOk result (IfSome (S.image space.old) (λ image. changes.new ≡ changes.old ++ pointed_changes image kind.now found.now)) }
+    ensures reads { OnlyReads S.image S.files S.through S.most S.faults result space.old space.new }
 {
-    push_word(changes, found)?;
-    push_some(changes, found.expected.map(each))
+    push_backs(changes, kind, found, space, steps)?;
+    Ok(push_word(changes, found)?)
 }
 
 // Adds the words that show a violation, each with any bit changed, and as zero.
@@ -296,11 +343,39 @@ fn push_number<S: Space, L: Ledger>(
     steps: &mut Steps<L>,
 ) -> Result<(), ReadFailed>
     ensures added { OnOk result (IfSome (S.image space.old) (λ image. changes.new ≡ changes.old ++ number_changes image kind.now found.now)) }
-    ensures stays { SpaceStays S.image S.files S.through S.most space.old space.new }
-    ensures cause { CountsFailures result (S.faults space.old) (S.faults space.new) }
+    ensures reads { OnlyReads S.image S.files S.through S.most S.faults result space.old space.new }
 {
     push_process(changes, kind, found)?;
     push_member(changes, kind, found, space, steps)
+}
+
+// Adds a cache's pointer to its first memory node.
+fn push_node(changes: &mut Changes, kind: &Kind, found: &Found) -> Result<(), NoMemory>
+    ensures { OnOk result (changes.new ≡ changes.old ++ node_changes kind.now found.now) }
+{
+    match kind {
+        Kind::Slub(shape) => changes.push(each(found.start.wrapping_add(shape.node))),
+        _ => Ok(()),
+    }
+}
+
+// Adds where the free list of a slab begins that has a wrong number of free objects.
+fn push_listed<S: Space, L: Ledger>(
+    changes: &mut Changes,
+    kind: &Kind,
+    found: &Found,
+    space: &mut S,
+    steps: &mut Steps<L>,
+) -> Result<(), ReadFailed>
+    ensures added { OnOk result (IfSome (S.image space.old) (λ image. changes.new ≡ changes.old ++ listed_changes image kind.now found.now)) }
+    ensures reads { OnlyReads S.image S.files S.through S.most S.faults result space.old space.new }
+{
+    let Kind::Slub(shape) = kind else {
+        return Ok(());
+    };
+    let slab = node_of(found.at, shape.inuse.bits.bit / 8);
+    let head = slab.wrapping_add(shape.freelist.bits.bit / 8);
+    push_heads_in(changes, shape, found.start, head, space, steps)
 }
 
 // Adds the byte at the violation's address, as it is expected.
@@ -311,8 +386,7 @@ fn push_byte<S: Space, L: Ledger>(
     steps: &mut Steps<L>,
 ) -> Result<(), ReadFailed>
     ensures added { OnOk result (IfSome (S.image space.old) (λ image. changes.new ≡ changes.old ++ byte_changes image found.now)) }
-    ensures stays { SpaceStays S.image S.files S.through S.most space.old space.new }
-    ensures cause { CountsFailures result (S.faults space.old) (S.faults space.new) }
+    ensures reads { OnlyReads S.image S.files S.through S.most S.faults result space.old space.new }
 {
     push_bits(changes, found.at, 0, 8, found.expected, space, steps)
 }
@@ -327,8 +401,7 @@ fn push_red<S: Space, L: Ledger>(
     steps: &mut Steps<L>,
 ) -> Result<(), ReadFailed>
     ensures added { OnOk result (IfSome (S.image space.old) (λ image. changes.new ≡ changes.old ++ red_changes image kind.now found.now)) }
-    ensures stays { SpaceStays S.image S.files S.through S.most space.old space.new }
-    ensures cause { CountsFailures result (S.faults space.old) (S.faults space.new) }
+    ensures reads { OnlyReads S.image S.files S.through S.most S.faults result space.old space.new }
 {
     push_word(changes, found)?;
     push_colours(alloc, changes, kind, found, space, steps)
@@ -345,8 +418,7 @@ fn push_by_way<S: Space, L: Ledger>(
     steps: &mut Steps<L>,
 ) -> Result<(), ReadFailed>
     ensures added { OnOk result (IfSome (S.image space.old) (λ image. changes.new ≡ changes.old ++ by_way image kind.now found.now way)) }
-    ensures stays { SpaceStays S.image S.files S.through S.most space.old space.new }
-    ensures cause { CountsFailures result (S.faults space.old) (S.faults space.new) }
+    ensures reads { OnlyReads S.image S.files S.through S.most S.faults result space.old space.new }
 {
     match way {
         Way::Led => {
@@ -357,20 +429,28 @@ fn push_by_way<S: Space, L: Ledger>(
             let link = second_link(alloc, kind, found, space, steps)?;
             push_led(changes, kind, found, link, space, steps)
         }
-        Way::Word => Ok(push_word(changes, found)?),
+        Way::Word => {
+            push_word(changes, found)?;
+            push_head_backs(changes, kind, found, space, steps)
+        }
         Way::Byte => push_byte(changes, found, space, steps),
         Way::Bytes => {
             push_byte(changes, found, space, steps)?;
-            push_first_word(alloc, changes, kind, found, space, steps)
+            push_first_word(alloc, changes, kind, found, space, steps)?;
+            push_head_backs(changes, kind, found, space, steps)
         }
         Way::Count => {
             push_slots(changes, kind, found, space, steps)?;
             push_byte(changes, found, space, steps)
         }
         Way::Member => push_member(changes, kind, found, space, steps),
+        Way::Named => {
+            push_member(changes, kind, found, space, steps)?;
+            Ok(push_node(changes, kind, found)?)
+        }
         Way::Own => push_own(changes, kind, found, space, steps),
         Way::Before => push_before(changes, kind, found, space, steps),
-        Way::Pointed => Ok(push_pointed(changes, found)?),
+        Way::Pointed => push_pointed(changes, kind, found, space, steps),
         Way::Parent => push_parent(changes, kind, found, space, steps),
         Way::Top => {
             push_top(changes, kind, found, space, steps)?;
@@ -378,10 +458,14 @@ fn push_by_way<S: Space, L: Ledger>(
         }
         Way::Colour => push_red(alloc, changes, kind, found, space, steps),
         Way::Balance => push_colours(alloc, changes, kind, found, space, steps),
-        Way::Entry => Ok(push_entry(changes, found.at)?),
+        Way::Entry => push_entry_by(changes, kind, found, found.at, space, steps),
         Way::Free => {
             push_free(changes, kind, found, space, steps)?;
             Ok(push_laid(changes, kind, found)?)
+        }
+        Way::Listed => {
+            push_shown(changes, found.places.as_slice())?;
+            push_listed(changes, kind, found, space, steps)
         }
         Way::Laid => Ok(push_laid(changes, kind, found)?),
         Way::Check => Ok(push_check(changes, found)?),
@@ -400,8 +484,7 @@ pub(crate) fn changes_of<S: Space, L: Ledger>(
     steps: &mut Steps<L>,
 ) -> Result<Changes, ReadFailed>
     ensures changes { IfOk result (λ found_changes. IfSome (S.image space.old) (λ image. found_changes ≡ changes image kind.now found.now)) }
-    ensures stays { SpaceStays S.image S.files S.through S.most space.old space.new }
-    ensures cause { CountsFailures result (S.faults space.old) (S.faults space.new) }
+    ensures reads { OnlyReads S.image S.files S.through S.most S.faults result space.old space.new }
 {
     let mut changes = Changes::new(alloc);
     push_by_way(

@@ -1,8 +1,7 @@
 // Slots of an xarray's node that may have been null.
 ghost use Rattle.std.specs.Prelude.{◌≡◌, ◌++◌, OnOk, IfOk, IfSome};
-ghost use Rattle.kc_memory.specs.Stays.{SpaceStays};
+ghost use Rattle.kc_repair.specs.Suspect.Answers.{OnlyReads};
 ghost use Rattle.kc_repair.specs.Suspect.Slots.{all_emptied, emptied, leads_nowhere, slot_at, slots_of};
-ghost use Rattle.kc_found.specs.Failures.{CountsFailures};
 
 use crate::suspect::change::Changes;
 use crate::suspect::links::node_of;
@@ -20,8 +19,7 @@ fn leads_nowhere<S: Space, L: Ledger>(
     steps: &mut Steps<L>,
 ) -> Result<bool, ReadFailed>
     ensures nowhere { IfOk result (λ nowhere. IfSome (S.image space.old) (λ image. nowhere ≡ leads_nowhere image entry)) }
-    ensures stays { SpaceStays S.image S.files S.through S.most space.old space.new }
-    ensures cause { CountsFailures result (S.faults space.old) (S.faults space.new) }
+    ensures reads { OnlyReads S.image S.files S.through S.most S.faults result space.old space.new }
 {
     let word = read_word(space, entry / 8 * 8, steps)?;
     Ok(word.is_none())
@@ -35,8 +33,7 @@ fn push_emptied<S: Space, L: Ledger>(
     steps: &mut Steps<L>,
 ) -> Result<(), ReadFailed>
     ensures added { OnOk result (IfSome (S.image space.old) (λ image. changes.new ≡ changes.old ++ emptied image at)) }
-    ensures stays { SpaceStays S.image S.files S.through S.most space.old space.new }
-    ensures cause { CountsFailures result (S.faults space.old) (S.faults space.new) }
+    ensures reads { OnlyReads S.image S.files S.through S.most S.faults result space.old space.new }
 {
     let Some(slot) = read_word(space, at, steps)? else {
         return Ok(());
@@ -64,8 +61,7 @@ fn push_all_emptied<S: Space, L: Ledger>(
     steps: &mut Steps<L>,
 ) -> Result<(), ReadFailed>
     ensures added { OnOk result (IfSome (S.image space.old) (λ image. changes.new ≡ changes.old ++ all_emptied image shape.now node shape.now.chunk)) }
-    ensures stays { SpaceStays S.image S.files S.through S.most space.old space.new }
-    ensures cause { CountsFailures result (S.faults space.old) (S.faults space.new) }
+    ensures reads { OnlyReads S.image S.files S.through S.most S.faults result space.old space.new }
 {
     for k in 0..shape.chunk {
         push_emptied(changes, slot_at(shape, node, k), space, steps)?;
@@ -82,8 +78,7 @@ pub(crate) fn push_slots<S: Space, L: Ledger>(
     steps: &mut Steps<L>,
 ) -> Result<(), ReadFailed>
     ensures added { OnOk result (IfSome (S.image space.old) (λ image. changes.new ≡ changes.old ++ slots_of image kind.now found.now)) }
-    ensures stays { SpaceStays S.image S.files S.through S.most space.old space.new }
-    ensures cause { CountsFailures result (S.faults space.old) (S.faults space.new) }
+    ensures reads { OnlyReads S.image S.files S.through S.most S.faults result space.old space.new }
 {
     let shape = match kind {
         Kind::Xarray(shape) => shape,

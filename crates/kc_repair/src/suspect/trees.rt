@@ -1,9 +1,9 @@
 // Nodes of red-black trees whose parent or colour may be wrong.
 ghost use Rattle.std.specs.Prelude.{◌≡◌, ◌++◌, Some, OnOk, IfOk, IfSome};
-ghost use Rattle.kc_memory.specs.Stays.{SpaceStays};
+ghost use Rattle.kc_repair.specs.Suspect.Answers.{OnlyReads};
 ghost use Rattle.kc_repair.specs.Suspect.Trees.{bits_if, colour_of, colours, colours_of, hangs_there, has_child, leads_to, link_bits, parent_by, parent_changes, parent_words, top_bits, upper_bits};
-ghost use Rattle.kc_found.specs.Failures.{CountsFailures};
 
+use crate::suspect::backs::push_child_backs;
 use crate::suspect::change::{Change, Changes, How};
 use crate::suspect::links::{node_of, tree_links};
 use crate::suspect::rules::{each, to};
@@ -33,8 +33,7 @@ fn push_link<S: Space, L: Ledger>(
     steps: &mut Steps<L>,
 ) -> Result<(), ReadFailed>
     ensures added { OnOk result (IfSome (S.image space.old) (λ image. changes.new ≡ changes.old ++ link_bits image node at)) }
-    ensures stays { SpaceStays S.image S.files S.through S.most space.old space.new }
-    ensures cause { CountsFailures result (S.faults space.old) (S.faults space.new) }
+    ensures reads { OnlyReads S.image S.files S.through S.most S.faults result space.old space.new }
 {
     let link = read_word(space, at, steps)?;
     push_if(changes, node, link)?;
@@ -52,8 +51,7 @@ fn push_upper<S: Space, L: Ledger>(
     steps: &mut Steps<L>,
 ) -> Result<(), ReadFailed>
     ensures added { OnOk result (IfSome (S.image space.old) (λ image. changes.new ≡ changes.old ++ upper_bits image shape.now head node parent)) }
-    ensures stays { SpaceStays S.image S.files S.through S.most space.old space.new }
-    ensures cause { CountsFailures result (S.faults space.old) (S.faults space.new) }
+    ensures reads { OnlyReads S.image S.files S.through S.most S.faults result space.old space.new }
 {
     if parent == 0 {
         return push_link(changes, node, head.wrapping_add(shape.root), space, steps);
@@ -76,8 +74,7 @@ fn leads_to<S: Space, L: Ledger>(
     steps: &mut Steps<L>,
 ) -> Result<bool, ReadFailed>
     ensures leads { IfOk result (λ leads. IfSome (S.image space.old) (λ image. leads ≡ leads_to image node at)) }
-    ensures stays { SpaceStays S.image S.files S.through S.most space.old space.new }
-    ensures cause { CountsFailures result (S.faults space.old) (S.faults space.new) }
+    ensures reads { OnlyReads S.image S.files S.through S.most S.faults result space.old space.new }
 {
     match read_word(space, at, steps)? {
         Some(link) => Ok(link.value == node),
@@ -94,8 +91,7 @@ fn has_child<S: Space, L: Ledger>(
     steps: &mut Steps<L>,
 ) -> Result<bool, ReadFailed>
     ensures child { IfOk result (λ child. IfSome (S.image space.old) (λ image. child ≡ has_child image shape.now node word.now)) }
-    ensures stays { SpaceStays S.image S.files S.through S.most space.old space.new }
-    ensures cause { CountsFailures result (S.faults space.old) (S.faults space.new) }
+    ensures reads { OnlyReads S.image S.files S.through S.most S.faults result space.old space.new }
 {
     let parent = word.value / 4 * 4;
     let left = leads_to(node, parent.wrapping_add(shape.left), space, steps)?;
@@ -111,8 +107,7 @@ fn hangs_there<S: Space, L: Ledger>(
     steps: &mut Steps<L>,
 ) -> Result<bool, ReadFailed>
     ensures there { IfOk result (λ there. IfSome (S.image space.old) (λ image. there ≡ hangs_there image shape.now found.now)) }
-    ensures stays { SpaceStays S.image S.files S.through S.most space.old space.new }
-    ensures cause { CountsFailures result (S.faults space.old) (S.faults space.new) }
+    ensures reads { OnlyReads S.image S.files S.through S.most S.faults result space.old space.new }
 {
     let node = node_of(found.at, shape.parent_color);
     match read_word(space, found.at, steps)? {
@@ -139,10 +134,10 @@ fn push_by_parent<S: Space, L: Ledger>(
     steps: &mut Steps<L>,
 ) -> Result<(), ReadFailed>
     ensures added { OnOk result (IfSome (S.image space.old) (λ image. changes.new ≡ changes.old ++ parent_by image shape.now found.now parent)) }
-    ensures stays { SpaceStays S.image S.files S.through S.most space.old space.new }
-    ensures cause { CountsFailures result (S.faults space.old) (S.faults space.new) }
+    ensures reads { OnlyReads S.image S.files S.through S.most S.faults result space.old space.new }
 {
     let node = node_of(found.at, shape.parent_color);
+    push_child_backs(changes, shape, parent, space, steps)?;
     if hangs_there(shape, found, space, steps)? {
         push_upper(changes, shape, found.start, node, parent, space, steps)?;
         return Ok(push_parent_words(changes, found, parent)?);
@@ -160,8 +155,7 @@ pub(crate) fn push_parent<S: Space, L: Ledger>(
     steps: &mut Steps<L>,
 ) -> Result<(), ReadFailed>
     ensures added { OnOk result (IfSome (S.image space.old) (λ image. changes.new ≡ changes.old ++ parent_changes image kind.now found.now)) }
-    ensures stays { SpaceStays S.image S.files S.through S.most space.old space.new }
-    ensures cause { CountsFailures result (S.faults space.old) (S.faults space.new) }
+    ensures reads { OnlyReads S.image S.files S.through S.most S.faults result space.old space.new }
 {
     let Kind::Rbtree(shape) = kind else {
         return Ok(());
@@ -181,8 +175,7 @@ pub(crate) fn push_top<S: Space, L: Ledger>(
     steps: &mut Steps<L>,
 ) -> Result<(), ReadFailed>
     ensures added { OnOk result (IfSome (S.image space.old) (λ image. changes.new ≡ changes.old ++ top_bits image kind.now found.now)) }
-    ensures stays { SpaceStays S.image S.files S.through S.most space.old space.new }
-    ensures cause { CountsFailures result (S.faults space.old) (S.faults space.new) }
+    ensures reads { OnlyReads S.image S.files S.through S.most S.faults result space.old space.new }
 {
     let Kind::Rbtree(shape) = kind else {
         return Ok(());
@@ -229,8 +222,7 @@ pub(crate) fn push_colours<S: Space, L: Ledger>(
     steps: &mut Steps<L>,
 ) -> Result<(), ReadFailed>
     ensures added { OnOk result (IfSome (S.image space.old) (λ image. changes.new ≡ changes.old ++ colours image kind.now found.now)) }
-    ensures stays { SpaceStays S.image S.files S.through S.most space.old space.new }
-    ensures cause { CountsFailures result (S.faults space.old) (S.faults space.new) }
+    ensures reads { OnlyReads S.image S.files S.through S.most S.faults result space.old space.new }
 {
     if let Kind::Rbtree(shape) = kind {
         let links = tree_links(alloc, space, shape, found.start, steps)?;

@@ -21,6 +21,8 @@ pub(crate) enum Way {
     Count,
     // A field of a struct.
     Member,
+    // The cache that a slab names, or the cache's pointer to a memory node.
+    Named,
     // One of the two numbers of a thread group's leader.
     Own,
     // The `prev` of a list's node, or the `next` of the node before.
@@ -39,6 +41,8 @@ pub(crate) enum Way {
     Entry,
     // A free pointer, or what a cache's walk goes by.
     Free,
+    // The words that show the violation, or where the slab's free list begins.
+    Listed,
     // The words that show the violation, or what a cache's walk goes by.
     Laid,
     // The words that show the violation, also as zero.
@@ -69,13 +73,15 @@ pub(crate) fn way_of(rule: Rule) -> Way
         Rule::X2 | Rule::X6 => Way::Byte,
         Rule::X5 => Way::Count,
         Rule::X7 | Rule::X8 | Rule::X9 => Way::Entry,
-        Rule::U1 | Rule::U2 | Rule::U7 => Way::Member,
+        Rule::U1 => Way::Named,
+        Rule::U2 | Rule::U7 => Way::Member,
         Rule::T1 | Rule::T3 | Rule::T4 | Rule::T5 | Rule::G2 => Way::Member,
         Rule::U4 => Way::Laid,
         Rule::U5 => Way::Free,
+        Rule::U6 => Way::Listed,
         Rule::T2 => Way::Own,
         Rule::C => Way::Check,
         Rule::G1 => Way::Process,
-        Rule::R4 | Rule::U3 | Rule::U6 | Rule::T7 => Way::Shown,
+        Rule::R4 | Rule::U3 | Rule::T7 => Way::Shown,
     }
 }

@@ -1,11 +1,9 @@
 // Words that are read.
 ghost use Rattle.std.specs.Prelude.{◌≡◌, ◌<◌, ◌≤◌, ◌+◌, ◌^◌, IfOk, IfSome};
-ghost use Rattle.kc_memory.specs.Stays.{SpaceStays};
 ghost use Rattle.kc_memory.specs.Translation.{vword};
 ghost use Rattle.kc_found.specs.Nodes.{readable};
-ghost use Rattle.kc_repair.specs.Suspect.Answers.{IsUnread};
+ghost use Rattle.kc_repair.specs.Suspect.Answers.{IsUnread, OnlyReads};
 ghost use Rattle.kc_repair.specs.Suspect.Changes.{field_to, filled, with_bits};
-ghost use Rattle.kc_found.specs.Failures.{CountsFailures};
 
 use crate::suspect::change::{Change, How};
 use kc_found::{ReadFailed, Space, Stop, VWord};
@@ -30,8 +28,7 @@ pub(crate) fn read_word<S: Space, L: Ledger>(
 ) -> Result<Option<VWord>, ReadFailed>
     ensures word { IfOk result (λ word. IfSome (S.image space.old) (λ image. word ≡ readable (vword image va))) }
     ensures at { IfOk result (λ word. IfSome word (λ w. w.va ≡ va)) }
-    ensures stays { SpaceStays S.image S.files S.through S.most space.old space.new }
-    ensures cause { CountsFailures result (S.faults space.old) (S.faults space.new) }
+    ensures reads { OnlyReads S.image S.files S.through S.most S.faults result space.old space.new }
 {
     match space.word(va, steps) {
         Ok(word) => Ok(Some(word)),
@@ -75,8 +72,7 @@ pub(crate) fn field_to<S: Space, L: Ledger>(
     requires bit { bit < 8 }
     requires width { width ≤ 64 }
     ensures field { IfOk result (λ change. IfSome (S.image space.old) (λ image. change ≡ field_to image at bit width number)) }
-    ensures stays { SpaceStays S.image S.files S.through S.most space.old space.new }
-    ensures cause { CountsFailures result (S.faults space.old) (S.faults space.new) }
+    ensures reads { OnlyReads S.image S.files S.through S.most S.faults result space.old space.new }
 {
     let from = (at % 8 * 8) as u32 + bit;
     let width = u32::from(width);

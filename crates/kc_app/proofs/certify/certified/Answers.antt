@@ -10,11 +10,7 @@ returns-clause-output g c =
     made_replies (content (g.S.Store.files c.args.store.now) Dump (g.S.Store.opened c.args.store.now Dump)) (audited_of c.args.held.now) c.in_ok-names.names c.in_ok-made.made c.answer_of.result
     (λ (bytes : List ℕ). c.in_ok-names.ensures) c.in_ok-made.ensures.says c.answer_of.ensures.output
 
-pub returns-clause-later : goal.returns-clause-later
-returns-clause-later g c = (made_counts c.in_ok-names.names c.in_ok-made.made c.answer_of.result _ _ c.answer_of.ensures.output c.in_ok-made.ensures.leaves.1).later
-
-pub returns-clause-quiet : goal.returns-clause-quiet
-returns-clause-quiet g c = (made_counts c.in_ok-names.names c.in_ok-made.made c.answer_of.result _ _ c.answer_of.ensures.output c.in_ok-made.ensures.leaves.1).quiet
-
-pub returns-clause-cause : goal.returns-clause-cause
-returns-clause-cause g c = (made_counts c.in_ok-names.names c.in_ok-made.made c.answer_of.result _ _ c.answer_of.ensures.output c.in_ok-made.ensures.leaves.1).cause
+pub returns-clause-reads : goal.returns-clause-reads
+returns-clause-reads g c =
+    let counts = made_counts c.in_ok-names.names c.in_ok-made.made c.answer_of.result _ _ c.answer_of.ensures.output c.in_ok-made.ensures.leaves.1 in
+    record { same = c.in_ok-made.ensures.files; later = counts.later; quiet = counts.quiet; cause = counts.cause }

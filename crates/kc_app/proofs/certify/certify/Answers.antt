@@ -7,6 +7,6 @@ use Rattle.kc_app.proofs.certify.certify.Goals as goal
 
 pub returns-clause-output : goal.returns-clause-output
 returns-clause-output g c =
-    held_replies (λ files. audited (files Dump c.args.asks.now.kernel.dump.now) (files Btf c.args.asks.now.kernel.btf.now) (files Map c.args.asks.now.kernel.map.now) (files Plan c.args.asks.now.plan.now)) certified
+    held_replies (λ files. audited c.args.asks.now.most (files Dump c.args.asks.now.kernel.dump.now) (files Btf c.args.asks.now.kernel.btf.now) (files Map c.args.asks.now.kernel.map.now) (files Plan c.args.asks.now.plan.now)) certified
     (g.S.Store.files c.args.store.now) (content (g.S.Store.files c.read_held.new.store) Dump (g.S.Store.opened c.read_held.new.store Dump)) c.in_ok-held.held c.certified.result
     c.in_ok-held.ensures.told c.certified.ensures.output

@@ -12,11 +12,7 @@ returns-clause-output g c =
     (λ (bytes : List ℕ). answer (audited_of c.args.held.now bytes).image (audited_of c.args.held.now bytes).audits c.args.cert.now) c.in_ok-found.found c.answer_of.result
     c.in_ok-found.ensures.says c.answer_of.ensures.output
 
-pub returns-clause-later : goal.returns-clause-later
-returns-clause-later g c = (found_counts c.in_ok-found.found c.answer_of.result _ _ c.answer_of.ensures.output c.in_ok-found.ensures.leaves).later
-
-pub returns-clause-quiet : goal.returns-clause-quiet
-returns-clause-quiet g c = (found_counts c.in_ok-found.found c.answer_of.result _ _ c.answer_of.ensures.output c.in_ok-found.ensures.leaves).quiet
-
-pub returns-clause-cause : goal.returns-clause-cause
-returns-clause-cause g c = (found_counts c.in_ok-found.found c.answer_of.result _ _ c.answer_of.ensures.output c.in_ok-found.ensures.leaves).cause
+pub returns-clause-reads : goal.returns-clause-reads
+returns-clause-reads g c =
+    let counts = found_counts c.in_ok-found.found c.answer_of.result _ _ c.answer_of.ensures.output c.in_ok-found.ensures.leaves in
+    record { same = c.in_ok-found.ensures.files; later = counts.later; quiet = counts.quiet; cause = counts.cause }

@@ -18,7 +18,7 @@ pub returns-clause-output : goal.returns-clause-output
 returns-clause-output c =
     let held = c.new-store.ensures.files in
     let store = c.new-store.result in
-    same_files (λ a b m p. Prints shown_written (check_made (Some a) (Some b) (Some m) (Some p)) c.check.result)
+    same_files (λ a b m p. Prints shown_written (check_made 65536 (Some a) (Some b) (Some m) (Some p)) c.check.result)
     (file_in store slot.Dump) (dump c.args.count None) (file_in store slot.Btf) btf (file_in store slot.Map) map (file_in store slot.Plan) plan
     (ap (λ f. f slot.Dump) held ∙ c.in_ok-files.ensures.dump) (ap (λ f. f slot.Btf) held ∙ c.in_ok-files.ensures.btf)
     (ap (λ f. f slot.Map) held ∙ c.in_ok-files.ensures.map) (ap (λ f. f slot.Plan) held ∙ c.in_ok-files.ensures.plan)

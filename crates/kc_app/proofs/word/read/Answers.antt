@@ -6,14 +6,14 @@ use Rattle.kc_app.proofs.word.read.Goals as goal
 use Rattle.kc_app.proofs.word.read.Goals.{in_default-via-then-words-lt3, in_default-via-else-words-lt3+else-words-lt4}
 
 -- the words are three
-others : {X : Type 0} (view : X → List ℕ) (words : List X) → length words ≢ 3 → word_asks (map view words) ≡ None
-others view [] three = refl
-others view (a ∷ []) three = refl
-others view (a ∷ b ∷ []) three = refl
-others view (a ∷ b ∷ c ∷ []) three = absurd (three refl)
-others view (a ∷ b ∷ c ∷ d ∷ words) three = refl
+others : {X : Type 0} (most : ℕ) (view : X → List ℕ) (words : List X) → length words ≢ 3 → word_asks most (map view words) ≡ None
+others most view [] three = refl
+others most view (a ∷ []) three = refl
+others most view (a ∷ b ∷ []) three = refl
+others most view (a ∷ b ∷ c ∷ []) three = absurd (three refl)
+others most view (a ∷ b ∷ c ∷ d ∷ words) three = refl
 
 pub returns-in_default-clause-asked : goal.returns-in_default-clause-asked
 returns-in_default-clause-asked c =
     let three : length c.args.words.now ≢ 3 = elim c.in_default.branch [ in_default-via-then-words-lt3 w ↦ (λ e. grind (arith, nat_tests)) | in_default-via-else-words-lt3+else-words-lt4 w ↦ (λ e. grind (arith, nat_tests)) ] in
-    sym (others string_bytes c.args.words.now three)
+    sym (others c.args.most string_bytes c.args.words.now three)

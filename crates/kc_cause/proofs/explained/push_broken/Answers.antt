@@ -13,5 +13,5 @@ returns-in-Ok-clause-added g c =
     broken_added (with_paging c.args.over.now.paging (g.F.Frames.image c.args.memory)) _ _
     c.push_repairs.result.answer c.args.text.now.items c.push_named_root.new.text.items c.push_shown_over-memory.new.text.items c.push_found_number.new.text.items c.push_repairs.new.text.items (root_line (plan_seen o.plan.now) c.args.root) (found_named o.types.now (plan_seen o.plan.now) v) (found_number (plan_seen o.plan.now) v)
     (λ m. shown_lines (over_plan o m) v) (λ m. repairs_found (over_plan o m) c.args.root v)
-    (ap (with_paging c.args.over.now.paging) c.push_shown_over-memory.ensures.stays.same_image) (ap (with_paging c.args.over.now.paging) c.push_shown_over-memory.ensures.stays.same_image)
+    (ap (with_paging c.args.over.now.paging) c.push_shown_over-memory.ensures.reads.stays.same_image) (ap (with_paging c.args.over.now.paging) c.push_shown_over-memory.ensures.reads.stays.same_image)
     (search rules) (search rules) (search rules) c.push_repairs.ensures.added

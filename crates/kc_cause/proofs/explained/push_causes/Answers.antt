@@ -10,11 +10,11 @@ loop-i-preserved g c = (
   item_more _ _ (λ m. cause_lines (over_plan c.args.over.now m)) c.args.verdicts.now c.loop-i.i _ _ _ _
       (ap (with_paging c.args.over.now.paging) c.loop-i.invariant.1.same_image) c.get.ensures (rw c.in-Ok.is at c.push_cause-wrote.ensures.added) c.loop-i.invariant.0,
   record {
-    same_image = c.push_cause-wrote.ensures.stays.same_image ∙ c.loop-i.invariant.1.same_image;
-    same_files = c.push_cause-wrote.ensures.stays.same_files ∙ c.loop-i.invariant.1.same_files;
-    same_through = c.push_cause-wrote.ensures.stays.same_through ∙ c.loop-i.invariant.1.same_through;
+    same_image = c.push_cause-wrote.ensures.reads.stays.same_image ∙ c.loop-i.invariant.1.same_image;
+    same_files = c.push_cause-wrote.ensures.reads.stays.same_files ∙ c.loop-i.invariant.1.same_files;
+    same_through = c.push_cause-wrote.ensures.reads.stays.same_through ∙ c.loop-i.invariant.1.same_through;
   },
-  (rw c.in-Ok.is at c.push_cause-wrote.ensures.cause) ∙ c.loop-i.invariant.2,
+  (rw c.in-Ok.is at c.push_cause-wrote.ensures.reads.cause) ∙ c.loop-i.invariant.2,
 )
 
 pub returns-clause-added : goal.returns-clause-added

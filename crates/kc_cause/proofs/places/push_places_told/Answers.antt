@@ -9,8 +9,8 @@ pub loop-i-preserved : goal.loop-i-preserved
 loop-i-preserved g c = record {
   added = item_more (g.M.Space.image c.args.memory.now) _ (λ m. place_told (over_plan c.args.over.now m)) c.args.places.now c.loop-i.i _ _ _ _
       c.loop-i.invariant.stays.same_image c.get.ensures c.in_ok-push_place_told.ensures.added c.loop-i.invariant.added;
-  stays = stays_on g.M.Space.image g.M.Space.files g.M.Space.through g.M.Space.most _ _ _ c.loop-i.invariant.stays c.in_ok-push_place_told.ensures.stays;
-  quiet = c.in_ok-push_place_told.ensures.cause ∙ c.loop-i.invariant.quiet;
+  stays = stays_on g.M.Space.image g.M.Space.files g.M.Space.through g.M.Space.most _ _ _ c.loop-i.invariant.stays c.in_ok-push_place_told.ensures.reads.stays;
+  quiet = c.in_ok-push_place_told.ensures.reads.cause ∙ c.loop-i.invariant.quiet;
 }
 
 pub returns-clause-added : goal.returns-clause-added

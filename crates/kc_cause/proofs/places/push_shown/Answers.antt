@@ -5,6 +5,5 @@ use Rattle.kc_cause.proofs.places.push_shown.Goals as goal
 
 pub returns-clause-added : goal.returns-clause-added
 returns-clause-added g c =
-    shown_added (g.M.Space.image c.args.memory.now) _ c.push_places_told.result c.args.over.now c.args.found.now (audit_seen c.audit-audit.result.now) c.found.inside.places _ _ _
-    (search rules)
-    (search rules) c.in_ok-push_ring.ensures.stays.same_image c.in_ok-push_ring.ensures.added c.push_places_told.ensures.added
+    shown_added (g.M.Space.image c.args.memory.now) _ c.push_slabs.result c.args.over.now c.args.found.now (audit_seen c.audit-audit.result.now) _ _ _
+    (search rules) c.in_ok-push_listed.ensures.reads.stays.same_image c.in_ok-push_listed.ensures.added c.push_slabs.ensures.added

@@ -5,7 +5,7 @@ use Rattle.kc_command.proofs.kernel.read_kernel.Goals as goal
 
 pub returns-clause-told : goal.returns-clause-told
 returns-clause-told g c =
-    kernel_told (g.S.Store.files c.args.store.now) c.args.files.now.dump.now c.args.files.now.btf.now c.args.files.now.map.now c.in_ok-noted.noted c.in_ok-types.types c.in_ok-map.map
+    kernel_told c.args.most (g.S.Store.files c.args.store.now) c.args.files.now.dump.now c.args.files.now.btf.now c.args.files.now.map.now c.in_ok-noted.noted c.in_ok-types.types c.in_ok-map.map
     c.in_ok-noted.ensures.told (rw c.in_ok-noted.ensures.files at c.in_ok-types.ensures.told)
     (rw (c.in_ok-types.ensures.files, c.in_ok-noted.ensures.files) at c.in_ok-map.ensures.told)
 

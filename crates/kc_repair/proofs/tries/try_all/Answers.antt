@@ -15,11 +15,11 @@ loop-i-preserved g c = (
   goes_on _ _ (λ image. verdict_with image (plan_seen c.args.audit.now.plan.now) (c.args.audit.now.root.audit, c.args.audit.now.root.start)) c.args.found c.args.suspects.now c.loop-i.i _ c.try_suspect-trial.result.answer c.loop-i.then c.judge.new.then c.judge.result
       (ap (with_paging c.args.paging) c.loop-i.invariant.1.same_image) (omega arith) c.try_suspect-trial.ensures.exact c.loop-i.invariant.0 c.judge.ensures c.in-None.is,
   record {
-    same_image = c.try_suspect-trial.ensures.stays.same_image ∙ c.loop-i.invariant.1.same_image;
-    same_files = c.try_suspect-trial.ensures.stays.same_files ∙ c.loop-i.invariant.1.same_files;
-    same_through = c.try_suspect-trial.ensures.stays.same_through ∙ c.loop-i.invariant.1.same_through;
+    same_image = c.try_suspect-trial.ensures.reads.stays.same_image ∙ c.loop-i.invariant.1.same_image;
+    same_files = c.try_suspect-trial.ensures.reads.stays.same_files ∙ c.loop-i.invariant.1.same_files;
+    same_through = c.try_suspect-trial.ensures.reads.stays.same_through ∙ c.loop-i.invariant.1.same_through;
   },
-  quiet c.args.found _ c.try_suspect-trial.result.answer c.loop-i.then c.judge.new.then c.judge.result _ _ c.judge.ensures c.in-None.is c.try_suspect-trial.ensures.cause ∙ c.loop-i.invariant.2,
+  quiet c.args.found _ c.try_suspect-trial.result.answer c.loop-i.then c.judge.new.then c.judge.result _ _ c.judge.ensures c.in-None.is c.try_suspect-trial.ensures.reads.cause ∙ c.loop-i.invariant.2,
 )
 
 pub returns-clause-exact : goal.returns-clause-exact

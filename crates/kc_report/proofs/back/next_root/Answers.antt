@@ -4,8 +4,8 @@ use Rattle.kc_report.specs.Roots.{RootLines}
 use Rattle.kc_report.proofs.BackLemmas.{root_named, root_by_name}
 use Rattle.kc_report.proofs.back.next_root.Goals as goal
 
-pub next_result-requires-clause-name : goal.next_result-requires-clause-name
-next_result-requires-clause-name c = root_named c.args.bytes.now c.in-Ok.rest.now c.in-Ok.name.now c.in-Ok.ensures
+pub next_result-requires : goal.next_result-requires
+next_result-requires c = record { name = root_named c.args.bytes.now c.in-Ok.rest.now c.in-Ok.name.now c.in-Ok.ensures }
 
 pub returns-in-Ok : goal.returns-in-Ok
 returns-in-Ok c =

@@ -11,7 +11,7 @@ abbrev pub invariant-loop-line : goal.invariant-loop-line
 invariant-loop-line g l = record {
   goes : (goal.iterator-loop-line g).can_next l.line-iterator;
   ends : (goal.iterator-loop-line g).is_finite l.line-iterator;
-  read : IfSome (g.S.Space.image l.fn.space) (λ i. map symbol_view l.found.items ++ holding i l.image.text_end l.image.end l.image.kaslr l.value (map row_in l.line-iterator) ≡ symbols_holding i l.image l.value);
+  read : IfSome (g.S.Space.image l.fn.space) (λ i. map symbol_view l.found.items ++ holding i l.image.parts l.image.kaslr l.value (map row_in l.line-iterator) ≡ symbols_holding i l.image l.value);
   stays : SpaceStays g.S.Space.image g.S.Space.files g.S.Space.through g.S.Space.most l.fn.space l.space;
   quiet : g.S.Space.faults l.space ≡ g.S.Space.faults l.fn.space;
 }

@@ -19,8 +19,8 @@ pub loop-number-preserved : goal.loop-number-preserved
 loop-number-preserved g c = record {
   left = next (g.S.Space.image c.args.space.now) (λ i. in_node i c.args.shape.now c.args.found.now) (range_with_len 0 c.args.count) (range_with_len c.loop-number.number (c.args.count - c.loop-number.number)) (range_with_len (c.loop-number.number + 1) (c.args.count - (c.loop-number.number + 1))) c.loop-number.number
       (numbers_on c.loop-number.number c.args.count (omega arith)) c.loop-number.invariant.left (rw (c.in-Ok-None.field-0-is, c.loop-number.invariant.stays.same_image) at c.in-Ok-None.ensures.exact);
-  stays = stays_on g.S.Space.image g.S.Space.files g.S.Space.through g.S.Space.most _ _ _ c.loop-number.invariant.stays c.in-Ok-None.ensures.stays;
-  quiet = c.in-Ok-None.ensures.cause ∙ c.loop-number.invariant.quiet;
+  stays = stays_on g.S.Space.image g.S.Space.files g.S.Space.through g.S.Space.most _ _ _ c.loop-number.invariant.stays c.in-Ok-None.ensures.reads.stays;
+  quiet = c.in-Ok-None.ensures.reads.cause ∙ c.loop-number.invariant.quiet;
 }
 
 pub returns-clause-exact : goal.returns-clause-exact

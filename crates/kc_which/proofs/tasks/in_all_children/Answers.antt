@@ -21,8 +21,8 @@ loop-i-preserved g c = record {
   left = next (g.S.Space.image c.args.space.now) (λ i node. in_children i c.args.shape.now c.args.found.now (task_of c.args.shape.now.thread_node node)) c.args.nodes.now (drop c.loop-i.i c.args.nodes.now) (drop (c.loop-i.i + 1) c.args.nodes.now) c.get-node.result.now
       (item c.args.nodes.now c.loop-i.i c.get-node.result.now c.get-node.ensures) c.loop-i.invariant.left (rw c.task_of-thread.ensures at (rw (c.in-Ok-None.field-0-is, c.loop-i.invariant.stays.same_image) at c.in-Ok-None.ensures.exact));
   inside = search rules;
-  stays = stays_on g.S.Space.image g.S.Space.files g.S.Space.through g.S.Space.most _ _ _ c.loop-i.invariant.stays c.in-Ok-None.ensures.stays;
-  quiet = c.in-Ok-None.ensures.cause ∙ c.loop-i.invariant.quiet;
+  stays = stays_on g.S.Space.image g.S.Space.files g.S.Space.through g.S.Space.most _ _ _ c.loop-i.invariant.stays c.in-Ok-None.ensures.reads.stays;
+  quiet = c.in-Ok-None.ensures.reads.cause ∙ c.loop-i.invariant.quiet;
 }
 
 pub returns-clause-exact : goal.returns-clause-exact

@@ -26,4 +26,4 @@ returns-clause-output g c =
 pub returns-in_err-seen_text-clause-output : goal.returns-in_err-seen_text-clause-output
 returns-in_err-seen_text-clause-output g c =
     none_left (λ bytes. seen_in (memory_of (kernel_view c.args.kernel.now) bytes) c.args.address (kernel_view c.args.kernel.now))
-    (content (g.S.Store.files c.args.store.now) Dump (g.S.Store.opened c.args.store.now Dump)) _ (search rules)
+    (content (g.S.Store.files c.args.store.now) Dump (g.S.Store.opened c.args.store.now Dump)) _ (search (rules, c.from_residual-in_err-seen_text.ensures))

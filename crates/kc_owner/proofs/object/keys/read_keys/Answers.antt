@@ -1,13 +1,13 @@
 use Rattle.std.proofs.Common.{◌≡◌, sym, arith}
 use Rattle.std.proofs.lemmas.Grind.{common_steps}
 use Rattle.kc_memory.specs.Stays.{stays_on}
-use Rattle.kc_owner.proofs.ObjectLemmas.KeyLemmas.{keys_next}
+use Rattle.kc_owner.proofs.ObjectLemmas.KeyLemmas.{listed_next}
+use Rattle.kc_owner.specs.Object.Keys.{key_of}
 use Rattle.kc_owner.proofs.object.keys.read_keys.Goals as goal
 
--- src/keys.rt:93:5
 pub loop-i-preserved : goal.loop-i-preserved
 loop-i-preserved g c = record {
-  far = keys_next (g.S.Space.image c.args.space.now) c.args.shape.now c.args.nodes.now c.loop-i.i c.get.result.now c.cache_by-cache.result _ c.loop-i.keys _
+  far = listed_next (λ i. key_of i c.args.shape.now) (g.S.Space.image c.args.space.now) c.args.shape.now c.args.nodes.now c.loop-i.i c.get.result.now c.cache_by-cache.result _ c.loop-i.keys _
       c.get.ensures c.cache_by-cache.ensures (rw c.loop-i.invariant.stays.same_image at c.in_ok-key.ensures.exact) c.in_ok-push_key.ensures.added c.loop-i.invariant.far;
   stays = stays_on g.S.Space.image g.S.Space.files g.S.Space.through g.S.Space.most _ _ _ c.loop-i.invariant.stays c.in_ok-key.ensures.stays;
   quiet = grind (arith, common_steps);

@@ -25,8 +25,8 @@ loop-left-preserved g c = record {
         (goes_by (g.S.Space.image c.args.space.now) c.args.offset c.args.node c.loop-left.others c.loop-left.at c.loop-left.left (λ image. chain_link image c.args.offset c.args.first c.args.node c.args.others) c.in_ok-link.field-0 c.in-Some.link
         c.loop-left-test.true c.in-Some.is w.if-link-node.false (rw c.loop-left.invariant.stays.same_image at c.in_ok-link.ensures.word) c.loop-left.invariant.link)
   ];
-  stays = stays_on g.S.Space.image g.S.Space.files g.S.Space.through g.S.Space.most _ _ _ c.loop-left.invariant.stays c.in_ok-link.ensures.stays;
-  quiet = c.in_ok-link.ensures.cause ∙ c.loop-left.invariant.quiet;
+  stays = stays_on g.S.Space.image g.S.Space.files g.S.Space.through g.S.Space.most _ _ _ c.loop-left.invariant.stays c.in_ok-link.ensures.reads.stays;
+  quiet = c.in_ok-link.ensures.reads.cause ∙ c.loop-left.invariant.quiet;
 }
 
 pub returns-clause-link : goal.returns-clause-link

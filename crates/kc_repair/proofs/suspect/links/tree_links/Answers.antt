@@ -15,8 +15,8 @@ loop-left-preserved g c = record {
   links = one_found (g.S.Space.image c.args.space.now) c.args.shape.now c.loop-left.links _ (reverse c.pop.new.self.items) _ c.in-Some.at c.loop-left.left c.in_ok-link.link (λ image. tree_links image c.args.shape.now c.args.head)
       c.loop-left-test.true (rw c.loop-left.invariant.stays.same_image at c.in_ok-link.ensures.word) c.in_ok-push_link.ensures.links c.in_ok-push_link.ensures.ahead
       (rw (ap reverse c.in-Some.ensures.items ∙ reverse-append c.pop.new.self.items (c.in-Some.at ∷ [])) at c.loop-left.invariant.links);
-  stays = stays_on g.S.Space.image g.S.Space.files g.S.Space.through g.S.Space.most _ _ _ c.loop-left.invariant.stays c.in_ok-link.ensures.stays;
-  quiet = c.in_ok-link.ensures.cause ∙ c.loop-left.invariant.quiet;
+  stays = stays_on g.S.Space.image g.S.Space.files g.S.Space.through g.S.Space.most _ _ _ c.loop-left.invariant.stays c.in_ok-link.ensures.reads.stays;
+  quiet = c.in_ok-link.ensures.reads.cause ∙ c.loop-left.invariant.quiet;
 }
 
 pub returns-clause-links : goal.returns-clause-links

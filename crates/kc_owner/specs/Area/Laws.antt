@@ -1,0 +1,77 @@
+-- What is told of an area has the address.
+use Rattle.std.specs.Prelude.{◌≡◌, ℕ, ◌+◌, ◌*◌, ◌<◌, ◌≤◌, min, false, List, slice_get, Some, Ok, IfOk, IfSome}
+use Rattle.kc_memory.specs.declared.words.VWord.{VWord}
+use Rattle.kc_memory.specs.Bits.{Number, bits}
+use Rattle.kc_memory.specs.Image.{Image}
+use Rattle.kc_memory.specs.Translation.{vword}
+use Rattle.kc_view.specs.Fields.{FieldIs}
+use Rattle.kc_view.specs.TaskLists.{task_list, task_of}
+use Rattle.kc_found.specs.FreeLists.{low_word}
+use Rattle.kc_found.specs.Nodes.{at_offset}
+use Rattle.kc_found.specs.Rings.{ring_walk}
+use Rattle.kc_owner.specs.declared.area.modules.InModule.{InModule}
+use Rattle.kc_owner.specs.declared.area.processors.InProcessor.{InProcessor}
+use Rattle.kc_owner.specs.declared.area.shape.ModuleShape.{ModuleShape}
+use Rattle.kc_owner.specs.declared.area.shape.PartShape.{PartShape}
+use Rattle.kc_owner.specs.declared.area.shape.ProcessorShape.{ProcessorShape}
+use Rattle.kc_owner.specs.declared.area.shape.StackShape.{StackShape}
+use Rattle.kc_owner.specs.declared.area.stacks.InStack.{InStack}
+use Rattle.kc_owner.specs.Area.Modules.{module_at}
+use Rattle.kc_owner.specs.Area.Processors.{less, processor_at}
+use Rattle.kc_owner.specs.Area.Stacks.{stack_at}
+
+-- an address is a byte of a part of a module's memory, which begins there and is so long by the module's own words
+pub record IsInPart (image : Image) (shape : PartShape) (address owner byte : ℕ) : Type 0 where
+  pub number : ℕ
+  pub one : number < shape.count
+  pub base : ℕ
+  pub begins : FieldIs image (at_offset owner (shape.stride * number)) shape.base base
+  pub size : ℕ
+  pub long : FieldIs image (at_offset owner (shape.stride * number)) shape.size size
+  pub address_is : address ≡ base + byte
+  pub inside : byte < size
+
+-- and the module is one of the kernel's ring
+pub record IsInModule (image : Image) (shape : ModuleShape) (address : ℕ) (m : InModule) : Type 0 where
+  pub nodes : List ℕ
+  pub ring : ring_walk image shape.list 0 shape.head ≡ Ok nodes
+  pub place : ℕ
+  pub node : ℕ
+  pub listed : slice_get nodes place ≡ Some node
+  pub at : m.at ≡ task_of shape.link node
+  pub part : IsInPart image shape.parts address m.at m.byte
+
+-- An address is a byte of the area of one of the kernel's processors: less the processor's offset it is one of the variables that each processor
+-- has a copy of.
+pub record IsInProcessor (image : Image) (shape : ProcessorShape) (address : ℕ) (p : InProcessor) : Type 0 where
+  pub count : Number
+  pub counted : bits image shape.count 0 32 false ≡ Ok count
+  pub one : p.number < min (low_word count.value) 8192
+  pub offset : VWord
+  pub read : vword image (at_offset shape.offsets (8 * p.number)) ≡ Ok offset
+  pub variable : p.variable ≡ less address offset.value
+  pub start : p.start ≡ shape.start
+  pub from : shape.start ≤ p.variable
+  pub before : p.variable < shape.end
+
+-- an address is a byte of the stack of one of the kernel's tasks, which begins where the task's own word says, and this is the task's number
+pub record IsInStack (image : Image) (shape : StackShape) (address : ℕ) (s : InStack) : Type 0 where
+  pub tasks : List ℕ
+  pub list : task_list image shape.tasks (record { audit = 0; start = shape.first }) ≡ Ok tasks
+  pub place : ℕ
+  pub listed : slice_get tasks place ≡ Some s.task
+  pub base : ℕ
+  pub begins : FieldIs image s.task shape.tasks.stack base
+  pub pid : FieldIs image s.task shape.tasks.pid s.pid
+  pub address_is : address ≡ base + s.byte
+  pub inside : s.byte < shape.bytes
+
+-- so it is wherever one is told
+abbrev pub ModulesHold : Type 0
+ModulesHold = (image : Image) (shape : ModuleShape) (address : ℕ) → IfOk (module_at image shape address) (λ found. IfSome found (IsInModule image shape address))
+
+abbrev pub ProcessorsHold : Type 0
+ProcessorsHold = (image : Image) (shape : ProcessorShape) (address : ℕ) → IfOk (processor_at image shape address) (λ found. IfSome found (IsInProcessor image shape address))
+
+abbrev pub StacksHold : Type 0
+StacksHold = (image : Image) (shape : StackShape) (address : ℕ) → IfOk (stack_at image shape address) (λ found. IfSome found (IsInStack image shape address))
