@@ -3,10 +3,11 @@
 usage: kdump core DUMP > OUT                     writes the plain core file that stands for a dump, or prints its refusal
        kdump damage PROGRAMS COUNT [SEED]        makes COUNT containers, whole and damaged, by seed; compares `kplain core` with this reader
 
-A made container has holes, pages that were left out, and pages that are raw, or packed by zlib at some level and strategy or by LZO (where liblzo2 is
-installed); its version is 4, 5 or 6, and it is flattened or not. Then nothing, or one thing or more is damaged: a field of a header, a bitmap, a
+A made container has holes, pages that were left out, and pages that are raw, or packed by zlib at some level and strategy, by LZO or by snappy (where
+liblzo2 and libsnappy are installed); its version is 1 to 6, and it is flattened or not. Then nothing, or one thing or more is damaged: a field of a header, a bitmap, a
 descriptor, a stream, a record, or the file's end. What is wanted is this reader's answer: the plain core, or the line of the refusal with status 2
 and nothing on standard output, or the line of the first page that can't be had with status 3 and a first part of the core.
+An incomplete dump, whose header says so or whose last pages are past the file's end, is the core of the pages that are there, with a line of its own.
 """
 import bisect
 import os
@@ -20,11 +21,11 @@ import zlib
 from collections import Counter
 
 import files
-from second import flat, inflate, lzo
+from second import flat, inflate, lzo, snappy
 
 PAGE = 4096
 MOST_RUNS, MOST_BYTES = 1 << 22, 1 << 26
-HEADER_VERSION, BLOCK_SIZE, SUB_BLOCKS, BITMAP_BLOCKS, FRAMES = 8, 428, 432, 436, 440
+HEADER_VERSION, STATUS, BLOCK_SIZE, SUB_BLOCKS, BITMAP_BLOCKS, FRAMES = 8, 424, 428, 432, 436, 440
 KEYS = (b'PAGESIZE', b'SYMBOL(swapper_pg_dir)', b'SYMBOL(init_top_pgt)', b'NUMBER(phys_base)', b'NUMBER(pgtable_l5_enabled)', b'NUMBER(sme_mask)', b'KERNELOFFSET')
 # The bits of a page's address.
 MASK = (1 << 52) - PAGE
@@ -35,8 +36,9 @@ ZLIB_SAYS = {'InputEnds': 'the stream ends too soon', 'Head': 'no zlib stream, o
              'Distance': 'a distance leads to before the first byte', 'TooManyBytes': 'the stream has too many bytes',
              'TooFewBytes': 'the stream has too few bytes', 'Sum': 'the sum at the end is another'}
 DUMP_SAYS = {'K1': 'the file is too short for the headers', 'K2': 'of the older format', 'K3': 'of another version', 'K4': 'blocks of another size',
-             'K5': 'one part of a split dump', 'K6': 'bitmaps outside the file, or too short', 'K7': 'notes outside the file, or too many',
-             'K8': 'too many runs of page frames', 'K9': 'page descriptors outside the file'}
+             'K5': 'one part of a split dump: makedumpfile --reassemble joins the parts', 'K6': 'bitmaps outside the file, or too short', 'K7': 'notes outside the file, or too many',
+             'K8': 'too many runs of page frames'}
+INCOMPLETE = b'incomplete dump: the pages that it lacks are left out\n'
 FLAT_SAYS = {'Header': 'W1: the header of the flattened file', 'Bounds': 'W2: a record with an offset or a size that is out of bounds',
              'PastEnd': 'W3: a record past the end of the file', 'NoEnd': 'W4: no last record', 'TooMany': 'W5: too many records'}
 
@@ -109,14 +111,14 @@ class Dump:
         need(len(data) >= PAGE + 104, 'K1')
         need(data[:8] == b'KDUMP   ', 'K2')
         version, blocks = number(data, HEADER_VERSION, 4), number(data, BITMAP_BLOCKS, 4)
-        need(version in (4, 5, 6), 'K3')
+        need(1 <= version <= 6, 'K3')
         need(number(data, BLOCK_SIZE, 4) == PAGE, 'K4')
-        need(number(data, SPLIT, 4) == 0, 'K5')
+        need(version < 2 or number(data, SPLIT, 4) == 0, 'K5')
         frames = number(data, FRAMES_64, 8) if version == 6 else number(data, FRAMES, 4)
         begin, half = PAGE * (1 + number(data, SUB_BLOCKS, 4)), PAGE * (blocks // 2)
         self.table = begin + 2 * half
         need(blocks % 2 == 0 and frames <= 8 * half and self.table <= len(data), 'K6')
-        at, size = number(data, NOTES, 8), number(data, NOTES + 8, 8)
+        at, size = (number(data, NOTES, 8), number(data, NOTES + 8, 8)) if version >= 4 else (0, 0)
         need(at + size <= len(data) and size <= 16 << 20, 'K7')
         if half > MOST_BYTES:
             raise TooLarge
@@ -125,9 +127,28 @@ class Dump:
         # a run: pages that are in the dump, and after them those that were left out
         self.runs = [(m.start(), m.group().count(b'D'), m.group().count(b'L')) for m in re.finditer(b'D+L*|L+', kinds)]
         need(len(self.runs) <= MOST_RUNS, 'K8')
+        count = sum(dumped for _, dumped, _ in self.runs)
+        self.whole = not number(data, STATUS, 4) & 8 and (count == 0 or self.there(count - 1))
+        if not self.whole:
+            self.cut(next((n for n in range(count) if not self.there(n)), count))
         self.pages = [pfn for first, dumped, _ in self.runs for pfn in range(first, first + dumped)]
         self.numbers = {pfn: number for number, pfn in enumerate(self.pages)}
-        need(self.table + 24 * len(self.pages) <= len(data), 'K9')
+
+    def there(self, number):
+        """Whether a page's descriptor was written and is in the file, and its bytes are."""
+        at = self.table + 24 * number
+        if at + 24 > len(self.data):
+            return False
+        offset, size = struct.unpack('<QI', self.data[at:at + 12])
+        return offset != 0 and offset + size <= len(self.data)
+
+    def cut(self, count):
+        """Leaves out all pages but the first."""
+        runs = []
+        for first, dumped, left in self.runs:
+            runs.append((first, min(count, dumped), left + dumped - min(count, dumped)))
+            count -= min(count, dumped)
+        self.runs = runs
 
     @staticmethod
     def kinds(memory, dumped, frames):
@@ -206,11 +227,17 @@ def unpacked(flags, data):
             return lzo.lzo_of(PAGE, data)
         except lzo.Fault:
             raise BadPage('D5: no LZO stream of a page')
+    if flags == 4:
+        try:
+            return snappy.snappy_of(PAGE, data)
+        except snappy.Fault:
+            raise BadPage('D6: no snappy stream of a page')
     raise BadPage(f'D3: packed in another way, by flags {flags}')
 
 
-def parts_of(data):
-    """The plain core file that stands for a file, part by part; a page that can't be had raises its number with its cause."""
+def parts_of(data, said=None):
+    """The plain core file that stands for a file, part by part; a page that can't be had raises its number with its cause. What is said of a dump that
+    is read to its end goes to the list `said`."""
     try:
         data = Sparse(data) if data[:16] == flat.SIGNATURE else data
     except flat.Fault as fault:
@@ -227,14 +254,16 @@ def parts_of(data):
             yield dump.page(number)
         except BadPage as cause:
             raise BadPage(f'{number} {cause}')
+    if said is not None and not dump.whole:
+        said.append(INCOMPLETE)
 
 
 def answer(data):
     """What `kplain core` is wanted to say: status, standard output, standard error."""
-    out = []
+    out, said = [], []
     try:
-        out.extend(parts_of(data))
-        return 0, b''.join(out), b''
+        out.extend(parts_of(data, said))
+        return 0, b''.join(out), b''.join(said)
     except Refused as cause:
         return 2, b'', f'refused dump {cause}\n'.encode()
     except BadPage as cause:
@@ -254,21 +283,34 @@ def note(rnd, frames):
     return struct.pack('<III', 11, len(text), 0) + b'VMCOREINFO\0\0' + text.ljust(-(-len(text) // 4) * 4, b'\0')
 
 
-def packed_page(rnd, library):
+class Packers:
+    """The libraries that are installed."""
+
+    def __init__(self):
+        self.pack = {1: inflate.stream}
+        for flags, make, call in ((2, lzo.Liblzo2, lambda library: lambda rnd, page: library.pack(page, rnd.choice([1, 999]))),
+                                  (4, snappy.Libsnappy, lambda library: lambda rnd, page: library.pack(page))):
+            try:
+                self.pack[flags] = call(make())
+            except OSError:
+                pass
+
+
+def packed_page(rnd, packers):
     """The flags and the bytes of a page."""
     page = inflate.content(rnd, PAGE)
-    kind = rnd.randrange(4)
-    if kind == 0 or kind == 3 and library is None:
+    flags = rnd.choice([0, 1, 1, 2, 4])
+    if flags not in packers.pack:
         return 0, page
-    data = library.pack(page, rnd.choice([1, 999])) if kind == 3 else inflate.stream(rnd, page)
-    return (0, page) if len(data) >= PAGE else (2 if kind == 3 else 1, data)
+    data = packers.pack[flags](rnd, page)
+    return (0, page) if len(data) >= PAGE else (flags, data)
 
 
 class Made:
     """A container, and where its parts lie."""
 
-    def __init__(self, rnd, library):
-        self.version, self.frames = rnd.choice([4, 5, 6, 6]), rnd.randrange(1, 300)
+    def __init__(self, rnd, packers):
+        self.version, self.frames = rnd.choice([1, 2, 3, 4, 5, 6, 6, 6]), rnd.randrange(1, 300)
         kinds, kind = [], 'H'
         while len(kinds) < self.frames:
             kind = rnd.choice('DDLH')
@@ -283,8 +325,12 @@ class Made:
         header = bytearray(PAGE)
         header[:8] = b'KDUMP   '
         struct.pack_into('<I', header, HEADER_VERSION, self.version)
-        struct.pack_into('<IIIII', header, 424, 1, PAGE, sub, 2 * half // PAGE, self.frames)
+        struct.pack_into('<IIIII', header, STATUS, 1 | (rnd.random() < 0.1) * 8, PAGE, sub, 2 * half // PAGE, self.frames)
         subs = bytearray(PAGE * sub)
+        if self.version < 4 or rnd.random() < 0.1:
+            # What a writer of an earlier version left in the block is no field.
+            struct.pack_into('<I', subs, 12, (self.version < 2) * rnd.getrandbits(4))
+            struct.pack_into('<QQ', subs, 32, PAGE + 104, len(notes))
         struct.pack_into('<QQ', subs, 48, PAGE + 104, len(notes))
         struct.pack_into('<Q', subs, 96, self.frames)
         subs[104:104 + len(notes)] = notes
@@ -294,7 +340,7 @@ class Made:
         self.streams = []
         for _ in range(self.count):
             if last is None or rnd.random() < 0.8:
-                flags, data = packed_page(rnd, library)
+                flags, data = packed_page(rnd, packers)
                 last = struct.pack('<QIIQ', at + len(body), len(data), flags, 0)
                 self.streams.append((at + len(body), len(data)))
                 body += data
@@ -349,7 +395,7 @@ FIELDS = [(0, 8), (8, 4), (424, 4), (428, 4), (432, 4), (436, 4), (440, 4), (444
 
 def damage(rnd, made):
     """Damages one thing, and says what."""
-    data, kind = made.data, rnd.choice(['field', 'field', 'bitmap', 'descriptor', 'descriptor', 'stream', 'stream', 'stream', 'end', 'signature'])
+    data, kind = made.data, rnd.choice(['field', 'field', 'bitmap', 'descriptor', 'descriptor', 'stream', 'stream', 'stream', 'end', 'end', 'unwritten', 'signature'])
     if kind == 'field':
         at, width = rnd.choice(FIELDS)
         change(rnd, data, at, width)
@@ -376,17 +422,23 @@ def damage(rnd, made):
         flip(data, place, rnd.randrange(8))
         return 'stream changed'
     if kind == 'end':
-        del data[rnd.choice([rnd.randrange(len(data)), len(data) - 1, made.table, PAGE + 104, PAGE + 103]):]
+        del data[rnd.choice([rnd.randrange(len(data)), len(data) - 1, made.table, made.table + 24 * rnd.randrange(made.count + 1), PAGE + 104, PAGE + 103]):]
         return 'end'
+    if kind == 'unwritten' and made.count:
+        # What a writer without room leaves: descriptors that were never written, from one on.
+        first = made.table + 24 * rnd.randrange(made.count)
+        data[first:made.table + 24 * made.count] = bytes(made.table + 24 * made.count - first)
+        data[STATUS] |= 8
+        return 'unwritten'
     if kind == 'signature':
         data[:8] = rnd.choice([b'DISKDUMP', b'KDUMP  \0', b'KDUMP   '])
         return 'signature'
     return 'nothing'
 
 
-def container(rnd, library):
+def container(rnd, packers):
     """A file, and what was done to it."""
-    made = Made(rnd, library)
+    made = Made(rnd, packers)
     done = [damage(rnd, made) for _ in range(rnd.choice([0, 1, 1, 1, 1, 2]))]
     data = made.data
     if data and rnd.random() < 0.3:
@@ -405,10 +457,10 @@ def container(rnd, library):
     return bytes(data), done or ['nothing']
 
 
-def answered(rnd, library):
+def answered(rnd, packers):
     """A file, what was done to it, and what is wanted of it."""
     while True:
-        data, done = container(rnd, library)
+        data, done = container(rnd, packers)
         try:
             return data, done, answer(data)
         except TooLarge:
@@ -417,14 +469,11 @@ def answered(rnd, library):
 
 def try_damaged(programs, count, seed):
     program, rnd, wrong, ends, kinds = files.program(programs, 'kplain'), random.Random(seed), 0, Counter(), Counter()
-    try:
-        library = lzo.Liblzo2()
-    except OSError:
-        library = None
+    packers = Packers()
     with tempfile.TemporaryDirectory() as folder:
         path = os.path.join(folder, 'dump')
         for number in range(count):
-            data, done, wanted = answered(rnd, library)
+            data, done, wanted = answered(rnd, packers)
             with open(path, 'wb') as file:
                 file.write(data)
             run = subprocess.run([program, 'core', path], stdin=subprocess.DEVNULL, capture_output=True)
@@ -443,9 +492,12 @@ def try_damaged(programs, count, seed):
 
 def main(words):
     if words[0] == 'core' and len(words) == 2:
+        said = []
         try:
-            for part in parts_of(files.opened(words[1])):
+            for part in parts_of(files.opened(words[1]), said):
                 sys.stdout.buffer.write(part)
+            sys.stdout.buffer.flush()
+            sys.stderr.buffer.write(b''.join(said))
         except Refused as cause:
             print(f'refused dump {cause}', file=sys.stderr)
             return 2

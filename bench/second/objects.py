@@ -13,9 +13,9 @@ import tempfile
 
 import files
 import timer
-from plans.reader import IMAGE, TOP, Broken, Core, Info, Memory, Refused, Types, address, symbols
+from plans.reader import IMAGE, TOP, Broken, Core, Info, Memory, Refused, Types, address, symbols, vmcoreinfo
 from second.areas import Holders, shown
-from second.slabs import list_of, processors
+from second.slabs import list_of, mark_of, processors
 from second.verdict import Kernel, free_list, slub
 
 LINES = re.compile(r"^(descriptor |cache |held by |slab |object |pad |past|before)")
@@ -39,6 +39,10 @@ class Objects:
         self.page_size = self.kernel.types.size(self.kernel.struct("page"))
         self.kernel.types.plain(self.kernel.struct("page"), "compound_head")  # without it no object is told, nor what encodes free pointers
         self.rows, self.holders = all_rows(map_, info.kaslr), None
+        try:
+            self.mark = mark_of(self.kernel, vmcoreinfo(self.core))
+        except (KeyError, TypeError):
+            self.mark = None
 
     def base(self, name, four, five):
         symbol = address(self.kernel.rows, name, self.kernel.info.kaslr)
@@ -176,6 +180,16 @@ class Objects:
         if self.holders.of(cache):
             yield "held by " + " ".join(self.holders.of(cache))
 
+    def is_unmarked(self, head):
+        """Whether a page hasn't the kernel's mark of a slab, where that is known and can be read."""
+        if self.mark is None:
+            return False
+        field, is_marked = self.mark
+        try:
+            return not is_marked(self.kernel.field(head, "page", field)[0])
+        except (Broken, Refused):
+            return False
+
     def lines(self, va):
         try:
             pa = self.memory.place(va - va % 8)[1] + va % 8
@@ -189,6 +203,8 @@ class Objects:
             return [f"descriptor unknown {broken.rule} {broken.at:016x}"]
         head = compound - 1 if compound % 2 else descriptor
         lines = [f"descriptor {descriptor:016x} page {pa // 4096:016x} head {head:016x}"]
+        if self.is_unmarked(head):
+            return lines
         try:
             cache = self.kernel.field(head, "slab", "slab_cache")[0]
             nodes = self.kernel.ring(self.caches)

@@ -5,7 +5,7 @@ use Rattle.kc_flattened.specs.declared.fault.FlatFault.TheVariants.{Header, Boun
 use Rattle.kc_inflate.specs.declared.fault.ZlibFault.{ZlibFault}
 use Rattle.kc_inflate.specs.declared.fault.ZlibFault.TheVariants as zlib
 use Rattle.kc_kdump.specs.declared.fault.KdumpFault.{KdumpFault}
-use Rattle.kc_kdump.specs.declared.fault.KdumpFault.TheVariants.{K1, K2, K3, K4, K5, K6, K7, K8, K9}
+use Rattle.kc_kdump.specs.declared.fault.KdumpFault.TheVariants.{K1, K2, K3, K4, K5, K6, K7, K8}
 use Rattle.kc_plain.specs.declared.unpacked.fault.PageFault.{PageFault}
 use Rattle.kc_plain.specs.declared.unpacked.fault.PageFault.TheVariants as of_page
 use Rattle.kc_plain_store.specs.declared.stop.BadPage.{BadPage}
@@ -26,11 +26,10 @@ kdump_text K1 = codes "K1: the file is too short for the headers"
 kdump_text K2 = codes "K2: of the older format"
 kdump_text K3 = codes "K3: of another version"
 kdump_text K4 = codes "K4: blocks of another size"
-kdump_text K5 = codes "K5: one part of a split dump"
+kdump_text K5 = codes "K5: one part of a split dump: makedumpfile --reassemble joins the parts"
 kdump_text K6 = codes "K6: bitmaps outside the file, or too short"
 kdump_text K7 = codes "K7: notes outside the file, or too many"
 kdump_text K8 = codes "K8: too many runs of page frames"
-kdump_text K9 = codes "K9: page descriptors outside the file"
 
 -- what is wrong with a zlib stream
 abbrev pub zlib_text : ZlibFault → List ℕ
@@ -53,6 +52,7 @@ page_text of_page.Size = codes "D2: its bytes are of another number"
 page_text (of_page.Packing flags) = codes "D3: packed in another way, by flags " ++ decimal flags
 page_text (of_page.Zlib fault) = codes "D4: no zlib stream of a page: " ++ zlib_text fault
 page_text (of_page.Lzo fault) = codes "D5: no LZO stream of a page"
+page_text (of_page.Snappy fault) = codes "D6: no snappy stream of a page"
 
 -- why a dump can't be read
 abbrev pub cause_text : Cause → List ℕ

@@ -35,6 +35,9 @@ fn flattened_cause(fault: Option<FlattenedFault>) -> Option<Cause> {
 pub trait TellsCause {
     /// Why the last call failed that did, where the dump's form has to do with it.
     fn cause(&self) -> Option<Cause>;
+
+    /// Whether the dump lacks no page at its end.
+    fn is_whole(&self) -> bool;
 }
 
 impl<S: Store + Drop> TellsCause for PlainView<Flattened<S>> {
@@ -45,6 +48,10 @@ impl<S: Store + Drop> TellsCause for PlainView<Flattened<S>> {
             ViewFault::Page(bad) => Some(Cause::Page(bad)),
             ViewFault::NoMemory => Some(Cause::Memory),
         }
+    }
+
+    fn is_whole(&self) -> bool {
+        PlainView::is_whole(self)
     }
 }
 

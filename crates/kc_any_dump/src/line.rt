@@ -32,11 +32,11 @@ fn kdump_text(fault: KdumpFault) -> &'static [u8]
         KdumpFault::K2 => b"K2: of the older format",
         KdumpFault::K3 => b"K3: of another version",
         KdumpFault::K4 => b"K4: blocks of another size",
-        KdumpFault::K5 => b"K5: one part of a split dump",
+        KdumpFault::K5 =>
+            b"K5: one part of a split dump: makedumpfile --reassemble joins the parts",
         KdumpFault::K6 => b"K6: bitmaps outside the file, or too short",
         KdumpFault::K7 => b"K7: notes outside the file, or too many",
         KdumpFault::K8 => b"K8: too many runs of page frames",
-        KdumpFault::K9 => b"K9: page descriptors outside the file",
     }
 }
 
@@ -80,6 +80,7 @@ fn push_page_text(text: &mut Vec<u8>, fault: PageFault) -> Result<(), NoMemory>
             push_two(text, b"D4: no zlib stream of a page: ", zlib_text(fault))
         }
         PageFault::Lzo(_) => push(text, b"D5: no LZO stream of a page"),
+        PageFault::Snappy(_) => push(text, b"D6: no snappy stream of a page"),
     }
 }
 

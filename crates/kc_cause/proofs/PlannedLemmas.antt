@@ -26,7 +26,7 @@ use Rattle.kc_cause.specs.Files.{planned_view}
 pub planned_told : {Y : Type 0} (told : Option Told) (name : List ℕ) (k : KernelAt) (note : List ℕ) (read : Y → List ℕ) (bytes : Y) (rows : List RowText) (plan : Plan) (shapes : Shapes) (slabs : Option SlabShapes)
     → rows_in k.map ≡ gives rows → IsOf read (λ files. plan_in (files slot.Plan name)) told (Ok bytes)
     → plan_over k.types rows k.told (read bytes) ≡ gives (plan_whole plan)
-    → shapes_view shapes ≡ shapes_by k.types rows k.told → slabs ≡ slab_shapes (kernel_by k.types rows k.told) note → map_symbols shapes.map ≡ symbols_by k.told.kaslr rows
+    → shapes_view shapes ≡ shapes_by k.types rows k.told note → slabs ≡ slab_shapes (kernel_by k.types rows k.told) note → map_symbols shapes.map ≡ symbols_by k.told.kaslr rows
     → IsOf planned_view (λ files. planned_in k note (files slot.Plan name)) told (Ok (record { plan = plan; shapes = shapes; slabs = slabs }))
 planned_told None name k note read bytes rows plan shapes slabs rowed planned is shaped slabbed marked = tt
 planned_told (Some files) name k note read bytes rows plan shapes slabs rowed planned is shaped slabbed marked =

@@ -184,7 +184,7 @@ planned_over k note rows bytes = do
   planned ← plan_over k.types rows k.told bytes
   gives (record {
     plan = planned;
-    shapes = shapes_by k.types rows k.told;
+    shapes = shapes_by k.types rows k.told note;
     slabs = slab_shapes (kernel_by k.types rows k.told) note;
     symbols = symbols_by k.told.kaslr rows;
   })
@@ -211,7 +211,7 @@ explained_by k p bytes = record {
 
 -- a dump with its notes, the types and the map of its kernel
 abbrev pub kernel_with : NotedAt → Types → List ℕ → KernelAt
-kernel_with noted types map = record { segments = noted.parts.segments; told = noted.told; types = types; map = map }
+kernel_with noted types map = record { segments = noted.parts.segments; notes = noted.parts.notes; told = noted.told; types = types; map = map }
 
 -- the faults come in the order dump, types, map and plan
 abbrev pub audited : Option (List ℕ) → Option (List ℕ) → Option (List ℕ) → Option (List ℕ) → Made Explained

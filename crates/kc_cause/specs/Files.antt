@@ -44,7 +44,7 @@ report_files a = record {
 
 -- the files of a kernel and a plan, as the code keeps them
 abbrev pub kernel_read : KernelRead → KernelAt
-kernel_read k = record { segments = k.core.now.segments; told = k.info; types = k.types.now; map = k.map.now }
+kernel_read k = record { segments = k.core.now.segments; notes = k.core.now.notes; told = k.info; types = k.types.now; map = k.map.now }
 
 abbrev pub planned_view : Planned → PlanOver
 planned_view p = record { plan = plan_whole p.plan; shapes = shapes_view p.shapes; slabs = p.slabs; symbols = map_symbols p.shapes.map }

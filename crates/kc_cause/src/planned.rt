@@ -84,7 +84,7 @@ pub fn find_plan<'m, S: Store>(
     let symbols = read_symbols(alloc, map)?;
     let bytes = read_plan_file(alloc, store, name)?;
     let plan = read_audits(alloc, &bytes, types, &symbols, &info)?;
-    let shapes = shapes_in(alloc, types, &symbols, info, map)?;
+    let shapes = shapes_in(alloc, types, &symbols, info, note, map)?;
     let slabs = slab_shapes(alloc, types, &symbols, info, note)?;
     Ok(Planned {
         plan,

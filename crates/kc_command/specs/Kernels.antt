@@ -26,9 +26,10 @@ noted_in most dump = do
   told ← checked Notes (info parts.notes)
   gives (record { parts = parts; told = told })
 
--- the segments of a dump, what its notes tell, its kernel's types, and the bytes of its map
+-- the segments of a dump and its notes, what these tell, its kernel's types, and the bytes of its map
 pub record KernelAt : Type 0 where
   pub segments : List Segment
+  pub notes : List (List ℕ)
   pub told : Info
   pub types : Types
   pub map : List ℕ
@@ -39,7 +40,7 @@ kernel_in most dump btf map = do
   noted ← noted_in most dump
   types ← types_in btf
   listed ← map_in map
-  gives (record { segments = noted.parts.segments; told = noted.told; types = types; map = listed })
+  gives (record { segments = noted.parts.segments; notes = noted.parts.notes; told = noted.told; types = types; map = listed })
 
 -- the files in the order in which they are read
 abbrev pub kernel_files : KernelFiles → List Named
@@ -50,4 +51,4 @@ abbrev pub noted_view : Noted → NotedAt
 noted_view n = record { parts = n.core; told = n.info }
 
 abbrev pub kernel_view : Kernel → KernelAt
-kernel_view k = record { segments = k.core.segments; told = k.info; types = k.types; map = k.map.items }
+kernel_view k = record { segments = k.core.segments; notes = k.core.notes; told = k.info; types = k.types; map = k.map.items }

@@ -1,3 +1,4 @@
 pub mod Confirmed
 pub mod Elements
+pub mod Laws
 pub mod Numbers

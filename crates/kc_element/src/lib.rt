@@ -4,8 +4,10 @@
 
 mod confirmed;
 mod element;
+mod laws;
 mod number;
 
 pub use confirmed::{is_confirmed, leads_back};
 pub use element::{Element, element_of};
+pub use laws::know_elements;
 pub use number::{FoundNumber, part_of};

@@ -1,4 +1,5 @@
 pub mod ByteLemmas
+pub mod CutLemmas
 pub mod FrameLemmas
 pub mod MarkedLaws
 pub mod RunLemmas

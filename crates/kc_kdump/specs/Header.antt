@@ -26,14 +26,19 @@ version_of header = number 4 header 8
 abbrev pub bitmap_blocks : List ℕ → ℕ
 bitmap_blocks header = number 4 header 436
 
--- What is wrong with the headers, in this order: an older signature, a version that isn't 4, 5 or 6, `block_size` at
--- byte 428, and `split` at byte 12 of the sub header.
+-- Of the sub header's fields `split` is there from version 2 on, `offset_note` and `size_note` from version 4 on, and
+-- `max_mapnr_64` from version 6 on (the comments at struct kdump_sub_header).
+abbrev pub since : ℕ → List ℕ → ℕ → ℕ
+since version header field = if nat_le version (version_of header) then field else 0
+
+-- What is wrong with the headers, in this order: an older signature, a version that isn't 1 to 6, `block_size` at byte
+-- 428, and `split` at byte 12 of the sub header.
 unfoldable pub header_fault : List ℕ → List ℕ → Option KdumpFault
 header_fault header sub =
     if not (is_new header) then Some K2
-    else (if not (nat_le 4 (version_of header) && nat_le (version_of header) 6) then Some K3
+    else (if not (nat_le 1 (version_of header) && nat_le (version_of header) 6) then Some K3
     else (if not (number 4 header 428 == 4096) then Some K4
-    else (if not (number 4 sub 12 == 0) then Some K5
+    else (if not (since 2 header (number 4 sub 12) == 0) then Some K5
     else None)))
 
 -- `max_mapnr` at byte 440 of the header, or from version 6 on `max_mapnr_64` at byte 96 of the sub header: how many
@@ -49,12 +54,16 @@ bitmaps_in header = 4096 * (1 + number 4 header 432)
 unfoldable pub half_in : List ℕ → ℕ
 half_in header = 4096 * (bitmap_blocks header / 2)
 
--- `offset_note` and `size_note` at bytes 48 and 56 of the sub header
-unfoldable pub note_offset_in : List ℕ → ℕ
-note_offset_in sub = number 8 sub 48
+-- `offset_note` and `size_note` at bytes 48 and 56 of the sub header: before version 4 there are no notes
+unfoldable pub note_offset_in : List ℕ → List ℕ → ℕ
+note_offset_in header sub = since 4 header (number 8 sub 48)
 
-unfoldable pub note_size_in : List ℕ → ℕ
-note_size_in sub = number 8 sub 56
+unfoldable pub note_size_in : List ℕ → List ℕ → ℕ
+note_size_in header sub = since 4 header (number 8 sub 56)
+
+-- whether `status` at byte 424 has DUMP_DH_COMPRESSED_INCOMPLETE, which is 8: its writer had no room for all pages
+unfoldable pub is_cut_in : List ℕ → Bool
+is_cut_in header = number 4 header 424 / 8 % 2 == 1
 
 -- where the parts are by the two headers
 abbrev pub layout_by : List ℕ → List ℕ → Layout
@@ -62,8 +71,9 @@ layout_by header sub = record {
   frames = frames_in header sub;
   bitmaps = bitmaps_in header;
   half = half_in header;
-  note_offset = note_offset_in sub;
-  note_size = note_size_in sub;
+  note_offset = note_offset_in header sub;
+  note_size = note_size_in header sub;
+  is_cut = is_cut_in header;
 }
 
 -- where the descriptors begin, after both bitmaps

@@ -1,11 +1,11 @@
 -- What the runs say of the bitmaps.
-use Rattle.std.specs.Prelude.{◌≡◌, ℕ, zero, suc, ◌+◌, ◌*◌, ◌/◌, ◌%◌, ◌^◌, ◌==◌, ◌≤◌, List, [], ◌∷◌, ◌++◌, length, slice_index, if◌then◌else◌}
+use Rattle.std.specs.Prelude.{◌≡◌, ℕ, zero, suc, ◌+◌, ◌*◌, ◌/◌, ◌%◌, ◌^◌, ◌==◌, ◌≤◌, List, [], ◌∷◌, ◌++◌, length, take, slice_index, if◌then◌else◌}
 use Rattle.kc_kdump.specs.declared.layout.Layout.{Layout}
 use Rattle.kc_kdump.specs.declared.run.PageRun.{PageRun}
 use Rattle.kc_kdump.specs.Bytes.{part}
 use Rattle.kc_kdump.specs.Frames.{frames_of}
 use Rattle.kc_kdump.specs.Header.{table_in}
-use Rattle.kc_kdump.specs.Runs.{runs_of}
+use Rattle.kc_kdump.specs.Runs.{cut_runs, runs_of}
 
 -- so many page frames, from one on
 unfoldable pub row : ℕ → ℕ → List ℕ
@@ -35,3 +35,7 @@ abbrev pub PagesAreMarked : Type 0
 PagesAreMarked =
     (layout : Layout) (bytes : List ℕ) → layout.frames ≤ 8 * layout.half → table_in layout ≤ length bytes
     → frames_in (runs_of (frames_of layout bytes)) ≡ marked (second_bitmap layout bytes) 0 layout.frames
+
+-- Of an incomplete dump these are the first so many.
+abbrev pub CutsAreFirst : Type 0
+CutsAreFirst = (n : ℕ) (runs : List PageRun) → frames_in (cut_runs n runs) ≡ take n (frames_in runs)

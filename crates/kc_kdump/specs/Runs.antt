@@ -1,6 +1,6 @@
 -- Runs of page frames. A run is a row of page frames whose pages are in the dump, and the row of those after it that
 -- are memory and were left out; each row is as long as can be, and one of them may be empty.
-use Rattle.std.specs.Prelude.{ℕ, ◌+◌, max, ◌==◌, List, [], ◌∷◌, ◌++◌, if◌then◌else◌}
+use Rattle.std.specs.Prelude.{ℕ, ◌+◌, ◌-◌, max, min, ◌==◌, List, [], ◌∷◌, ◌++◌, if◌then◌else◌}
 use Rattle.kc_kdump.specs.declared.frame.Frame.{Frame}
 use Rattle.kc_kdump.specs.declared.frame.Frame.TheVariants.{Dumped, LeftOut, Hole}
 use Rattle.kc_kdump.specs.declared.run.PageRun.{PageRun}
@@ -39,3 +39,12 @@ reach (run ∷ runs) = max (end_of run) (reach runs)
 abbrev pub page_count : List PageRun → ℕ
 page_count [] = 0
 page_count (run ∷ runs) = run.dumped + page_count runs
+
+-- a run, where only so many of its pages are there: the others are as those that were left out
+abbrev pub cut_run : ℕ → PageRun → PageRun
+cut_run n run = record { first = run.first; dumped = min n run.dumped; left = run.left + (run.dumped - n) }
+
+-- the same of runs, where only so many of all pages are there
+unfoldable pub cut_runs : ℕ → List PageRun → List PageRun
+cut_runs n [] = []
+cut_runs n (run ∷ runs) = cut_run n run ∷ cut_runs (n - run.dumped) runs

@@ -15,14 +15,14 @@ pub enum KdumpFault {
     /// The dump is of the older format, diskdump.
     #[error("K2: of the older format")]
     K2,
-    /// `header_version` isn't 4, 5 or 6.
+    /// `header_version` isn't 1 to 6.
     #[error("K3: of another version")]
     K3,
     /// `block_size` isn't 4096 bytes.
     #[error("K4: blocks of another size")]
     K4,
     /// The file is one part of a dump that was split.
-    #[error("K5: one part of a split dump")]
+    #[error("K5: one part of a split dump: makedumpfile --reassemble joins the parts")]
     K5,
     /// The bitmaps' blocks are odd in number, or outside the file, or a bitmap has too few bits.
     #[error("K6: bitmaps outside the file, or too short")]
@@ -33,9 +33,6 @@ pub enum KdumpFault {
     /// There are more than 4,194,304 runs of page frames.
     #[error("K8: too many runs of page frames")]
     K8,
-    /// The page descriptors aren't inside the file.
-    #[error("K9: page descriptors outside the file")]
-    K9,
 }
 
 /// Why a compressed dump wasn't read.

@@ -14,6 +14,8 @@ pub struct Kdump {
     pub runs: Vec<PageRun>,
     /// How many pages are in the dump.
     pub pages: u64,
+    /// Whether the pages of all page frames that the bitmaps speak of are in the file.
+    pub is_whole: bool,
     /// The bytes of the PT_NOTE segment of the machine's memory image.
     pub notes: Vec<u8>,
     pub ghost counted: { pages ≡ page_count runs.items },

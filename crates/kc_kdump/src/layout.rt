@@ -1,6 +1,7 @@
 // Where the parts of a dump are.
 ghost use Rattle.std.specs.Prelude.{◌≡◌, ◌≤◌, ◌+◌, ◌*◌, ◌/◌, ◌^◌, ◌<◌, ◌%◌, length, IfOk};
-ghost use Rattle.kc_kdump.specs.Header.{bitmap_blocks, bitmaps_in, frames_in, half_in, has_bitmaps, has_notes, header_fault, is_kdump, is_new, is_old, layout_by, layout_in, note_offset_in, note_size_in, placed, table_in, version_of};
+ghost use Rattle.kc_kdump.specs.Header.{bitmap_blocks, bitmaps_in, frames_in, half_in, has_bitmaps, has_notes, header_fault, is_cut_in, is_kdump, is_new, is_old, layout_by, layout_in, note_offset_in, note_size_in, placed, since, table_in, version_of};
+ghost use Rattle.kc_kdump.specs.Bytes.{number};
 
 use crate::fault::KdumpFault;
 use byteorder::{ByteOrder, LittleEndian};
@@ -18,6 +19,8 @@ pub struct Layout {
     pub note_offset: u64,
     /// How many bytes the notes have.
     pub note_size: u64,
+    /// Whether the header says that the dump is incomplete.
+    pub is_cut: bool,
 }
 
 /// How many bytes of the header are looked at.
@@ -78,8 +81,9 @@ impl Layout {
             frames: frames_in(header, sub),
             bitmaps: bitmaps_in(header),
             half: half_in(header),
-            note_offset: note_offset_in(sub),
-            note_size: note_size_in(sub),
+            note_offset: note_offset_in(header, sub),
+            note_size: note_size_in(header, sub),
+            is_cut: is_cut_in(header),
         }
     }
 
@@ -141,22 +145,50 @@ fn version(header: &[u8]) -> u32
     LittleEndian::read_u32(&header[8..])
 }
 
+// A field of the sub header, which is there from a version on.
+fn since(least: u32, header: &[u8], field: u64) -> u64
+    requires { length header.now ≡ 464 }
+    ensures { result ≡ since least header.now field }
+{
+    if version(header) >= least { field } else { 0 }
+}
+
 // The file offset of the notes.
 #[tactic(auto, unfolding(crate::specs::Header::note_offset_in))]
-fn note_offset_in(sub: &[u8]) -> u64
-    requires { length sub.now ≡ 104 }
-    ensures { result ≡ note_offset_in sub.now }
+fn note_offset_in(header: &[u8], sub: &[u8]) -> u64
+    requires header { length header.now ≡ 464 }
+    requires sub { length sub.now ≡ 104 }
+    ensures { result ≡ note_offset_in header.now sub.now }
 {
-    LittleEndian::read_u64(&sub[48..])
+    since(4, header, LittleEndian::read_u64(&sub[48..]))
 }
 
 // How many bytes the notes have.
 #[tactic(auto, unfolding(crate::specs::Header::note_size_in))]
-fn note_size_in(sub: &[u8]) -> u64
-    requires { length sub.now ≡ 104 }
-    ensures { result ≡ note_size_in sub.now }
+fn note_size_in(header: &[u8], sub: &[u8]) -> u64
+    requires header { length header.now ≡ 464 }
+    requires sub { length sub.now ≡ 104 }
+    ensures { result ≡ note_size_in header.now sub.now }
 {
-    LittleEndian::read_u64(&sub[56..])
+    since(4, header, LittleEndian::read_u64(&sub[56..]))
+}
+
+// Whether the header says that the dump is incomplete.
+#[tactic(auto, unfolding(crate::specs::Header::is_cut_in))]
+fn is_cut_in(header: &[u8]) -> bool
+    requires { length header.now ≡ 464 }
+    ensures { result ≡ is_cut_in header.now }
+{
+    LittleEndian::read_u32(&header[424..]) / 8 % 2 == 1
+}
+
+// One part of a split dump says so.
+fn split(header: &[u8], sub: &[u8]) -> u64
+    requires header { length header.now ≡ 464 }
+    requires sub { length sub.now ≡ 104 }
+    ensures { result ≡ since 2 header.now (number 4 sub.now 12) }
+{
+    since(2, header, u64::from(LittleEndian::read_u32(&sub[12..])))
 }
 
 // How many page frames there are.
@@ -182,11 +214,11 @@ fn header_fault(header: &[u8], sub: &[u8]) -> Option<KdumpFault>
 {
     if !is_new(header) {
         Some(KdumpFault::K2)
-    } else if !(4..=6).contains(&version(header)) {
+    } else if !(1..=6).contains(&version(header)) {
         Some(KdumpFault::K3)
     } else if LittleEndian::read_u32(&header[428..]) != 4096 {
         Some(KdumpFault::K4)
-    } else if LittleEndian::read_u32(&sub[12..]) != 0 {
+    } else if split(header, sub) != 0 {
         Some(KdumpFault::K5)
     } else {
         None

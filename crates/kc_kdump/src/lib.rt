@@ -10,6 +10,7 @@ mod laws;
 mod layout;
 mod read;
 mod run;
+mod there;
 mod walk;
 
 pub use descriptor::{DESCRIPTOR_BYTES, Descriptor};

@@ -11,10 +11,10 @@ ghost use Rattle.kc_kdump.specs.Runs.{empty_at, end_of, page_count, reach, runs_
 ghost use Rattle.kc_kdump.specs.Stays.{CountsFaults, StoreStays};
 ghost use Rattle.kc_kdump.specs.Walk.{runs_after};
 
-use crate::descriptor::DESCRIPTOR_BYTES;
 use crate::fault::{KdumpFault, KdumpStop};
 use crate::kdump::Kdump;
 use crate::layout::{BLOCK_BYTES, HEADER_BYTES, Layout, SUB_HEADER_BYTES, layout_in};
+use crate::there::{cut_runs, pages_there};
 use crate::walk::Walk;
 use kc_outside::{Slot, Store, know_size};
 use std::alloc::Global;
@@ -134,7 +134,7 @@ fn read_notes<S: Store>(
 }
 
 /// Reads the container of the compressed dump in slot Dump, whose size was learnt, in bytes: its headers, its bitmaps by
-/// blocks, and its notes, but no page.
+/// blocks, and its notes, but no page. Of a dump that isn't whole the descriptors are read too, up to the first whose page isn't there.
 ///
 /// # Errors
 ///
@@ -144,7 +144,7 @@ pub fn read_kdump<S: Store>(alloc: Global, store: &mut S, size: u64) -> Result<K
     requires { S.sizes store.old Dump ≡ Some size }
 
     // Where files are told, the answer is what the file's bytes mean: what they hold, or the first fault.
-    ensures told { Answers (λ dump. record { layout = dump.layout; runs = dump.runs.items; notes = dump.notes.items }) (content (S.files store.old) Dump (S.opened store.old Dump)) result (dump_in size) }
+    ensures told { Answers (λ dump. record { layout = dump.layout; runs = dump.runs.items; is_whole = dump.is_whole; notes = dump.notes.items }) (content (S.files store.old) Dump (S.opened store.old Dump)) result (dump_in size) }
     // Of every store, the descriptors of all pages are inside the file.
     ensures inside { IfOk result (λ dump. table_in dump.layout + 24 * dump.pages ≤ size) }
     ensures notes { IfOk result (λ dump. vec_len dump.notes ≤ 16777216) }
@@ -156,14 +156,14 @@ pub fn read_kdump<S: Store>(alloc: Global, store: &mut S, size: u64) -> Result<K
 {
     let layout = read_layout(store, size)?;
     let walk = read_runs(alloc, store, &layout, size)?;
-    if DESCRIPTOR_BYTES as u64 * walk.pages > size - layout.table() {
-        return Err(KdumpStop::Fault(KdumpFault::K9));
-    }
+    let there = pages_there(store, &layout, size, walk.pages)?;
+    let runs = cut_runs(alloc, walk.runs, walk.pages, there.pages)?;
     let notes = read_notes(alloc, store, &layout, size)?;
     Ok(Kdump {
         layout,
-        runs: walk.runs,
-        pages: walk.pages,
+        runs,
+        pages: there.pages,
+        is_whole: there.is_whole,
         notes,
     })
 }

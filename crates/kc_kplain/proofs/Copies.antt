@@ -16,7 +16,7 @@ use Rattle.kc_any_dump.specs.Causes.{SaysCause, cause_status, is_unread}
 use Rattle.kc_any_dump.specs.Lines.{cause_line}
 use Rattle.kc_kplain.specs.declared.copy.CopyStop.{CopyStop}
 use Rattle.kc_kplain.specs.declared.copy.CopyStop.TheVariants.{Store, Sink}
-use Rattle.kc_kplain.specs.Outcomes.{CausedBy, CoreEnds, StoreSays, is_copy, is_core, is_failed, is_unopened}
+use Rattle.kc_kplain.specs.Outcomes.{CausedBy, CoreEnds, DoneSays, StoreSays, is_copy, is_core, is_failed, is_unopened}
 use Rattle.kc_kplain.specs.Stops.{OnSink, OnStore, UnlessSink}
 
 -- ---- by the line of a cause
@@ -230,14 +230,52 @@ copy_rose P SinkFailed is p = tt
 copy_rose P OutOfMemory is p = absurd (let none : ⊥ = cc in none)
 copy_rose P NoCommand is p = tt
 
+-- ---- by a line at the status of a copy that was written whole
+
+pub done_copy : (ends : Status) → OnTrue (is_sink_quiet ends) (ends ≡ Done) → is_copy ends ≡ true
+done_copy Done is = refl
+done_copy Broken is = absurd (let none : ⊥ = cc in none)
+done_copy Refused is = absurd (let none : ⊥ = cc in none)
+done_copy StoreFailed is = refl
+done_copy SinkFailed is = refl
+done_copy OutOfMemory is = absurd (let none : ⊥ = cc in none)
+done_copy NoCommand is = absurd (let none : ⊥ = cc in none)
+
+pub done_store : (P : Type 0) (ends : Status) → OnTrue (is_sink_quiet ends) (ends ≡ Done) → At ends StoreFailed P
+done_store P Done is = tt
+done_store P Broken is = tt
+done_store P Refused is = tt
+done_store P StoreFailed is = absurd (let none : ⊥ = cc in none)
+done_store P SinkFailed is = tt
+done_store P OutOfMemory is = tt
+done_store P NoCommand is = tt
+
+pub at_done : (P Q : Type 0) (ends : Status) → (P → Q) → OnTrue (is_sink_quiet ends) P → At ends Done Q
+at_done P Q Done follows p = follows p
+at_done P Q Broken follows p = tt
+at_done P Q Refused follows p = tt
+at_done P Q StoreFailed follows p = tt
+at_done P Q SinkFailed follows p = tt
+at_done P Q OutOfMemory follows p = tt
+at_done P Q NoCommand follows p = tt
+
+pub at_sink : (P Q : Type 0) (ends : Status) → At ends SinkFailed Q → At ends SinkFailed (P ⊎ Q)
+at_sink P Q Done q = tt
+at_sink P Q Broken q = tt
+at_sink P Q Refused q = tt
+at_sink P Q StoreFailed q = tt
+at_sink P Q SinkFailed q = inr q
+at_sink P Q OutOfMemory q = tt
+at_sink P Q NoCommand q = tt
+
 -- where the dump was opened
 pub opened_ends : (files : Option Files) (name : List ℕ) (ends : Status) (out_old out_new err_old err_new : Option (List ℕ)) → is_copy ends ≡ true
-    → At ends Done (IfSome (named files Dump name) (λ bytes. out_new ≡ with_piece out_old bytes)) → At ends Done (err_new ≡ err_old) → At ends StoreFailed (StoreSays err_old err_new)
+    → At ends Done (IfSome (named files Dump name) (λ bytes. out_new ≡ with_piece out_old bytes)) → At ends Done (DoneSays err_old err_new) → At ends StoreFailed (StoreSays err_old err_new)
     → CoreEnds files name ends out_old out_new err_old err_new
-opened_ends files name ends out_old out_new err_old err_new is whole unsaid store = record {
+opened_ends files name ends out_old out_new err_old err_new is whole said store = record {
   status = copy_core ends is;
   whole = whole;
-  unsaid = unsaid;
+  said = said;
   refused = copy_refused _ ends is;
   store = store;
   memory = copy_memory _ ends is;
@@ -273,7 +311,7 @@ pub unopened_ends : (files : Option Files) (name : List ℕ) (ends : Status) (ou
 unopened_ends files name ends out err_old err_new is refused store memory = record {
   status = unread_core ends is;
   whole = unread_done _ ends is;
-  unsaid = unread_done _ ends is;
+  said = unread_done _ ends is;
   refused = refused;
   store = store;
   memory = memory;

@@ -1,5 +1,5 @@
 -- How the program ends.
-use Rattle.std.specs.Prelude.{◌≡◌, ◌⊎◌, ℕ, List, Bool, true, false, Option, IfSome}
+use Rattle.std.specs.Prelude.{◌≡◌, ◌⊎◌, ℕ, List, Bool, true, false, codes, Option, IfSome}
 use Rattle.std.specs.Bool.{OnTrue}
 use Rattle.kc_outside.specs.declared.store.Slot.{Slot}
 use Rattle.kc_outside.specs.declared.store.Slot.TheVariants.{Dump}
@@ -55,12 +55,19 @@ CausedBy ends old new = (cause : Cause) × (ends ≡ cause_status cause) × (new
 abbrev pub StoreSays : Option (List ℕ) → Option (List ℕ) → Type 0
 StoreSays old new = (new ≡ with_piece old store_failed) ⊎ CausedBy StoreFailed old new
 
+-- standard error took nothing, or the line that the dump lacks pages at its end
+abbrev pub incomplete_line : List ℕ
+incomplete_line = codes "incomplete dump: the pages that it lacks are left out\n"
+
+abbrev pub DoneSays : Option (List ℕ) → Option (List ℕ) → Type 0
+DoneSays old new = (new ≡ old) ⊎ (new ≡ with_piece old incomplete_line)
+
 -- Where it ends with 0, standard output took the whole file that is shown for the dump. Where the dump's form is refused, and where no
 -- memory was left to open it, standard output took nothing.
 pub record CoreEnds (files : Option Files) (name : List ℕ) (ends : Status) (out_old out_new err_old err_new : Option (List ℕ)) : Type 0 where
   pub status : is_core ends ≡ true
   pub whole : At ends Done (IfSome (named files Dump name) (λ bytes. out_new ≡ with_piece out_old bytes))
-  pub unsaid : At ends Done (err_new ≡ err_old)
+  pub said : At ends Done (DoneSays err_old err_new)
   pub refused : At ends Refused (CausedBy ends err_old err_new)
   pub store : At ends StoreFailed (StoreSays err_old err_new)
   pub memory : At ends OutOfMemory (err_new ≡ with_piece err_old memory_refused)

@@ -11,7 +11,7 @@ ghost use Rattle.kc_command.specs.Ends.Last.{StopsAtFailure};
 ghost use Rattle.kc_command.specs.Ends.Status.{At, is_sink_quiet, number};
 ghost use Rattle.kc_any_dump.specs.Causes.{is_unread};
 ghost use Rattle.kc_kplain.specs.declared.copy.CopyStop.TheVariants.{Sink, Store};
-ghost use Rattle.kc_kplain.specs.Outcomes.{CausedBy, CoreEnds, StoreSays, is_copy, is_failed, is_unopened};
+ghost use Rattle.kc_kplain.specs.Outcomes.{CausedBy, CoreEnds, DoneSays, StoreSays, is_copy, is_failed, is_unopened};
 
 use crate::copy::{CopyStop, copy_file};
 use kc_any_dump::{Cause, TellsCause, cause_line, end_by, end_with_line, put_all};
@@ -24,6 +24,8 @@ use std::alloc::Global;
 const STORE_FAILED: &[u8] = b"store failed\n";
 
 const SINK_FAILED: &[u8] = b"sink failed\n";
+
+const INCOMPLETE: &[u8] = b"incomplete dump: the pages that it lacks are left out\n";
 
 // Ends where the dump wasn't opened.
 fn end_opening<D: TellsCause, E: Sink>(alloc: Global, dump: &D, err: &mut E) -> Status
@@ -109,6 +111,21 @@ fn end_copy<D: TellsCause, E: Sink>(alloc: Global, stop: CopyStop, dump: &D, err
     }
 }
 
+// Ends where the dump was copied whole: says so where it lacks pages at its end.
+fn end_done<D: TellsCause, E: Sink>(dump: &D, err: &mut E) -> Status
+    ensures status { OnTrue (is_sink_quiet result) (result ≡ Done) }
+    ensures said { At result Done (DoneSays (E.taken err.old) (E.taken err.new)) }
+    ensures sink_failed { At result SinkFailed (Rose (E.faults err.old) (E.faults err.new)) }
+    ensures quiet { OnTrue (is_sink_quiet result) (E.faults err.new ≡ E.faults err.old) }
+    ensures last { StopsAtFailure E.taken E.faults E.asked err.old err.new }
+    ensures later { E.faults err.old ≤ E.faults err.new }
+{
+    if dump.is_whole() {
+        return Status::Done;
+    }
+    end_with_line(err, Status::Done, INCOMPLETE)
+}
+
 // Writes the file in slot Dump.
 fn write_opened<D: Store + TellsCause, O: Sink, E: Sink>(
     alloc: Global,
@@ -120,7 +137,7 @@ fn write_opened<D: Store + TellsCause, O: Sink, E: Sink>(
 
     ensures status { is_copy result ≡ true }
     ensures whole { At result Done (IfSome (content (D.files dump.old) Dump (D.opened dump.old Dump)) (λ bytes. O.taken out.new ≡ with_piece (O.taken out.old) bytes)) }
-    ensures unsaid { At result Done (E.taken err.new ≡ E.taken err.old) }
+    ensures said { At result Done (DoneSays (E.taken err.old) (E.taken err.new)) }
     ensures store { At result StoreFailed (StoreSays (E.taken err.old) (E.taken err.new)) }
 
     ensures store_failed { At result StoreFailed (Rose (D.faults dump.old) (D.faults dump.new)) }
@@ -138,7 +155,7 @@ fn write_opened<D: Store + TellsCause, O: Sink, E: Sink>(
     ensures err_later { E.faults err.old ≤ E.faults err.new }
 {
     match copy_file(dump, out) {
-        Ok(()) => Status::Done,
+        Ok(()) => end_done(dump, err),
         Err(stop) => end_copy(alloc, stop, dump, err),
     }
 }

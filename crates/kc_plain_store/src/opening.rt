@@ -5,6 +5,7 @@ ghost use Rattle.kc_outside.specs.declared.store.Slot.TheVariants.{Dump};
 ghost use Rattle.kc_outside.specs.Files.{content, named, OthersStay};
 ghost use Rattle.kc_kdump.specs.Header.{is_kdump};
 ghost use Rattle.kc_kdump.specs.Stays.{StoreStays};
+ghost use Rattle.kc_plain_store.specs.Counts.{CountsOpening};
 ghost use Rattle.kc_plain_store.specs.Seen.{seen_bytes};
 ghost use Rattle.kc_plain.specs.Unpack.Plain.{plain};
 ghost use Rattle.kc_plain_store.specs.Shapes.{core_bytes, file_size, shape_bytes, shape_size};
@@ -22,6 +23,7 @@ fn begins_kdump<S: Store>(store: &mut S, size: u64) -> Result<bool, ViewFault>
     requires { S.sizes store.old Dump ≡ Some size }
     ensures told { IfOk result (λ is. IfSome (content (S.files store.old) Dump (S.opened store.old Dump)) (λ bytes. is ≡ is_kdump bytes)) }
     ensures stays { StoreStays S.opened S.sizes S.files S.may S.asked store.old store.new }
+    ensures counts { CountsOpening result (S.faults store.old) (S.faults store.new) }
 {
     know_size(store, Slot::Dump, size);
     if size < SIGNATURE_BYTES as u64 {
@@ -40,6 +42,7 @@ fn core_of<S: Store>(alloc: Global, store: &mut S, size: u64) -> Result<PlainCor
     ensures told { IfOk result (λ core. IfSome (content (S.files store.old) Dump (S.opened store.old Dump)) (λ bytes. plain bytes ≡ Ok (core_bytes core bytes))) }
     ensures size { IfOk result (λ core. core.file_size ≡ size) }
     ensures stays { StoreStays S.opened S.sizes S.files S.may S.asked store.old store.new }
+    ensures counts { CountsOpening result (S.faults store.old) (S.faults store.new) }
 {
     know_size(store, Slot::Dump, size);
     let dump = match read_kdump(alloc, store, size) {
@@ -53,6 +56,7 @@ fn core_of<S: Store>(alloc: Global, store: &mut S, size: u64) -> Result<PlainCor
             head,
             layout: dump.layout,
             pages: dump.pages,
+            is_whole: dump.is_whole,
             file_size: size,
         }),
         Err(_) => Err(ViewFault::NoMemory),
@@ -67,6 +71,7 @@ fn shape_of<S: Store>(alloc: Global, store: &mut S, size: u64) -> Result<PlainSh
     ensures size { IfOk result (λ shape. file_size shape ≡ size) }
     ensures fits { IfOk result (λ shape. shape_size shape < 2 ^ 64) }
     ensures stays { StoreStays S.opened S.sizes S.files S.may S.asked store.old store.new }
+    ensures counts { CountsOpening result (S.faults store.old) (S.faults store.new) }
 {
     if !begins_kdump(store, size)? {
         return Ok(PlainShape::Whole(size));
@@ -93,6 +98,7 @@ pub(crate) fn open_shape<S: Store>(
     ensures may { (s : Slot) (n : List ℕ) → S.may store.old s n → S.may store.new s n }
     ensures may_no_more { (s : Slot) (n : List ℕ) → S.may store.new s n → S.may store.old s n }
     ensures files { S.files store.new ≡ S.files store.old }
+    ensures counts { CountsOpening result (S.faults store.old) (S.faults store.new) }
 {
     match store.open_file(Slot::Dump, name) {
         Ok(()) => (),

@@ -13,6 +13,8 @@ pub struct PlainCore {
     pub(crate) layout: Layout,
     /// How many pages there are.
     pub(crate) pages: u64,
+    /// Whether those are all that the dump's bitmaps speak of.
+    pub(crate) is_whole: bool,
     /// How many bytes the dump has.
     pub(crate) file_size: u64,
     pub(crate) ghost small: { vec_len head ≤ 2 ^ 29 },

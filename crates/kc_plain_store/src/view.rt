@@ -74,6 +74,15 @@ impl<S: Store + Drop> PlainView<S> {
         &self.store
     }
 
+    /// Whether slot Dump shows all pages that the dump's bitmaps speak of. An incomplete dump lacks some at its end, and they are shown as
+    /// those that were left out.
+    pub fn is_whole(&self) -> bool {
+        match &self.shape {
+            Some(PlainShape::Plain(core)) => core.is_whole,
+            Some(PlainShape::Whole(_)) | None => true,
+        }
+    }
+
     /// Why the last call that failed did, if one did.
     pub fn fault(&self) -> Option<ViewFault> {
         self.calls.last

@@ -9,7 +9,8 @@ use Rattle.kc_btf.specs.Btf.{Types}
 use Rattle.kc_layout.specs.declared.place.Field.{Field}
 use Rattle.kc_memory.specs.Image.{Image}
 use Rattle.kc_notes.specs.Values.{value_of}
-use Rattle.kc_kinds.specs.Members.{scalar_in}
+use Rattle.kc_kinds.specs.Kernels.{Kernel}
+use Rattle.kc_kinds.specs.Members.{scalar_in, struct_named}
 use Rattle.kc_owner.specs.Known.{known}
 use Rattle.kc_slab_page.specs.declared.mark.Mark.{Mark}
 use Rattle.kc_slab_page.specs.declared.mark.Mark.TheVariants.{Flag, PageType}
@@ -43,6 +44,10 @@ type_mark types page note =
 -- how a kernel with this type of page descriptors marks a slab's first page
 abbrev pub mark_of : Types → Option ℕ → List ℕ → Option Mark
 mark_of types page note = option_or (flag_mark types page note) (type_mark types page note)
+
+-- that of a kernel, by the notes of its dump
+abbrev pub slab_mark : Kernel → List ℕ → Option Mark
+slab_mark kernel note = mark_of kernel.types (struct_named kernel.types (codes "page")) note
 
 -- a number has the mark
 abbrev pub has_mark : Mark → ℕ → Bool

@@ -4,17 +4,17 @@ ghost use Rattle.kc_kinds.specs.Kernels.{kernel};
 ghost use Rattle.kc_slab_page.specs.Shapes.{page_shape};
 
 use crate::guards::guard_shape;
-use crate::mark::mark_of;
+use crate::mark::slab_mark;
 use crate::shape::PageShape;
 use kc_kinds::Known;
-use kc_owner::{object_shape, struct_named};
+use kc_owner::object_shape;
 
 /// Where a kernel has these words, by the text of its dump's VMCOREINFO, or `None` where it lacks what `object_shape` asks for or both marks.
 pub fn page_shape(known: &Known<'_>, note: &[u8]) -> Option<PageShape>
     ensures { result ≡ page_shape (kernel known.now) note.now }
 {
     let objects = object_shape(known)?;
-    let mark = mark_of(known.btf, struct_named(known, b"page"), note)?;
+    let mark = slab_mark(known, note)?;
     Some(PageShape {
         objects,
         mark,

@@ -20,7 +20,7 @@ pub use guarding::{SlabFault, SlabState};
 pub use guards::{FlagBits, GuardShape};
 pub use kernel::page_shape;
 pub use laws::know_slab_pages;
-pub use mark::Mark;
+pub use mark::{Mark, read_mark, slab_mark};
 pub use page::{PageSeen, SlabSeen, look_at_page};
 pub use ring::RingNodes;
 pub use shape::PageShape;

@@ -3,13 +3,15 @@ ghost use Rattle.std.specs.Prelude.{◌≡◌, ◌≤◌, ◌+◌, codes, length
 ghost use Rattle.kc_btf.specs.Btf.{Types};
 ghost use Rattle.kc_memory.specs.Stays.{SpaceStays};
 ghost use Rattle.kc_found.specs.Walks.{CountsWalkFaults, OnBroken, WalksAs};
-ghost use Rattle.kc_slab_page.specs.Marks.{bit_of, field_in, flag_mark, has_mark, mask_of, mark_of, marked, number_of, type_mark, word_of};
+ghost use Rattle.kc_kinds.specs.Kernels.{kernel};
+ghost use Rattle.kc_slab_page.specs.Marks.{bit_of, field_in, flag_mark, has_mark, mask_of, mark_of, marked, number_of, slab_mark, type_mark, word_of};
 
 use kc_btf::Btf;
 use kc_found::{Space, WalkStop};
+use kc_kinds::Known;
 use kc_layout::Field;
 use kc_notes::value;
-use kc_owner::{read_known, scalar_in};
+use kc_owner::{read_known, scalar_in, struct_named};
 use kc_view::View;
 use kc_word::{Steps, read_dec};
 use std::alloc::Global;
@@ -92,7 +94,7 @@ fn type_mark(types: &Btf, page: Option<u32>, note: &[u8]) -> Option<Mark>
 }
 
 // How a kernel marks a slab's first page, by its type of page descriptors and the text of the dump's VMCOREINFO.
-pub(crate) fn mark_of(types: &Btf, page: Option<u32>, note: &[u8]) -> Option<Mark>
+fn mark_of(types: &Btf, page: Option<u32>, note: &[u8]) -> Option<Mark>
     requires { IfSome page (λ id. id ≤ length types.now.records) }
     ensures { result ≡ mark_of types.now page note.now }
 {
@@ -100,6 +102,13 @@ pub(crate) fn mark_of(types: &Btf, page: Option<u32>, note: &[u8]) -> Option<Mar
         Some(mark) => Some(mark),
         None => type_mark(types, page, note),
     }
+}
+
+/// How a kernel marks a slab's first page, by its types and the text of its dump's VMCOREINFO, or `None` where these tell neither mark.
+pub fn slab_mark(known: &Known<'_>, note: &[u8]) -> Option<Mark>
+    ensures { result ≡ slab_mark (kernel known.now) note.now }
+{
+    mark_of(known.btf, struct_named(known, b"page"), note)
 }
 
 // A number has a mark, which is a bit of it or the number itself.
@@ -128,8 +137,12 @@ fn field_in(mark: &Mark) -> &Option<Field>
     }
 }
 
-// Whether a page's descriptor has the mark, or `None` where that can't be read.
-pub(crate) fn read_mark<S: Space, L: Ledger>(
+/// Whether a page's descriptor has the mark, or `None` where that can't be read.
+///
+/// # Errors
+///
+/// A failure to read the dump; no memory was left.
+pub fn read_mark<S: Space, L: Ledger>(
     alloc: Global,
     space: &mut S,
     view: &View<'_>,

@@ -1,5 +1,5 @@
 -- What is told of an address, beside what is seen of it: the areas in which it lies, and which object has it.
-use Rattle.std.specs.Prelude.{ℕ, ◌+◌, ◌%◌, ◌^◌, ◌&&◌, Bool, true, false, not, nat_lt, is_none, if◌then◌else◌, List, [], Option, Some, None, Result, Ok, Err}
+use Rattle.std.specs.Prelude.{ℕ, ◌+◌, ◌%◌, ◌^◌, ◌&&◌, Bool, true, false, not, nat_lt, is_none, if◌then◌else◌, List, [], Option, Some, None, option_and_then, option_map, Result, Ok, Err}
 use Rattle.kc_btf.specs.Btf.{Types}
 use Rattle.kc_memory.specs.declared.words.VWord.{VWord}
 use Rattle.kc_memory.specs.Image.{Image}
@@ -9,6 +9,7 @@ use Rattle.kc_notes.specs.declared.info.Info.{Info}
 use Rattle.kc_syms.specs.Rows.{RowText, addresses}
 use Rattle.kc_found.specs.declared.free.Grid.{Grid}
 use Rattle.kc_found.specs.Nodes.{at_offset}
+use Rattle.kc_found.specs.Trials.{and_then}
 use Rattle.kc_found.specs.Violations.{Violation}
 use Rattle.kc_kinds.specs.Kernels.{Kernel}
 use Rattle.kc_owner.specs.declared.area.areas.Areas.{Areas}
@@ -18,18 +19,20 @@ use Rattle.kc_owner.specs.Area.Shapes.{area_shape}
 use Rattle.kc_owner.specs.declared.object.cache.Cache.{Cache}
 use Rattle.kc_owner.specs.declared.object.free.FreeSpot.{FreeSpot}
 use Rattle.kc_owner.specs.declared.object.held.Held.{Held}
-use Rattle.kc_owner.specs.declared.object.shape.ObjectShape.{ObjectShape}
 use Rattle.kc_owner.specs.declared.object.slab.Slab.{Slab}
 use Rattle.kc_owner.specs.declared.object.spot.Spot.{Spot}
 use Rattle.kc_owner.specs.declared.object.spot.Spot.TheVariants.{Before, Pad, Object, Past}
 use Rattle.kc_owner.specs.Object.Shapes.{object_shape}
 use Rattle.kc_owner.specs.Object.Slabs.{held}
+use Rattle.kc_slab_page.specs.declared.mark.Mark.{Mark}
+use Rattle.kc_slab_page.specs.Marks.{marked, slab_mark}
 use Rattle.kc_slab_page.specs.Slabs.{is_laid}
 use Rattle.kc_slab_scan.specs.declared.cpu_object.CpuSpot.{CpuSpot}
 use Rattle.kc_slab_scan.specs.declared.cpu_object.SlabObject.{SlabObject}
 use Rattle.kc_slab_scan.specs.declared.cpu_words.CpuShape.{CpuShape}
 use Rattle.kc_slab_scan.specs.CpuObjects.{object_spot}
 use Rattle.kc_slab_scan.specs.CpuShapes.{cpu_shape}
+use Rattle.kc_told.specs.declared.told.PageWords.{PageWords}
 use Rattle.kc_sight.specs.Holders.{holders}
 use Rattle.kc_sight.specs.Nearest.{SymbolAt, image_parts, in_image}
 use Rattle.kc_sight.specs.Sights.{word_start}
@@ -37,7 +40,7 @@ use Rattle.kc_sight.specs.Sights.{word_start}
 -- where a kernel has what tells of an address: page descriptors and slab caches, the slabs that processors own, areas, where its image ends, and the
 -- symbols whose words hold a value in a memory
 pub record Shapes : Type 0 where
-  pub objects : Option ObjectShape
+  pub objects : Option PageWords
   pub cpus : Option CpuShape
   pub areas : AreaShape
   pub end : Option ℕ
@@ -55,11 +58,21 @@ pub record Told : Type 0 where
   pub kept : Kept
   pub holders : List SymbolAt
 
+-- a page that lacks the kernel's mark of a slab is none, whatever stands where a slab has its cache; one whose mark isn't known is taken by that alone
+abbrev pub as_marked : Option Bool → Held → Held
+as_marked (Some false) h = record { page = h.page; slab = Ok None }
+as_marked (Some true) h = h
+as_marked None h = h
+
+abbrev pub marked_held : Image → Option Mark → Held → Held
+marked_held image mark h = as_marked (option_and_then (λ m. marked image m h.page.head) mark) h
+
 -- what holds an address, by its word; nothing is told where the word can't be read, or the kernel lacks what that asks for
-abbrev pub held_by : Image → Option ObjectShape → ℕ → Result VWord Stopped → Option (Result Held Violation)
+abbrev pub held_by : Image → Option PageWords → ℕ → Result VWord Stopped → Option (Result Held Violation)
 held_by image None address word = None
-held_by image (Some shape) address (Err s) = None
-held_by image (Some shape) address (Ok w) = Some (held image shape ((w.pa + address % 8) % 2 ^ 64))
+held_by image (Some words) address (Err s) = None
+held_by image (Some words) address (Ok w) =
+    Some (and_then (held image words.objects ((w.pa + address % 8) % 2 ^ 64)) (λ h. Ok (marked_held image words.mark h)))
 
 -- a slab holds it
 abbrev pub is_slab_told : Result (Option Slab) Violation → Bool
@@ -163,10 +176,14 @@ kernel_with types symbols told = record { types = types; symbols = symbols; kasl
 abbrev pub kernel_by : Types → List RowText → Info → Kernel
 kernel_by types rows told = kernel_with types (λ name. addresses name rows) told
 
+-- where it has the words of page descriptors and slab caches, by the notes of its dump
+abbrev pub page_words : Kernel → List ℕ → Option PageWords
+page_words kernel note = option_map (λ objects. record { objects = objects; mark = slab_mark kernel note }) (object_shape kernel)
+
 -- and what it has to tell of an address
-abbrev pub shapes_by : Types → List RowText → Info → Shapes
-shapes_by types rows told = record {
-  objects = object_shape (kernel_by types rows told);
+abbrev pub shapes_by : Types → List RowText → Info → List ℕ → Shapes
+shapes_by types rows told note = record {
+  objects = page_words (kernel_by types rows told) note;
   cpus = cpu_shape (kernel_by types rows told);
   areas = area_shape (kernel_by types rows told);
   end = (image_parts told.kaslr rows).end;

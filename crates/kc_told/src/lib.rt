@@ -17,4 +17,4 @@ pub use object_text::push_unknown;
 pub use says::push_says;
 pub use seen::{push_told, seen_text};
 pub use shapes::shapes_in;
-pub use told::{Shapes, Sighted, Told, Words, read_sighted, read_told};
+pub use told::{PageWords, Shapes, Sighted, Told, Words, read_sighted, read_told};

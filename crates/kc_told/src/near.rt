@@ -5,11 +5,11 @@ ghost use Rattle.kc_sight.specs.Looks.{LooksAs};
 ghost use Rattle.kc_told.specs.Near.{described_by, lead_at, lead_of, near_word, near_words, nothing};
 ghost use Rattle.kc_found.specs.Failures.{CountsFailures};
 
-use crate::told::{Kept, Words, sought, tell_held, tell_kept};
+use crate::told::{Kept, PageWords, Words, sought, tell_held, tell_kept};
 use kc_btf::Btf;
 use kc_found::{Found, ReadFailed, Space, WalkStop};
 use kc_memory::VWord;
-use kc_owner::{Described, Held, ObjectShape, find_described};
+use kc_owner::{Described, Held, find_described};
 use kc_sight::{Meaning, Seen, meaning_of, read_word, word_start};
 use kc_word::Steps;
 use std::alloc::Global;
@@ -50,22 +50,22 @@ pub(crate) fn nothing() -> Lead
 fn tell_described<S: Space, L: Ledger>(
     alloc: Global,
     space: &mut S,
-    shape: &Option<ObjectShape>,
+    words: &Option<PageWords>,
     address: u64,
     word: &Seen,
     steps: &mut Steps<L>,
 ) -> Result<Option<Described>, ReadFailed>
-    ensures told { LooksAs (λ d. d) (λ image. described_by image shape.now address word.now) (S.image space.old) result }
+    ensures told { LooksAs (λ d. d) (λ image. described_by image words.now address word.now) (S.image space.old) result }
     ensures stays { SpaceStays S.image S.files S.through S.most space.old space.new }
     ensures cause { CountsFailures result (S.faults space.old) (S.faults space.new) }
 {
-    let Some(shape) = shape else {
+    let Some(words) = words else {
         return Ok(None);
     };
     let Ok(_) = word else {
         return Ok(None);
     };
-    match find_described(alloc, space, shape, address, steps) {
+    match find_described(alloc, space, &words.objects, address, steps) {
         Ok(page) => Ok(page),
         Err(WalkStop::Broken(_)) => Ok(None),
         Err(WalkStop::Fault) => Err(ReadFailed::Fault),
@@ -86,14 +86,13 @@ fn lead_at<S: Space, L: Ledger>(
     ensures stays { SpaceStays S.image S.files S.through S.most space.old space.new }
     ensures cause { CountsFailures result (S.faults space.old) (S.faults space.new) }
 {
-    let shape = &words.objects;
-    if shape.is_none() {
+    if words.objects.is_none() {
         return Ok(nothing());
     }
     let word = read_word(space, word_start(address), steps)?;
-    let held = tell_held(alloc, space, types, shape, address, &word, steps)?;
+    let held = tell_held(alloc, space, types, &words.objects, address, &word, steps)?;
     let kept = tell_kept(alloc, space, types, &words.cpus, sought(&held), steps)?;
-    let described = tell_described(alloc, space, shape, address, &word, steps)?;
+    let described = tell_described(alloc, space, &words.objects, address, &word, steps)?;
     Ok(Lead {
         held,
         kept,

@@ -1,5 +1,5 @@
 // What is told of an address, beside what is seen of it.
-ghost use Rattle.std.specs.Prelude.{◌≡◌, map, Ok, IfOk, IfSome};
+ghost use Rattle.std.specs.Prelude.{◌≡◌, map, option_map, Ok, IfOk, IfSome};
 ghost use Rattle.kc_memory.specs.Stays.{SpaceStays};
 ghost use Rattle.kc_memory.specs.Translation.{vword};
 ghost use Rattle.kc_found.specs.FreeLists.{IsGrid};
@@ -10,7 +10,7 @@ ghost use Rattle.kc_sight.specs.Looks.{FaultsAfter, LooksAs, words};
 ghost use Rattle.kc_sight.specs.Sights.{near, page_start, word_start};
 ghost use Rattle.kc_sight.specs.Views.{symbol_view, symbols_holding};
 ghost use Rattle.kc_told.specs.Near.{near_of};
-ghost use Rattle.kc_told.specs.Objects.{areas_by, grid_in, held_by, holders_by, is_slab, kept_by, shared, shared_in, sought, sought_at, sought_free, told_by, told_of};
+ghost use Rattle.kc_told.specs.Objects.{areas_by, as_marked, grid_in, held_by, holders_by, is_slab, kept_by, marked_held, shared, shared_in, sought, sought_at, sought_free, told_by, told_of};
 ghost use Rattle.kc_told.specs.Views.{shapes_view, told_view};
 ghost use Rattle.kc_found.specs.Failures.{CountsFailures};
 
@@ -19,26 +19,46 @@ use crate::object_text::NEGATIVE;
 use kc_btf::Btf;
 use kc_found::{Found, Grid, ReadFailed, WalkStop};
 use kc_memory::Space;
-use kc_owner::{AreaShape, Areas, Cache, Held, ObjectShape, Slab, Spot, find_object, read_areas};
+use kc_owner::{
+    AreaShape, Areas, Cache, Held, ObjectShape, Slab, Spot, find_object, read_areas, view_at,
+};
 use kc_sight::{
     ImageMap, Rules, Seen, Sight, Symbol, TableEntry, find_holders, read_sight, read_word,
     word_start,
 };
-use kc_slab_page::is_laid;
+use kc_slab_page::{Mark, is_laid, read_mark};
 use kc_slab_scan::{CpuShape, CpuSpot, SlabObject, find_spot};
 use kc_word::Steps;
 use std::alloc::Global;
 use std::sync::ledger::Ledger;
 
+/// Where a kernel has the words of page descriptors and slab caches, and its mark of a slab.
+#[derive(Clone, Copy)]
+pub struct PageWords {
+    /// Those words.
+    pub objects: ObjectShape,
+    /// How it marks a slab's first page, where its types and the notes of its dump tell it.
+    pub mark: Option<Mark>,
+}
+
 /// Where a kernel has the words that tell of an address.
 #[derive(Clone, Copy)]
 pub struct Words {
     /// Those of page descriptors and slab caches, where it has all that these ask for.
-    pub objects: Option<ObjectShape>,
+    pub objects: Option<PageWords>,
     /// Those that tell which slabs processors own, where it has them.
     pub cpus: Option<CpuShape>,
     /// Those of areas.
     pub areas: AreaShape,
+}
+
+impl Words {
+    /// Those of page descriptors and slab caches by themselves.
+    pub fn object_shape(&self) -> Option<ObjectShape>
+        ensures { result ≡ option_map (λ w. w.objects) self.now.objects }
+    {
+        Some(self.objects?.objects)
+    }
 }
 
 /// What tells of an address.
@@ -78,29 +98,69 @@ pub struct Sighted<'m> {
     pub told: Told<'m>,
 }
 
+// What holds an address, as the mark of its page has it.
+fn as_marked(marked: Option<bool>, held: Held) -> Held
+    ensures { result ≡ as_marked marked held }
+{
+    match marked {
+        Some(false) => Held {
+            page: held.page,
+            slab: Ok(None),
+        },
+        _ => held,
+    }
+}
+
+// The same, where the mark has to be read.
+fn tell_marked<S: Space, L: Ledger>(
+    alloc: Global,
+    space: &mut S,
+    types: &Btf,
+    mark: &Option<Mark>,
+    held: Held,
+    steps: &mut Steps<L>,
+) -> Result<Held, ReadFailed>
+    ensures told { LooksAs (λ h. h) (λ image. marked_held image mark.now held) (S.image space.old) result }
+    ensures stays { SpaceStays S.image S.files S.through S.most space.old space.new }
+    ensures cause { CountsFailures result (S.faults space.old) (S.faults space.new) }
+{
+    let Some(mark) = mark else {
+        return Ok(held);
+    };
+    let view = view_at(types, held.page.head);
+    match read_mark(alloc, space, &view, mark, steps) {
+        Ok(marked) => Ok(as_marked(marked, held)),
+        Err(WalkStop::NoMemory) => Err(ReadFailed::NoMemory),
+        Err(WalkStop::Fault | WalkStop::Broken(_)) => Err(ReadFailed::Fault),
+    }
+}
+
 // What holds an address, by its word.
 pub(crate) fn tell_held<S: Space, L: Ledger>(
     alloc: Global,
     space: &mut S,
     types: &Btf,
-    shape: &Option<ObjectShape>,
+    words: &Option<PageWords>,
     address: u64,
     word: &Seen,
     steps: &mut Steps<L>,
 ) -> Result<Option<Result<Held, Found>>, ReadFailed>
-    ensures told { LooksAs (λ t. t) (λ image. held_by image shape.now address word.now) (S.image space.old) result }
+    ensures told { LooksAs (λ t. t) (λ image. held_by image words.now address word.now) (S.image space.old) result }
     ensures stays { SpaceStays S.image S.files S.through S.most space.old space.new }
     ensures cause { CountsFailures result (S.faults space.old) (S.faults space.new) }
 {
-    let Some(shape) = shape else {
+    let Some(words) = words else {
         return Ok(None);
     };
     let Ok(word) = word else {
         return Ok(None);
     };
     let pa = word.pa.wrapping_add(address % 8);
-    match find_object(alloc, space, types, shape, pa, steps) {
-        Ok(held) => Ok(Some(Ok(held))),
+    match find_object(alloc, space, types, &words.objects, pa, steps) {
+        Ok(held) => {
+            let held = tell_marked(alloc, space, types, &words.mark, held, steps)?;
+            Ok(Some(Ok(held)))
+        }
         Err(WalkStop::Broken(found)) => Ok(Some(Err(found))),
         Err(WalkStop::Fault) => Err(ReadFailed::Fault),
         Err(WalkStop::NoMemory) => Err(ReadFailed::NoMemory),

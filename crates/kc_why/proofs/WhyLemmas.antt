@@ -1,6 +1,7 @@
 -- The answer on the rows of a map and on what is seen of an address.
-use Rattle.std.proofs.Common.{◌≡◌, ℕ, List, [], ◌++◌, Option, Some, None, Result, Ok, Err, codes, option_map, subst, sym, ap, ◌∙◌}
+use Rattle.std.proofs.Common.{◌≡◌, ℕ, List, [], ◌++◌, Option, Some, None, Result, Ok, Err, codes, option_map, refl, subst, sym, ap, ◌∙◌}
 use Rattle.kc_memory.specs.Image.{Image}
+use Rattle.kc_notes.specs.Notes.{text_in}
 use Rattle.kc_notes.specs.declared.info.Info.{Info}
 use Rattle.kc_outside.specs.declared.store.Slot.TheVariants as slot
 use Rattle.kc_outside.specs.Files.{Files, named}
@@ -26,10 +27,18 @@ use Rattle.kc_told.specs.declared.told.Sighted.{Sighted}
 use Rattle.kc_why.specs.declared.files.Question.{Question}
 use Rattle.kc_why.specs.Looking.{LeadsAs, SightsAs, TellsAs}
 use Rattle.kc_told.specs.Near.{near_of}
-use Rattle.kc_told.specs.Objects.{Shapes, Told, shapes_by, told_of}
+use Rattle.kc_owner.specs.declared.object.shape.ObjectShape.{ObjectShape}
+use Rattle.kc_owner.specs.Object.Shapes.{object_shape}
+use Rattle.kc_sight.specs.Refs.Holding.{in_segments}
+use Rattle.kc_sight.specs.Refs.Stops.{Told as IsTold}
+use Rattle.kc_told.specs.declared.told.PageWords.{PageWords}
+use Rattle.kc_told.specs.Objects.{Shapes, Told, kernel_by, shapes_by, told_of}
+use Rattle.kc_why.specs.Memory.{memory_of}
+use Rattle.kc_why.specs.Searching.{keys_of, sought_by}
+use Rattle.kc_why.specs.WordText.{words_text}
 use Rattle.kc_told.specs.SeenText.{MapSymbols, seen_text, symbols_by}
 use Rattle.kc_told.specs.Views.{told_view}
-use Rattle.kc_why.specs.Why.{Shown, rules_by, seen_in, shown_in, why_made, why_written}
+use Rattle.kc_why.specs.Why.{Shown, found_in, note_text, rules_by, seen_in, shown_in, why_made, why_written}
 
 pub rows_checked : (r : Result (List RowText) ℕ) (listed : List RowText) → checked MapLine r ≡ Some (Ok listed) → r ≡ Ok listed
 rows_checked (Ok rows) listed e = cc
@@ -44,7 +53,7 @@ rules_read info listed read direct same is =
 
 -- what is written by these symbols and what is seen is what is made of the map and the dump
 pub prints_why : (content : Option (List ℕ)) (memory : List ℕ → Image) (address : ℕ) (kernel : KernelAt) (symbols : MapSymbols) (rules : Rules) (shapes : Shapes) (read : List RowText) (seen : Sighted) (answer : Answer)
-    → rows_in kernel.map ≡ Some (Ok read) → symbols ≡ symbols_by kernel.told.kaslr read → rules ≡ rules_by kernel.told read → shapes ≡ shapes_by kernel.types read kernel.told
+    → rows_in kernel.map ≡ Some (Ok read) → symbols ≡ symbols_by kernel.told.kaslr read → rules ≡ rules_by kernel.told read → shapes ≡ shapes_by kernel.types read kernel.told (note_text (text_in kernel.notes))
     → SightsAs {E = Halt} (option_map memory content) rules address (Ok seen) → TellsAs {E = Halt} (option_map memory content) shapes address (Ok seen)
     → LeadsAs {E = Halt} (option_map memory content) shapes address (Ok seen)
     → written_by answer ≡ record { out = seen_text symbols (sight_view seen.sight) (told_view seen.told) seen.near.items; err = []; status = Done }
@@ -54,12 +63,36 @@ prints_why (Some bytes) memory address kernel symbols rules shapes read seen ans
     let by : MapSymbols → Sight → Told → List NearWord → Written = λ m s t n. record { out = seen_text m s t n; err = []; status = Done } in
     let own = symbols_by kernel.told.kaslr read in
     let seen_as = sight (memory bytes) (rules_by kernel.told read) address in
-    let told_as = told_of (memory bytes) (shapes_by kernel.types read kernel.told) address in
-    let all : written_by answer ≡ by own seen_as told_as (near_of (memory bytes) (shapes_by kernel.types read kernel.told) address) =
+    let shapes_are = shapes_by kernel.types read kernel.told (note_text (text_in kernel.notes)) in
+    let told_as = told_of (memory bytes) shapes_are address in
+    let all : written_by answer ≡ by own seen_as told_as (near_of (memory bytes) shapes_are address) =
     written ∙ ap (λ m. by m (sight_view seen.sight) (told_view seen.told) seen.near.items) same
     ∙ ap (λ s. by own s (told_view seen.told) seen.near.items) (sees ∙ ap (λ (r : Rules). sight (memory bytes) r address) ruled)
     ∙ ap (λ t. by own seen_as t seen.near.items) (tells ∙ ap (λ (s : Shapes). told_of (memory bytes) s address) shaped)
     ∙ ap (by own seen_as told_as) (leads ∙ ap (λ (s : Shapes). near_of (memory bytes) s address) shaped) in
+    rw is (ap (λ (w : Written). Some w) (sym all))
+
+-- the words of page descriptors and slab caches, without the mark beside them
+objects_alone : (objects : Option ObjectShape) (with_mark : ObjectShape → PageWords) → ((o : ObjectShape) → (with_mark o).objects ≡ o)
+    → option_map (λ (w : PageWords). w.objects) (option_map with_mark objects) ≡ objects
+objects_alone None with_mark same = refl
+objects_alone (Some o) with_mark same = ap (λ (o : ObjectShape). Some o) (same o)
+
+pub objects_read : (kernel : KernelAt) (read : List RowText) (note : List ℕ) (shape : Option ObjectShape) (shapes : Shapes) → shape ≡ option_map (λ (w : PageWords). w.objects) shapes.objects
+    → shapes ≡ shapes_by kernel.types read kernel.told note → shape ≡ object_shape (kernel_by kernel.types read kernel.told)
+objects_read kernel read note shape shapes is shaped = is ∙ ap (λ (s : Shapes). option_map (λ (w : PageWords). w.objects) s.objects) shaped ∙ objects_alone (object_shape (kernel_by kernel.types read kernel.told)) _ (λ o. refl)
+
+-- the text of the words that hold a value is what is made of the map and the dump
+pub prints_words : (content : Option (List ℕ)) (value : ℕ) (kernel : KernelAt) (read : List RowText) (shape : Option ObjectShape) (text : List ℕ) (answer : Answer)
+    → rows_in kernel.map ≡ Some (Ok read) → shape ≡ object_shape (kernel_by kernel.types read kernel.told)
+    → IsTold content (λ bytes. text ≡ words_text (keys_of (memory_of kernel bytes) shape) (in_segments (sought_by value (keys_of (memory_of kernel bytes) shape)) bytes kernel.segments))
+    → written_by answer ≡ record { out = text; err = []; status = Done }
+    → PrintsOfBytes why_written (λ bytes. found_in bytes value kernel) content (Ok answer)
+prints_words None value kernel read shape text answer is shaped told written = tt
+prints_words (Some bytes) value kernel read shape text answer is shaped told written =
+    let by : Option ObjectShape → Written = λ s. record { out = words_text (keys_of (memory_of kernel bytes) s) (in_segments (sought_by value (keys_of (memory_of kernel bytes) s)) bytes kernel.segments); err = []; status = Done } in
+    let all : written_by answer ≡ by (object_shape (kernel_by kernel.types read kernel.told)) =
+    written ∙ ap (λ (o : List ℕ). record { out = o; err = []; status = Done }) told ∙ ap by shaped in
     rw is (ap (λ (w : Written). Some w) (sym all))
 
 -- what is shown of a kernel is what is made of its files

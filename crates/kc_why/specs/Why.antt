@@ -1,12 +1,14 @@
 -- kwhy: what lies at an address of a dump, which words of the dump hold it, or what explains a report.
-use Rattle.std.specs.Prelude.{ℕ, if◌then◌else◌, List, [], ◌∷◌, ◌++◌, codes, Option, Some, None, option_map, Result}
+use Rattle.std.specs.Prelude.{ℕ, if◌then◌else◌, List, [], ◌∷◌, ◌++◌, codes, Option, Some, None, option_map, Result, Ok, Err}
 use Rattle.std.specs.Str.{bytes_eq}
 use Rattle.kc_word.specs.Hex.{hex_number}
 use Rattle.kc_word.specs.declared.plain.Segment.{Segment}
 use Rattle.kc_outside.specs.declared.store.Slot.TheVariants as slot
 use Rattle.kc_outside.specs.Files.{Files as Told}
 use Rattle.kc_memory.specs.Image.{Image}
+use Rattle.kc_notes.specs.declared.fault.NoteFault.{NoteFault}
 use Rattle.kc_notes.specs.declared.info.Info.{Info}
+use Rattle.kc_notes.specs.Notes.{text_in}
 use Rattle.kc_syms.specs.Addresses.{common_of}
 use Rattle.kc_syms.specs.Rows.{RowText, addresses}
 use Rattle.kc_question.specs.Memory.{bytes_of}
@@ -75,11 +77,16 @@ rules_by told rows = record {
   five = told.five;
 }
 
+-- the text of a dump's VMCOREINFO, without which its notes told nothing
+abbrev pub note_text : Result (List ℕ) NoteFault → List ℕ
+note_text (Ok text) = text
+note_text (Err fault) = []
+
 abbrev pub looked_by : Image → ℕ → KernelAt → List RowText → Looked
 looked_by image address kernel rows = record {
   image = image;
   rules = rules_by kernel.told rows;
-  shapes = shapes_by kernel.types rows kernel.told;
+  shapes = shapes_by kernel.types rows kernel.told (note_text (text_in kernel.notes));
   address = address;
   symbols = symbols_by kernel.told.kaslr rows;
 }

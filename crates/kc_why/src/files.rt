@@ -7,6 +7,7 @@ ghost use Rattle.kc_outside.specs.declared.store.Slot.{Slot};
 ghost use Rattle.kc_outside.specs.declared.store.Slot.TheVariants.{Dump, Map};
 ghost use Rattle.kc_outside.specs.Counts.{Rose};
 ghost use Rattle.kc_outside.specs.Files.{content};
+ghost use Rattle.kc_notes.specs.Notes.{text_in};
 ghost use Rattle.kc_phys.specs.Stored.{AreInside};
 ghost use Rattle.kc_command.specs.Halts.{OnStore, UnlessStore};
 ghost use Rattle.kc_command.specs.Kernels.{kernel_view};
@@ -15,12 +16,13 @@ ghost use Rattle.kc_command.specs.Slots.{RefusesIn};
 ghost use Rattle.kc_command.specs.Ends.Answers.{OnNone, OnStoreIn, PrintsOf, PrintsOfBytes, Runs, StayBehind, UnlessStoreIn};
 ghost use Rattle.kc_command.specs.Ends.Asked.{asked_files, word_in};
 ghost use Rattle.kc_why.specs.Memory.{memory_of};
-ghost use Rattle.kc_why.specs.Why.{asks_view, form_view, found_in, question_asked, question_of, seen_in, shown_in, why_asked, why_asks, why_made, why_written};
+ghost use Rattle.kc_why.specs.Why.{asks_view, form_view, found_in, note_text, question_asked, question_of, seen_in, shown_in, why_asked, why_asks, why_made, why_written};
 
 use crate::looking::look_at;
 use crate::searching::find_written;
 use kc_cause::{Asks as CauseAsks, explain};
 use kc_command::{Answer, Halt, Kernel, KernelFiles, VIEW_HEADERS, read_kernel, read_symbols};
+use kc_notes::vmcoreinfo;
 use kc_outside::Store;
 use kc_sight::Rules;
 use kc_told::{seen_text, shapes_in};
@@ -178,6 +180,13 @@ fn answer<S: Store>(
     }
 }
 
+// The text of a dump's VMCOREINFO.
+fn note_of(kernel: &Kernel) -> &[u8]
+    ensures { result.now ≡ note_text (text_in kernel.now.core.notes) }
+{
+    vmcoreinfo(&kernel.core).unwrap_or(&[])
+}
+
 // What is seen of an address of a dump, and what holds it.
 fn see<S: Store>(
     alloc: Global,
@@ -204,7 +213,8 @@ fn see<S: Store>(
         phys_base: kernel.info.phys_base,
         five: kernel.info.five,
     };
-    let shapes = shapes_in(alloc, &kernel.types, &symbols, kernel.info, map)?;
+    let note = note_of(kernel);
+    let shapes = shapes_in(alloc, &kernel.types, &symbols, kernel.info, note, map)?;
     let seen = look_at(alloc, store, kernel, &rules, &shapes, address)?;
     Ok(Answer::Done(seen_text(alloc, &shapes.map, &seen)?))
 }
@@ -225,7 +235,9 @@ fn find<S: Store>(alloc: Global, store: &mut S, kernel: &Kernel, value: u64) -> 
 {
     let map = kernel.map.as_slice();
     let symbols = read_symbols(alloc, map)?;
-    let shapes = shapes_in(alloc, &kernel.types, &symbols, kernel.info, map)?;
-    let text = find_written(alloc, store, kernel, &shapes.words.objects, value)?;
+    let note = note_of(kernel);
+    let shapes = shapes_in(alloc, &kernel.types, &symbols, kernel.info, note, map)?;
+    let shape = shapes.words.object_shape();
+    let text = find_written(alloc, store, kernel, &shape, value)?;
     Ok(Answer::Done(text))
 }

@@ -7,14 +7,19 @@ use Rattle.kc_inflate.proofs.ZlibLaws.{zlib_length}
 use Rattle.kc_lzo.specs.declared.fault.LzoFault.{LzoFault}
 use Rattle.kc_lzo.specs.Lzo.{lzo_of}
 use Rattle.kc_lzo.proofs.SizeLaws.{lzo_length}
+use Rattle.kc_snappy.specs.declared.fault.SnappyFault.{SnappyFault}
+use Rattle.kc_snappy.specs.Snappy.{snappy_of}
+use Rattle.kc_snappy.proofs.SnappyLaws.{snappy_length}
 use Rattle.kc_kdump.specs.declared.descriptor.Descriptor.{Descriptor}
 use Rattle.kc_kdump.specs.declared.layout.Layout.{Layout}
 use Rattle.kc_kdump.specs.Bytes.{part}
 use Rattle.kc_kdump.specs.Dump.{descriptor_at}
+use Rattle.kc_plain.specs.declared.unpacked.codec.Codec.{Codec}
+use Rattle.kc_plain.specs.declared.unpacked.codec.Codec.TheVariants.{Raw, Zlib, Lzo, Snappy}
 use Rattle.kc_plain.specs.declared.unpacked.fault.PageFault.{PageFault}
 use Rattle.kc_plain.specs.declared.unpacked.fault.PageFault.TheVariants.{Packing, Size}
 use Rattle.kc_plain.specs.Unpack.Plain.{page_at}
-use Rattle.kc_plain.specs.Unpack.Unpacked.{by_lzo, by_zlib, descriptor_fault, page_of, page_or_zeros, raw, unless, unpacked}
+use Rattle.kc_plain.specs.Unpack.Unpacked.{by_codec, by_lzo, by_snappy, by_zlib, codec_of, descriptor_fault, page_of, page_or_zeros, raw, unless, unpacked, unpacked_by}
 
 -- a page, or none
 IsWhole : Result (List ℕ) PageFault → Type 0
@@ -35,20 +40,28 @@ unfolding IsWhole
 zlib_whole bytes (Ok out) is page got = let same : out ≡ page = cc in ap length (sym same) ∙ zlib_length 4096 bytes out is
 zlib_whole bytes (Err fault) is page got = absurd (let none : ⊥ = cc in none)
 
+snappy_whole : (bytes : List ℕ) (r : Result (List ℕ) SnappyFault) → snappy_of 4096 bytes ≡ r → IsWhole (by_snappy r)
+unfolding IsWhole
+snappy_whole bytes (Ok out) is page got = let same : out ≡ page = cc in ap length (sym same) ∙ snappy_length 4096 bytes out is
+snappy_whole bytes (Err fault) is page got = absurd (let none : ⊥ = cc in none)
+
 none_whole : (fault : PageFault) → IsWhole (Err fault)
 unfolding IsWhole
 none_whole fault page got = absurd (let none : ⊥ = cc in none)
 
-either_whole : (b : Bool) (one other : Result (List ℕ) PageFault) → IsWhole one → IsWhole other → IsWhole (cond b one other)
-either_whole true one other first second = first
-either_whole false one other first second = second
+codec_whole : (codec : Codec) (bytes : List ℕ) → IsWhole (by_codec codec bytes)
+codec_whole Raw bytes = raw_whole bytes (nat_eq (length bytes) 4096) refl
+codec_whole Zlib bytes = zlib_whole bytes (zlib_of 4096 bytes) refl
+codec_whole Lzo bytes = lzo_whole bytes (lzo_of 4096 bytes) refl
+codec_whole Snappy bytes = snappy_whole bytes (snappy_of 4096 bytes) refl
+
+by_whole : (flags : ℕ) (codec : Option Codec) (bytes : List ℕ) → IsWhole (unpacked_by flags codec bytes)
+by_whole flags None bytes = none_whole (Packing flags)
+by_whole flags (Some codec) bytes = codec_whole codec bytes
 
 unpacked_whole : (flags : ℕ) (bytes : List ℕ) → IsWhole (unpacked flags bytes)
 unfolding unpacked
-unpacked_whole flags bytes =
-    either_whole (nat_eq flags 0) (raw bytes) _ (raw_whole bytes (nat_eq (length bytes) 4096) refl)
-    (either_whole (nat_eq flags 1) (by_zlib (zlib_of 4096 bytes)) _ (zlib_whole bytes (zlib_of 4096 bytes) refl)
-    (either_whole (nat_eq flags 2) (by_lzo (lzo_of 4096 bytes)) _ (lzo_whole bytes (lzo_of 4096 bytes) refl) (none_whole (Packing flags))))
+unpacked_whole flags bytes = by_whole flags (codec_of flags) bytes
 
 unless_whole : (fault : Option PageFault) (r : Result (List ℕ) PageFault) → IsWhole r → IsWhole (unless fault r)
 unless_whole None r whole = whole

@@ -1,13 +1,18 @@
--- The bytes of a page (makedumpfile, diskdump_mod.h: DUMP_DH_COMPRESSED_ZLIB is 1, DUMP_DH_COMPRESSED_LZO is 2).
+-- The bytes of a page (makedumpfile, diskdump_mod.h: DUMP_DH_COMPRESSED_ZLIB is 1, DUMP_DH_COMPRESSED_LZO is 2,
+-- DUMP_DH_COMPRESSED_SNAPPY is 4).
 use Rattle.std.specs.Prelude.{ℕ, ◌+◌, not, ◌==◌, nat_le, List, length, replicate, Option, Some, None, Result, Ok, Err, if◌then◌else◌}
 use Rattle.kc_inflate.specs.declared.fault.ZlibFault.{ZlibFault}
 use Rattle.kc_inflate.specs.Zlib.{zlib_of}
 use Rattle.kc_lzo.specs.declared.fault.LzoFault.{LzoFault}
 use Rattle.kc_lzo.specs.Lzo.{lzo_of}
+use Rattle.kc_snappy.specs.declared.fault.SnappyFault.{SnappyFault}
+use Rattle.kc_snappy.specs.Snappy.{snappy_of}
 use Rattle.kc_kdump.specs.declared.descriptor.Descriptor.{Descriptor}
 use Rattle.kc_kdump.specs.Bytes.{part}
+use Rattle.kc_plain.specs.declared.unpacked.codec.Codec.{Codec}
+use Rattle.kc_plain.specs.declared.unpacked.codec.Codec.TheVariants as as_codec
 use Rattle.kc_plain.specs.declared.unpacked.fault.PageFault.{PageFault}
-use Rattle.kc_plain.specs.declared.unpacked.fault.PageFault.TheVariants.{OutsideFile, Size, Packing, Zlib, Lzo}
+use Rattle.kc_plain.specs.declared.unpacked.fault.PageFault.TheVariants.{OutsideFile, Size, Packing, Zlib, Lzo, Snappy}
 
 -- what a stream comes to, with its fault as a page's
 abbrev pub by_zlib : Result (List ℕ) ZlibFault → Result (List ℕ) PageFault
@@ -18,17 +23,37 @@ abbrev pub by_lzo : Result (List ℕ) LzoFault → Result (List ℕ) PageFault
 by_lzo (Ok page) = Ok page
 by_lzo (Err fault) = Err (Lzo fault)
 
+abbrev pub by_snappy : Result (List ℕ) SnappyFault → Result (List ℕ) PageFault
+by_snappy (Ok page) = Ok page
+by_snappy (Err fault) = Err (Snappy fault)
+
 -- a page that isn't packed
 abbrev pub raw : List ℕ → Result (List ℕ) PageFault
 raw bytes = if length bytes == 4096 then Ok bytes else Err Size
 
--- the page of 4096 bytes that bytes are packed from, by the flags
+-- how a page is packed, by the flags
+abbrev pub codec_of : ℕ → Option Codec
+codec_of flags =
+    if flags == 0 then Some as_codec.Raw
+    else (if flags == 1 then Some as_codec.Zlib
+    else (if flags == 2 then Some as_codec.Lzo
+    else (if flags == 4 then Some as_codec.Snappy
+    else None)))
+
+-- the page of 4096 bytes that bytes are packed from
+abbrev pub by_codec : Codec → List ℕ → Result (List ℕ) PageFault
+by_codec as_codec.Raw bytes = raw bytes
+by_codec as_codec.Zlib bytes = by_zlib (zlib_of 4096 bytes)
+by_codec as_codec.Lzo bytes = by_lzo (lzo_of 4096 bytes)
+by_codec as_codec.Snappy bytes = by_snappy (snappy_of 4096 bytes)
+
+abbrev pub unpacked_by : ℕ → Option Codec → List ℕ → Result (List ℕ) PageFault
+unpacked_by flags None bytes = Err (Packing flags)
+unpacked_by flags (Some codec) bytes = by_codec codec bytes
+
+-- the same by the flags
 unfoldable pub unpacked : ℕ → List ℕ → Result (List ℕ) PageFault
-unpacked flags bytes =
-    if flags == 0 then raw bytes
-    else (if flags == 1 then by_zlib (zlib_of 4096 bytes)
-    else (if flags == 2 then by_lzo (lzo_of 4096 bytes)
-    else Err (Packing flags)))
+unpacked flags bytes = unpacked_by flags (codec_of flags) bytes
 
 -- what is wrong with a descriptor, in a file of this size: its bytes aren't inside the file, or they are more than a page has
 unfoldable pub descriptor_fault : ℕ → Descriptor → Option PageFault

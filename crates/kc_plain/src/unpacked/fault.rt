@@ -1,6 +1,7 @@
 // Why a page can't be had.
 use kc_inflate::ZlibFault;
 use kc_lzo::LzoFault;
+use kc_snappy::SnappyFault;
 use thiserror::Error;
 
 /// The first fault of a page, in the order in which they stand here.
@@ -21,4 +22,7 @@ pub enum PageFault {
     /// It is no LZO1X stream of 4096 bytes.
     #[error("D5: no LZO stream of a page")]
     Lzo(LzoFault),
+    /// It is no snappy stream of 4096 bytes.
+    #[error("D6: no snappy stream of a page")]
+    Snappy(SnappyFault),
 }

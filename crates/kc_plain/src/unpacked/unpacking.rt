@@ -2,23 +2,19 @@
 ghost use Rattle.std.specs.Prelude.{◌≡◌, ◌≤◌, ◌+◌, length, IfErr, OnOk, Ok, Err};
 ghost use Rattle.kc_inflate.specs.Zlib.{zlib_of};
 ghost use Rattle.kc_lzo.specs.Lzo.{lzo_of};
-ghost use Rattle.kc_plain.specs.Unpack.Unpacked.{by_lzo, by_zlib, descriptor_fault, raw, unpacked};
+ghost use Rattle.kc_snappy.specs.Snappy.{snappy_of};
+ghost use Rattle.kc_plain.specs.Unpack.Unpacked.{by_codec, by_lzo, by_snappy, by_zlib, descriptor_fault, raw, unpacked};
 ghost use Rattle.std.specs.Option.{IfNone};
 
+use crate::unpacked::codec::Codec;
 use crate::unpacked::fault::PageFault;
 use kc_inflate::{Tables, unzip};
 use kc_kdump::Descriptor;
 use kc_lzo::unlzo;
+use kc_snappy::unsnappy;
 
 /// How many bytes a page has.
 pub const PAGE_BYTES: usize = 4096;
-
-// The flags of a page that isn't packed, and of one that zlib or LZO packed.
-const RAW: u32 = 0;
-
-const ZLIB: u32 = 1;
-
-const LZO: u32 = 2;
 
 /// What is wrong with a descriptor, in a file of this size, in bytes.
 #[tactic(auto, unfolding(crate::specs::Unpack::Unpacked::descriptor_fault))]
@@ -73,6 +69,37 @@ fn copy_lzo(bytes: &[u8], page: &mut [u8]) -> Result<(), PageFault>
     }
 }
 
+// A page that snappy packed.
+fn copy_snappy(bytes: &[u8], page: &mut [u8]) -> Result<(), PageFault>
+    requires { length page.old ≡ 4096 }
+    ensures ok { OnOk result (by_snappy (snappy_of 4096 bytes.now) ≡ Ok page.new) }
+    ensures err { IfErr result (λ fault. by_snappy (snappy_of 4096 bytes.now) ≡ Err fault) }
+{
+    match unsnappy(bytes, page) {
+        Ok(()) => Ok(()),
+        Err(fault) => Err(PageFault::Snappy(fault)),
+    }
+}
+
+// A page that is packed in a known way.
+fn copy_by(
+    tables: &mut Tables,
+    codec: Codec,
+    bytes: &[u8],
+    page: &mut [u8],
+) -> Result<(), PageFault>
+    requires { length page.old ≡ 4096 }
+    ensures ok { OnOk result (by_codec codec bytes.now ≡ Ok page.new) }
+    ensures err { IfErr result (λ fault. by_codec codec bytes.now ≡ Err fault) }
+{
+    match codec {
+        Codec::Raw => copy_raw(bytes, page),
+        Codec::Zlib => copy_zlib(tables, bytes, page),
+        Codec::Lzo => copy_lzo(bytes, page),
+        Codec::Snappy => copy_snappy(bytes, page),
+    }
+}
+
 /// Unpacks a page from its bytes, by the flags of its descriptor.
 ///
 /// # Errors
@@ -89,10 +116,8 @@ pub fn unpack(
     ensures ok { OnOk result (unpacked flags bytes.now ≡ Ok page.new) }
     ensures err { IfErr result (λ fault. unpacked flags bytes.now ≡ Err fault) }
 {
-    match flags {
-        RAW => copy_raw(bytes, page),
-        ZLIB => copy_zlib(tables, bytes, page),
-        LZO => copy_lzo(bytes, page),
-        _ => Err(PageFault::Packing(flags)),
+    match Codec::of(flags) {
+        Some(codec) => copy_by(tables, codec, bytes, page),
+        None => Err(PageFault::Packing(flags)),
     }
 }

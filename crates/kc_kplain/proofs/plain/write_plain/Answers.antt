@@ -16,7 +16,7 @@ returns-in-Ok-clause-ends g c =
     opened_ends (g.D.Store.files c.args.dump.now) c.args.name.now c.write_opened.result (g.O.Sink.taken c.args.out.now) (g.O.Sink.taken c.write_opened.new.out) (g.E.Sink.taken c.args.err.now) (g.E.Sink.taken c.write_opened.new.err)
     end.status
     (subst (λ (file : Option (List ℕ)). At c.write_opened.result Done (IfSome file (λ bytes. g.O.Sink.taken c.write_opened.new.out ≡ with_piece (g.O.Sink.taken c.args.out.now) bytes))) c.in-Ok.ensures.content end.whole)
-    end.unsaid end.store
+    end.said end.store
 
 pub returns-in-Ok-clause-silent : goal.returns-in-Ok-clause-silent
 returns-in-Ok-clause-silent g c = copy_silent _ c.write_opened.result c.write_opened.ensures.status

@@ -1,0 +1,2 @@
+mod ElementLaws
+mod StepLaws
