@@ -19,10 +19,41 @@ import files
 import heads
 import planted
 import reader
+import together
 from hostile import tables
 from second import kallsyms
 
 MADE = [os.path.join(files.DATA, name) for name in ("z.core", "z.btf", "z.map")]
+
+
+class Together(unittest.TestCase):
+    """Wrong bodies that are tried in one check."""
+
+    CODE = "const A: u8 = 1;\n\npub fn one(a: u8)\n    -> u8\n{\n    a\n}\n\nimpl B {\n    pub(crate) fn two(&self) {\n        c\n    }\n\n    const D: u8 = 2;\n}\n"
+    SAID = ("./proofs/b/two/Answers.antt:3:5: error: `returns`: no\nfn kc_a::b::one: no proof: it calls `kc_a::b::B::two`, which is not proved\n"
+            "fn kc_a::b::B::two: not proved\nfn kc_a::c::two: proved\nfn <kc_a::b::B as T>::three: no proof: `search` did not prove `returns`\n")
+
+    def edit(self, path, name):
+        edit = together.Edit.__new__(together.Edit)
+        edit.name, edit.changes, edit.home = "an edit", [], (path, name)
+        return edit
+
+    def test_the_function_of_a_byte(self):
+        for text, wanted in (("a\n}", "one"), ("-> u8", "one"), ("c\n", "two"), ("A: u8", None), ("D: u8", None)):
+            found = together.home(self.CODE, self.CODE.index(text))
+            self.assertEqual(found and found[0], wanted, text)
+
+    def test_what_is_said_of_a_function(self):
+        for path, name, wanted in (("src/b.rt", "one", "blocked"), ("src/b.rt", "two", "proof"), ("src/c.rt", "two", "proved"), ("src/b.rt", "three", "goal"), ("src/d.rt", "two", None)):
+            self.assertEqual(together.verdict("kc_a", self.edit(path, name), self.SAID), wanted, (path, name))
+        nowhere = self.edit("", "")
+        nowhere.home = None
+        for said, wanted in ((self.SAID, "goal"), ("fn kc_a::c::two: proved\n", "proved"), ("error\n", None)):
+            self.assertEqual(together.verdict("kc_a", nowhere, said), wanted, said)
+
+    def test_each_round_has_a_function_once(self):
+        edits = [self.edit("src/b.rt", name) for name in "aabca"]
+        self.assertEqual([[edit.home[1] for edit in some] for some in together.rounds(edits)], [["a", "b", "c"], ["a"], ["a"]])
 
 
 class Planted(unittest.TestCase):
