@@ -29,7 +29,7 @@ HEADER_VERSION, STATUS, BLOCK_SIZE, SUB_BLOCKS, BITMAP_BLOCKS, FRAMES = 8, 424, 
 KEYS = (b'PAGESIZE', b'SYMBOL(swapper_pg_dir)', b'SYMBOL(init_top_pgt)', b'NUMBER(phys_base)', b'NUMBER(pgtable_l5_enabled)', b'NUMBER(sme_mask)', b'KERNELOFFSET')
 # The bits of a page's address.
 MASK = (1 << 52) - PAGE
-SPLIT, NOTES, FRAMES_64 = 4096 + 12, 4096 + 48, 4096 + 96
+SPLIT, NOTES, ERASED, FRAMES_64 = 4096 + 12, 4096 + 48, 4096 + 64, 4096 + 96
 ZLIB_SAYS = {'InputEnds': 'the stream ends too soon', 'Head': 'no zlib stream, or one with a preset dictionary', 'BlockType': 'a block of an unknown type',
              'StoredLength': "a stored block's length isn't the complement of its check", 'TooManyCodes': 'a set of codes has too many of a length',
              'Repeat': "a code length is repeated where it can't be", 'NoCode': 'the bits begin with no code',
@@ -103,6 +103,15 @@ def need(holds, code):
         raise Refused(f'{code}: {DUMP_SAYS[code]}')
 
 
+def even(data):
+    return data.ljust(-(-len(data) // 4) * 4, b'\0')
+
+
+def with_erased(notes, text):
+    """The notes, and what makedumpfile erased as one more, as its ELF dumps have it (write_elf_eraseinfo)."""
+    return even(even(notes) + struct.pack('<III', 10, len(text), 0) + even(b'ERASEINFO\0') + text) if text else notes
+
+
 class Dump:
     """What a compressed dump holds."""
 
@@ -119,10 +128,13 @@ class Dump:
         self.table = begin + 2 * half
         need(blocks % 2 == 0 and frames <= 8 * half and self.table <= len(data), 'K6')
         at, size = (number(data, NOTES, 8), number(data, NOTES + 8, 8)) if version >= 4 else (0, 0)
-        need(at + size <= len(data) and size <= 16 << 20, 'K7')
+        erased, erased_size = (number(data, ERASED, 8), number(data, ERASED + 8, 8)) if version >= 5 else (0, 0)
+        text = bytes(data[erased:erased + erased_size])
+        need(at + size <= len(data) and erased + erased_size <= len(data) and max(size, erased_size) <= 16 << 20, 'K7')
+        self.notes = with_erased(bytes(data[at:at + size]), text)
+        need(len(self.notes) <= 16 << 20, 'K7')
         if half > MOST_BYTES:
             raise TooLarge
-        self.notes = bytes(data[at:at + size])
         kinds = self.kinds(data[begin:begin + half], data[begin + half:self.table], frames)
         # a run: pages that are in the dump, and after them those that were left out
         self.runs = [(m.start(), m.group().count(b'D'), m.group().count(b'L')) for m in re.finditer(b'D+L*|L+', kinds)]
@@ -334,6 +346,11 @@ class Made:
         struct.pack_into('<QQ', subs, 48, PAGE + 104, len(notes))
         struct.pack_into('<Q', subs, 96, self.frames)
         subs[104:104 + len(notes)] = notes
+        if rnd.random() < 0.2:
+            # What was erased lies anywhere in the file, here at the end of the sub header.
+            text = b''.join(b'erase symbol.%d\n' % rnd.getrandbits(9) for _ in range(rnd.randrange(1, 9)))
+            struct.pack_into('<QQ', subs, 64, PAGE + len(subs) - len(text), len(text))
+            subs[len(subs) - len(text):] = text
         self.bitmaps = PAGE * (1 + sub)
         self.half, self.table, self.count = half, self.bitmaps + 2 * half, kinds.count('D')
         at, table, body, last = self.table + 24 * self.count, b'', b'', None

@@ -10,6 +10,7 @@ usage: kdumpmake make FROM OUT [OPTION..]              packs FROM, which is a co
     --version V         of the header, 1 to 6 (6)
     --keep N            only the first N pages are in the file: the other descriptors are zeros and the header says so, as makedumpfile leaves them;
     --cut               with it, the file ends after page N, and nothing says so
+    --erased TEXT       makedumpfile erased something, as TEXT says, from version 5 on
     --split             the header says that it is one part of a split dump
 """
 import ctypes
@@ -30,7 +31,7 @@ from second import kdump, lzo, snappy
 PAGE = 4096
 FLAGS = {'raw': 0, 'zlib': 1, 'lzo': 2, 'snappy': 4, 'zstd': 0x20}
 INCOMPLETE = 8
-DEFAULTS = {'codec': 'snappy', 'level': None, 'version': 6, 'keep': None, 'cut': False, 'split': False}
+DEFAULTS = {'codec': 'snappy', 'level': None, 'version': 6, 'keep': None, 'cut': False, 'split': False, 'erased': ''}
 
 
 class Zlib:
@@ -174,6 +175,12 @@ def headers(memory, options, half):
     if version >= 4:
         struct.pack_into('<QQ', sub, 48, PAGE + 104, len(notes))
         sub[104:104 + len(notes)] = notes
+    if version >= 5 and options['erased']:
+        erased = options['erased'].encode()
+        struct.pack_into('<QQ', sub, 64, PAGE + len(sub), len(erased))
+        sub += erased
+        sub[:] = sub.ljust(-(-len(sub) // PAGE) * PAGE, b'\0')
+        struct.pack_into('<I', header, 432, len(sub) // PAGE)
     if version >= 6:
         struct.pack_into('<Q', sub, 96, len(memory.kinds))
     return header + sub
@@ -269,6 +276,7 @@ def try_forms(programs, source, options):
     keep = memory.count * 2 // 3
     forms = [{'version': version} for version in range(1, 7)]
     forms += [{'keep': keep}, {'keep': keep, 'cut': True}, {'keep': 0}, {'keep': memory.count}, {'split': True}, {'split': True, 'version': 1}]
+    forms += [{'erased': 'erase vmemmap\n' + 'x' * more, 'version': version} for more in range(5) for version in (4, 5, 6)]
     with tempfile.TemporaryDirectory() as folder:
         path = os.path.join(folder, 'dump')
         for form in forms:
@@ -291,7 +299,7 @@ def options_of(words):
                 options[name] = True
                 del words[at]
             else:
-                options[name] = words[at + 1] if name == 'codec' else int(words[at + 1])
+                options[name] = words[at + 1] if name in ('codec', 'erased') else int(words[at + 1])
                 del words[at:at + 2]
     return options
 

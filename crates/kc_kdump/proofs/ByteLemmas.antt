@@ -1,5 +1,5 @@
 -- Whole bytes of the bitmaps whose page frames are all of one kind.
-use Rattle.std.proofs.Common.{◌≡◌, ℕ, ◌+◌, ◌<◌, List, [], ◌∷◌, ◌++◌, length, refl, sym, ap, ◌∙◌, subst, arith, append_assoc, Result, Ok, Err, OnOk}
+use Rattle.std.proofs.Common.{◌≡◌, ℕ, ◌+◌, ◌<◌, List, ◌∷◌, ◌++◌, length, refl, sym, ap, ◌∙◌, subst, arith, append_assoc, Result, Ok, Err, OnOk}
 use Rattle.kc_kdump.specs.declared.frame.Frame.{Frame}
 use Rattle.kc_kdump.specs.declared.frame.Frame.TheVariants.{Dumped, LeftOut, Hole}
 use Rattle.kc_kdump.specs.declared.run.PageRun.{PageRun}

@@ -1,67 +1,12 @@
--- Pages that are in the file, and runs of which only so many pages are.
+-- Runs of which only so many pages are in the file.
 use Rattle.std.proofs.Common.{◌≡◌, ℕ, zero, suc, ◌+◌, ◌-◌, ◌≤◌, ◌<◌, min, Bool, true, false, List, [], ◌∷◌, ◌++◌, length, get_or, take, drop, Option, Some, None, IfSome, refl, sym, ap, ◌∙◌, arith, add-one, append_assoc, append-nil, if◌then◌else◌}
-use Rattle.std.proofs.lemmas.Bool.{cond-true, cond-false}
 use Rattle.std.proofs.Math.Seq.{drop-cons}
 use Rattle.kc_outside.specs.declared.store.Slot.{Slot}
 use Rattle.kc_outside.specs.Files.{Files}
-use Rattle.kc_kdump.specs.declared.layout.Layout.{Layout}
 use Rattle.kc_kdump.specs.declared.run.PageRun.{PageRun}
-use Rattle.kc_kdump.specs.Dump.{is_there, there_from}
 use Rattle.kc_kdump.specs.Laws.{frames_in, row}
 use Rattle.kc_kdump.specs.Stays.{StoreStays}
 use Rattle.kc_kdump.specs.Runs.{cut_run, cut_runs, end_of, page_count, reach}
-
--- ---- how many pages are there
-
-there_on : (size : ℕ) (layout : Layout) (bytes : List ℕ) (index n : ℕ) → is_there size layout bytes index ≡ true → there_from size layout bytes index (suc n) ≡ there_from size layout bytes (index + 1) n
-unfolding there_from
-there_on size layout bytes index n is = cond-true _ _ _ is
-
-there_off : (size : ℕ) (layout : Layout) (bytes : List ℕ) (index n : ℕ) → is_there size layout bytes index ≡ false → there_from size layout bytes index (suc n) ≡ index
-unfolding there_from
-there_off size layout bytes index n is = cond-false _ _ _ is
-
-there_none : (size : ℕ) (layout : Layout) (bytes : List ℕ) (index n : ℕ) → n ≡ 0 → there_from size layout bytes index n ≡ index
-unfolding there_from
-there_none size layout bytes index zero none = refl
-there_none size layout bytes index (suc n) none = absurd (omega (arith, none))
-
-more_there : (size : ℕ) (layout : Layout) (bytes : List ℕ) (index n m : ℕ) → n ≡ suc m → is_there size layout bytes index ≡ true → there_from size layout bytes (index + 1) m ≡ there_from size layout bytes index n
-more_there size layout bytes index n m one is = sym (ap (λ (k : ℕ). there_from size layout bytes index k) one ∙ there_on size layout bytes index m is)
-
-no_more_there : (size : ℕ) (layout : Layout) (bytes : List ℕ) (index n m : ℕ) → n ≡ suc m → is_there size layout bytes index ≡ false → there_from size layout bytes index n ≡ index
-no_more_there size layout bytes index n m one is = ap (λ (k : ℕ). there_from size layout bytes index k) one ∙ there_off size layout bytes index m is
-
--- a page more that is there, a page that isn't, and the end
-pub page_there : (content one : Option (List ℕ)) (size : ℕ) (layout : Layout) (index pages : ℕ) (is : Bool) → one ≡ content → index < pages → is ≡ true
-    → IfSome one (λ bytes. is ≡ is_there size layout bytes index)
-    → IfSome content (λ bytes. there_from size layout bytes index (pages - index) ≡ there_from size layout bytes 0 pages)
-    → IfSome content (λ bytes. there_from size layout bytes (index + 1) (pages - (index + 1)) ≡ there_from size layout bytes 0 pages)
-page_there None None size layout index pages is same here on told before = tt
-page_there None (Some other) size layout index pages is same here on told before = tt
-page_there (Some bytes) None size layout index pages is same here on told before = absurd (let none : ⊥ = cc in none)
-page_there (Some bytes) (Some other) size layout index pages is same here on told before =
-    let whole : other ≡ bytes = cc in
-    let there : is_there size layout bytes index ≡ true = ap (λ (b : List ℕ). is_there size layout b index) (sym whole) ∙ sym told ∙ on in
-    more_there size layout bytes index (pages - index) (pages - (index + 1)) (omega arith) there ∙ before
-
-pub page_missing : (content one : Option (List ℕ)) (size : ℕ) (layout : Layout) (index pages : ℕ) (is : Bool) → one ≡ content → index < pages → is ≡ false
-    → IfSome one (λ bytes. is ≡ is_there size layout bytes index)
-    → IfSome content (λ bytes. there_from size layout bytes index (pages - index) ≡ there_from size layout bytes 0 pages)
-    → IfSome content (λ bytes. index ≡ there_from size layout bytes 0 pages)
-page_missing None None size layout index pages is same here off told before = tt
-page_missing None (Some other) size layout index pages is same here off told before = tt
-page_missing (Some bytes) None size layout index pages is same here off told before = absurd (let none : ⊥ = cc in none)
-page_missing (Some bytes) (Some other) size layout index pages is same here off told before =
-    let whole : other ≡ bytes = cc in
-    let missing : is_there size layout bytes index ≡ false = ap (λ (b : List ℕ). is_there size layout b index) (sym whole) ∙ sym told ∙ off in
-    sym (no_more_there size layout bytes index (pages - index) (pages - (index + 1)) (omega arith) missing) ∙ before
-
-pub pages_end : (content : Option (List ℕ)) (size : ℕ) (layout : Layout) (index pages : ℕ) → pages ≤ index
-    → IfSome content (λ bytes. there_from size layout bytes index (pages - index) ≡ there_from size layout bytes 0 pages)
-    → IfSome content (λ bytes. index ≡ there_from size layout bytes 0 pages)
-pages_end None size layout index pages past before = tt
-pages_end (Some bytes) size layout index pages past before = sym (there_none size layout bytes index (pages - index) (omega arith)) ∙ before
 
 -- what stays over two calls
 pub stays_on : {M : Type 0} (opened : M → Slot → Option (List ℕ)) (sizes : M → Slot → Option ℕ) (files : M → Option Files) (may : M → Slot → List ℕ → Type 0) (asked : M → ℕ) (a b c : M)

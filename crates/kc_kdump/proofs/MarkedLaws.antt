@@ -1,5 +1,5 @@
 -- The pages of the runs are those that the second bitmap marks.
-use Rattle.std.proofs.Common.{◌≡◌, ℕ, zero, suc, ◌+◌, ◌-◌, ◌*◌, ◌/◌, ◌%◌, ◌^◌, ◌==◌, ◌≤◌, ◌<◌, min, Bool, true, false, List, [], ◌∷◌, ◌++◌, length, get_or, slice_index, take, drop, if◌then◌else◌, refl, sym, ap, ◌∙◌, subst, arith, add-one, append_assoc, append-nil, length-drop}
+use Rattle.std.proofs.Common.{◌≡◌, ℕ, zero, suc, ◌+◌, ◌-◌, ◌*◌, ◌/◌, ◌%◌, ◌^◌, ◌==◌, ◌≤◌, min, Bool, true, false, List, [], ◌∷◌, ◌++◌, length, get_or, slice_index, take, drop, if◌then◌else◌, refl, sym, ap, ◌∙◌, arith, add-one, append_assoc, append-nil, length-drop}
 use Rattle.std.proofs.lemmas.List.{length-take-le}
 use Rattle.std.proofs.lemmas.Nat.{shr-shr}
 use Rattle.kc_kdump.specs.declared.frame.Frame.{Frame}

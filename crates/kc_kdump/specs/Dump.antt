@@ -6,6 +6,7 @@ use Rattle.kc_kdump.specs.declared.fault.KdumpFault.TheVariants.{K8}
 use Rattle.kc_kdump.specs.declared.layout.Layout.{Layout}
 use Rattle.kc_kdump.specs.declared.run.PageRun.{PageRun}
 use Rattle.kc_kdump.specs.Bytes.{number, part}
+use Rattle.kc_kdump.specs.Erased.{joined}
 use Rattle.kc_kdump.specs.Frames.{frames_of}
 use Rattle.kc_kdump.specs.Header.{layout_of, table_in}
 use Rattle.kc_kdump.specs.Runs.{cut_runs, page_count, runs_of}
@@ -15,7 +16,7 @@ pub record Dump : Type 0 where
   pub runs : List PageRun
   -- whether the pages of all page frames that the second bitmap marks are in the file
   pub is_whole : Bool
-  -- the bytes of the PT_NOTE segment of the machine's memory image
+  -- the bytes of the PT_NOTE segment of the machine's memory image, and the erase info
   pub notes : List ℕ
 
 infixl 10 ◌>>=◌
@@ -70,7 +71,7 @@ dump_in size bytes = do
     layout = layout;
     runs = cut_runs (there_of size layout bytes (page_count runs)) runs;
     is_whole = is_whole size layout bytes (page_count runs);
-    notes = part layout.note_offset layout.note_size bytes;
+    notes = joined (part layout.note_offset layout.note_size bytes) (part layout.erase_offset layout.erase_size bytes);
   })
 
 abbrev pub dump_of : List ℕ → Result Dump KdumpFault

@@ -6,6 +6,7 @@ use Rattle.kc_kdump.specs.declared.fault.KdumpFault.{KdumpFault}
 use Rattle.kc_kdump.specs.declared.fault.KdumpFault.TheVariants.{K1, K2, K3, K4, K5, K6, K7}
 use Rattle.kc_kdump.specs.declared.layout.Layout.{Layout}
 use Rattle.kc_kdump.specs.Bytes.{number, part}
+use Rattle.kc_kdump.specs.Erased.{joined_size}
 
 -- `signature`, the first 8 bytes: of the format, and of the older one
 abbrev pub is_new : List ℕ → Bool
@@ -26,8 +27,8 @@ version_of header = number 4 header 8
 abbrev pub bitmap_blocks : List ℕ → ℕ
 bitmap_blocks header = number 4 header 436
 
--- Of the sub header's fields `split` is there from version 2 on, `offset_note` and `size_note` from version 4 on, and
--- `max_mapnr_64` from version 6 on (the comments at struct kdump_sub_header).
+-- Of the sub header's fields `split` is there from version 2 on, `offset_note` and `size_note` from version 4 on,
+-- `offset_eraseinfo` and `size_eraseinfo` from version 5 on, and `max_mapnr_64` from version 6 on (the comments at struct kdump_sub_header).
 abbrev pub since : ℕ → List ℕ → ℕ → ℕ
 since version header field = if nat_le version (version_of header) then field else 0
 
@@ -61,6 +62,13 @@ note_offset_in header sub = since 4 header (number 8 sub 48)
 unfoldable pub note_size_in : List ℕ → List ℕ → ℕ
 note_size_in header sub = since 4 header (number 8 sub 56)
 
+-- `offset_eraseinfo` and `size_eraseinfo` at bytes 64 and 72 of the sub header
+unfoldable pub erase_offset_in : List ℕ → List ℕ → ℕ
+erase_offset_in header sub = since 5 header (number 8 sub 64)
+
+unfoldable pub erase_size_in : List ℕ → List ℕ → ℕ
+erase_size_in header sub = since 5 header (number 8 sub 72)
+
 -- whether `status` at byte 424 has DUMP_DH_COMPRESSED_INCOMPLETE, which is 8: its writer had no room for all pages
 unfoldable pub is_cut_in : List ℕ → Bool
 is_cut_in header = number 4 header 424 / 8 % 2 == 1
@@ -73,6 +81,8 @@ layout_by header sub = record {
   half = half_in header;
   note_offset = note_offset_in header sub;
   note_size = note_size_in header sub;
+  erase_offset = erase_offset_in header sub;
+  erase_size = erase_size_in header sub;
   is_cut = is_cut_in header;
 }
 
@@ -84,9 +94,15 @@ table_in layout = layout.bitmaps + 2 * layout.half
 abbrev pub has_bitmaps : ℕ → Layout → Bool
 has_bitmaps size layout = nat_le layout.frames (8 * layout.half) && nat_le (table_in layout) size
 
--- whether the notes are inside a file of this size, and have at most 16 MiB
+-- whether notes and erase info of these sizes have at most 16 MiB, each and together as notes
+abbrev pub is_small : ℕ → ℕ → Bool
+is_small notes erased = nat_le notes 16777216 && nat_le erased 16777216 && nat_le (joined_size notes erased) 16777216
+
+-- whether the notes and the erase info are inside a file of this size, and small
 abbrev pub has_notes : ℕ → Layout → Bool
-has_notes size layout = nat_le (layout.note_offset + layout.note_size) size && nat_le layout.note_size 16777216
+has_notes size layout =
+    nat_le (layout.note_offset + layout.note_size) size && nat_le (layout.erase_offset + layout.erase_size) size
+    && is_small layout.note_size layout.erase_size
 
 -- where the parts are in a file of this size, by the number of the bitmaps' blocks
 unfoldable pub placed : ℕ → ℕ → Layout → Result Layout KdumpFault

@@ -1,6 +1,7 @@
 pub mod Answers
 pub mod Bytes
 pub mod Dump
+pub mod Erased
 pub mod Frames
 pub mod Header
 pub mod Laws

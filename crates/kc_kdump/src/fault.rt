@@ -27,7 +27,7 @@ pub enum KdumpFault {
     /// The bitmaps' blocks are odd in number, or outside the file, or a bitmap has too few bits.
     #[error("K6: bitmaps outside the file, or too short")]
     K6,
-    /// The notes are outside the file, or have more than 16 MiB.
+    /// The notes or the erase info are outside the file, or have more than 16 MiB, each or both as notes.
     #[error("K7: notes outside the file, or too many")]
     K7,
     /// There are more than 4,194,304 runs of page frames.

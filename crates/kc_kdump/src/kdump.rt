@@ -16,7 +16,7 @@ pub struct Kdump {
     pub pages: u64,
     /// Whether the pages of all page frames that the bitmaps speak of are in the file.
     pub is_whole: bool,
-    /// The bytes of the PT_NOTE segment of the machine's memory image.
+    /// The bytes of the PT_NOTE segment of the machine's memory image, and after them the erase info as a note, where there is some.
     pub notes: Vec<u8>,
     pub ghost counted: { pages ≡ page_count runs.items },
     pub ghost reached: { reach runs.items ≤ 2 ^ 47 },

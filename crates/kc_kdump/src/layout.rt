@@ -1,8 +1,10 @@
 // Where the parts of a dump are.
-ghost use Rattle.std.specs.Prelude.{◌≡◌, ◌≤◌, ◌+◌, ◌*◌, ◌/◌, ◌^◌, ◌<◌, ◌%◌, length, IfOk};
-ghost use Rattle.kc_kdump.specs.Header.{bitmap_blocks, bitmaps_in, frames_in, half_in, has_bitmaps, has_notes, header_fault, is_cut_in, is_kdump, is_new, is_old, layout_by, layout_in, note_offset_in, note_size_in, placed, since, table_in, version_of};
+ghost use Rattle.std.specs.Prelude.{◌≡◌, ◌≤◌, nat_le, ◌+◌, ◌*◌, ◌/◌, ◌^◌, ◌<◌, ◌%◌, length, IfOk};
+ghost use Rattle.kc_kdump.specs.Erased.{joined_size};
+ghost use Rattle.kc_kdump.specs.Header.{bitmap_blocks, bitmaps_in, erase_offset_in, erase_size_in, frames_in, half_in, has_bitmaps, has_notes, header_fault, is_small, is_cut_in, is_kdump, is_new, is_old, layout_by, layout_in, note_offset_in, note_size_in, placed, since, table_in, version_of};
 ghost use Rattle.kc_kdump.specs.Bytes.{number};
 
+use crate::erased::joined_size;
 use crate::fault::KdumpFault;
 use byteorder::{ByteOrder, LittleEndian};
 
@@ -19,6 +21,10 @@ pub struct Layout {
     pub note_offset: u64,
     /// How many bytes the notes have.
     pub note_size: u64,
+    /// The file offset of the erase info: what makedumpfile erased, as a text.
+    pub erase_offset: u64,
+    /// How many bytes the erase info has: 0 where there is none.
+    pub erase_size: u64,
     /// Whether the header says that the dump is incomplete.
     pub is_cut: bool,
 }
@@ -83,6 +89,8 @@ impl Layout {
             half: half_in(header),
             note_offset: note_offset_in(header, sub),
             note_size: note_size_in(header, sub),
+            erase_offset: erase_offset_in(header, sub),
+            erase_size: erase_size_in(header, sub),
             is_cut: is_cut_in(header),
         }
     }
@@ -96,14 +104,30 @@ impl Layout {
         self.frames <= 8 * self.half && self.table() <= size
     }
 
-    // Whether the notes are inside a file of this size, and few enough.
+    // Whether the notes and the erase info are inside a file of this size, and few enough.
     fn has_notes(&self, size: u64) -> bool
         ensures { result ≡ has_notes size self.now }
     {
-        self.note_offset <= size
-            && self.note_size <= size - self.note_offset
-            && self.note_size <= MOST_NOTE_BYTES
+        is_inside(self.note_offset, self.note_size, size)
+            && is_inside(self.erase_offset, self.erase_size, size)
+            && is_small(self.note_size, self.erase_size)
     }
+}
+
+// Whether so many bytes from an offset on are inside a file of this size.
+fn is_inside(offset: u64, count: u64, size: u64) -> bool
+    ensures { result ≡ nat_le (offset + count) size }
+{
+    offset <= size && count <= size - offset
+}
+
+// Whether notes and erase info of these sizes have at most 16 MiB together, as notes.
+fn is_small(notes: u64, erased: u64) -> bool
+    ensures { result ≡ is_small notes erased }
+{
+    notes <= MOST_NOTE_BYTES
+        && erased <= MOST_NOTE_BYTES
+        && joined_size(notes, erased) <= MOST_NOTE_BYTES
 }
 
 // How many blocks both bitmaps have.
@@ -173,6 +197,26 @@ fn note_size_in(header: &[u8], sub: &[u8]) -> u64
     since(4, header, LittleEndian::read_u64(&sub[56..]))
 }
 
+// The file offset of the erase info.
+#[tactic(auto, unfolding(crate::specs::Header::erase_offset_in))]
+fn erase_offset_in(header: &[u8], sub: &[u8]) -> u64
+    requires header { length header.now ≡ 464 }
+    requires sub { length sub.now ≡ 104 }
+    ensures { result ≡ erase_offset_in header.now sub.now }
+{
+    since(5, header, LittleEndian::read_u64(&sub[64..]))
+}
+
+// How many bytes the erase info has.
+#[tactic(auto, unfolding(crate::specs::Header::erase_size_in))]
+fn erase_size_in(header: &[u8], sub: &[u8]) -> u64
+    requires header { length header.now ≡ 464 }
+    requires sub { length sub.now ≡ 104 }
+    ensures { result ≡ erase_size_in header.now sub.now }
+{
+    since(5, header, LittleEndian::read_u64(&sub[72..]))
+}
+
 // Whether the header says that the dump is incomplete.
 #[tactic(auto, unfolding(crate::specs::Header::is_cut_in))]
 fn is_cut_in(header: &[u8]) -> bool
@@ -237,7 +281,8 @@ fn placed(size: u64, blocks: u32, layout: Layout) -> Result<Layout, KdumpFault>
     ensures small { IfOk result (λ layout. layout.half ≤ 2 ^ 44) }
     ensures blocks { IfOk result (λ layout. layout.half % 4096 ≡ 0) }
     ensures notes { IfOk result (λ layout. layout.note_offset + layout.note_size ≤ size) }
-    ensures few { IfOk result (λ layout. layout.note_size ≤ 16777216) }
+    ensures erased { IfOk result (λ layout. layout.erase_offset + layout.erase_size ≤ size) }
+    ensures few { IfOk result (λ layout. joined_size layout.note_size layout.erase_size ≤ 16777216) }
 {
     if blocks % 2 != 0 || !layout.has_bitmaps(size) {
         Err(KdumpFault::K6)
@@ -263,7 +308,8 @@ pub fn layout_in(size: u64, header: &[u8], sub: &[u8]) -> Result<Layout, KdumpFa
     ensures small { IfOk result (λ layout. layout.half ≤ 2 ^ 44) }
     ensures blocks { IfOk result (λ layout. layout.half % 4096 ≡ 0) }
     ensures notes { IfOk result (λ layout. layout.note_offset + layout.note_size ≤ size) }
-    ensures few { IfOk result (λ layout. layout.note_size ≤ 16777216) }
+    ensures erased { IfOk result (λ layout. layout.erase_offset + layout.erase_size ≤ size) }
+    ensures few { IfOk result (λ layout. joined_size layout.note_size layout.erase_size ≤ 16777216) }
 {
     if let Some(fault) = header_fault(header, sub) {
         return Err(fault);

@@ -3,6 +3,7 @@
 #![tactic(auto)]
 
 mod descriptor;
+mod erased;
 mod fault;
 mod frame;
 mod kdump;

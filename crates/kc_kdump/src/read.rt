@@ -5,12 +5,14 @@ ghost use Rattle.kc_outside.specs.Files.{content, HasPart};
 ghost use Rattle.kc_kdump.specs.Answers.{Answers, IsFaultless, OnTooMany};
 ghost use Rattle.kc_kdump.specs.Bytes.{part};
 ghost use Rattle.kc_kdump.specs.Dump.{dump_in, dump_of, few};
+ghost use Rattle.kc_kdump.specs.Erased.{joined, joined_size};
 ghost use Rattle.kc_kdump.specs.Frames.{frames_of};
 ghost use Rattle.kc_kdump.specs.Header.{layout_of, table_in};
 ghost use Rattle.kc_kdump.specs.Runs.{empty_at, end_of, page_count, reach, runs_of};
 ghost use Rattle.kc_kdump.specs.Stays.{CountsFaults, StoreStays};
 ghost use Rattle.kc_kdump.specs.Walk.{runs_after};
 
+use crate::erased::join;
 use crate::fault::{KdumpFault, KdumpStop};
 use crate::kdump::Kdump;
 use crate::layout::{BLOCK_BYTES, HEADER_BYTES, Layout, SUB_HEADER_BYTES, layout_in};
@@ -33,7 +35,8 @@ fn read_layout<S: Store>(store: &mut S, size: u64) -> Result<Layout, KdumpStop>
     ensures small { IfOk result (λ layout. layout.half ≤ 2 ^ 44) }
     ensures blocks { IfOk result (λ layout. layout.half % 4096 ≡ 0) }
     ensures notes { IfOk result (λ layout. layout.note_offset + layout.note_size ≤ size) }
-    ensures few { IfOk result (λ layout. layout.note_size ≤ 16777216) }
+    ensures erased { IfOk result (λ layout. layout.erase_offset + layout.erase_size ≤ size) }
+    ensures few { IfOk result (λ layout. joined_size layout.note_size layout.erase_size ≤ 16777216) }
 
     ensures stays { StoreStays S.opened S.sizes S.files S.may S.asked store.old store.new }
     ensures counts { CountsFaults result (S.faults store.old) (S.faults store.new) }
@@ -111,7 +114,30 @@ fn read_runs<S: Store>(
     Ok(walk)
 }
 
-// The bytes of the notes.
+// So many bytes from an offset on.
+fn read_part<S: Store>(
+    alloc: Global,
+    store: &mut S,
+    offset: u64,
+    count: u64,
+    size: u64,
+) -> Result<Vec<u8>, KdumpStop>
+    requires learnt { S.sizes store.old Dump ≡ Some size }
+    requires within { offset + count ≤ size }
+
+    ensures told { IfOk result (λ bytes. IfSome (content (S.files store.old) Dump (S.opened store.old Dump)) (λ file. bytes.items ≡ part offset count file)) }
+    ensures long { IfOk result (λ bytes. vec_len bytes ≡ count) }
+    ensures faultless { IsFaultless result }
+
+    ensures stays { StoreStays S.opened S.sizes S.files S.may S.asked store.old store.new }
+    ensures counts { CountsFaults result (S.faults store.old) (S.faults store.new) }
+{
+    let mut bytes = vec![in alloc; 0; count as usize]?;
+    store.read_at(Slot::Dump, offset, &mut bytes)?;
+    Ok(bytes)
+}
+
+// The bytes of the notes, and after them the erase info as one.
 fn read_notes<S: Store>(
     alloc: Global,
     store: &mut S,
@@ -120,17 +146,19 @@ fn read_notes<S: Store>(
 ) -> Result<Vec<u8>, KdumpStop>
     requires learnt { S.sizes store.old Dump ≡ Some size }
     requires within { layout.now.note_offset + layout.now.note_size ≤ size }
+    requires erased { layout.now.erase_offset + layout.now.erase_size ≤ size }
+    requires few { joined_size layout.now.note_size layout.now.erase_size ≤ 16777216 }
 
-    ensures told { IfOk result (λ notes. IfSome (content (S.files store.old) Dump (S.opened store.old Dump)) (λ bytes. notes.items ≡ part layout.now.note_offset layout.now.note_size bytes)) }
-    ensures long { IfOk result (λ notes. vec_len notes ≡ layout.now.note_size) }
+    ensures told { IfOk result (λ notes. IfSome (content (S.files store.old) Dump (S.opened store.old Dump)) (λ bytes. notes.items ≡ joined (part layout.now.note_offset layout.now.note_size bytes) (part layout.now.erase_offset layout.now.erase_size bytes))) }
+    ensures few { IfOk result (λ notes. vec_len notes ≤ 16777216) }
     ensures faultless { IsFaultless result }
 
     ensures stays { StoreStays S.opened S.sizes S.files S.may S.asked store.old store.new }
     ensures counts { CountsFaults result (S.faults store.old) (S.faults store.new) }
 {
-    let mut notes = vec![in alloc; 0; layout.note_size as usize]?;
-    store.read_at(Slot::Dump, layout.note_offset, &mut notes)?;
-    Ok(notes)
+    let notes = read_part(alloc, store, layout.note_offset, layout.note_size, size)?;
+    let erased = read_part(alloc, store, layout.erase_offset, layout.erase_size, size)?;
+    Ok(join(alloc, notes, &erased)?)
 }
 
 /// Reads the container of the compressed dump in slot Dump, whose size was learnt, in bytes: its headers, its bitmaps by

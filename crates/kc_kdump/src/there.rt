@@ -1,11 +1,12 @@
 // The pages that are in the file, which of an incomplete dump are the first ones.
-ghost use Rattle.std.specs.Prelude.{◌≡◌, ◌+◌, ◌*◌, ◌≤◌, ◌<◌, ◌^◌, length, min, vec_len, IfSome, IfOk, IfErr, Some, true};
+ghost use Rattle.std.specs.Prelude.{◌≡◌, ℕ, ◌+◌, ◌*◌, ◌≤◌, ◌<◌, ◌^◌, length, min, vec_len, IfSome, IfOk, IfErr, Some, true, false};
 ghost use Rattle.std.specs.Bool.{OnTrue};
 ghost use Rattle.kc_outside.specs.declared.store.Slot.TheVariants.{Dump};
 ghost use Rattle.kc_outside.specs.Files.{content};
 ghost use Rattle.kc_kdump.specs.declared.fault.KdumpStop.TheVariants.{NoMemory};
 ghost use Rattle.kc_kdump.specs.Answers.{IsFaultless};
-ghost use Rattle.kc_kdump.specs.Dump.{is_inside, is_there, is_whole, there_from, there_of};
+ghost use Rattle.kc_kdump.specs.Bytes.{part};
+ghost use Rattle.kc_kdump.specs.Dump.{descriptor_of, is_inside, is_there, is_whole, there_from, there_of};
 ghost use Rattle.kc_kdump.specs.Header.{table_in};
 ghost use Rattle.kc_kdump.specs.Runs.{cut_run, cut_runs, page_count, reach};
 ghost use Rattle.kc_kdump.specs.Stays.{CountsFaults, StoreStays};
@@ -64,6 +65,87 @@ fn is_there<S: Store>(
     Ok(is_inside(size, Descriptor::read(&bytes)))
 }
 
+// How many descriptors are read at once, and how many bytes they have.
+const TABLE_STEP: u64 = 170;
+
+const TABLE_BYTES: usize = 4080;
+
+// How many of the descriptors that bytes spell come before the first whose page isn't inside a file of this size.
+fn count_inside(size: u64, bytes: &[u8]) -> u64
+    ensures within { 24 * result ≤ length bytes.now }
+    ensures each { (k : ℕ) → k < result → is_inside size (descriptor_of (part (24 * k) 24 bytes.now)) ≡ true }
+    ensures next { 24 * (result + 1) ≤ length bytes.now → is_inside size (descriptor_of (part (24 * result) 24 bytes.now)) ≡ false }
+{
+    let mut count = 0;
+    let mut at = 0;
+    while bytes.len() - at >= DESCRIPTOR_BYTES {
+        if !is_inside(size, Descriptor::read(&bytes[at..at + DESCRIPTOR_BYTES])) {
+            return count;
+        }
+        count += 1;
+        at += DESCRIPTOR_BYTES;
+    }
+    count
+}
+
+// The number of the first page, of so many from one on, that isn't in the file, or that after the last. Their descriptors are in the file.
+fn first_missing<S: Store>(
+    store: &mut S,
+    layout: &Layout,
+    size: u64,
+    index: u64,
+    many: u64,
+    room: &mut [u8],
+) -> Result<u64, KdumpStop>
+    requires learnt { S.sizes store.old Dump ≡ Some size }
+    requires inside { table_in layout.now + 24 * (index + many) ≤ size }
+    requires few { index + many ≤ 2 ^ 47 }
+    requires room { length room.old ≡ 24 * many }
+    ensures told { IfOk result (λ n. IfSome (content (S.files store.old) Dump (S.opened store.old Dump)) (λ bytes. n ≡ there_from size layout.now bytes index many)) }
+    ensures few { IfOk result (λ n. n ≤ index + many) }
+    ensures faultless { IsFaultless result }
+    ensures stays { StoreStays S.opened S.sizes S.files S.may S.asked store.old store.new }
+    ensures counts { CountsFaults result (S.faults store.old) (S.faults store.new) }
+{
+    know_size(store, Slot::Dump, size);
+    store.read_at(
+        Slot::Dump,
+        layout.table() + DESCRIPTOR_BYTES as u64 * index,
+        room,
+    )?;
+    Ok(index + count_inside(size, room))
+}
+
+// How many of so many pages, whose descriptors are in the file, come before the first that isn't there.
+fn count_first<S: Store>(
+    store: &mut S,
+    layout: &Layout,
+    size: u64,
+    most: u64,
+) -> Result<u64, KdumpStop>
+    requires learnt { S.sizes store.old Dump ≡ Some size }
+    requires inside { table_in layout.now + 24 * most ≤ size }
+    requires few { most ≤ 2 ^ 47 }
+    ensures told { IfOk result (λ n. IfSome (content (S.files store.old) Dump (S.opened store.old Dump)) (λ bytes. n ≡ there_from size layout.now bytes 0 most)) }
+    ensures few { IfOk result (λ n. n ≤ most) }
+    ensures faultless { IsFaultless result }
+    ensures stays { StoreStays S.opened S.sizes S.files S.may S.asked store.old store.new }
+    ensures counts { CountsFaults result (S.faults store.old) (S.faults store.new) }
+{
+    let mut room = [0; TABLE_BYTES];
+    let mut index = 0;
+    while index < most {
+        let many = (most - index).min(TABLE_STEP);
+        let bytes = DESCRIPTOR_BYTES * many as usize;
+        let end = first_missing(store, layout, size, index, many, &mut room[..bytes])?;
+        if end < index + many {
+            return Ok(end);
+        }
+        index = end;
+    }
+    Ok(index)
+}
+
 // How many of so many pages come before the first that isn't in the file.
 fn count_there<S: Store>(
     store: &mut S,
@@ -81,14 +163,9 @@ fn count_there<S: Store>(
     ensures stays { StoreStays S.opened S.sizes S.files S.may S.asked store.old store.new }
     ensures counts { CountsFaults result (S.faults store.old) (S.faults store.new) }
 {
-    let mut index = 0;
-    while index < pages {
-        if !is_there(store, layout, size, index)? {
-            return Ok(index);
-        }
-        index += 1;
-    }
-    Ok(index)
+    know_size(store, Slot::Dump, size);
+    let fits = (size - layout.table()) / DESCRIPTOR_BYTES as u64;
+    count_first(store, layout, size, pages.min(fits))
 }
 
 // Whether so many pages are all in the file.

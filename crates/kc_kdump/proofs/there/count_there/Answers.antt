@@ -1,36 +1,18 @@
-use Rattle.std.proofs.Common.{◌≡◌, ◌∙◌, Bool, true, false, refl, arith}
-use Rattle.std.specs.Bool.{OnTrue}
+use Rattle.std.proofs.Common.{◌≡◌, ◌+◌, ◌-◌, ◌*◌, ◌/◌, ◌<◌, ◌≤◌, ℕ, min, List, Option, IfSome, Result, Ok, Err, IfOk, arith}
 use Rattle.kc_outside.specs.declared.store.Slot.TheVariants.{Dump}
 use Rattle.kc_outside.specs.Files.{content}
-use Rattle.kc_kdump.proofs.CutLemmas.{page_missing, page_there, pages_end, stays_on}
+use Rattle.kc_kdump.specs.declared.layout.Layout.{Layout}
+use Rattle.kc_kdump.specs.Dump.{there_from}
+use Rattle.kc_kdump.specs.Header.{table_in}
+use Rattle.kc_kdump.proofs.ThereLemmas.{first_all}
 use Rattle.kc_kdump.proofs.there.count_there.Goals as goal
 
-on_true : (P : Type 0) (b : Bool) → b ≡ true → OnTrue b P → P
-on_true P true is p = p
-on_true P false is p = absurd (let none : ⊥ = cc in none)
-
-pub returns-then-not-branch-clause-told : goal.returns-then-not-branch-clause-told
-returns-then-not-branch-clause-told g c =
-    let told = content (g.S.Store.files c.args.store.now) Dump (g.S.Store.opened c.args.store.now Dump) in
-    let before = c.loop-index.invariant in
-    let same : content (g.S.Store.files c.loop-index.store) Dump (g.S.Store.opened c.loop-index.store Dump) ≡ told = rw (before.stays.same_files, before.stays.same_opened) refl in
-    page_missing told _ c.args.size c.args.layout.now c.loop-index.index c.args.pages c.in_ok-is_there.field-0 same (omega arith) c.if-not-branch.true c.in_ok-is_there.ensures.told before.there
-
-pub loop-index-preserved : goal.loop-index-preserved
-loop-index-preserved g c =
-    let told = content (g.S.Store.files c.args.store.now) Dump (g.S.Store.opened c.args.store.now Dump) in
-    let before = c.loop-index.invariant in
-    let next = c.in_ok-is_there.ensures in
-    let same : content (g.S.Store.files c.loop-index.store) Dump (g.S.Store.opened c.loop-index.store Dump) ≡ told = rw (before.stays.same_files, before.stays.same_opened) refl in
-    record {
-      stays = stays_on _ _ _ _ _ _ _ _ before.stays next.stays;
-      quiet = next.counts ∙ before.quiet;
-      few = omega arith;
-      inside = on_true _ c.in_ok-is_there.field-0 c.if-not-branch.false next.inside;
-      there = page_there told _ c.args.size c.args.layout.now c.loop-index.index c.args.pages c.in_ok-is_there.field-0 same (omega arith) c.if-not-branch.false next.told before.there;
-    }
+all_of : {E : Type 0} (r : Result ℕ E) (content : Option (List ℕ)) (size : ℕ) (layout : Layout) (pages most fits : ℕ) → most ≡ min pages fits → size < table_in layout + 24 * (fits + 1)
+    → IfOk r (λ n. IfSome content (λ bytes. n ≡ there_from size layout bytes 0 most)) → IfOk r (λ n. IfSome content (λ bytes. n ≡ there_from size layout bytes 0 pages))
+all_of (Ok n) content size layout pages most fits is past told = first_all content size layout n pages most fits is past told
+all_of (Err e) content size layout pages most fits is past told = tt
 
 pub returns-clause-told : goal.returns-clause-told
 returns-clause-told g c =
-    let told = content (g.S.Store.files c.args.store.now) Dump (g.S.Store.opened c.args.store.now Dump) in
-    pages_end told c.args.size c.args.layout.now c.loop-index.index c.args.pages (omega arith) c.loop-index.invariant.there
+    all_of c.count_first.result (content (g.S.Store.files c.args.store.now) Dump (g.S.Store.opened c.args.store.now Dump)) c.args.size c.args.layout.now c.args.pages c.min.result ((c.args.size - c.table.result) / 24)
+    c.min.ensures (omega (arith, c.table.ensures, c.requires.inside)) c.count_first.ensures.told
