@@ -2,7 +2,7 @@
 use Rattle.std.proofs.Common.{◌≡◌, ℕ, Bool, true, false, List, take, drop, Option, Some, None, IfSome, option_map, refl, sym, subst}
 use Rattle.kc_outside.specs.declared.store.Slot.{Slot}
 use Rattle.kc_outside.specs.declared.store.Slot.TheVariants.{Dump, Btf, Map, Plan, Report, Module}
-use Rattle.kc_outside.specs.Files.{Files, HasLength, HasPart, content}
+use Rattle.kc_outside.specs.Files.{Files, HasLength, HasPart, IsOther, content}
 use Rattle.kc_plain_store.specs.declared.shape.PlainShape.{PlainShape}
 use Rattle.kc_plain_store.specs.Seen.{is_dump, opened_by, seen_by, seen_bytes, seen_files, seen_opened}
 use Rattle.kc_plain_store.specs.Shapes.{file_size, shape_bytes, shape_size}
@@ -45,3 +45,12 @@ size_long Map shape files opened sizes n is known told law long = absurd (let no
 size_long Plan shape files opened sizes n is known told law long = absurd (let none : ⊥ = cc in none)
 size_long Report shape files opened sizes n is known told law long = absurd (let none : ⊥ = cc in none)
 size_long Module shape files opened sizes n is known told law long = absurd (let none : ⊥ = cc in none)
+
+-- a slot that isn't the dump's
+pub not_dump : (slot : Slot) → is_dump slot ≡ false → IsOther slot Dump
+not_dump Dump is = absurd (let none : ⊥ = cc in none)
+not_dump Btf is = refl
+not_dump Map is = refl
+not_dump Plan is = refl
+not_dump Report is = refl
+not_dump Module is = refl

@@ -1,4 +1,4 @@
--- What an opening leaves of the count of failures.
+-- What a call leaves of the count of failures of the store below.
 use Rattle.std.specs.Prelude.{◌≡◌, ℕ, Result, Ok, Err}
 use Rattle.kc_outside.specs.Counts.{Rose}
 use Rattle.kc_plain_store.specs.declared.stop.ViewFault.{ViewFault}

@@ -1,4 +1,5 @@
 pub mod Counts
+pub mod Faults
 pub mod Kept
 pub mod Seen
 pub mod Shapes

@@ -1,11 +1,14 @@
 // Opening a dump.
-ghost use Rattle.std.specs.Prelude.{◌≡◌, ℕ, ◌+◌, ◌<◌, ◌^◌, List, Ok, Some, IsSome, IfSome, IfOk, OnOk};
+ghost use Rattle.std.specs.Prelude.{◌≡◌, ℕ, ◌+◌, ◌<◌, ◌^◌, List, Ok, Some, IsSome, IfSome, IfOk, IfErr, OnOk};
 ghost use Rattle.kc_outside.specs.declared.store.Slot.{Slot};
 ghost use Rattle.kc_outside.specs.declared.store.Slot.TheVariants.{Dump};
 ghost use Rattle.kc_outside.specs.Files.{content, named, OthersStay};
 ghost use Rattle.kc_kdump.specs.Header.{is_kdump};
 ghost use Rattle.kc_kdump.specs.Stays.{StoreStays};
+ghost use Rattle.kc_kdump.specs.Dump.{dump_of};
+ghost use Rattle.kc_plain_store.specs.declared.stop.ViewFault.TheVariants as as_fault;
 ghost use Rattle.kc_plain_store.specs.Counts.{CountsOpening};
+ghost use Rattle.kc_plain_store.specs.Faults.{IfRefused, container_in, container_of, core_container, refusal, shape_container};
 ghost use Rattle.kc_plain_store.specs.Seen.{seen_bytes};
 ghost use Rattle.kc_plain.specs.Unpack.Plain.{plain};
 ghost use Rattle.kc_plain_store.specs.Shapes.{core_bytes, file_size, shape_bytes, shape_size};
@@ -22,6 +25,7 @@ use std::alloc::Global;
 fn begins_kdump<S: Store>(store: &mut S, size: u64) -> Result<bool, ViewFault>
     requires { S.sizes store.old Dump ≡ Some size }
     ensures told { IfOk result (λ is. IfSome (content (S.files store.old) Dump (S.opened store.old Dump)) (λ bytes. is ≡ is_kdump bytes)) }
+    ensures store { IfErr result (λ fault. fault ≡ as_fault.Store) }
     ensures stays { StoreStays S.opened S.sizes S.files S.may S.asked store.old store.new }
     ensures counts { CountsOpening result (S.faults store.old) (S.faults store.new) }
 {
@@ -40,6 +44,8 @@ fn begins_kdump<S: Store>(store: &mut S, size: u64) -> Result<bool, ViewFault>
 fn core_of<S: Store>(alloc: Global, store: &mut S, size: u64) -> Result<PlainCore, ViewFault>
     requires learnt { S.sizes store.old Dump ≡ Some size }
     ensures told { IfOk result (λ core. IfSome (content (S.files store.old) Dump (S.opened store.old Dump)) (λ bytes. plain bytes ≡ Ok (core_bytes core bytes))) }
+    ensures container { IfOk result (λ core. IfSome (content (S.files store.old) Dump (S.opened store.old Dump)) (λ bytes. container_in (dump_of bytes) ≡ Some (core_container core))) }
+    ensures refused { IfRefused result (λ fault. IfSome (content (S.files store.old) Dump (S.opened store.old Dump)) (λ bytes. refusal bytes ≡ Some fault)) }
     ensures size { IfOk result (λ core. core.file_size ≡ size) }
     ensures stays { StoreStays S.opened S.sizes S.files S.may S.asked store.old store.new }
     ensures counts { CountsOpening result (S.faults store.old) (S.faults store.new) }
@@ -64,10 +70,12 @@ fn core_of<S: Store>(alloc: Global, store: &mut S, size: u64) -> Result<PlainCor
 }
 
 // What is shown of the file.
-#[tactic(auto, unfolding(crate::specs::Seen::seen_bytes))]
+#[tactic(auto, unfolding(crate::specs::Faults::container_of, crate::specs::Seen::seen_bytes))]
 fn shape_of<S: Store>(alloc: Global, store: &mut S, size: u64) -> Result<PlainShape, ViewFault>
     requires learnt { S.sizes store.old Dump ≡ Some size }
     ensures told { IfOk result (λ shape. IfSome (content (S.files store.old) Dump (S.opened store.old Dump)) (λ bytes. seen_bytes bytes ≡ Some (shape_bytes shape bytes))) }
+    ensures container { IfOk result (λ shape. IfSome (content (S.files store.old) Dump (S.opened store.old Dump)) (λ bytes. container_of bytes ≡ shape_container shape)) }
+    ensures refused { IfRefused result (λ fault. IfSome (content (S.files store.old) Dump (S.opened store.old Dump)) (λ bytes. refusal bytes ≡ Some fault)) }
     ensures size { IfOk result (λ shape. file_size shape ≡ size) }
     ensures fits { IfOk result (λ shape. shape_size shape < 2 ^ 64) }
     ensures stays { StoreStays S.opened S.sizes S.files S.may S.asked store.old store.new }
@@ -93,6 +101,8 @@ pub(crate) fn open_shape<S: Store>(
     ensures content { OnOk result (content (S.files store.new) Dump (S.opened store.new Dump) ≡ named (S.files store.old) Dump name.now) }
     ensures there { OnOk result (IfSome (S.files store.old) (λ files. IsSome (files Dump name.now))) }
     ensures told { IfOk result (λ shape. IfSome (content (S.files store.new) Dump (S.opened store.new Dump)) (λ bytes. seen_bytes bytes ≡ Some (shape_bytes shape bytes))) }
+    ensures container { IfOk result (λ shape. IfSome (content (S.files store.new) Dump (S.opened store.new Dump)) (λ bytes. container_of bytes ≡ shape_container shape)) }
+    ensures refused { IfRefused result (λ fault. IfSome (content (S.files store.new) Dump (S.opened store.new Dump)) (λ bytes. refusal bytes ≡ Some fault)) }
     ensures others_opened { OthersStay Dump (S.opened store.old) (S.opened store.new) }
     ensures others_sizes { OthersStay Dump (S.sizes store.old) (S.sizes store.new) }
     ensures may { (s : Slot) (n : List ℕ) → S.may store.old s n → S.may store.new s n }

@@ -1,5 +1,5 @@
 // Reading the pages of a dump, through those that are kept.
-ghost use Rattle.std.specs.Prelude.{◌≡◌, ℕ, ◌+◌, ◌-◌, ◌*◌, ◌<◌, ◌≤◌, Ok, min, length, take, drop, vec_len, All, IfSome, IfOk, OnOk, Some, None};
+ghost use Rattle.std.specs.Prelude.{◌≡◌, ℕ, ◌+◌, ◌-◌, ◌*◌, ◌<◌, ◌≤◌, Ok, Err, min, length, take, drop, vec_len, All, IfSome, IfOk, IfErr, OnOk, Some, None};
 ghost use Rattle.kc_outside.specs.declared.store.Slot.TheVariants.{Dump};
 ghost use Rattle.kc_outside.specs.Files.{content};
 ghost use Rattle.kc_kdump.specs.Dump.{descriptor_at};
@@ -7,6 +7,9 @@ ghost use Rattle.kc_kdump.specs.Stays.{StoreStays};
 ghost use Rattle.kc_kdump.specs.Bytes.{part};
 ghost use Rattle.kc_plain.specs.Unpack.Plain.{page_at};
 ghost use Rattle.kc_plain.specs.Unpack.Unpacked.{unpacked};
+ghost use Rattle.kc_plain_store.specs.declared.stop.ViewFault.TheVariants as as_fault;
+ghost use Rattle.kc_plain_store.specs.Counts.{CountsOpening};
+ghost use Rattle.kc_plain_store.specs.Faults.{IfBad, IsBadIn, core_container};
 ghost use Rattle.kc_plain_store.specs.Kept.{IsKept};
 ghost use Rattle.kc_plain_store.specs.Shapes.{core_bytes, core_size};
 
@@ -30,7 +33,9 @@ fn read_descriptor<S: Store>(
     requires learnt { S.sizes store.old Dump ≡ Some core.now.file_size }
     requires there { index < core.now.pages }
     ensures told { IfOk result (λ descriptor. IfSome (content (S.files store.old) Dump (S.opened store.old Dump)) (λ bytes. descriptor ≡ descriptor_at core.now.layout bytes index)) }
+    ensures store { IfErr result (λ fault. fault ≡ as_fault.Store) }
     ensures stays { StoreStays S.opened S.sizes S.files S.may S.asked store.old store.new }
+    ensures counts { CountsOpening result (S.faults store.old) (S.faults store.new) }
 {
     let mut bytes = [0; DESCRIPTOR_BYTES];
     let at = core.layout.table() + DESCRIPTOR_BYTES as u64 * index;
@@ -55,7 +60,9 @@ fn fetch<S: Store>(
     requires packed { length packed.old ≡ descriptor.size }
     requires page { length page.old ≡ 4096 }
     ensures told { OnOk result (IfSome (content (S.files store.old) Dump (S.opened store.old Dump)) (λ bytes. unpacked descriptor.flags (part descriptor.offset descriptor.size bytes) ≡ Ok page.new)) }
+    ensures bad { IfBad result (λ bad. (bad.number ≡ index) × IfSome (content (S.files store.old) Dump (S.opened store.old Dump)) (λ bytes. unpacked descriptor.flags (part descriptor.offset descriptor.size bytes) ≡ Err bad.fault)) }
     ensures stays { StoreStays S.opened S.sizes S.files S.may S.asked store.old store.new }
+    ensures counts { CountsOpening result (S.faults store.old) (S.faults store.new) }
 {
     match store.read_at(Slot::Dump, descriptor.offset, packed) {
         Ok(()) => (),
@@ -82,7 +89,9 @@ fn load<S: Store>(
     requires there { index < core.now.pages }
     requires page { length page.old ≡ 4096 }
     ensures told { OnOk result (IfSome (content (S.files store.old) Dump (S.opened store.old Dump)) (λ bytes. page_at core.now.layout bytes index ≡ page.new)) }
+    ensures bad { IfBad result (λ bad. IfSome (content (S.files store.old) Dump (S.opened store.old Dump)) (λ bytes. IsBadIn (Some (core_container core.now)) bytes bad)) }
     ensures stays { StoreStays S.opened S.sizes S.files S.may S.asked store.old store.new }
+    ensures counts { CountsOpening result (S.faults store.old) (S.faults store.new) }
 {
     know_size(store, Slot::Dump, core.file_size);
     let descriptor = read_descriptor(store, core, index)?;
@@ -117,7 +126,9 @@ fn fill<S: Store>(
     requires there { index < core.now.pages }
     ensures kept { IsKept (content (S.files store.old) Dump (S.opened store.old Dump)) core.now.layout place.new }
     ensures full { OnOk result (place.new.number ≡ Some index) }
+    ensures bad { IfBad result (λ bad. IfSome (content (S.files store.old) Dump (S.opened store.old Dump)) (λ bytes. IsBadIn (Some (core_container core.now)) bytes bad)) }
     ensures stays { StoreStays S.opened S.sizes S.files S.may S.asked store.old store.new }
+    ensures counts { CountsOpening result (S.faults store.old) (S.faults store.new) }
 {
     place.number = None;
     load(store, core, index, room, &mut place.bytes)?;
@@ -138,7 +149,9 @@ fn keep<S: Store>(
     requires kept { IsKept (content (S.files store.old) Dump (S.opened store.old Dump)) core.now.layout place.old }
     ensures kept { IsKept (content (S.files store.old) Dump (S.opened store.old Dump)) core.now.layout place.new }
     ensures full { OnOk result (place.new.number ≡ Some index) }
+    ensures bad { IfBad result (λ bad. IfSome (content (S.files store.old) Dump (S.opened store.old Dump)) (λ bytes. IsBadIn (Some (core_container core.now)) bytes bad)) }
     ensures stays { StoreStays S.opened S.sizes S.files S.may S.asked store.old store.new }
+    ensures counts { CountsOpening result (S.faults store.old) (S.faults store.new) }
 {
     if place.number == Some(index) {
         return Ok(());
@@ -174,7 +187,9 @@ fn page_piece<S: Store>(
     ensures count { IfOk result (λ n. n ≡ min (4096 - inside) (length piece.old)) }
     ensures part { IfOk result (λ n. IfSome (content (S.files store.old) Dump (S.opened store.old Dump)) (λ bytes. take n piece.new ≡ take n (drop inside (page_at core.now.layout bytes index)))) }
     ensures kept { IsKept (content (S.files store.old) Dump (S.opened store.old Dump)) core.now.layout place.new }
+    ensures bad { IfBad result (λ bad. IfSome (content (S.files store.old) Dump (S.opened store.old Dump)) (λ bytes. IsBadIn (Some (core_container core.now)) bytes bad)) }
     ensures stays { StoreStays S.opened S.sizes S.files S.may S.asked store.old store.new }
+    ensures counts { CountsOpening result (S.faults store.old) (S.faults store.new) }
 {
     keep(store, core, index, room, place)?;
     Ok(copy_part(&place.bytes, inside, piece))
@@ -196,7 +211,9 @@ fn read_piece<S: Store>(
     ensures fits { IfOk result (λ n. n ≤ length piece.old) }
     ensures part { IfOk result (λ n. IfSome (content (S.files store.old) Dump (S.opened store.old Dump)) (λ bytes. take n piece.new ≡ take n (drop at (core_bytes core.now bytes)))) }
     ensures kept { All (IsKept (content (S.files store.old) Dump (S.opened store.old Dump)) core.now.layout) kept.new.places.items }
+    ensures bad { IfBad result (λ bad. IfSome (content (S.files store.old) Dump (S.opened store.old Dump)) (λ bytes. IsBadIn (Some (core_container core.now)) bytes bad)) }
     ensures stays { StoreStays S.opened S.sizes S.files S.may S.asked store.old store.new }
+    ensures counts { CountsOpening result (S.faults store.old) (S.faults store.new) }
 {
     know_head();
     know_pages();
@@ -232,7 +249,9 @@ pub(crate) fn read_core<S: Store>(
     requires within { off + length buf.old ≤ core_size core.now }
     ensures part { OnOk result (IfSome (content (S.files store.old) Dump (S.opened store.old Dump)) (λ bytes. buf.new ≡ take (length buf.old) (drop off (core_bytes core.now bytes)))) }
     ensures kept { All (IsKept (content (S.files store.old) Dump (S.opened store.old Dump)) core.now.layout) kept.new.places.items }
+    ensures bad { IfBad result (λ bad. IfSome (content (S.files store.old) Dump (S.opened store.old Dump)) (λ bytes. IsBadIn (Some (core_container core.now)) bytes bad)) }
     ensures stays { StoreStays S.opened S.sizes S.files S.may S.asked store.old store.new }
+    ensures counts { CountsOpening result (S.faults store.old) (S.faults store.new) }
 {
     let mut done = 0;
     while done < buf.len() {

@@ -7,6 +7,8 @@ ghost use Rattle.kc_kdump.specs.Stays.{StoreStays};
 ghost use Rattle.kc_plain_store.specs.declared.plain_core.PlainCore.{PlainCore};
 ghost use Rattle.kc_plain_store.specs.declared.shape.PlainShape.{PlainShape};
 ghost use Rattle.kc_plain_store.specs.declared.shape.PlainShape.TheVariants.{Plain};
+ghost use Rattle.kc_plain_store.specs.Counts.{CountsOpening};
+ghost use Rattle.kc_plain_store.specs.Faults.{IfBad, IsBadIn, shape_container};
 ghost use Rattle.kc_plain_store.specs.Kept.{IsKept};
 ghost use Rattle.kc_plain_store.specs.Shapes.{core_size, file_size, shape_bytes, shape_size};
 
@@ -42,7 +44,9 @@ fn read_shape<S: Store>(
     requires within { off + length buf.old ≤ shape_size shape.now }
     ensures part { OnOk result (IfSome (content (S.files store.old) Dump (S.opened store.old Dump)) (λ bytes. buf.new ≡ take (length buf.old) (drop off (shape_bytes shape.now bytes)))) }
     ensures kept { (core : PlainCore) → shape.now ≡ Plain core → All (IsKept (content (S.files store.old) Dump (S.opened store.old Dump)) core.layout) kept.new.places.items }
+    ensures bad { IfBad result (λ bad. IfSome (content (S.files store.old) Dump (S.opened store.old Dump)) (λ bytes. IsBadIn (shape_container shape.now) bytes bad)) }
     ensures stays { StoreStays S.opened S.sizes S.files S.may S.asked store.old store.new }
+    ensures counts { CountsOpening result (S.faults store.old) (S.faults store.new) }
 {
     match shape {
         PlainShape::Whole(_) => match store.read_at(Slot::Dump, off, buf) {
@@ -67,7 +71,9 @@ pub(crate) fn read_shown<S: Store>(
     requires within { (s : PlainShape) → shape.now ≡ Some s → off + length buf.old ≤ shape_size s }
     ensures part { OnOk result ((s : PlainShape) → shape.now ≡ Some s → IfSome (content (S.files store.old) Dump (S.opened store.old Dump)) (λ bytes. buf.new ≡ take (length buf.old) (drop off (shape_bytes s bytes)))) }
     ensures kept { (core : PlainCore) → shape.now ≡ Some (Plain core) → All (IsKept (content (S.files store.old) Dump (S.opened store.old Dump)) core.layout) kept.new.places.items }
+    ensures bad { (s : PlainShape) → shape.now ≡ Some s → IfBad result (λ bad. IfSome (content (S.files store.old) Dump (S.opened store.old Dump)) (λ bytes. IsBadIn (shape_container s) bytes bad)) }
     ensures stays { StoreStays S.opened S.sizes S.files S.may S.asked store.old store.new }
+    ensures counts { CountsOpening result (S.faults store.old) (S.faults store.new) }
 {
     match shape {
         Some(shape) => read_shape(store, shape, kept, off, buf),

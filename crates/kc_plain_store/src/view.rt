@@ -1,11 +1,15 @@
 // A store that shows a compressed dump as the plain core file that stands for it.
-ghost use Rattle.std.specs.Prelude.{◌≡◌, ◌<◌, ◌^◌, ℕ, List, Some, IsSome, All};
+ghost use Rattle.std.specs.Prelude.{◌≡◌, ◌<◌, ◌^◌, ℕ, List, Some, IsSome, IfSome, All};
 ghost use Rattle.std.proofs.Props.{props};
 ghost use Rattle.kc_outside.specs.declared.store.Slot.TheVariants.{Dump};
 ghost use Rattle.kc_outside.specs.Files.{content};
+ghost use Rattle.kc_kdump.specs.declared.fault.KdumpFault.{KdumpFault};
 ghost use Rattle.kc_plain_store.specs.declared.plain_core.PlainCore.{PlainCore};
 ghost use Rattle.kc_plain_store.specs.declared.shape.PlainShape.{PlainShape};
 ghost use Rattle.kc_plain_store.specs.declared.shape.PlainShape.TheVariants.{Plain};
+ghost use Rattle.kc_plain_store.specs.declared.stop.BadPage.{BadPage};
+ghost use Rattle.kc_plain_store.specs.declared.stop.ViewFault.TheVariants as as_fault;
+ghost use Rattle.kc_plain_store.specs.Faults.{container_of, is_complete, is_complete_in, page_fault, refusal, shape_container};
 ghost use Rattle.kc_plain_store.specs.Kept.{IsKept};
 ghost use Rattle.kc_plain_store.specs.Seen.{is_dump, seen_bytes};
 ghost use Rattle.kc_plain_store.specs.Shapes.{file_size, shape_bytes, shape_size};
@@ -37,6 +41,9 @@ pub struct PlainView<S: Store + Drop> {
     ghost fits: { (s : PlainShape) → shape ≡ Some s → shape_size s < 2 ^ 64 } by { Prim.hlevel props },
     ghost told: { (s : PlainShape) (bytes : List ℕ) → shape ≡ Some s → content (S.files store) Dump (S.opened store Dump) ≡ Some bytes → seen_bytes bytes ≡ Some (shape_bytes s bytes) } by { Prim.hlevel props },
     ghost pages: { (core : PlainCore) → shape ≡ Some (Plain core) → All (IsKept (content (S.files store) Dump (S.opened store Dump)) core.layout) kept.places.items } by { Prim.hlevel props },
+    ghost container: { (s : PlainShape) (bytes : List ℕ) → shape ≡ Some s → content (S.files store) Dump (S.opened store Dump) ≡ Some bytes → container_of bytes ≡ shape_container s } by { Prim.hlevel props },
+    ghost refused: { (fault : KdumpFault) (bytes : List ℕ) → calls.last ≡ Some (as_fault.Refused fault) → content (S.files store) Dump (S.opened store Dump) ≡ Some bytes → refusal bytes ≡ Some fault } by { Prim.hlevel props },
+    ghost bad: { (bad : BadPage) (bytes : List ℕ) → calls.last ≡ Some (as_fault.Page bad) → content (S.files store) Dump (S.opened store Dump) ≡ Some bytes → page_fault bytes bad.number ≡ Some bad.fault } by { Prim.hlevel props },
     ghost held: { (s : PlainShape) → shape ≡ Some s → IsSome (S.opened store Dump) } by { Prim.hlevel props },
 }
 
@@ -76,16 +83,36 @@ impl<S: Store + Drop> PlainView<S> {
 
     /// Whether slot Dump shows all pages that the dump's bitmaps speak of. An incomplete dump lacks some at its end, and they are shown as
     /// those that were left out.
-    pub fn is_whole(&self) -> bool {
+    pub fn is_whole(&self) -> bool
+        ensures { (name : List ℕ) → ⟦<PlainView<S> as Store>⟧.opened self.now Dump ≡ Some name
+            → IfSome (content (S.files self.now.store) Dump (S.opened self.now.store Dump)) (λ bytes. result ≡ is_complete bytes) }
+    {
         match &self.shape {
-            Some(PlainShape::Plain(core)) => core.is_whole,
-            Some(PlainShape::Whole(_)) | None => true,
+            Some(shape) => is_complete(shape),
+            None => true,
         }
     }
 
-    /// Why the last call that failed did, if one did.
-    pub fn fault(&self) -> Option<ViewFault> {
+    /// Why the last call that failed did, if one did since the dump was opened.
+    pub fn fault(&self) -> Option<ViewFault>
+        ensures kept { result ≡ self.now.calls.last }
+        // It is what the bytes of the file in slot Dump say.
+        ensures refused { (fault : KdumpFault) → result ≡ Some (as_fault.Refused fault)
+            → IfSome (content (S.files self.now.store) Dump (S.opened self.now.store Dump)) (λ bytes. refusal bytes ≡ Some fault) }
+        ensures page { (bad : BadPage) → result ≡ Some (as_fault.Page bad)
+            → IfSome (content (S.files self.now.store) Dump (S.opened self.now.store Dump)) (λ bytes. page_fault bytes bad.number ≡ Some bad.fault) }
+    {
         self.calls.last
+    }
+}
+
+// Whether a file lacks no page at its end.
+fn is_complete(shape: &PlainShape) -> bool
+    ensures { result ≡ is_complete_in (shape_container shape.now) }
+{
+    match shape {
+        PlainShape::Plain(core) => core.is_whole,
+        PlainShape::Whole(_) => true,
     }
 }
 
@@ -135,6 +162,7 @@ impl<S: Store + Drop> Store for PlainView<S> {
             match open_shape(self.alloc, &mut self.store, name) {
                 Ok(shape) => {
                     self.shape = Some(shape);
+                    self.calls.forget();
                     Ok(())
                 }
                 Err(fault) => Err(self.calls.fail(fault)),
@@ -158,8 +186,9 @@ impl<S: Store + Drop> Store for PlainView<S> {
             self.is_learnt = true;
             Ok(shown_size(&self.shape))
         } else {
-            match self.store.size(slot) {
-                Ok(size) => Ok(size),
+            let answer = self.store.size(slot);
+            match answer {
+                Ok(bytes) => Ok(bytes),
                 Err(Failed) => Err(self.calls.fail(ViewFault::Store)),
             }
         }

@@ -22,6 +22,7 @@ loop-done-preserved g c =
     let whole = mid_long buf piece done before.within long in
     record {
       stays = stays_on _ _ _ _ _ _ _ _ before.stays next.stays;
+      quiet = next.counts ∙ before.quiet;
       kept = subst (λ (t : Option (List ℕ)). All (IsKept t c.args.core.now.layout) c.read_piece.new.kept.places.items) same next.kept;
       within = omega (arith, whole, fits, long, before.within);
       long = whole ∙ before.long;

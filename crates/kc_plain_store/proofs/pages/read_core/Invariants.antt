@@ -10,6 +10,7 @@ use Rattle.kc_plain_store.proofs.pages.read_core.Given as goal
 abbrev pub invariant-loop-done : goal.invariant-loop-done
 invariant-loop-done g l = record {
   stays : StoreStays g.S.Store.opened g.S.Store.sizes g.S.Store.files g.S.Store.may g.S.Store.asked l.initial.store l.store;
+  quiet : g.S.Store.faults l.store ≡ g.S.Store.faults l.initial.store;
   kept : All (IsKept (content (g.S.Store.files l.initial.store) Dump (g.S.Store.opened l.initial.store Dump)) l.core.layout) l.kept.places.items;
   within : l.done ≤ length l.buf;
   long : length l.buf ≡ length l.initial.buf;
