@@ -1,0 +1,1 @@
+mod Xxh64Lemmas
