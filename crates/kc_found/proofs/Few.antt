@@ -1,10 +1,7 @@
 -- How many steps a walk takes at most, over any memory.
-use Rattle.std.proofs.Common.{◌≡◌, ℕ, ◌+◌, ◌*◌, ◌≤◌, Option, None, Some, arith}
+use Rattle.std.proofs.Common.{◌+◌, ◌*◌, None, Some, arith}
 use Rattle.std.proofs.Math.Nat.{mul-le-mul_right}
-use Rattle.std.specs.Prelude.{IfSome}
 use Rattle.kc_memory.specs.Held.{word_count}
-use Rattle.kc_memory.specs.Image.{Image}
-use Rattle.kc_found.specs.Walks.{WithinSteps}
 use Rattle.kc_found.specs.Counts.{StepsAreFew}
 
 pub steps_are_few : StepsAreFew

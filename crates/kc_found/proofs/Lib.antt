@@ -7,5 +7,7 @@ pub mod Reached
 pub mod Rising
 pub mod Shown
 pub mod Stops
+pub mod Stored
+pub mod Table
 pub mod Told
 pub mod Whole

@@ -1,4 +1,5 @@
 pub mod AnyAudit
+pub mod Blocks
 pub mod Chains
 pub mod Counts
 pub mod Failures

@@ -2,6 +2,7 @@
 #![tactic(auto)]
 
 mod asked;
+mod blocks;
 mod claims;
 mod counted;
 mod failed;

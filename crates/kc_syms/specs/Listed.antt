@@ -1,15 +1,19 @@
 -- What contracts see of the index of names.
-use Rattle.std.specs.Prelude.{ℕ, ◌%◌, Bool, List, [], ◌∷◌, ◌++◌, map, nat_eq, Option, Some, None, if◌then◌else◌}
+use Rattle.std.specs.Prelude.{ℕ, ◌+◌, ◌-◌, ◌*◌, ◌%◌, Bool, List, [], ◌∷◌, ◌++◌, map, length, get_or, nat_eq, Option, Some, None, if◌then◌else◌}
 use Rattle.std.specs.Global.{Vec}
-use Rattle.std.specs.Hash.FoldHasher.{initial, write, finish}
 use Rattle.indexmap.specs.IndexMap.{IndexMap, get}
 use Rattle.kc_syms.specs.declared.row.Row.{Row}
 use Rattle.kc_syms.specs.Rows.{RowText, addresses}
 use Rattle.kc_syms.specs.Views.{row_text}
 
--- the part of the names that a name is in
-abbrev pub part_of : List ℕ → ℕ
-part_of name = finish (write initial name) % 256
+-- the byte so many before a name's end, or the first; 0 of no byte
+abbrev pub byte_back : List ℕ → ℕ → ℕ
+byte_back name back = get_or name (length name - back) 0
+
+-- The part of the names that a name is in: any function of the name would do.
+unfoldable pub part_of : List ℕ → ℕ
+part_of name =
+    (length name % 256 + (7 * byte_back name 1 + 31 * byte_back name 2 + 59 * byte_back name 3 + 101 * byte_back name 4)) % 256
 
 -- the rows of a part
 abbrev pub rows_of : Option (Vec Row) → List RowText

@@ -1,5 +1,5 @@
 // A row of a map.
-ghost use Rattle.std.specs.Prelude.{◌≡◌, ◌<◌, length, None, option_map, IfSome, if◌then◌else◌};
+ghost use Rattle.std.specs.Prelude.{◌≡◌, ◌<◌, None, option_map, IfSome, if◌then◌else◌};
 ghost use Rattle.std.specs.Option.{option_copied};
 ghost use Rattle.std.specs.List.{list_all};
 ghost use Rattle.kc_word.specs.Hex.{digit_value};
@@ -18,18 +18,14 @@ pub struct Row<'a> {
 pub fn read_row(line: &[u8]) -> Option<Row<'_>>
     ensures { option_map row_text result ≡ row_of line.now }
 {
-    if line.len() < 16 {
-        return None;
-    }
-    let (digits, behind) = line.split_at(16);
+    let (digits, behind) = line.split_first_chunk::<16>()?;
     let listed = listed_in(digits)?;
     let name = name_behind(behind)?;
     Some(Row { listed, name })
 }
 
 // The address that 16 digits list.
-fn listed_in(digits: &[u8]) -> Option<u64>
-    requires { length digits.now ≡ 16 }
+fn listed_in(digits: &[u8; 16]) -> Option<u64>
     ensures { result ≡ listed_in digits.now }
 {
     let mut listed = 0;

@@ -12,8 +12,8 @@ pub returns-in_err-worth : goal.returns-in_err-worth
 returns-in_err-worth c =
     let is = c.in_err-worth.ensures in
     c.from_residual.ensures
-    ∙ sym (bad_digit c.args.digits.now c.loop-c.c-index c.loop-c.listed c.loop-c-test.true (sym is.value))
-    ∙ c.loop-c.invariant.whole ∙ lists c.args.digits.now c.requires
+    ∙ sym (bad_digit c.args.digits.now c.loop-c.c-index c.loop-c.listed (omega (arith, c.told-digits)) (sym is.value))
+    ∙ c.loop-c.invariant.whole ∙ lists c.args.digits.now c.told-digits
 
 pub overflow_add-listed : goal.overflow_add-listed
 overflow_add-listed c =
@@ -28,10 +28,10 @@ loop-c-preserved c =
     let is = c.in_ok-worth.ensures in
     rw c.from.ensures record {
       fits = digit_fits i c.loop-c.listed c.in_ok-worth.field-0 (omega arith) c.loop-c.invariant.fits is.small;
-      whole = next_digit c.args.digits.now i c.loop-c.listed c.in_ok-worth.field-0 c.loop-c-test.true (sym is.value) ∙ c.loop-c.invariant.whole;
+      whole = next_digit c.args.digits.now i c.loop-c.listed c.in_ok-worth.field-0 (omega (arith, c.told-digits)) (sym is.value) ∙ c.loop-c.invariant.whole;
     }
 
 pub returns : goal.returns
 returns c =
-    sym (no_digit c.args.digits.now c.loop-c.c-index c.loop-c.listed c.loop-c-test.false)
-    ∙ c.loop-c.invariant.whole ∙ lists c.args.digits.now c.requires
+    sym (no_digit c.args.digits.now c.loop-c.c-index c.loop-c.listed (omega (arith, c.told-digits)))
+    ∙ c.loop-c.invariant.whole ∙ lists c.args.digits.now c.told-digits
