@@ -3,8 +3,8 @@
 usage: kdump core DUMP > OUT                     writes the plain core file that stands for a dump, or prints its refusal
        kdump damage PROGRAMS COUNT [SEED]        makes COUNT containers, whole and damaged, by seed; compares `kplain core` with this reader
 
-A made container has holes, pages that were left out, and pages that are raw, or packed by zlib at some level and strategy, by LZO or by snappy (where
-liblzo2 and libsnappy are installed); its version is 1 to 6, and it is flattened or not. Then nothing, or one thing or more is damaged: a field of a header, a bitmap, a
+A made container has holes, pages that were left out, and pages that are raw, or packed by zlib at some level and strategy, by LZO, by snappy or by
+zstd (where liblzo2, libsnappy and libzstd are installed); its version is 1 to 6, and it is flattened or not. Then nothing, or one thing or more is damaged: a field of a header, a bitmap, a
 descriptor, a stream, a record, or the file's end. What is wanted is this reader's answer: the plain core, or the line of the refusal with status 2
 and nothing on standard output, or the line of the first page that can't be had with status 3 and a first part of the core.
 An incomplete dump, whose header says so or whose last pages are past the file's end, is the core of the pages that are there, with a line of its own.
@@ -21,7 +21,7 @@ import zlib
 from collections import Counter
 
 import files
-from second import flat, inflate, lzo, snappy
+from second import flat, inflate, lzo, snappy, zstd
 
 PAGE = 4096
 MOST_RUNS, MOST_BYTES = 1 << 22, 1 << 26
@@ -244,6 +244,11 @@ def unpacked(flags, data):
             return snappy.snappy_of(PAGE, data)
         except snappy.Fault:
             raise BadPage('D6: no snappy stream of a page')
+    if flags == 0x20:
+        try:
+            return zstd.unpack(PAGE, data)
+        except zstd.Fault:
+            raise BadPage('D7: no zstd stream of a page')
     raise BadPage(f'D3: packed in another way, by flags {flags}')
 
 
@@ -301,17 +306,18 @@ class Packers:
     def __init__(self):
         self.pack = {1: inflate.stream}
         for flags, make, call in ((2, lzo.Liblzo2, lambda library: lambda rnd, page: library.pack(page, rnd.choice([1, 999]))),
-                                  (4, snappy.Libsnappy, lambda library: lambda rnd, page: library.pack(page))):
+                                  (4, snappy.Libsnappy, lambda library: lambda rnd, page: library.pack(page)),
+                                  (0x20, zstd.Library, lambda library: lambda rnd, page: library.pack(page, rnd.randrange(1, 20), rnd.random() < 0.5, rnd.random() < 0.5))):
             try:
                 self.pack[flags] = call(make())
-            except OSError:
+            except (OSError, AttributeError):
                 pass
 
 
 def packed_page(rnd, packers):
     """The flags and the bytes of a page."""
     page = inflate.content(rnd, PAGE)
-    flags = rnd.choice([0, 1, 1, 2, 4])
+    flags = rnd.choice([0, 1, 1, 2, 4, 0x20])
     if flags not in packers.pack:
         return 0, page
     data = packers.pack[flags](rnd, page)

@@ -3,7 +3,7 @@
 usage: packed PROGRAMS FOLDER [WORK] [--vmlinux FILE] [--dump FILE]
 
 makedumpfile packs FOLDER/vmcore by zlib, by LZO, not at all, and flattened (`-c`, `-l`, nothing, `-F -c`), each at the levels 0, 1 and 31. The pages that it
-didn't pack are packed by snappy too, by `kdumpmake`, since many a makedumpfile is built without. Of each form:
+didn't pack are packed by snappy and zstd too, by `kdumpmake`, since many a makedumpfile is built without. Of each form:
 
     core      `kplain core` is the core that `kdump core` makes, and is the same for all forms of a level; each of its pages is the original's page
     plans     for each plan of FOLDER, of its plans and of this repository `kplain check` says of the packed dump what `kaudit check` says of the core,
@@ -31,7 +31,7 @@ import files
 from second import kdump, kdumpmake
 
 PAGE = 4096
-FORMS = {'zlib': ['-c'], 'lzo': ['-l'], 'raw': [], 'flat': ['-F', '-c'], 'snappy': []}
+FORMS = {'zlib': ['-c'], 'lzo': ['-l'], 'raw': [], 'flat': ['-F', '-c'], 'snappy': [], 'zstd': []}
 LEVELS = (0, 1, 31)
 DRGN = """
 import sys, drgn
@@ -106,11 +106,11 @@ class Folder:
                 subprocess.run(command, stdout=file, stderr=subprocess.DEVNULL, check=True)
         else:
             subprocess.run([*command, path], capture_output=True, check=True)
-        if form == 'snappy':
+        if form in ('snappy', 'zstd'):
             whole = path + '.raw'
             os.rename(path, whole)
             with open(path, 'wb') as file:
-                kdumpmake.write(file, kdumpmake.memory_of(whole), kdumpmake.DEFAULTS)
+                kdumpmake.write(file, kdumpmake.memory_of(whole), {**kdumpmake.DEFAULTS, 'codec': form})
             os.remove(whole)
         return path
 

@@ -53,6 +53,7 @@ page_text (of_page.Packing flags) = codes "D3: packed in another way, by flags "
 page_text (of_page.Zlib fault) = codes "D4: no zlib stream of a page: " ++ zlib_text fault
 page_text (of_page.Lzo fault) = codes "D5: no LZO stream of a page"
 page_text (of_page.Snappy fault) = codes "D6: no snappy stream of a page"
+page_text (of_page.Zstd fault) = codes "D7: no zstd stream of a page"
 
 -- why a dump can't be read
 abbrev pub cause_text : Cause → List ℕ

@@ -81,6 +81,7 @@ fn push_page_text(text: &mut Vec<u8>, fault: PageFault) -> Result<(), NoMemory>
         }
         PageFault::Lzo(_) => push(text, b"D5: no LZO stream of a page"),
         PageFault::Snappy(_) => push(text, b"D6: no snappy stream of a page"),
+        PageFault::Zstd(_) => push(text, b"D7: no zstd stream of a page"),
     }
 }
 

@@ -14,4 +14,4 @@ pub use head::head_of;
 pub use laws::{know_head, know_pages};
 pub use read_back::know_core;
 pub use root::Root;
-pub use unpacked::{Codec, PAGE_BYTES, PageFault, descriptor_fault, know_page, unpack};
+pub use unpacked::{Codec, PAGE_BYTES, PageFault, Unpacker, descriptor_fault, know_page, unpack};

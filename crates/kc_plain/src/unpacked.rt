@@ -3,9 +3,11 @@
 mod codec;
 mod fault;
 mod laws;
+mod unpacker;
 mod unpacking;
 
 pub use codec::Codec;
 pub use fault::PageFault;
 pub use laws::know_page;
+pub use unpacker::Unpacker;
 pub use unpacking::{PAGE_BYTES, descriptor_fault, unpack};

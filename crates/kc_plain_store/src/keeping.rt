@@ -3,8 +3,7 @@ ghost use Rattle.std.specs.Prelude.{◌≡◌, ◌≤◌, vec_len, All, IfOk};
 ghost use Rattle.kc_plain_store.specs.Kept.{IsEmpty};
 
 use crate::place::{KeptPages, PagePlace, PageRoom};
-use kc_inflate::Tables;
-use kc_plain::PAGE_BYTES;
+use kc_plain::{PAGE_BYTES, Unpacker};
 use kc_word::NoMemory;
 use std::alloc::Global;
 
@@ -46,7 +45,7 @@ impl KeptPages {
         Ok(KeptPages {
             places: new_places(alloc)?,
             room: PageRoom {
-                tables: Tables::new(alloc)?,
+                unpacker: Unpacker::new(alloc)?,
                 packed: [0; PAGE_BYTES],
             },
         })

@@ -16,10 +16,9 @@ ghost use Rattle.kc_plain_store.specs.Shapes.{core_bytes, core_size};
 use crate::place::{KeptPages, PagePlace, PageRoom};
 use crate::plain_core::PlainCore;
 use crate::stop::{BadPage, ViewFault};
-use kc_inflate::Tables;
 use kc_kdump::{DESCRIPTOR_BYTES, Descriptor};
 use kc_outside::{Failed, Slot, Store, know_size};
-use kc_plain::{PAGE_BYTES, descriptor_fault, know_head, know_page, know_pages, unpack};
+use kc_plain::{PAGE_BYTES, Unpacker, descriptor_fault, know_head, know_page, know_pages, unpack};
 
 // How many pages are kept.
 const PLACES: u64 = 256;
@@ -51,7 +50,7 @@ fn fetch<S: Store>(
     size: u64,
     index: u64,
     descriptor: Descriptor,
-    tables: &mut Tables,
+    unpacker: &mut Unpacker,
     packed: &mut [u8],
     page: &mut [u8],
 ) -> Result<(), ViewFault>
@@ -68,7 +67,7 @@ fn fetch<S: Store>(
         Ok(()) => (),
         Err(Failed) => return Err(ViewFault::Store),
     }
-    match unpack(tables, descriptor.flags, packed, page) {
+    match unpack(unpacker, descriptor.flags, packed, page) {
         Ok(()) => Ok(()),
         Err(fault) => Err(ViewFault::Page(BadPage {
             number: index,
@@ -108,7 +107,7 @@ fn load<S: Store>(
         core.file_size,
         index,
         descriptor,
-        &mut room.tables,
+        &mut room.unpacker,
         &mut packed[..size],
         page,
     )

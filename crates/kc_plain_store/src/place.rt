@@ -1,7 +1,7 @@
 // Places for pages.
 ghost use Rattle.std.specs.Prelude.{◌≡◌, vec_len};
 
-use kc_inflate::Tables;
+use kc_plain::Unpacker;
 
 /// A place for a page of the dump.
 #[derive(Drop)]
@@ -16,8 +16,8 @@ pub struct PagePlace {
 /// PageRoom to unpack a page in.
 #[derive(Drop)]
 pub struct PageRoom {
-    // The tables that zlib streams are unpacked by.
-    pub(crate) tables: Tables,
+    // What pages are unpacked by.
+    pub(crate) unpacker: Unpacker,
     // The bytes that a page is packed in.
     pub(crate) packed: [u8; 4096],
 }

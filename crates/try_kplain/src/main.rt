@@ -2,7 +2,7 @@
 //! how many bytes that were and their sum where they are no text, what standard error took, and the status.
 //!
 //! The dumps are made: `z.kdump` has a small kernel, `small.kdump` a few pages. Of the flattened ones `whole.flat` has a page, and
-//! so have `snappy.flat` and `one.flat`, of version 1; `cut.flat` and `unwritten.flat` lack theirs. Each other is refused by the code of its name, or its
+//! so have `snappy.flat`, `zstd.flat` and `one.flat`, of version 1; `cut.flat` and `unwritten.flat` lack theirs. Each other is refused by the code of its name, or its
 //! page is; `old.flat` is of the older format.
 #![tactic(auto)]
 

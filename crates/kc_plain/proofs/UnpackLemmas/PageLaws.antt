@@ -1,5 +1,5 @@
 -- Each page has 4096 bytes.
-use Rattle.std.proofs.Common.{◌≡◌, ℕ, Bool, true, false, cond, nat_eq, List, length, replicate, Option, Some, None, Result, Ok, Err, refl, sym, ap, ◌∙◌, arith, eqb-true}
+use Rattle.std.proofs.Common.{◌≡◌, ℕ, Bool, true, false, cond, nat_eq, List, [], length, replicate, Option, Some, None, Result, Ok, Err, refl, sym, ap, ◌∙◌, arith, eqb-true}
 use Rattle.std.proofs.lemmas.List.{length-replicate}
 use Rattle.kc_inflate.specs.declared.fault.ZlibFault.{ZlibFault}
 use Rattle.kc_inflate.specs.Zlib.{zlib_of}
@@ -10,16 +10,20 @@ use Rattle.kc_lzo.proofs.SizeLaws.{lzo_length}
 use Rattle.kc_snappy.specs.declared.fault.SnappyFault.{SnappyFault}
 use Rattle.kc_snappy.specs.Snappy.{snappy_of}
 use Rattle.kc_snappy.proofs.SnappyLaws.{snappy_length}
+use Rattle.kc_zstd.specs.declared.fault.ZstdFault.{ZstdFault}
+use Rattle.kc_zstd.specs.declared.fault.ZstdFault.TheVariants.{TooFewBytes}
+use Rattle.kc_zstd.specs.Reading.{◌>>=◌}
+use Rattle.kc_zstd.specs.Zstd.{frames_from, whole, zstd_of}
 use Rattle.kc_kdump.specs.declared.descriptor.Descriptor.{Descriptor}
 use Rattle.kc_kdump.specs.declared.layout.Layout.{Layout}
 use Rattle.kc_kdump.specs.Bytes.{part}
 use Rattle.kc_kdump.specs.Dump.{descriptor_at}
 use Rattle.kc_plain.specs.declared.unpacked.codec.Codec.{Codec}
-use Rattle.kc_plain.specs.declared.unpacked.codec.Codec.TheVariants.{Raw, Zlib, Lzo, Snappy}
+use Rattle.kc_plain.specs.declared.unpacked.codec.Codec.TheVariants.{Raw, Zlib, Lzo, Snappy, Zstd}
 use Rattle.kc_plain.specs.declared.unpacked.fault.PageFault.{PageFault}
 use Rattle.kc_plain.specs.declared.unpacked.fault.PageFault.TheVariants.{Packing, Size}
 use Rattle.kc_plain.specs.Unpack.Plain.{page_at}
-use Rattle.kc_plain.specs.Unpack.Unpacked.{by_codec, by_lzo, by_snappy, by_zlib, codec_of, descriptor_fault, page_of, page_or_zeros, raw, unless, unpacked, unpacked_by}
+use Rattle.kc_plain.specs.Unpack.Unpacked.{by_codec, by_lzo, by_snappy, by_zlib, by_zstd, codec_of, descriptor_fault, page_of, page_or_zeros, raw, unless, unpacked, unpacked_by}
 
 -- a page, or none
 IsWhole : Result (List ℕ) PageFault → Type 0
@@ -45,6 +49,24 @@ unfolding IsWhole
 snappy_whole bytes (Ok out) is page got = let same : out ≡ page = cc in ap length (sym same) ∙ snappy_length 4096 bytes out is
 snappy_whole bytes (Err fault) is page got = absurd (let none : ⊥ = cc in none)
 
+-- what frames hold has the length that is wanted
+sized : (wanted : ℕ) (bytes out : List ℕ) (b : Bool) → nat_eq (length bytes) wanted ≡ b → cond b (Ok bytes) (Err TooFewBytes) ≡ Ok out → length out ≡ wanted
+sized wanted bytes out true is got = let same : bytes ≡ out = cc in ap length (sym same) ∙ eqb-true (length bytes) wanted is
+sized wanted bytes out false is got = absurd (let none : ⊥ = cc in none)
+
+framed : (wanted : ℕ) (r : Result (List ℕ) ZstdFault) (out : List ℕ) → (r >>= whole wanted) ≡ Ok out → length out ≡ wanted
+framed wanted (Ok bytes) out got = sized wanted bytes out (nat_eq (length bytes) wanted) refl got
+framed wanted (Err fault) out got = absurd (let none : ⊥ = cc in none)
+
+zstd_length : (wanted : ℕ) (bytes out : List ℕ) → zstd_of wanted bytes ≡ Ok out → length out ≡ wanted
+unfolding zstd_of
+zstd_length wanted bytes out got = framed wanted (frames_from (length bytes) wanted bytes []) out got
+
+zstd_whole : (bytes : List ℕ) (r : Result (List ℕ) ZstdFault) → zstd_of 4096 bytes ≡ r → IsWhole (by_zstd r)
+unfolding IsWhole
+zstd_whole bytes (Ok out) is page got = let same : out ≡ page = cc in ap length (sym same) ∙ zstd_length 4096 bytes out is
+zstd_whole bytes (Err fault) is page got = absurd (let none : ⊥ = cc in none)
+
 none_whole : (fault : PageFault) → IsWhole (Err fault)
 unfolding IsWhole
 none_whole fault page got = absurd (let none : ⊥ = cc in none)
@@ -54,6 +76,7 @@ codec_whole Raw bytes = raw_whole bytes (nat_eq (length bytes) 4096) refl
 codec_whole Zlib bytes = zlib_whole bytes (zlib_of 4096 bytes) refl
 codec_whole Lzo bytes = lzo_whole bytes (lzo_of 4096 bytes) refl
 codec_whole Snappy bytes = snappy_whole bytes (snappy_of 4096 bytes) refl
+codec_whole Zstd bytes = zstd_whole bytes (zstd_of 4096 bytes) refl
 
 by_whole : (flags : ℕ) (codec : Option Codec) (bytes : List ℕ) → IsWhole (unpacked_by flags codec bytes)
 by_whole flags None bytes = none_whole (Packing flags)

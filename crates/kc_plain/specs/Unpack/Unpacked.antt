@@ -1,5 +1,5 @@
 -- The bytes of a page (makedumpfile, diskdump_mod.h: DUMP_DH_COMPRESSED_ZLIB is 1, DUMP_DH_COMPRESSED_LZO is 2,
--- DUMP_DH_COMPRESSED_SNAPPY is 4).
+-- DUMP_DH_COMPRESSED_SNAPPY is 4, DUMP_DH_COMPRESSED_ZSTD is 0x20).
 use Rattle.std.specs.Prelude.{ℕ, ◌+◌, not, ◌==◌, nat_le, List, length, replicate, Option, Some, None, Result, Ok, Err, if◌then◌else◌}
 use Rattle.kc_inflate.specs.declared.fault.ZlibFault.{ZlibFault}
 use Rattle.kc_inflate.specs.Zlib.{zlib_of}
@@ -7,12 +7,14 @@ use Rattle.kc_lzo.specs.declared.fault.LzoFault.{LzoFault}
 use Rattle.kc_lzo.specs.Lzo.{lzo_of}
 use Rattle.kc_snappy.specs.declared.fault.SnappyFault.{SnappyFault}
 use Rattle.kc_snappy.specs.Snappy.{snappy_of}
+use Rattle.kc_zstd.specs.declared.fault.ZstdFault.{ZstdFault}
+use Rattle.kc_zstd.specs.Zstd.{zstd_of}
 use Rattle.kc_kdump.specs.declared.descriptor.Descriptor.{Descriptor}
 use Rattle.kc_kdump.specs.Bytes.{part}
 use Rattle.kc_plain.specs.declared.unpacked.codec.Codec.{Codec}
 use Rattle.kc_plain.specs.declared.unpacked.codec.Codec.TheVariants as as_codec
 use Rattle.kc_plain.specs.declared.unpacked.fault.PageFault.{PageFault}
-use Rattle.kc_plain.specs.declared.unpacked.fault.PageFault.TheVariants.{OutsideFile, Size, Packing, Zlib, Lzo, Snappy}
+use Rattle.kc_plain.specs.declared.unpacked.fault.PageFault.TheVariants.{OutsideFile, Size, Packing, Zlib, Lzo, Snappy, Zstd}
 
 -- what a stream comes to, with its fault as a page's
 abbrev pub by_zlib : Result (List ℕ) ZlibFault → Result (List ℕ) PageFault
@@ -27,6 +29,10 @@ abbrev pub by_snappy : Result (List ℕ) SnappyFault → Result (List ℕ) PageF
 by_snappy (Ok page) = Ok page
 by_snappy (Err fault) = Err (Snappy fault)
 
+abbrev pub by_zstd : Result (List ℕ) ZstdFault → Result (List ℕ) PageFault
+by_zstd (Ok page) = Ok page
+by_zstd (Err fault) = Err (Zstd fault)
+
 -- a page that isn't packed
 abbrev pub raw : List ℕ → Result (List ℕ) PageFault
 raw bytes = if length bytes == 4096 then Ok bytes else Err Size
@@ -38,7 +44,8 @@ codec_of flags =
     else (if flags == 1 then Some as_codec.Zlib
     else (if flags == 2 then Some as_codec.Lzo
     else (if flags == 4 then Some as_codec.Snappy
-    else None)))
+    else (if flags == 0x20 then Some as_codec.Zstd
+    else None))))
 
 -- the page of 4096 bytes that bytes are packed from
 abbrev pub by_codec : Codec → List ℕ → Result (List ℕ) PageFault
@@ -46,6 +53,7 @@ by_codec as_codec.Raw bytes = raw bytes
 by_codec as_codec.Zlib bytes = by_zlib (zlib_of 4096 bytes)
 by_codec as_codec.Lzo bytes = by_lzo (lzo_of 4096 bytes)
 by_codec as_codec.Snappy bytes = by_snappy (snappy_of 4096 bytes)
+by_codec as_codec.Zstd bytes = by_zstd (zstd_of 4096 bytes)
 
 abbrev pub unpacked_by : ℕ → Option Codec → List ℕ → Result (List ℕ) PageFault
 unpacked_by flags None bytes = Err (Packing flags)

@@ -13,6 +13,8 @@ pub enum Codec {
     Lzo,
     /// As a snappy stream.
     Snappy,
+    /// As zstd frames (RFC 8878).
+    Zstd,
 }
 
 // The flags of each.
@@ -24,6 +26,8 @@ const LZO: u32 = 2;
 
 const SNAPPY: u32 = 4;
 
+const ZSTD: u32 = 0x20;
+
 impl Codec {
     // The codec of a page, by the flags of its descriptor.
     pub(crate) fn of(flags: u32) -> Option<Codec>
@@ -34,6 +38,7 @@ impl Codec {
             ZLIB => Some(Codec::Zlib),
             LZO => Some(Codec::Lzo),
             SNAPPY => Some(Codec::Snappy),
+            ZSTD => Some(Codec::Zstd),
             _ => None,
         }
     }

@@ -2,6 +2,7 @@
 use kc_inflate::ZlibFault;
 use kc_lzo::LzoFault;
 use kc_snappy::SnappyFault;
+use kc_zstd::ZstdFault;
 use thiserror::Error;
 
 /// The first fault of a page, in the order in which they stand here.
@@ -25,4 +26,7 @@ pub enum PageFault {
     /// It is no snappy stream of 4096 bytes.
     #[error("D6: no snappy stream of a page")]
     Snappy(SnappyFault),
+    /// It is no zstd frames of 4096 bytes.
+    #[error("D7: no zstd stream of a page")]
+    Zstd(ZstdFault),
 }

@@ -3,15 +3,18 @@ ghost use Rattle.std.specs.Prelude.{◌≡◌, ◌≤◌, ◌+◌, length, IfErr
 ghost use Rattle.kc_inflate.specs.Zlib.{zlib_of};
 ghost use Rattle.kc_lzo.specs.Lzo.{lzo_of};
 ghost use Rattle.kc_snappy.specs.Snappy.{snappy_of};
-ghost use Rattle.kc_plain.specs.Unpack.Unpacked.{by_codec, by_lzo, by_snappy, by_zlib, descriptor_fault, raw, unpacked};
+ghost use Rattle.kc_zstd.specs.Zstd.{zstd_of};
+ghost use Rattle.kc_plain.specs.Unpack.Unpacked.{by_codec, by_lzo, by_snappy, by_zlib, by_zstd, descriptor_fault, raw, unpacked};
 ghost use Rattle.std.specs.Option.{IfNone};
 
 use crate::unpacked::codec::Codec;
 use crate::unpacked::fault::PageFault;
+use crate::unpacked::unpacker::Unpacker;
 use kc_inflate::{Tables, unzip};
 use kc_kdump::Descriptor;
 use kc_lzo::unlzo;
 use kc_snappy::unsnappy;
+use kc_zstd::{ZstdTables, unzstd};
 
 /// How many bytes a page has.
 pub const PAGE_BYTES: usize = 4096;
@@ -81,9 +84,21 @@ fn copy_snappy(bytes: &[u8], page: &mut [u8]) -> Result<(), PageFault>
     }
 }
 
+// A page that zstd packed.
+fn copy_zstd(tables: &mut ZstdTables, bytes: &[u8], page: &mut [u8]) -> Result<(), PageFault>
+    requires { length page.old ≡ 4096 }
+    ensures ok { OnOk result (by_zstd (zstd_of 4096 bytes.now) ≡ Ok page.new) }
+    ensures err { IfErr result (λ fault. by_zstd (zstd_of 4096 bytes.now) ≡ Err fault) }
+{
+    match unzstd(tables, bytes, page) {
+        Ok(()) => Ok(()),
+        Err(fault) => Err(PageFault::Zstd(fault)),
+    }
+}
+
 // A page that is packed in a known way.
 fn copy_by(
-    tables: &mut Tables,
+    unpacker: &mut Unpacker,
     codec: Codec,
     bytes: &[u8],
     page: &mut [u8],
@@ -94,9 +109,10 @@ fn copy_by(
 {
     match codec {
         Codec::Raw => copy_raw(bytes, page),
-        Codec::Zlib => copy_zlib(tables, bytes, page),
+        Codec::Zlib => copy_zlib(&mut unpacker.zlib, bytes, page),
         Codec::Lzo => copy_lzo(bytes, page),
         Codec::Snappy => copy_snappy(bytes, page),
+        Codec::Zstd => copy_zstd(&mut unpacker.zstd, bytes, page),
     }
 }
 
@@ -107,7 +123,7 @@ fn copy_by(
 /// What the bytes are not. The buffer then holds any bytes.
 #[tactic(auto, unfolding(crate::specs::Unpack::Unpacked::unpacked))]
 pub fn unpack(
-    tables: &mut Tables,
+    unpacker: &mut Unpacker,
     flags: u32,
     bytes: &[u8],
     page: &mut [u8],
@@ -117,7 +133,7 @@ pub fn unpack(
     ensures err { IfErr result (λ fault. unpacked flags bytes.now ≡ Err fault) }
 {
     match Codec::of(flags) {
-        Some(codec) => copy_by(tables, codec, bytes, page),
+        Some(codec) => copy_by(unpacker, codec, bytes, page),
         None => Err(PageFault::Packing(flags)),
     }
 }
