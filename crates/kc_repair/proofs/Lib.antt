@@ -1,3 +1,4 @@
+mod Changing
 mod Determined
 mod Told
 mod Trying
