@@ -1,3 +1,4 @@
+mod ChainLemmas
 mod FileLemmas
 mod Fits
 mod ItemLemmas

@@ -1,0 +1,180 @@
+-- Words that are changed one after the other.
+use Rattle.std.proofs.Common.{◌≡◌, ℕ, Bool, zero, suc, ◌-◌, ◌+◌, ◌<◌, ◌≤◌, List, [], ◌∷◌, ◌++◌, slice_get, Option, Some, None, Result, Ok, Err, refl, sym, ap, ◌∙◌, subst, append_assoc, append-nil, arith}
+use Rattle.std.specs.Prelude.{⊤, option_map, filter, IfOk, IfSome}
+use Rattle.std.specs.List.{AllByRecursion}
+use Rattle.kc_memory.specs.Image.{Image}
+use Rattle.kc_found.specs.declared.verdict.Verdict.{Verdict}
+use Rattle.kc_found.specs.declared.verdict.Verdict.TheVariants.{Clean, Broken}
+use Rattle.kc_found.specs.declared.verdict.AuditCount.{AuditCount}
+use Rattle.kc_found.specs.declared.failed.ReadFailed.{ReadFailed}
+use Rattle.kc_found.specs.Violations.{Violation}
+use Rattle.kc_kinds.specs.declared.kind.Kind.{Kind}
+use Rattle.kc_plan.specs.Planned.{AuditAt}
+use Rattle.kc_plan.specs.Roots.{Root, root_verdict}
+use Rattle.kc_plan.specs.Stands.{RootStands}
+use Rattle.kc_repair.specs.declared.suspect.suspect.Suspect.{Suspect}
+use Rattle.kc_repair.specs.declared.outcome.Next.{Next}
+use Rattle.kc_repair.specs.declared.outcome.Repair.{Repair}
+use Rattle.kc_repair.specs.declared.outcome.Repair.TheVariants.{Stands, Nothing}
+use Rattle.kc_repair.specs.Laws.{IsLeft, LeftStand, LeftWordsStand, OneMore, RepairWordsStand, RepairsStand, told_suspects}
+use Rattle.kc_repair.specs.Repairs.{StandsAs, is_apart, repair_left, repair_of, with_suspect, with_words}
+use Rattle.kc_repair.specs.Suspect.Laws.{IsSuspect}
+use Rattle.kc_repair.specs.Suspect.Suspects.{suspects}
+use Rattle.kc_cause.specs.declared.suspected.AsRing.{AsRing}
+use Rattle.kc_cause.specs.Chained.{chain_from, chain_of, left_after, left_as, left_by, most_words}
+use Rattle.kc_cause.specs.Printed.{StandInTurn}
+use Rattle.kc_cause.specs.Suspected.{Suspected, suspected, suspected_view}
+
+-- ---- what repairs what is left
+
+pub found-left : (image after : Option Image) (r : Result Repair ReadFailed) (audits : List AuditAt) (root : Root) (words : List Suspect) (v : Violation) (a : AuditAt) (ring : Option AsRing) (kind : Kind) (w : Violation)
+    → slice_get audits v.audit ≡ Some a → after ≡ image → IfSome image (λ m. suspected_view a.kind v ring ≡ suspected (with_words m words) v a.kind)
+    → suspected_view a.kind v ring ≡ record { kind = kind; violation = w }
+    → IfOk r (λ x. IfSome after (λ m. x ≡ repair_left m audits root words kind w)) → IfOk r (λ x. IfSome image (λ m. Some x ≡ left_by m audits root words (Broken v)))
+found-left image after (Err stop) audits root words v a ring kind w is same tells seen_as left = tt
+found-left None after (Ok x) audits root words v a ring kind w is same tells seen_as left = tt
+found-left (Some m) after (Ok x) audits root words v a ring kind w is same tells seen_as left =
+    rw is (ap (λ (r : Repair). Some r) ((rw same at left) ∙ ap (λ (s : Suspected). left_as m audits root words s) (sym seen_as ∙ tells)))
+
+pub left-clean : (image : Option Image) (audits : List AuditAt) (root : Root) (words : List Suspect) (counts : List AuditCount)
+    → IfSome image (λ m. (root_verdict (with_words m words) audits root).verdict ≡ Clean counts) → IfSome image (λ m. None ≡ left_after m audits root words)
+left-clean None audits root words counts is = tt
+left-clean (Some m) audits root words counts is = rw is refl
+
+pub left-broken : (image after : Option Image) (audits : List AuditAt) (root : Root) (words : List Suspect) (v : Violation) (r : Result Repair ReadFailed) (x : Repair)
+    → after ≡ image → IfSome image (λ m. (root_verdict (with_words m words) audits root).verdict ≡ Broken v) → r ≡ Ok x
+    → IfOk r (λ x. IfSome after (λ m. Some x ≡ left_by m audits root words (Broken v))) → IfSome image (λ m. Some x ≡ left_after m audits root words)
+left-broken None after audits root words v r x same is ok left = tt
+left-broken (Some m) after audits root words v r x same is ok left = rw is (rw (same, ok) at left)
+
+-- ---- a step of the loop
+
+abbrev Ahead : Image → List AuditAt → Root → Repair → ℕ → List Suspect → Option Repair → Type 0
+Ahead m audits root first i words left = chain_from (most_words - i) m audits root words left ≡ chain_of m audits root first
+
+more-left : (i : ℕ) → i < 8 → most_words - i ≡ suc (most_words - (i + 1))
+more-left i lt = omega arith
+
+pub chain-more : (image after : Option Image) (audits : List AuditAt) (root : Root) (first : Repair) (i tried : ℕ) (beyond : Bool) (words : List Suspect) (next : Next) (left more : Option Repair)
+    → after ≡ image → i < 8 → left ≡ Some (Nothing tried beyond (Some next)) → IfSome image (λ m. Ahead m audits root first i words left)
+    → IfSome after (λ m. more ≡ left_after m audits root (words ++ next.suspect ∷ [])) → IfSome image (λ m. Ahead m audits root first (i + 1) (words ++ next.suspect ∷ []) more)
+unfolding chain_from
+chain-more None after audits root first i tried beyond words next left more same lt is ahead found = tt
+chain-more (Some m) after audits root first i tried beyond words next left more same lt is ahead found =
+    ap (λ (r : Option Repair). chain_from (most_words - (i + 1)) m audits root (words ++ next.suspect ∷ []) r) (rw same at found)
+    ∙ ap (λ (n : ℕ). chain_from n m audits root words (Some (Nothing tried beyond (Some next)))) (sym (more-left i lt))
+    ∙ ap (λ (r : Option Repair). chain_from (most_words - i) m audits root words r) (sym is)
+    ∙ ahead
+
+pub chain-ends : (image : Option Image) (audits : List AuditAt) (root : Root) (first : Repair) (i : ℕ) (words : List Suspect) (left : Option Repair) (s : Suspect)
+    → i < 8 → left ≡ Some (Stands s) → IfSome image (λ m. Ahead m audits root first i words left) → IfSome image (λ m. Some (words ++ s ∷ []) ≡ chain_of m audits root first)
+unfolding chain_from
+chain-ends None audits root first i words left s lt is ahead = tt
+chain-ends (Some m) audits root first i words left s lt is ahead =
+    ap (λ (n : ℕ). chain_from n m audits root words (Some (Stands s))) (sym (more-left i lt))
+    ∙ ap (λ (r : Option Repair). chain_from (most_words - i) m audits root words r) (sym is) ∙ ahead
+
+pub chain-none : (image : Option Image) (audits : List AuditAt) (root : Root) (first : Repair) (i : ℕ) (words : List Suspect) (left : Option Repair)
+    → i < 8 → left ≡ None → IfSome image (λ m. Ahead m audits root first i words left) → IfSome image (λ m. None ≡ chain_of m audits root first)
+unfolding chain_from
+chain-none None audits root first i words left lt is ahead = tt
+chain-none (Some m) audits root first i words left lt is ahead =
+    ap (λ (n : ℕ). chain_from n m audits root words None) (sym (more-left i lt))
+    ∙ ap (λ (r : Option Repair). chain_from (most_words - i) m audits root words r) (sym is) ∙ ahead
+
+pub chain-nothing : (image : Option Image) (audits : List AuditAt) (root : Root) (first : Repair) (i tried : ℕ) (beyond : Bool) (words : List Suspect) (left : Option Repair)
+    → i < 8 → left ≡ Some (Nothing tried beyond None) → IfSome image (λ m. Ahead m audits root first i words left) → IfSome image (λ m. None ≡ chain_of m audits root first)
+unfolding chain_from
+chain-nothing None audits root first i tried beyond words left lt is ahead = tt
+chain-nothing (Some m) audits root first i tried beyond words left lt is ahead =
+    ap (λ (n : ℕ). chain_from n m audits root words (Some (Nothing tried beyond None))) (sym (more-left i lt))
+    ∙ ap (λ (r : Option Repair). chain_from (most_words - i) m audits root words r) (sym is) ∙ ahead
+
+pub chain-long : (image : Option Image) (audits : List AuditAt) (root : Root) (first : Repair) (i : ℕ) (words : List Suspect) (left : Option Repair)
+    → 8 ≤ i → IfSome image (λ m. Ahead m audits root first i words left) → IfSome image (λ m. None ≡ chain_of m audits root first)
+unfolding chain_from
+chain-long None audits root first i words left past ahead = tt
+chain-long (Some m) audits root first i words left past ahead =
+    let none : most_words - i ≡ 0 = omega arith in
+    ap (λ (n : ℕ). chain_from n m audits root words left) (sym none) ∙ ahead
+
+-- ---- what the words of a chain say
+
+-- what is known of repairs that are left
+pub record KnownLeft : Type 0 where
+  pub first_stand : RepairsStand
+  pub first_words : RepairWordsStand
+  pub stand : LeftStand
+  pub words : LeftWordsStand
+  pub one_more : OneMore
+
+-- of an answer where some words are changed
+abbrev Says : Image → List AuditAt → Root → List Suspect → Option Repair → Type 0
+Says image audits root words None = ⊤
+Says image audits root words (Some (Stands s)) = IsLeft image words s × RootStands (with_suspect (with_words image words) s) audits root
+Says image audits root words (Some (Nothing tried beyond None)) = ⊤
+Says image audits root words (Some (Nothing tried beyond (Some next))) = IsLeft image words next.suspect
+
+said-by : (image : Image) (audits : List AuditAt) (root : Root) (words of : List Suspect) (r : Repair) → StandsAs (with_words image words) audits root of r
+    → AllByRecursion (IsLeft image words) (told_suspects r) → Says image audits root words (Some r)
+said-by image audits root words of (Stands s) stands all = (all.0, stands)
+said-by image audits root words of (Nothing tried beyond None) stands all = tt
+said-by image audits root words of (Nothing tried beyond (Some next)) stands all = all.0
+
+said-at : KnownLeft → (image : Image) (audits : List AuditAt) (root : Root) (words : List Suspect) (v : Violation) (a : Option AuditAt) → slice_get audits v.audit ≡ a
+    → Says image audits root words (option_map (λ (a : AuditAt). left_as image audits root words (suspected (with_words image words) v a.kind)) a)
+said-at law image audits root words v None is = tt
+said-at law image audits root words v (Some a) is =
+    let s : Suspected = suspected (with_words image words) v a.kind in
+    said-by image audits root words (filter (is_apart words) (suspects (with_words image words) s.kind s.violation)) (left_as image audits root words s)
+    (law.stand image audits root words s.kind s.violation) (law.words image audits root words s.kind s.violation)
+
+said-left : KnownLeft → (image : Image) (audits : List AuditAt) (root : Root) (words : List Suspect) (verdict : Verdict) → Says image audits root words (left_by image audits root words verdict)
+said-left law image audits root words (Clean counts) = tt
+said-left law image audits root words (Broken v) = said-at law image audits root words v (slice_get audits v.audit) refl
+
+-- words that repair together, after some that are changed
+pub record Ends (image : Image) (audits : List AuditAt) (root : Root) (words all : List Suspect) : Type 0 where
+  pub rest : List Suspect
+  pub is : all ≡ words ++ rest
+  pub there : StandInTurn image words rest
+  pub stands : RootStands (with_words image all) audits root
+
+ends : KnownLeft → (n : ℕ) (image : Image) (audits : List AuditAt) (root : Root) (words all : List Suspect) (left : Option Repair) → Says image audits root words left
+    → chain_from n image audits root words left ≡ Some all → Ends image audits root words all
+unfolding chain_from
+ends law zero image audits root words all left says is = let none : ⊥ = cc in absurd none
+ends law (suc n) image audits root words all None says is = let none : ⊥ = cc in absurd none
+ends law (suc n) image audits root words all (Some (Stands s)) says is =
+    let same : words ++ s ∷ [] ≡ all = cc in
+    record {
+      rest = s ∷ [];
+      is = sym same;
+      there = (says.0, tt);
+      stands = subst (λ (i : Image). RootStands i audits root) (sym (law.one_more image words s) ∙ ap (with_words image) same) says.1;
+    }
+ends law (suc n) image audits root words all (Some (Nothing tried beyond None)) says is = let none : ⊥ = cc in absurd none
+ends law (suc n) image audits root words all (Some (Nothing tried beyond (Some next))) says is =
+    let more : List Suspect = words ++ next.suspect ∷ [] in
+    let later = ends law n image audits root more all (left_after image audits root more)
+    (said-left law image audits root more (root_verdict (with_words image more) audits root).verdict) is in
+    record {
+      rest = next.suspect ∷ later.rest;
+      is = later.is ∙ append_assoc words (next.suspect ∷ []) later.rest;
+      there = (says, later.there);
+      stands = later.stands;
+    }
+
+-- of the first violation
+first-left : (image : Image) (xs : List Suspect) → AllByRecursion (IsSuspect image) xs → AllByRecursion (IsLeft image []) xs
+first-left image [] all = tt
+first-left image (x ∷ xs) all = (record { there = all.0; apart = refl }, first-left image xs all.1)
+
+pub chained : KnownLeft → (image : Image) (audits : List AuditAt) (root : Root) (kind : Kind) (v : Violation) (words : List Suspect)
+    → chain_of image audits root (repair_of image audits root kind v) ≡ Some words → StandInTurn image [] words × RootStands (with_words image words) audits root
+chained law image audits root kind v words is =
+    let r : Repair = repair_of image audits root kind v in
+    let end = ends law most_words image audits root [] words (Some r)
+    (said-by image audits root [] (suspects image kind v) r (law.first_stand image audits root kind v)
+    (first-left image (told_suspects r) (law.first_words image audits root kind v))) is in
+    (subst (λ (l : List Suspect). StandInTurn image [] l) (sym end.is) end.there, end.stands)
