@@ -3,7 +3,10 @@ ghost use Rattle.std.specs.Prelude.{◌≡◌, ◌∷◌, [], ◌%◌, ◌^◌, 
 ghost use Rattle.kc_outside.specs.declared.store.Slot.TheVariants.{Dump};
 ghost use Rattle.kc_outside.specs.Files.{content};
 ghost use Rattle.kc_memory.specs.Stays.{FramesStay};
+ghost use Rattle.std.specs.List.{list_any};
+ghost use Rattle.kc_phys.specs.Patch.Changed.{share};
 ghost use Rattle.kc_phys.specs.Stored.{stored};
+ghost use Rattle.kc_repair.specs.declared.suspect.suspect.Suspect.{Suspect};
 ghost use Rattle.kc_mem.specs.Paged.{with_paging};
 ghost use Rattle.kc_plan.specs.Inside.{AreInside as TypesAreInside};
 ghost use Rattle.kc_plan.specs.Views.{plan_seen};
@@ -144,11 +147,18 @@ fn push_if(kept: &mut Suspects, keeps: bool, suspect: Suspect) -> Result<(), NoM
     Ok(())
 }
 
+// Whether the word at a file offset shares a byte with one of some words.
+fn shares_any(words: &[Suspect], off: u64) -> bool
+    ensures { result ≡ list_any (λ (word : Suspect). share off word.off) words.now }
+{
+    words.iter().any(|word| share(off, word.off))
+}
+
 // Whether a suspect's word shares no byte with those that are changed.
 fn is_apart(earlier: &[Suspect], suspect: Suspect) -> bool
     ensures { result ≡ is_apart earlier.now suspect }
 {
-    !earlier.iter().any(|word| share(suspect.off, word.off))
+    !shares_any(earlier, suspect.off)
 }
 
 // The suspects of a violation that is left with some words changed, but for those words.
