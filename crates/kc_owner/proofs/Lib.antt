@@ -1,5 +1,6 @@
 pub mod KnownLemmas
 pub mod TextLemmas
 pub mod GivesLemmas
+pub mod RingLemmas
 pub mod ObjectLemmas
 pub mod AreaLemmas

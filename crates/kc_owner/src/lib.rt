@@ -6,6 +6,7 @@ mod area;
 mod kernel;
 mod known;
 mod object;
+mod ring;
 mod text;
 mod views;
 
@@ -20,5 +21,6 @@ pub use object::{
     Cache, CacheKey, Described, FreeKeys, FreeSpot, Held, ObjectShape, ObjectSpot, Page, Slab,
     SlabCounts, Spot, find_described, find_object, free_keys, know_objects, object_shape,
 };
+pub use ring::{RingNodes, read_ring};
 pub use text::read_text;
 pub use views::{looked_at, view_at};

@@ -11,9 +11,10 @@ ghost use Rattle.kc_owner.specs.Area.Firsts.{first_of};
 ghost use Rattle.kc_owner.specs.Area.Processors.{in_area, in_processor, less, processor_at};
 ghost use Rattle.kc_owner.specs.Looked.{looked_at};
 
+use crate::area::firsts::keep_first;
 use crate::area::shape::ProcessorShape;
 use crate::looked_at;
-use kc_found::{Space, WalkStop, low_word, read_bits, stopped};
+use kc_found::{Found, Space, WalkStop, low_word, read_bits, stopped};
 use kc_word::{Bits, Steps};
 use std::alloc::Global;
 use std::sync::ledger::Ledger;
@@ -110,14 +111,18 @@ fn in_processors<S: Space, L: Ledger>(
     ensures stays { SpaceStays S.image S.files S.through S.most space.old space.new }
     ensures cause { CountsWalkFaults result (S.faults space.old) (S.faults space.new) }
 {
+    let mut missed: Option<Found> = None;
     for number in 0..count {
         match in_processor(alloc, space, shape, address, number, steps) {
             Ok(None) => {}
             Ok(Some(found)) => return Ok(Some(found)),
-            Err(stop) => return Err(stop),
+            Err(stop) => keep_first(&mut missed, stop)?,
         }
     }
-    Ok(None)
+    match missed {
+        None => Ok(None),
+        Some(broken) => Err(WalkStop::Broken(broken)),
+    }
 }
 
 // The first processor whose area has an address.

@@ -4,17 +4,17 @@ ghost use Rattle.kc_memory.specs.Stays.{SpaceStays};
 ghost use Rattle.kc_found.specs.Walks.{CountsWalkFaults, WalksAs};
 ghost use Rattle.kc_view.specs.Caches.{is_descriptor};
 ghost use Rattle.kc_owner.specs.Object.Bounds.{WithinWalks};
-ghost use Rattle.kc_owner.specs.Object.Slabs.{is_listed, slab_at, slab_of, slab_with, start_of};
+ghost use Rattle.kc_owner.specs.Object.Slabs.{IsUnlisted, is_listed, slab_at, slab_of, slab_with, start_of};
+ghost use Rattle.kc_owner.specs.Rings.{most_nodes};
 
 use crate::object::cache::{Cache, read_cache};
 use crate::object::counts::{SlabCounts, read_counts};
 use crate::object::free::{FreeSpot, tell_free};
 use crate::object::shape::ObjectShape;
 use crate::object::spot::{Spot, spot_of};
-use crate::{looked_at, view_at};
+use crate::{looked_at, read_ring, view_at};
 use kc_btf::Btf;
 use kc_found::{Found, Rule, Space, WalkStop, Walked, broken_field};
-use kc_list::ring;
 use kc_slub::{grid_of, is_descriptor, page_of, read_objects};
 use kc_steps::read_field;
 use kc_view::{FieldNumber, SlabObjects, SlubBases};
@@ -128,6 +128,16 @@ fn is_listed(shape: &ObjectShape, nodes: &Walked, cache: u64) -> bool
     nodes.as_slice().contains(&node)
 }
 
+// What is told where the ring of all caches has none of a slab: there is no slab, unless the ring is broken.
+fn unlisted(broken: Option<Found>) -> Result<Option<Slab>, WalkStop>
+    ensures { IsUnlisted broken result }
+{
+    match broken {
+        None => Ok(None),
+        Some(found) => Err(WalkStop::Broken(found)),
+    }
+}
+
 // The slab of a head page's descriptor, where it is one.
 pub(crate) fn slab_at<S: Space, L: Ledger>(
     alloc: Global,
@@ -140,16 +150,16 @@ pub(crate) fn slab_at<S: Space, L: Ledger>(
     steps: &mut Steps<L>,
 ) -> Result<Option<Slab>, WalkStop>
     ensures exact { WalksAs (λ s. s) (λ i. slab_at i shape.now bases.now head pa) (S.image space.old) result }
-    ensures bound { WithinWalks (S.image space.old) (S.most space.old) 2 1428 steps.old steps.new }
+    ensures bound { WithinWalks (S.image space.old) (S.most space.old) 2 (1428 + 24 * most_nodes) steps.old steps.new }
     ensures stays { SpaceStays S.image S.files S.through S.most space.old space.new }
     ensures cause { CountsWalkFaults result (S.faults space.old) (S.faults space.new) }
 {
     let asked = looked_at(head);
     let view = view_at(btf, head);
     let cache = read_field(alloc, space, &asked, &view, &shape.slub.slab_cache, steps)?;
-    let nodes = ring(alloc, space, &shape.slub.list, shape.caches, 0, steps)?;
-    if !is_listed(shape, &nodes, cache.value()) {
-        return Ok(None);
+    let ring = read_ring(alloc, space, &shape.slub.list, shape.caches, steps)?;
+    if !is_listed(shape, &ring.nodes, cache.value()) {
+        return unlisted(ring.broken);
     }
     let slab = read_slab(alloc, space, btf, shape, bases, head, pa, &cache, steps)?;
     Ok(Some(slab))

@@ -1,7 +1,7 @@
 use Rattle.std.proofs.Common.{rules, ◌∙◌}
 use Rattle.kc_memory.specs.Stays.{stays_on}
-use Rattle.kc_slab_page.proofs.RingLemmas.{reach_begin, reach_done, reach_next, reach_none}
-use Rattle.kc_slab_page.proofs.ring.reach.Goals as goal
+use Rattle.kc_owner.proofs.RingLemmas.{reach_begin, reach_done, reach_next, reach_none}
+use Rattle.kc_owner.proofs.ring.reach.Goals as goal
 
 pub loop-left-init : goal.loop-left-init
 loop-left-init g c = record {

@@ -1,7 +1,7 @@
 use Rattle.std.proofs.Common.{◌≡◌}
 use Rattle.kc_memory.specs.Stays.{SpaceStays}
-use Rattle.kc_slab_page.proofs.RingLemmas.{Reaching}
-use Rattle.kc_slab_page.proofs.ring.reach.Given as goal
+use Rattle.kc_owner.proofs.RingLemmas.{Reaching}
+use Rattle.kc_owner.proofs.ring.reach.Given as goal
 
 abbrev pub invariant-loop-left : goal.invariant-loop-left
 invariant-loop-left g l = record {
