@@ -2,5 +2,6 @@ pub mod KnownLemmas
 pub mod TextLemmas
 pub mod GivesLemmas
 pub mod RingLemmas
+pub mod RingParts
 pub mod ObjectLemmas
 pub mod AreaLemmas

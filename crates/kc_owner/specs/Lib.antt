@@ -1,3 +1,4 @@
+pub mod Firsts
 pub mod Kernels
 pub mod Known
 pub mod Looked

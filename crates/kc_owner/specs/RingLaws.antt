@@ -1,6 +1,5 @@
 -- What the nodes of a ring are, also where it is broken.
-use Rattle.std.specs.Prelude.{◌≡◌, ℕ, nat_eq, List, [], ◌∷◌, ◌++◌, Some, None, Ok, ⊤}
-use Rattle.std.specs.List.{IsDistinct}
+use Rattle.std.specs.Prelude.{◌≡◌, ℕ, List, [], ◌∷◌, ◌++◌, Some, None, Ok, ⊤}
 use Rattle.kc_memory.specs.Image.{Image}
 use Rattle.kc_found.specs.declared.shapes.ListShape.{ListShape}
 use Rattle.kc_found.specs.Nodes.{at_offset}
@@ -18,14 +17,13 @@ abbrev pub AreLinked : Image → Way → ℕ → List ℕ → Type 0
 AreLinked image way node [] = ⊤
 AreLinked image way node (n ∷ ns) = Leads image way node n × AreLinked image way n ns
 
--- The nodes are linked from the head by `next`, and then from the head by `prev`; none of them is the head, and each counts once.
+-- the nodes are linked from the head by `next`, and then from the head by `prev`
 pub record AreParts (image : Image) (list : ListShape) (head : ℕ) (nodes : List ℕ) : Type 0 where
   pub ahead : List ℕ
   pub behind : List ℕ
   pub all : nodes ≡ ahead ++ behind
   pub forward : AreLinked image (by_next list) head ahead
   pub backward : AreLinked image (by_prev list) head behind
-  pub once : IsDistinct nat_eq (head ∷ nodes)
 
 -- the nodes of a whole ring are those that its walk gives, and no others
 abbrev pub WholeRingsStay : Type 0

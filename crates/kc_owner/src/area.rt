@@ -1,7 +1,6 @@
 //! In which area of a kernel's memory a virtual address of a dump lies: in a module's, in a processor's, in a task's stack.
 
 mod areas;
-mod firsts;
 mod laws;
 mod modules;
 mod processors;

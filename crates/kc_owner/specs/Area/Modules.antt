@@ -13,7 +13,7 @@ use Rattle.kc_owner.specs.Texts.{text}
 use Rattle.kc_owner.specs.declared.area.modules.InModule.{InModule}
 use Rattle.kc_owner.specs.declared.area.shape.ModuleShape.{ModuleShape}
 use Rattle.kc_owner.specs.declared.area.shape.PartShape.{PartShape}
-use Rattle.kc_owner.specs.Area.Firsts.{byte_of, despite_any, first_of}
+use Rattle.kc_owner.specs.Firsts.{byte_of, despite_any, first_of}
 
 -- the byte in a part of a module's memory, by the part's number
 abbrev pub in_part : Image → PartShape → ℕ → ℕ → ℕ → Result (Option ℕ) Violation

@@ -14,7 +14,7 @@ use Rattle.kc_owner.specs.Rings.{ring_nodes}
 use Rattle.kc_owner.specs.Texts.{text}
 use Rattle.kc_owner.specs.declared.area.shape.StackShape.{StackShape}
 use Rattle.kc_owner.specs.declared.area.stacks.InStack.{InStack}
-use Rattle.kc_owner.specs.Area.Firsts.{byte_of, despite, first_of}
+use Rattle.kc_owner.specs.Firsts.{byte_of, despite, first_of}
 
 -- a task that has the address in its stack, with its number and its name
 abbrev pub owner : Image → StackShape → ℕ → Option ℕ → Result (Option InStack) Violation

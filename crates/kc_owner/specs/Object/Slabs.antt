@@ -1,6 +1,6 @@
 -- The slab that holds a physical address. Source: the kernel's mm/slab.h, `struct slab`, which overlays the head page's descriptor;
 -- mm/slab_common.c, the ring `slab_caches`. The order is this project's.
-use Rattle.std.specs.Prelude.{◌≡◌, ℕ, ◌*◌, Bool, ◌||◌, nat_eq, nat_lt, not, if◌then◌else◌, List, Option, Some, None, Result, Ok, Err}
+use Rattle.std.specs.Prelude.{ℕ, ◌*◌, Bool, ◌||◌, nat_eq, nat_lt, not, if◌then◌else◌, List, Option, Some, None, Result, Ok}
 use Rattle.std.specs.List.{list_any}
 use Rattle.kc_memory.specs.declared.rule.Rule.TheVariants.{U3, U4}
 use Rattle.kc_memory.specs.Image.{Image}
@@ -12,8 +12,6 @@ use Rattle.kc_view.specs.Caches.{grid_of, is_descriptor, objects_of}
 use Rattle.kc_view.specs.Caches as caches
 use Rattle.kc_view.specs.Fields.{breaks_at, read_field, unless, value_of}
 use Rattle.kc_found.specs.declared.asked.Asked.{Asked}
-use Rattle.kc_found.specs.declared.found.WalkStop.{WalkStop}
-use Rattle.kc_found.specs.declared.found.WalkStop.TheVariants as ends
 use Rattle.kc_found.specs.Nodes.{at_offset}
 use Rattle.kc_found.specs.Trials.{and_then}
 use Rattle.kc_found.specs.Violations.{Violation, breaks_field}
@@ -23,6 +21,7 @@ use Rattle.kc_owner.specs.declared.object.held.Held.{Held}
 use Rattle.kc_owner.specs.declared.object.shape.ObjectShape.{ObjectShape}
 use Rattle.kc_owner.specs.declared.object.slab.Slab.{Slab}
 use Rattle.kc_owner.specs.Rings.{RingParts, ring_nodes}
+use Rattle.kc_owner.specs.Firsts.{despite_any}
 use Rattle.kc_owner.specs.Object.Caches.{cache_of}
 use Rattle.kc_owner.specs.Object.FreeSpots.{free_spot}
 use Rattle.kc_owner.specs.Looked.{looked_at}
@@ -71,20 +70,10 @@ is_listed shape nodes cache = list_any (λ n. nat_eq n (at_offset cache shape.ca
 abbrev pub some_slab : Result Slab Violation → Result (Option Slab) Violation
 some_slab slab = and_then slab (λ s. Ok (Some s))
 
--- what is told where `slab_cache` names no cache of the ring: there is no slab, unless the ring is broken
-abbrev pub unlisted : Option Violation → Result (Option Slab) Violation
-unlisted None = Ok None
-unlisted (Some v) = Err v
-
--- an answer is that one
-abbrev pub IsUnlisted : Option Violation → Result (Option Slab) WalkStop → Type 0
-IsUnlisted None r = r ≡ Ok None
-IsUnlisted (Some v) r = r ≡ Err (ends.Broken v)
-
--- the slab of a head page's descriptor, by its `slab_cache` and by the ring of all caches
+-- the slab of a head page's descriptor, by its `slab_cache` and by the ring of all caches; where that has no such cache there is none, unless it is broken
 abbrev pub slab_by : Image → ObjectShape → SlubBases → ℕ → ℕ → FieldNumber → RingParts → Result (Option Slab) Violation
 slab_by image shape b head pa c ring =
-    if is_listed shape ring.nodes (value_of c) then some_slab (slab_of image shape b head pa c) else unlisted ring.broken
+    if is_listed shape ring.nodes (value_of c) then some_slab (slab_of image shape b head pa c) else despite_any ring.broken (Ok None)
 
 -- the slab of a head page's descriptor, whose `slab_cache` names a cache of the ring, also where that is broken; none where it names another address
 abbrev pub slab_at : Image → ObjectShape → SlubBases → ℕ → ℕ → Result (Option Slab) Violation

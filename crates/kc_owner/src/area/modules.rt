@@ -5,11 +5,11 @@ ghost use Rattle.kc_memory.specs.Stays.{SpaceStays};
 ghost use Rattle.kc_found.specs.Nodes.{at_offset};
 ghost use Rattle.kc_found.specs.Walks.{CountsWalkFaults, WalksAs};
 ghost use Rattle.kc_view.specs.TaskLists.{task_of};
-ghost use Rattle.kc_owner.specs.Area.Firsts.{first_of};
+ghost use Rattle.kc_owner.specs.Firsts.{first_of};
 ghost use Rattle.kc_owner.specs.Area.Modules.{in_module, in_part, module_at, named};
 
-use crate::area::firsts::{byte_of, despite, keep_first};
 use crate::area::shape::{ModuleShape, PartShape};
+use crate::firsts::{byte_of, despite, none_found, pass_broken};
 use crate::{looked_at, read_ring, read_text, view_at};
 use kc_btf::Btf;
 use kc_found::{Found, Name, Space, WalkStop, Walked};
@@ -82,16 +82,14 @@ fn in_parts<S: Space, L: Ledger>(
 {
     let mut missed: Option<Found> = None;
     for number in 0..shape.count {
-        match in_part(alloc, space, btf, shape, address, module_va, number, steps) {
+        let told = in_part(alloc, space, btf, shape, address, module_va, number, steps);
+        match pass_broken(&mut missed, told) {
             Ok(None) => {}
             Ok(Some(found)) => return Ok(Some(found)),
-            Err(stop) => keep_first(&mut missed, stop)?,
+            Err(stop) => return Err(stop),
         }
     }
-    match missed {
-        None => Ok(None),
-        Some(broken) => Err(WalkStop::Broken(broken)),
-    }
+    none_found(missed)
 }
 
 // A module that has an address in its memory, with its name.
@@ -140,17 +138,15 @@ fn in_modules<S: Space, L: Ledger>(
     while i < nodes.len() {
         let node = *nodes.get(i);
         let module_va = module_by(shape.link, node);
-        match in_module(alloc, space, btf, shape, address, module_va, steps) {
+        let told = in_module(alloc, space, btf, shape, address, module_va, steps);
+        match pass_broken(&mut missed, told) {
             Ok(None) => {}
             Ok(Some(found)) => return Ok(Some(found)),
-            Err(stop) => keep_first(&mut missed, stop)?,
+            Err(stop) => return Err(stop),
         }
         i += 1;
     }
-    match missed {
-        None => Ok(None),
-        Some(broken) => Err(WalkStop::Broken(broken)),
-    }
+    none_found(missed)
 }
 
 // The first module of the ring that has an address, also where that is broken.

@@ -3,12 +3,12 @@ ghost use Rattle.std.specs.Prelude.{◌≡◌, ◌∷◌, map, Ok, IfOk};
 ghost use Rattle.kc_memory.specs.Stays.{SpaceStays};
 ghost use Rattle.kc_found.specs.Walks.{CountsWalkFaults, OnBroken, OnWalkFault, WalksAs};
 ghost use Rattle.kc_view.specs.TaskLists.{IsInside, task_of};
-ghost use Rattle.kc_owner.specs.Area.Firsts.{first_of};
+ghost use Rattle.kc_owner.specs.Firsts.{first_of};
 ghost use Rattle.kc_owner.specs.Area.Stacks.{in_group, in_stack, leaders, owner, stack_at, threads_of};
 ghost use Rattle.kc_owner.specs.Rings.{ring_nodes};
 
-use crate::area::firsts::{byte_of, despite, keep_first};
 use crate::area::shape::StackShape;
+use crate::firsts::{byte_of, despite, none_found, pass_broken};
 use crate::{looked_at, read_known, read_ring, read_text, view_at};
 use kc_btf::Btf;
 use kc_found::{Found, Name, Space, WalkStop, Walked, push_node};
@@ -101,17 +101,15 @@ fn in_stacks<S: Space, L: Ledger>(
     let mut i = 0;
     while i < tasks.len() {
         let task = *tasks.get(i);
-        match in_stack(alloc, space, btf, shape, address, task, steps) {
+        let told = in_stack(alloc, space, btf, shape, address, task, steps);
+        match pass_broken(&mut missed, told) {
             Ok(None) => {}
             Ok(Some(found)) => return Ok(Some(found)),
-            Err(stop) => keep_first(&mut missed, stop)?,
+            Err(stop) => return Err(stop),
         }
         i += 1;
     }
-    match missed {
-        None => Ok(None),
-        Some(broken) => Err(WalkStop::Broken(broken)),
-    }
+    none_found(missed)
 }
 
 // The tasks that these nodes stand in, each at an offset, after another one.
@@ -206,17 +204,15 @@ fn in_groups<S: Space, L: Ledger>(
     let mut i = 0;
     while i < leaders.len() {
         let leader = *leaders.get(i);
-        match in_group(alloc, space, btf, shape, address, leader, steps) {
+        let told = in_group(alloc, space, btf, shape, address, leader, steps);
+        match pass_broken(&mut missed, told) {
             Ok(None) => {}
             Ok(Some(found)) => return Ok(Some(found)),
-            Err(stop) => keep_first(&mut missed, stop)?,
+            Err(stop) => return Err(stop),
         }
         i += 1;
     }
-    match missed {
-        None => Ok(None),
-        Some(broken) => Err(WalkStop::Broken(broken)),
-    }
+    none_found(missed)
 }
 
 // The first task that the rings of a broken task list lead to and that has an address in its stack.

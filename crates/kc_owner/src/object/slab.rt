@@ -4,9 +4,10 @@ ghost use Rattle.kc_memory.specs.Stays.{SpaceStays};
 ghost use Rattle.kc_found.specs.Walks.{CountsWalkFaults, WalksAs};
 ghost use Rattle.kc_view.specs.Caches.{is_descriptor};
 ghost use Rattle.kc_owner.specs.Object.Bounds.{WithinWalks};
-ghost use Rattle.kc_owner.specs.Object.Slabs.{IsUnlisted, is_listed, slab_at, slab_of, slab_with, start_of};
+ghost use Rattle.kc_owner.specs.Object.Slabs.{is_listed, slab_at, slab_of, slab_with, start_of};
 ghost use Rattle.kc_owner.specs.Rings.{most_nodes};
 
+use crate::firsts::none_found;
 use crate::object::cache::{Cache, read_cache};
 use crate::object::counts::{SlabCounts, read_counts};
 use crate::object::free::{FreeSpot, tell_free};
@@ -128,16 +129,6 @@ fn is_listed(shape: &ObjectShape, nodes: &Walked, cache: u64) -> bool
     nodes.as_slice().contains(&node)
 }
 
-// What is told where the ring of all caches has none of a slab: there is no slab, unless the ring is broken.
-fn unlisted(broken: Option<Found>) -> Result<Option<Slab>, WalkStop>
-    ensures { IsUnlisted broken result }
-{
-    match broken {
-        None => Ok(None),
-        Some(found) => Err(WalkStop::Broken(found)),
-    }
-}
-
 // The slab of a head page's descriptor, where it is one.
 pub(crate) fn slab_at<S: Space, L: Ledger>(
     alloc: Global,
@@ -159,7 +150,7 @@ pub(crate) fn slab_at<S: Space, L: Ledger>(
     let cache = read_field(alloc, space, &asked, &view, &shape.slub.slab_cache, steps)?;
     let ring = read_ring(alloc, space, &shape.slub.list, shape.caches, steps)?;
     if !is_listed(shape, &ring.nodes, cache.value()) {
-        return unlisted(ring.broken);
+        return none_found(ring.broken);
     }
     let slab = read_slab(alloc, space, btf, shape, bases, head, pa, &cache, steps)?;
     Ok(Some(slab))

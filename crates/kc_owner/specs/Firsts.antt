@@ -1,5 +1,5 @@
 -- The first of some things that has an address.
-use Rattle.std.specs.Prelude.{◌≡◌, ℕ, ◌-◌, ◌&&◌, nat_le, nat_lt, if◌then◌else◌, List, [], ◌∷◌, Option, Some, None, Result, Ok, Err, ⊤}
+use Rattle.std.specs.Prelude.{◌≡◌, ℕ, ◌-◌, ◌&&◌, nat_le, nat_lt, if◌then◌else◌, List, [], ◌∷◌, Option, Some, None, Result, Ok, Err}
 use Rattle.std.specs.Option.{unwrap_or}
 use Rattle.kc_found.specs.declared.found.WalkStop.{WalkStop}
 use Rattle.kc_found.specs.declared.found.WalkStop.TheVariants as ends
@@ -31,13 +31,19 @@ unfoldable pub first_of : {A B : Type 0} → (A → Result (Option B) Violation)
 first_of go [] = Ok None
 first_of go (x ∷ xs) = or_else (first_of go xs) (go x)
 
--- the first violation that is met is kept; a failure ends the search
-abbrev pub IsKept : WalkStop → Option Violation → Option Violation → Result ⊤ WalkStop → Type 0
-IsKept (ends.Broken v) old new r = (r ≡ Ok tt) × (new ≡ Some (unwrap_or old v))
-IsKept ends.Fault old new r = r ≡ Err ends.Fault
-IsKept ends.NoMemory old new r = r ≡ Err ends.NoMemory
+-- What is told of one of them is passed over where it is a violation, the first of which is kept: what then is answered.
+abbrev pub IsPassed : {B : Type 0} → Result (Option B) WalkStop → Option Violation → Option Violation → Result (Option B) WalkStop → Type 0
+IsPassed (Ok found) old new r = (r ≡ Ok found) × (new ≡ old)
+IsPassed (Err (ends.Broken v)) old new r = (r ≡ Ok None) × (new ≡ Some (unwrap_or old v))
+IsPassed (Err ends.Fault) old new r = r ≡ Err ends.Fault
+IsPassed (Err ends.NoMemory) old new r = r ≡ Err ends.NoMemory
 
--- an answer is what was found although something else can't be told, or why that can't
+-- the answer where none has it
+abbrev pub IsNone : {B : Type 0} → Option Violation → Result (Option B) WalkStop → Type 0
+IsNone None r = r ≡ Ok None
+IsNone (Some v) r = r ≡ Err (ends.Broken v)
+
+-- the answer is what was found although something else can't be told, or why that can't
 abbrev pub IsDespite : {B : Type 0} → Violation → Result (Option B) WalkStop → Result (Option B) WalkStop → Type 0
 IsDespite v (Ok (Some b)) r = r ≡ Ok (Some b)
 IsDespite v (Ok None) r = r ≡ Err (ends.Broken v)

@@ -1,6 +1,6 @@
 // The first of some things that has an address.
 ghost use Rattle.std.specs.Prelude.{◌≡◌};
-ghost use Rattle.kc_owner.specs.Area.Firsts.{IsDespite, IsKept, byte_of};
+ghost use Rattle.kc_owner.specs.Firsts.{IsDespite, IsNone, IsPassed, byte_of};
 
 use kc_found::{Found, WalkStop};
 
@@ -15,19 +15,33 @@ pub(crate) fn byte_of(base: u64, size: u64, address: u64) -> Option<u64>
     }
 }
 
-// Keeps the first violation that is met. A failure ends the search.
-pub(crate) fn keep_first(missed: &mut Option<Found>, stop: WalkStop) -> Result<(), WalkStop>
-    ensures { IsKept stop missed.old missed.new result }
+// Passes over what can't be told, and keeps the first violation of it.
+pub(crate) fn pass_broken<B: Drop>(
+    missed: &mut Option<Found>,
+    told: Result<Option<B>, WalkStop>,
+) -> Result<Option<B>, WalkStop>
+    ensures { IsPassed told missed.old missed.new result }
 {
-    match stop {
-        WalkStop::Broken(found) => {
+    match told {
+        Ok(found) => Ok(found),
+        Err(WalkStop::Broken(broken)) => {
             if missed.is_none() {
-                *missed = Some(found);
+                *missed = Some(broken);
             }
-            Ok(())
+            Ok(None)
         }
-        WalkStop::Fault => Err(WalkStop::Fault),
-        WalkStop::NoMemory => Err(WalkStop::NoMemory),
+        Err(WalkStop::Fault) => Err(WalkStop::Fault),
+        Err(WalkStop::NoMemory) => Err(WalkStop::NoMemory),
+    }
+}
+
+// What is answered where none has it.
+pub(crate) fn none_found<B: Drop>(missed: Option<Found>) -> Result<Option<B>, WalkStop>
+    ensures { IsNone missed result }
+{
+    match missed {
+        None => Ok(None),
+        Some(broken) => Err(WalkStop::Broken(broken)),
     }
 }
 

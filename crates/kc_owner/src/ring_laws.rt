@@ -1,0 +1,9 @@
+// What the nodes of a ring are.
+ghost use Rattle.kc_owner.specs.RingLaws.{BrokenRingsPart, WholeRingsStay};
+
+/// Does nothing. The nodes of a whole ring are those that its walk gives, and no others; those of a broken one are linked from its head by
+/// `next`, and then by `prev`, each with the node before it.
+pub fn know_rings()
+    ensures whole { WholeRingsStay }
+    ensures broken { BrokenRingsPart }
+{}
