@@ -73,13 +73,13 @@ next (Some i) go all rest left missed more x (Err ends.Fault) is left_over tells
 next (Some i) go all rest left missed more x (Err ends.NoMemory) is left_over tells passed = absurd (let none : ⊥ = cc in none)
 
 -- a failure ends the search
-pub stopped : {A B : Type 0} (image : Option Image) (go : Image → Result (Option B) Violation) (missed more : Option Violation) (told : Result (Option B) WalkStop) (stop : WalkStop)
+pub stopped : {B : Type 0} (image : Option Image) (go : Image → Result (Option B) Violation) (missed more : Option Violation) (told : Result (Option B) WalkStop) (stop : WalkStop)
     → IsPassed told missed more (Err stop) → WalksAs {A = Option B} {B = Option B} (λ (f : Option B). f) go image (Err stop)
 stopped None go missed more told stop passed = tt
 stopped (Some i) go missed more (Ok f) stop passed = absurd (let none : ⊥ = cc in none)
 stopped (Some i) go missed more (Err (ends.Broken v)) stop passed = absurd (let none : ⊥ = cc in none)
-stopped {A} {B} (Some i) go missed more (Err ends.Fault) stop passed = let same : stop ≡ ends.Fault = cc in rw same tt
-stopped {A} {B} (Some i) go missed more (Err ends.NoMemory) stop passed = let same : stop ≡ ends.NoMemory = cc in rw same tt
+stopped {B} (Some i) go missed more (Err ends.Fault) stop passed = let same : stop ≡ ends.Fault = cc in rw same tt
+stopped {B} (Some i) go missed more (Err ends.NoMemory) stop passed = let same : stop ≡ ends.NoMemory = cc in rw same tt
 
 -- the failures of what was looked at, and those before
 pub counts : {B : Type 0} (missed more : Option Violation) (told r : Result (Option B) WalkStop) (start before after : ℕ) → IsPassed told missed more r → before ≡ start
