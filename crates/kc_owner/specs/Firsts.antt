@@ -50,3 +50,8 @@ IsDespite v (Ok None) r = r ≡ Err (ends.Broken v)
 IsDespite v (Err (ends.Broken w)) r = r ≡ Err (ends.Broken v)
 IsDespite v (Err ends.Fault) r = r ≡ Err ends.Fault
 IsDespite v (Err ends.NoMemory) r = r ≡ Err ends.NoMemory
+
+-- the same, where there is such a thing
+abbrev pub IsDespiteAny : {B : Type 0} → Option Violation → Result (Option B) WalkStop → Result (Option B) WalkStop → Type 0
+IsDespiteAny None found r = r ≡ found
+IsDespiteAny (Some v) found r = IsDespite v found r

@@ -1,6 +1,6 @@
 // The first of some things that has an address.
 ghost use Rattle.std.specs.Prelude.{◌≡◌};
-ghost use Rattle.kc_owner.specs.Firsts.{IsDespite, IsNone, IsPassed, byte_of};
+ghost use Rattle.kc_owner.specs.Firsts.{IsDespite, IsDespiteAny, IsNone, IsPassed, byte_of};
 
 use kc_found::{Found, WalkStop};
 
@@ -57,5 +57,18 @@ pub(crate) fn despite<B: Drop>(
         Ok(None) | Err(WalkStop::Broken(_)) => Err(WalkStop::Broken(broken)),
         Err(WalkStop::Fault) => Err(WalkStop::Fault),
         Err(WalkStop::NoMemory) => Err(WalkStop::NoMemory),
+    }
+}
+
+// The same, where there is such a thing.
+pub(crate) fn despite_any<B: Drop>(
+    broken: Option<Found>,
+    found: Result<Option<B>, WalkStop>,
+) -> Result<Option<B>, WalkStop>
+    ensures { IsDespiteAny broken found result }
+{
+    match broken {
+        None => found,
+        Some(broken) => despite(broken, found),
     }
 }

@@ -9,7 +9,7 @@ ghost use Rattle.kc_owner.specs.Firsts.{first_of};
 ghost use Rattle.kc_owner.specs.Area.Modules.{in_module, in_part, module_at, named};
 
 use crate::area::shape::{ModuleShape, PartShape};
-use crate::firsts::{byte_of, despite, none_found, pass_broken};
+use crate::firsts::{byte_of, despite_any, none_found, pass_broken};
 use crate::{looked_at, read_ring, read_text, view_at};
 use kc_btf::Btf;
 use kc_found::{Found, Name, Space, WalkStop, Walked};
@@ -164,8 +164,5 @@ pub(crate) fn read_module<S: Space, L: Ledger>(
 {
     let ring = read_ring(alloc, space, &shape.list, shape.head, steps)?;
     let found = in_modules(alloc, space, btf, shape, address, &ring.nodes, steps);
-    match ring.broken {
-        None => found,
-        Some(broken) => despite(broken, found),
-    }
+    despite_any(ring.broken, found)
 }

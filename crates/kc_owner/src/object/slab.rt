@@ -13,7 +13,7 @@ use crate::object::counts::{SlabCounts, read_counts};
 use crate::object::free::{FreeSpot, tell_free};
 use crate::object::shape::ObjectShape;
 use crate::object::spot::{Spot, spot_of};
-use crate::{looked_at, read_ring, view_at};
+use crate::{RingNodes, looked_at, read_ring, view_at};
 use kc_btf::Btf;
 use kc_found::{Found, Rule, Space, WalkStop, Walked, broken_field};
 use kc_slub::{grid_of, is_descriptor, page_of, read_objects};
@@ -148,9 +148,15 @@ pub(crate) fn slab_at<S: Space, L: Ledger>(
     let asked = looked_at(head);
     let view = view_at(btf, head);
     let cache = read_field(alloc, space, &asked, &view, &shape.slub.slab_cache, steps)?;
-    let ring = read_ring(alloc, space, &shape.slub.list, shape.caches, steps)?;
-    if !is_listed(shape, &ring.nodes, cache.value()) {
-        return none_found(ring.broken);
+    let RingNodes { nodes, broken } = read_ring(
+        alloc,
+        space,
+        &shape.slub.list,
+        shape.caches,
+        steps,
+    )?;
+    if !is_listed(shape, &nodes, cache.value()) {
+        return none_found(broken);
     }
     let slab = read_slab(alloc, space, btf, shape, bases, head, pa, &cache, steps)?;
     Ok(Some(slab))
