@@ -5,7 +5,7 @@ use Rattle.kc_found.specs.declared.trees.RbLinks.{RbLinks}
 use Rattle.kc_found.specs.RbTrees.{left_spot, right_spot}
 use Rattle.kc_laws.specs.Chains.{few_steps}
 use Rattle.kc_rb.specs.declared.walk.Task.TheVariants.{Visit, Give}
-use Rattle.kc_rb.proofs.Rise.{rise_starts, rise_stops, rise_gives, rise_skips, rise_differs, rise_enters, rise_breaks, rise_bound, most_first, most_on, deep_pop, deep_push, blacks_below}
+use Rattle.kc_rb.proofs.Rise.{rise_starts, rise_stops, rise_gives, rise_skips, rise_differs, rise_enters, rise_breaks, rise_ends_wrong, rise_bound, most_first, most_on, deep_pop, deep_push, blacks_below}
 use Rattle.kc_rb.proofs.walk.walk_tree.Goals as goal
 
 pub returns-in_err-head-clause-walk : goal.returns-in_err-head-clause-walk
@@ -65,6 +65,12 @@ returns-in_err-links-clause-walk g c =
     let black : c.in-Visit.spot.black ≤ c.in-Visit.depth = deep.1.1 in
     let ends : c.from_residual-in_err-links.result ≡ Err c.in_err-links.field-0.0 = search rules in
     rw ends (rise_breaks (λ (p : RbLinks × Option RbKey). c.enter_node.new.claims) _ (g.S.Space.image c.args.space.now) c.args.shape.now c.args.asked.now c.in_ok-head.head c.loop-task.claims c.loop-task.walked c.loop-task.first c.loop-task.pending.items c.pop.new.self.items c.in-Visit.spot c.in-Visit.depth c.in_err-links.field-0.0 is far (search rules) (rw c.loop-task.invariant.stays.same_image at c.in_err-links.ensures.site) c.loop-task.invariant.rises)
+
+pub returns-in_err-judge_leftmost-clause-walk : goal.returns-in_err-judge_leftmost-clause-walk
+returns-in_err-judge_leftmost-clause-walk g c =
+    let ends : c.from_residual-in_err-judge_leftmost.result ≡ Err c.in_err-judge_leftmost.field-0.0 = search rules in
+    let none : c.loop-task.pending.items ≡ [] = search rules in
+    rw ends (rise_ends_wrong _ (g.S.Space.image c.args.space.now) c.args.shape.now c.args.asked.now c.in_ok-head.head c.loop-task.claims c.loop-task.walked c.loop-task.first c.loop-task.pending.items c.in_err-judge_leftmost.field-0.0 none c.in_err-judge_leftmost.ensures.fault c.loop-task.invariant.rises)
 
 pub overflow_add-depth : goal.overflow_add-depth
 overflow_add-depth g c =
