@@ -14,7 +14,7 @@ use Rattle.kc_owner.specs.Rings.{back_at, by_next, by_prev, most_nodes, next_in,
 pub whole_stays : WholeRingsStay
 whole_stays image list head nodes is = ap (ring_by (parts_of image list head)) is
 
-from_some : {A B P : Type 0} (f : A → Option B) (o : Option A) (b : B) → option_and_then f o ≡ Some b → ((a : A) → o ≡ Some a → f a ≡ Some b → P) → P
+pub from_some : {A B P : Type 0} (f : A → Option B) (o : Option A) (b : B) → option_and_then f o ≡ Some b → ((a : A) → o ≡ Some a → f a ≡ Some b → P) → P
 from_some f None b is go = absurd (let none : ⊥ = cc in none)
 from_some f (Some a) b is go = go a refl is
 
@@ -45,7 +45,7 @@ module _ (image : Image) (way : Way) where
   on_linked ends node None rest is more = tt
   on_linked ends node (Some n) rest is more = (led ends node n is, more n)
 
-  linked : (ends : Ends) (left node : ℕ) → AreLinked image way node (reached image way ends left node)
+  pub linked : (ends : Ends) (left node : ℕ) → AreLinked image way node (reached image way ends left node)
   unfolding reached
   linked ends zero node = tt
   linked ends (suc left) node = on_linked ends node (next_in image way ends node) (λ next. reached image way ends left next) refl (λ n. linked ends left n)

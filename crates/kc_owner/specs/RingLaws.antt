@@ -1,5 +1,6 @@
 -- What the nodes of a ring are, also where it is broken.
-use Rattle.std.specs.Prelude.{◌≡◌, ℕ, List, [], ◌∷◌, ◌++◌, Some, None, Ok, ⊤}
+use Rattle.std.specs.Prelude.{◌≡◌, ℕ, nat_eq, List, [], ◌∷◌, ◌++◌, Some, None, Ok, ⊤}
+use Rattle.std.specs.List.{IsDistinct}
 use Rattle.kc_memory.specs.Image.{Image}
 use Rattle.kc_found.specs.declared.shapes.ListShape.{ListShape}
 use Rattle.kc_found.specs.Nodes.{at_offset}
@@ -34,3 +35,7 @@ WholeRingsStay =
 -- and those of a broken ring are such parts of it
 abbrev pub BrokenRingsPart : Type 0
 BrokenRingsPart = (image : Image) (list : ListShape) (head : ℕ) → AreParts image list head (parts_of image list head)
+
+-- in which no node stands twice
+abbrev pub BrokenRingsOnce : Type 0
+BrokenRingsOnce = (image : Image) (list : ListShape) (head : ℕ) → IsDistinct nat_eq (parts_of image list head)
