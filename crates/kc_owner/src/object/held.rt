@@ -1,5 +1,5 @@
 // What holds a physical address.
-ghost use Rattle.std.specs.Prelude.{◌≡◌};
+ghost use Rattle.std.specs.Prelude.{◌≡◌, ◌+◌, ◌*◌};
 ghost use Rattle.kc_memory.specs.Stays.{SpaceStays};
 ghost use Rattle.kc_found.specs.Walks.{CountsWalkFaults, WalksAs};
 ghost use Rattle.kc_owner.specs.Object.Bounds.{WithinWalks};
