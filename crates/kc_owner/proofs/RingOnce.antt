@@ -1,15 +1,22 @@
--- No node stands twice among those of a broken ring: one node leads to each, and what both walks reach ends the second.
-use Rattle.std.proofs.Common.{◌≡◌, ℕ, zero, suc, Bool, true, false, nat_eq, ◌||◌, if◌then◌else◌, List, [], ◌∷◌, ◌++◌, slice_get, Option, Some, None, refl, sym, ap, subst, ◌∙◌, arith}
+-- No node stands twice among those of a ring. Of a broken one: one node leads to each, and what both walks reach ends the second.
+use Rattle.std.proofs.Common.{◌≡◌, ℕ, zero, suc, Bool, true, false, nat_eq, ◌||◌, ◌-◌, if◌then◌else◌, List, [], ◌∷◌, ◌++◌, drop, length, length-drop, map, not, slice_get, Option, Some, None, Result, Ok, Err, option_map, refl, sym, ap, subst, ◌∙◌, arith}
 use Rattle.std.specs.List.{AllByRecursion, IsDistinct}
 use Rattle.std.proofs.lemmas.Bool.{eqb-false, ne_eqb}
+use Rattle.kc_memory.specs.declared.words.VWord.{VWord}
 use Rattle.kc_memory.specs.Image.{Image}
+use Rattle.kc_memory.specs.Stopped.{Stopped}
+use Rattle.kc_memory.specs.Translation.{vword}
 use Rattle.kc_found.specs.declared.shapes.ListShape.{ListShape}
-use Rattle.kc_found.specs.Nodes.{at_offset}
+use Rattle.kc_found.specs.FiniteLists.{IsMember, value_of, values}
+use Rattle.kc_found.specs.Nodes.{at_offset, is_poison, readable}
+use Rattle.kc_found.specs.Rings.{ring_walk}
+use Rattle.kc_found.specs.Violations.{Violation}
+use Rattle.kc_list.specs.Laws.{RingsAreWalked}
 use Rattle.kc_list.specs.Listed.{last_or}
 use Rattle.kc_owner.specs.declared.ring.Ends.{Ends}
 use Rattle.kc_owner.specs.declared.ring.Way.{Way}
-use Rattle.kc_owner.specs.RingLaws.{AreLinked, BrokenRingsOnce, Leads}
-use Rattle.kc_owner.specs.Rings.{by_next, by_prev, most_nodes, next_in, next_of, on_node, reached, reached_by_next, reached_by_prev, within, word_at}
+use Rattle.kc_owner.specs.RingLaws.{AreLinked, Leads, RingNodesOnce}
+use Rattle.kc_owner.specs.Rings.{by_next, by_prev, most_nodes, next_in, next_of, on_node, parts_of, reached, reached_by_next, reached_by_prev, ring_by, within, word_at}
 use Rattle.kc_owner.proofs.RingParts.{from_some, linked}
 
 -- a list has this node nowhere
@@ -35,6 +42,9 @@ tail_once x xs once i j y here there = later i j (once (suc i) (suc j) y here th
 
 head_once : (x : ℕ) (xs : List ℕ) → StandsOnce (x ∷ xs) → IsNot xs x
 head_once x xs once j there = not_first j (once 0 (suc j) x refl there)
+
+none_once : StandsOnce []
+none_once i j x here there = absurd (let none : ⊥ = cc in none)
 
 distinct : (xs : List ℕ) → StandsOnce xs → IsDistinct nat_eq xs
 unfolding IsDistinct
@@ -139,7 +149,7 @@ module _ (image : Image) (list : ListShape) (head : ℕ) (xs ys : List ℕ) (for
       distinct (xs ++ ys) (joined_once xs ys (tail_once head xs (linked_once image (by_next list) head xs forward past)) (tail_once head ys (linked_once image (by_prev list) head ys backward apart))
       (λ i x here j there. never_meet (suc j) i x here there))
 
-pub parts_once : BrokenRingsOnce
+parts_once : (image : Image) (list : ListShape) (head : ℕ) → IsDistinct nat_eq (parts_of image list head)
 parts_once image list head =
     both_once image list head (reached_by_next image list head) (reached_by_prev image list head (last_or head (reached_by_next image list head)))
     (linked image (by_next list) (record { head = head; last = head }) most_nodes head)
@@ -147,3 +157,68 @@ parts_once image list head =
     (λ j there. (reached_inside image (by_next list) (record { head = head; last = head }) most_nodes head j head there).0 refl)
     (λ j there. (reached_inside image (by_prev list) (record { head = head; last = last_or head (reached_by_next image list head) }) most_nodes head j (last_or head (reached_by_next image list head)) there).1 refl)
     (λ j there. (reached_inside image (by_prev list) (record { head = head; last = last_or head (reached_by_next image list head) }) most_nodes head j head there).0 refl)
+
+-- A whole ring: from where a node stands, it goes on in one way.
+same_value : (r : Result VWord Stopped) → option_map (λ (w : VWord). w.value) (readable r) ≡ value_of r
+same_value (Ok w) = refl
+same_value (Err s) = refl
+
+same_head : (x y : Option ℕ) (xs ys : List (Option ℕ)) → x ∷ xs ≡ y ∷ ys → x ≡ y
+same_head x y xs ys is = let same : x ≡ y = cc in same
+
+same_tail : (x y : Option ℕ) (xs ys : List (Option ℕ)) → x ∷ xs ≡ y ∷ ys → xs ≡ ys
+same_tail x y xs ys is = let same : xs ≡ ys = cc in same
+
+member_isnt : (head n : ℕ) (a b c : Bool) → nat_eq n head ≡ c → not (a || (b || c)) ≡ true → n ≡ head → ⊥
+member_isnt head n true b c test is same = let none : ⊥ = cc in none
+member_isnt head n false true c test is same = let none : ⊥ = cc in none
+member_isnt head n false false true test is same = let none : ⊥ = cc in none
+member_isnt head n false false false test is same = eqb-false n head test same
+
+-- from an address on the words lead to these nodes, in this order, and then to the head, which is none of them
+abbrev LeadsRound : Image → ListShape → ℕ → ℕ → List ℕ → Type 0
+LeadsRound image list head at [] = word_at image (at_offset at list.next) ≡ Some head
+LeadsRound image list head at (n ∷ ns) = (word_at image (at_offset at list.next) ≡ Some n) × ((n ≡ head → ⊥) × LeadsRound image list head n ns)
+
+module _ (image : Image) (list : ListShape) (head : ℕ) where
+  round : (at : ℕ) (ns : List ℕ) → AllByRecursion (IsMember head) ns → values (vword image) list.next (at ∷ ns) ≡ map Some (ns ++ head ∷ []) → LeadsRound image list head at ns
+  round at [] members is =
+      same_value (vword image (at_offset at list.next)) ∙ same_head (value_of (vword image (at_offset at list.next))) (Some head) [] [] is
+  round at (n ∷ ns) members is =
+      let more = values (vword image) list.next (n ∷ ns) in
+      (same_value (vword image (at_offset at list.next)) ∙ same_head (value_of (vword image (at_offset at list.next))) (Some n) more (map Some (ns ++ head ∷ [])) is,
+      (member_isnt head n (nat_eq n 0) (is_poison n) (nat_eq n head) refl members.0,
+      round n ns members.1 (same_tail (value_of (vword image (at_offset at list.next))) (Some n) more (map Some (ns ++ head ∷ [])) is)))
+
+  one_way : (at : ℕ) (xs ys : List ℕ) → LeadsRound image list head at xs → LeadsRound image list head at ys → xs ≡ ys
+  one_way at [] [] first second = refl
+  one_way at [] (y ∷ ys) first second = absurd (second.1.0 (same_of y head (word_at image (at_offset at list.next)) second.0 first))
+  one_way at (x ∷ xs) [] first second = absurd (first.1.0 (same_of x head (word_at image (at_offset at list.next)) first.0 second))
+  one_way at (x ∷ xs) (y ∷ ys) first second =
+      let same : y ≡ x = same_of y x (word_at image (at_offset at list.next)) second.0 first.0 in
+      ap (λ (l : List ℕ). x ∷ l) (one_way x xs ys first.1.1 (subst (λ (n : ℕ). LeadsRound image list head n ys) same second.1.1))
+      ∙ ap (λ (n : ℕ). n ∷ ys) (sym same)
+
+  goes_on : (at j x : ℕ) (ns : List ℕ) → LeadsRound image list head at ns → slice_get ns j ≡ Some x → LeadsRound image list head x (drop (suc j) ns)
+  goes_on at j x [] leads is = absurd (let none : ⊥ = cc in none)
+  goes_on at zero x (n ∷ ns) leads is = let same : n ≡ x = cc in subst (λ (y : ℕ). LeadsRound image list head y ns) same leads.1.1
+  goes_on at (suc j) x (n ∷ ns) leads is = goes_on n j x ns leads.1.1 is
+
+  first_once : (x : ℕ) (xs : List ℕ) → LeadsRound image list head x xs → IsNot xs x
+  first_once x [] leads j is = let none : ⊥ = cc in none
+  first_once x (y ∷ ys) leads j is =
+      let long : length (y ∷ ys) ≡ length (y ∷ ys) - suc j = ap length (one_way x (y ∷ ys) (drop (suc j) (y ∷ ys)) leads (goes_on x j x (y ∷ ys) leads is)) ∙ length-drop (suc j) (y ∷ ys) in
+      omega (arith, long)
+
+  round_once : (at : ℕ) (ns : List ℕ) → LeadsRound image list head at ns → StandsOnce ns
+  round_once at [] leads = none_once
+  round_once at (n ∷ ns) leads = more_once n ns (first_once n ns leads.1.1) (round_once n ns leads.1.1)
+
+by_walk : RingsAreWalked → (image : Image) (list : ListShape) (head : ℕ) (r : Result (List ℕ) Violation) → ring_walk image list 0 head ≡ r → IsDistinct nat_eq (ring_by (parts_of image list head) r).nodes
+by_walk known image list head (Ok ns) is =
+    let ring = (known image list 0 head ns).1 is in
+    distinct ns (round_once image list head head ns (round image list head head ns ring.members ring.forward))
+by_walk known image list head (Err v) is = parts_once image list head
+
+pub nodes_once : RingsAreWalked → RingNodesOnce
+nodes_once known image list head = by_walk known image list head (ring_walk image list 0 head) refl

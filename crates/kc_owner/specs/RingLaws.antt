@@ -36,6 +36,6 @@ WholeRingsStay =
 abbrev pub BrokenRingsPart : Type 0
 BrokenRingsPart = (image : Image) (list : ListShape) (head : ℕ) → AreParts image list head (parts_of image list head)
 
--- in which no node stands twice
-abbrev pub BrokenRingsOnce : Type 0
-BrokenRingsOnce = (image : Image) (list : ListShape) (head : ℕ) → IsDistinct nat_eq (parts_of image list head)
+-- no node of a ring stands twice, also where it is broken
+abbrev pub RingNodesOnce : Type 0
+RingNodesOnce = (image : Image) (list : ListShape) (head : ℕ) → IsDistinct nat_eq (ring_nodes image list head).nodes
