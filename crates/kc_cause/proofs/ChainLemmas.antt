@@ -16,7 +16,7 @@ use Rattle.kc_repair.specs.declared.suspect.suspect.Suspect.{Suspect}
 use Rattle.kc_repair.specs.declared.outcome.Next.{Next}
 use Rattle.kc_repair.specs.declared.outcome.Repair.{Repair}
 use Rattle.kc_repair.specs.declared.outcome.Repair.TheVariants.{Stands, Nothing}
-use Rattle.kc_repair.specs.Laws.{IsLeft, LeftStand, LeftWordsStand, OneMore, RepairWordsStand, RepairsStand, told_suspects}
+use Rattle.kc_repair.specs.Laws.{IsLeft, LeftStand, LeftStandInFile, LeftWordsStand, OneMore, RepairWordsStand, RepairsStand, StandsInFile, told_suspects}
 use Rattle.kc_repair.specs.Repairs.{StandsAs, is_apart, repair_left, repair_of, with_suspect, with_words}
 use Rattle.kc_repair.specs.Suspect.Laws.{IsSuspect}
 use Rattle.kc_repair.specs.Suspect.Suspects.{suspects}
@@ -106,6 +106,7 @@ pub record KnownLeft : Type 0 where
   pub first_words : RepairWordsStand
   pub stand : LeftStand
   pub words : LeftWordsStand
+  pub in_file : LeftStandInFile
   pub one_more : OneMore
 
 -- of an answer where some words are changed
@@ -170,11 +171,23 @@ first-left : (image : Image) (xs : List Suspect) → AllByRecursion (IsSuspect i
 first-left image [] all = tt
 first-left image (x ∷ xs) all = (record { there = all.0; apart = refl }, first-left image xs all.1)
 
+-- and in the dump as it is
+all-in_file : LeftStandInFile → (image : Image) (before words : List Suspect) → StandInTurn image before words → AllByRecursion (StandsInFile image) words
+all-in_file law image before [] there = tt
+all-in_file law image before (s ∷ later) there = (law image before s there.0, all-in_file law image (before ++ s ∷ []) later there.1)
+
+-- what holds of words that repair together
+pub record Together (image : Image) (audits : List AuditAt) (root : Root) (words : List Suspect) : Type 0 where
+  pub there : StandInTurn image [] words
+  pub in_file : AllByRecursion (StandsInFile image) words
+  pub stands : RootStands (with_words image words) audits root
+
 pub chained : KnownLeft → (image : Image) (audits : List AuditAt) (root : Root) (kind : Kind) (v : Violation) (words : List Suspect)
-    → chain_of image audits root (repair_of image audits root kind v) ≡ Some words → StandInTurn image [] words × RootStands (with_words image words) audits root
+    → chain_of image audits root (repair_of image audits root kind v) ≡ Some words → Together image audits root words
 chained law image audits root kind v words is =
     let r : Repair = repair_of image audits root kind v in
     let end = ends law most_words image audits root [] words (Some r)
     (said-by image audits root [] (suspects image kind v) r (law.first_stand image audits root kind v)
     (first-left image (told_suspects r) (law.first_words image audits root kind v))) is in
-    (subst (λ (l : List Suspect). StandInTurn image [] l) (sym end.is) end.there, end.stands)
+    let there : StandInTurn image [] words = subst (λ (l : List Suspect). StandInTurn image [] l) (sym end.is) end.there in
+    record { there = there; in_file = all-in_file law.in_file image [] words there; stands = end.stands }

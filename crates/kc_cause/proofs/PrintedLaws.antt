@@ -21,7 +21,7 @@ use Rattle.kc_repair.specs.declared.outcome.Breach.{Breach}
 use Rattle.kc_repair.specs.declared.outcome.Next.{Next}
 use Rattle.kc_repair.specs.declared.outcome.Repair.{Repair}
 use Rattle.kc_repair.specs.declared.outcome.Repair.TheVariants.{Stands, Nothing}
-use Rattle.kc_repair.specs.Laws.{LeftStand, LeftWordsStand, OneMore, RepairWordsStand, RepairsAreExact, RepairsStand, told_suspects}
+use Rattle.kc_repair.specs.Laws.{LeftStand, LeftStandInFile, LeftWordsStand, OneMore, RepairWordsStand, RepairsAreExact, RepairsStand, told_suspects}
 use Rattle.kc_repair.specs.Repairs.{IsElsewhere, IsFirstNext, IsNext, IsRepair, StandsAs, breach_of, most, repair_of, verdict_with, with_suspect, with_words}
 use Rattle.kc_repair.specs.Suspect.Laws.{IsSuspect, SuspectsStand}
 use Rattle.kc_repair.specs.Suspect.Suspects.{suspects}
@@ -30,10 +30,10 @@ use Rattle.kc_text.specs.Compose.{texts}
 use Rattle.kc_text.specs.Text.{hex}
 use Rattle.kc_cause.specs.Explained.{Explained, causes_text, cause_lines, explained_text, fault_lines, first_lines, found_named, found_number, is_broken, or_clean, repairs_by, repairs_found, root_line, shown_lines}
 use Rattle.kc_cause.specs.Lines.{after_lines, bytes_line, next_lines, only_fits, repair_label, repair_lines, suspect_part, word_line}
-use Rattle.kc_cause.specs.Printed.{IsChained, IsExplanation, IsPart, IsPartBy, IsPartOf, IsRepaired, IsThen, IsUnrepaired, IsWhole, StandInTurn, columns, explained_roots}
+use Rattle.kc_cause.specs.Printed.{IsChained, IsExplanation, IsPart, IsPartBy, IsPartOf, IsRepaired, IsThen, IsUnrepaired, IsWhole, columns, explained_roots}
 use Rattle.kc_cause.specs.Chained.{chain_of}
 use Rattle.kc_cause.specs.Suspected.{Suspected, suspected}
-use Rattle.kc_cause.proofs.ChainLemmas.{chained}
+use Rattle.kc_cause.proofs.ChainLemmas.{Together, chained}
 
 -- ---- the lines on a repair
 
@@ -94,7 +94,7 @@ word-lines [] = refl
 word-lines (s ∷ later) = ap (λ (l : List ℕ). word_line s ++ l) (word-lines later)
 
 after_said : (e : Explained) (root : Root) (words : Option (List Suspect)) (next : Option Next)
-    → ((all : List Suspect) → words ≡ Some all → StandInTurn e.image [] all × RootStands (with_words e.image all) e.audits root)
+    → ((all : List Suspect) → words ≡ Some all → Together e.image e.audits root all)
     → ((n : Next) → next ≡ Some n → Breaks (verdict_with e.image e.audits root) n × IsSuspect e.image n.suspect)
     → IsChained e root (after_lines words next) ⊎ ((after_lines words next ≡ []) ⊎ IsThen e root (after_lines words next))
 after_said e root None next chained holds = inr (next_said e root next holds)
@@ -103,8 +103,9 @@ after_said e root (Some all) next chained holds =
     inl (record {
       words = all;
       line = ap (λ (l : List ℕ). codes "chain " ++ decimal (length all) ++ codes "\n" ++ l) (word-lines all);
-      there = both.0;
-      stands = both.1;
+      there = both.there;
+      in_file = both.in_file;
+      stands = both.stands;
     })
 
 -- what an answer on a violation says
@@ -113,7 +114,7 @@ record Answers (e : Explained) (root : Root) (found : Breach) (of : List Suspect
   is : IsRepair (verdict_with e.image e.audits root) found of r
   stands : StandsAs e.image e.audits root of r
   told : AllByRecursion (IsSuspect e.image) (told_suspects r)
-  chained : (all : List Suspect) → words ≡ Some all → StandInTurn e.image [] all × RootStands (with_words e.image all) e.audits root
+  chained : (all : List Suspect) → words ≡ Some all → Together e.image e.audits root all
 
 none_said : (e : Explained) (root : Root) (found : Breach) (of : List Suspect) (words : Option (List Suspect)) (tried : ℕ) (more : Bool) (next : Option Next) (v : Violation)
     → Answers e root found of words (Nothing tried more next) → IsUnrepaired e root (repair_lines v words (Nothing tried more next))
@@ -152,6 +153,7 @@ pub record Known : Type 0 where
   pub suspects : SuspectsStand
   pub left : LeftStand
   pub left_words : LeftWordsStand
+  pub in_file : LeftStandInFile
   pub one_more : OneMore
 
 kind_said : Known → (e : Explained) (root : Root) (kind : Kind) (v : Violation) → IsSaid e root (repairs_by e.image e.audits root v (repair_of e.image e.audits root kind v))
@@ -163,7 +165,7 @@ kind_said law e root kind v =
       stands = law.stand e.image e.audits root kind v;
       told = law.words e.image e.audits root kind v;
       chained = λ all is.
-          chained (record { first_stand = law.stand; first_words = law.words; stand = law.left; words = law.left_words; one_more = law.one_more }) e.image e.audits root kind v all is;
+          chained (record { first_stand = law.stand; first_words = law.words; stand = law.left; words = law.left_words; in_file = law.in_file; one_more = law.one_more }) e.image e.audits root kind v all is;
     })
 
 root_said : Known → (e : Explained) (number : ℕ) (at : Option Root) (root : Root) (s : Suspected) → at ≡ Some root

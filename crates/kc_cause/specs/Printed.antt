@@ -11,7 +11,7 @@ use Rattle.kc_plan.specs.Stands.{RootStands}
 use Rattle.kc_run.specs.Each.{root_at}
 use Rattle.kc_repair.specs.declared.suspect.suspect.Suspect.{Suspect}
 use Rattle.kc_repair.specs.Repairs.{with_suspect, with_words}
-use Rattle.kc_repair.specs.Laws.{IsLeft}
+use Rattle.kc_repair.specs.Laws.{IsLeft, StandsInFile}
 use Rattle.kc_repair.specs.Suspect.Laws.{IsSuspect}
 use Rattle.kc_report.specs.Lines.{rule_code}
 use Rattle.kc_cause.specs.Explained.{Explained, is_broken}
@@ -42,11 +42,13 @@ abbrev pub StandInTurn : Image → List Suspect → List Suspect → Type 0
 StandInTurn image before [] = ⊤
 StandInTurn image before (s ∷ later) = IsLeft image before s × StandInTurn image (before ++ s ∷ []) later
 
--- Under `chain`: so many words, in the order in which they are changed, and with all their other numbers the root audit stands.
+-- Under `chain`: so many words, in the order in which they are changed. The number of each stands at its physical address and its file offset in the
+-- dump as it is, and with all their other numbers the root audit stands.
 pub record IsChained (e : Explained) (root : Root) (text : List ℕ) : Type 0 where
   pub words : List Suspect
   pub line : text ≡ codes "chain " ++ decimal (length words) ++ codes "\n" ++ concat (map (λ s. codes "word " ++ columns s ++ codes "\n") words)
   pub there : StandInTurn e.image [] words
+  pub in_file : AllByRecursion (StandsInFile e.image) words
   pub stands : RootStands (with_words e.image words) e.audits root
 
 -- Under `repair none`: so many words stand in the dump so, and with the other number of none of them the root audit stands.

@@ -64,11 +64,12 @@ pub changes-all : (words : List Suspect) (i : ℕ) (changes : List Change) → l
 changes-all words i changes past is = is ∙ ap (map change_of) (take_all i words past)
 
 -- one suspect more that is kept, or not
-pub kept-more : (keeps : Suspect → Bool) (xs : List Suspect) (i : ℕ) (d : Suspect) (kept new : List Suspect) → i < length xs → kept ≡ filter keeps (take i xs)
-    → new ≡ kept ++ filter keeps (get_or xs i d ∷ []) → new ≡ filter keeps (take (i + 1) xs)
-kept-more keeps xs i d kept new lt is grows =
-    grows ∙ ap (λ (l : List Suspect). l ++ filter keeps (get_or xs i d ∷ [])) is
-    ∙ sym (ap (filter keeps) (take_more xs i d lt) ∙ filter-append keeps (take i xs) (get_or xs i d ∷ []))
+pub kept-more : (keeps : Suspect → Bool) (xs : List Suspect) (i : ℕ) (d : Suspect) (kept new : List Suspect) (is_kept : Bool) → i < length xs → kept ≡ filter keeps (take i xs)
+    → is_kept ≡ keeps (get_or xs i d) → new ≡ kept ++ (if is_kept then get_or xs i d ∷ [] else []) → new ≡ filter keeps (take (i + 1) xs)
+kept-more keeps xs i d kept new is_kept lt is same grows =
+    let one : List Suspect = get_or xs i d ∷ [] in
+    grows ∙ ap (λ (b : Bool). kept ++ (if b then one else [])) same ∙ ap (λ (l : List Suspect). l ++ filter keeps one) is
+    ∙ sym (ap (filter keeps) (take_more xs i d lt) ∙ filter-append keeps (take i xs) one)
 
 pub kept-all : (keeps : Suspect → Bool) (xs : List Suspect) (i : ℕ) (kept : List Suspect) → length xs ≤ i → kept ≡ filter keeps (take i xs) → kept ≡ filter keeps xs
 kept-all keeps xs i kept past is = is ∙ ap (filter keeps) (take_all i xs past)

@@ -2,4 +2,5 @@ mod Changing
 mod Determined
 mod Told
 mod Trying
+mod Unchanged
 pub mod SuspectLemmas

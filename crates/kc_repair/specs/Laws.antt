@@ -1,7 +1,8 @@
 -- What repairs say.
-use Rattle.std.specs.Prelude.{◌≡◌, true, filter, ◌++◌, List, [], ◌∷◌, Option, option_map, option_to_list}
+use Rattle.std.specs.Prelude.{◌≡◌, true, filter, ◌++◌, List, [], ◌∷◌, Option, Some, option_map, option_to_list}
 use Rattle.std.specs.List.{AllByRecursion}
-use Rattle.kc_memory.specs.Image.{Image}
+use Rattle.kc_memory.specs.declared.words.Origin.TheVariants.{File}
+use Rattle.kc_memory.specs.Image.{Image, pword}
 use Rattle.kc_found.specs.Violations.{Violation}
 use Rattle.kc_kinds.specs.declared.kind.Kind.{Kind}
 use Rattle.kc_plan.specs.Planned.{AuditAt}
@@ -55,6 +56,14 @@ abbrev pub LeftWordsStand : Type 0
 LeftWordsStand =
     (image : Image) (audits : List AuditAt) (root : Root) (earlier : List Suspect) (kind : Kind) (v : Violation)
     → AllByRecursion (IsLeft image earlier) (told_suspects (repair_left image audits root earlier kind v))
+
+-- a word of the dump as it is, with no word changed: its number stands at its physical address, and in the file at its offset
+abbrev pub StandsInFile : Image → Suspect → Type 0
+StandsInFile image s = pword image.physical s.pa ≡ Some (record { value = s.now; off = File s.off })
+
+-- So does each that is left, since the changed words have none of its bytes. Its virtual address may lead there only with these changed.
+abbrev pub LeftStandInFile : Type 0
+LeftStandInFile = (image : Image) (earlier : List Suspect) (s : Suspect) → IsLeft image earlier s → StandsInFile image s
 
 -- one word more is changed over the others
 abbrev pub OneMore : Type 0

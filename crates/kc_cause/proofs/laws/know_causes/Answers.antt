@@ -45,6 +45,7 @@ returns c = record {
     suspects = c.know_suspects.ensures;
     left = c.know_repairs.ensures.left;
     left_words = c.know_repairs.ensures.left_words;
+    in_file = c.know_repairs.ensures.in_file;
     one_more = c.know_repairs.ensures.one_more;
   });
 }
