@@ -95,31 +95,32 @@ fn push_label(text: &mut Vec<u8>, fits: bool) -> Result<(), NoMemory>
     push(text, b"repair ")
 }
 
-// How many words repair together, and each of them.
-fn push_words(text: &mut Vec<u8>, words: &[Suspect]) -> Result<(), NoMemory>
+// One of the words that repair together.
+fn push_word(text: &mut Vec<u8>, word: &Suspect) -> Result<(), NoMemory>
+    ensures { OnOk result (text.new.items ≡ text.old.items ++ word_line word.now) }
+{
+    push(text, b"word ")?;
+    push_suspect(text, *word)?;
+    push(text, b"\n")
+}
+
+fn push_words(text: &mut Vec<u8>, words: &Suspects) -> Result<(), NoMemory>
     ensures { OnOk result (text.new.items ≡ text.old.items ++ texts word_line words.now) }
 {
-    for word in words {
-        push_word(text, *word)?;
+    for i in 0..words.len() {
+        push_word(text, words.get(i))?;
     }
     Ok(())
 }
 
-fn push_word(text: &mut Vec<u8>, word: Suspect) -> Result<(), NoMemory>
-    ensures { OnOk result (text.new.items ≡ text.old.items ++ word_line word) }
-{
-    push(text, b"word ")?;
-    push_suspect(text, word)?;
-    push(text, b"\n")
-}
-
+// How many they are, and each of them.
 fn push_chain(text: &mut Vec<u8>, words: &Suspects) -> Result<(), NoMemory>
     ensures { OnOk result (text.new.items ≡ text.old.items ++ chain_lines words.now) }
 {
     push(text, b"chain ")?;
     push_decimal(text, words.len() as u64)?;
     push(text, b"\n")?;
-    push_words(text, words.as_slice())
+    push_words(text, words)
 }
 
 // The lines after what none of those tried repairs: those that repair together, or what one of them leads to.
