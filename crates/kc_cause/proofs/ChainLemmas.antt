@@ -21,82 +21,94 @@ use Rattle.kc_repair.specs.Repairs.{StandsAs, is_apart, repair_left, repair_of, 
 use Rattle.kc_repair.specs.Suspect.Laws.{IsSuspect}
 use Rattle.kc_repair.specs.Suspect.Suspects.{suspects}
 use Rattle.kc_cause.specs.declared.suspected.AsRing.{AsRing}
-use Rattle.kc_cause.specs.Chained.{chain_from, chain_of, left_after, left_as, left_by, most_words}
+use Rattle.kc_cause.specs.Chained.{chain_from, chain_of, ended, leads_on, left_after, left_as, left_by, most_words}
 use Rattle.kc_cause.specs.Printed.{StandInTurn}
 use Rattle.kc_cause.specs.Suspected.{Suspected, suspected, suspected_view}
 
 -- ---- what repairs what is left
 
-pub found-left : (image after : Option Image) (r : Result Repair ReadFailed) (audits : List AuditAt) (root : Root) (words : List Suspect) (v : Violation) (a : AuditAt) (ring : Option AsRing) (kind : Kind) (w : Violation)
+pub told-left : (image : Option Image) (r : Result Repair ReadFailed) (x : Repair) (audits : List AuditAt) (root : Root) (words : List Suspect) (kind : Kind) (w : Violation)
+    → r ≡ Ok x → IfOk r (λ x. IfSome image (λ m. x ≡ repair_left m audits root words kind w)) → IfSome image (λ m. Some x ≡ Some (repair_left m audits root words kind w))
+told-left None r x audits root words kind w is left = tt
+told-left (Some m) r x audits root words kind w is left =
+    let same : x ≡ repair_left m audits root words kind w = rw is at left in ap (λ (y : Repair). Some y) same
+
+pub found-left : (image after : Option Image) (r : Result (Option Repair) ReadFailed) (audits : List AuditAt) (root : Root) (words : List Suspect) (v : Violation) (a : AuditAt) (ring : Option AsRing) (kind : Kind) (w : Violation)
     → slice_get audits v.audit ≡ Some a → after ≡ image → IfSome image (λ m. suspected_view a.kind v ring ≡ suspected (with_words m words) v a.kind)
     → suspected_view a.kind v ring ≡ record { kind = kind; violation = w }
-    → IfOk r (λ x. IfSome after (λ m. x ≡ repair_left m audits root words kind w)) → IfOk r (λ x. IfSome image (λ m. Some x ≡ left_by m audits root words (Broken v)))
+    → IfOk r (λ x. IfSome after (λ m. x ≡ Some (repair_left m audits root words kind w))) → IfOk r (λ x. IfSome image (λ m. x ≡ left_by m audits root words (Broken v)))
 found-left image after (Err stop) audits root words v a ring kind w is same tells seen_as left = tt
 found-left None after (Ok x) audits root words v a ring kind w is same tells seen_as left = tt
 found-left (Some m) after (Ok x) audits root words v a ring kind w is same tells seen_as left =
-    rw is (ap (λ (r : Repair). Some r) ((rw same at left) ∙ ap (λ (s : Suspected). left_as m audits root words s) (sym seen_as ∙ tells)))
+    rw is ((rw same at left) ∙ ap (λ (s : Suspected). Some (left_as m audits root words s)) (sym seen_as ∙ tells))
 
-pub left-clean : (image : Option Image) (audits : List AuditAt) (root : Root) (words : List Suspect) (counts : List AuditCount)
-    → IfSome image (λ m. (root_verdict (with_words m words) audits root).verdict ≡ Clean counts) → IfSome image (λ m. None ≡ left_after m audits root words)
-left-clean None audits root words counts is = tt
-left-clean (Some m) audits root words counts is = rw is refl
+pub left-clean : (image : Option Image) (audits : List AuditAt) (root : Root) (words : List Suspect) (r : Result Verdict ReadFailed) (counts : List AuditCount) → r ≡ Ok (Clean counts)
+    → IfOk r (λ found. IfSome image (λ m. (root_verdict (with_words m words) audits root).verdict ≡ found)) → IfSome image (λ m. None ≡ left_after m audits root words)
+left-clean None audits root words r counts is exact = tt
+left-clean (Some m) audits root words r counts is exact =
+    let clean : (root_verdict (with_words m words) audits root).verdict ≡ Clean counts = rw is at exact in rw clean refl
 
-pub left-broken : (image after : Option Image) (audits : List AuditAt) (root : Root) (words : List Suspect) (v : Violation) (r : Result Repair ReadFailed) (x : Repair)
-    → after ≡ image → IfSome image (λ m. (root_verdict (with_words m words) audits root).verdict ≡ Broken v) → r ≡ Ok x
-    → IfOk r (λ x. IfSome after (λ m. Some x ≡ left_by m audits root words (Broken v))) → IfSome image (λ m. Some x ≡ left_after m audits root words)
-left-broken None after audits root words v r x same is ok left = tt
-left-broken (Some m) after audits root words v r x same is ok left = rw is (rw (same, ok) at left)
+pub left-broken : (image after : Option Image) (audits : List AuditAt) (root : Root) (words : List Suspect) (r : Result Verdict ReadFailed) (v : Violation) (left : Result (Option Repair) ReadFailed)
+    → after ≡ image → r ≡ Ok (Broken v) → IfOk r (λ found. IfSome image (λ m. (root_verdict (with_words m words) audits root).verdict ≡ found))
+    → IfOk left (λ x. IfSome after (λ m. x ≡ left_by m audits root words (Broken v))) → IfOk left (λ x. IfSome image (λ m. x ≡ left_after m audits root words))
+left-broken image after audits root words r v (Err stop) same is exact found = tt
+left-broken None after audits root words r v (Ok x) same is exact found = tt
+left-broken (Some m) after audits root words r v (Ok x) same is exact found =
+    let broken : (root_verdict (with_words m words) audits root).verdict ≡ Broken v = rw is at exact in rw broken (rw same at found)
 
 -- ---- a step of the loop
 
 abbrev Ahead : Image → List AuditAt → Root → Repair → ℕ → List Suspect → Option Repair → Type 0
 Ahead m audits root first i words left = chain_from (most_words - i) m audits root words left ≡ chain_of m audits root first
 
-more-left : (i : ℕ) → i < 8 → most_words - i ≡ suc (most_words - (i + 1))
+more-left : (i : ℕ) → i < 8 → 8 - i ≡ suc (8 - (i + 1))
 more-left i lt = omega arith
 
-pub chain-more : (image after : Option Image) (audits : List AuditAt) (root : Root) (first : Repair) (i tried : ℕ) (beyond : Bool) (words : List Suspect) (next : Next) (left more : Option Repair)
-    → after ≡ image → i < 8 → left ≡ Some (Nothing tried beyond (Some next)) → IfSome image (λ m. Ahead m audits root first i words left)
-    → IfSome after (λ m. more ≡ left_after m audits root (words ++ next.suspect ∷ [])) → IfSome image (λ m. Ahead m audits root first (i + 1) (words ++ next.suspect ∷ []) more)
+-- where a word leads on, and where none does
+goes-on : (n : ℕ) (m : Image) (audits : List AuditAt) (root : Root) (words : List Suspect) (s : Suspect) (left : Option Repair) → leads_on left ≡ Some s
+    → chain_from (suc n) m audits root words left ≡ chain_from n m audits root (words ++ s ∷ []) (left_after m audits root (words ++ s ∷ []))
 unfolding chain_from
-chain-more None after audits root first i tried beyond words next left more same lt is ahead found = tt
-chain-more (Some m) after audits root first i tried beyond words next left more same lt is ahead found =
-    ap (λ (r : Option Repair). chain_from (most_words - (i + 1)) m audits root (words ++ next.suspect ∷ []) r) (rw same at found)
-    ∙ ap (λ (n : ℕ). chain_from n m audits root words (Some (Nothing tried beyond (Some next)))) (sym (more-left i lt))
-    ∙ ap (λ (r : Option Repair). chain_from (most_words - i) m audits root words r) (sym is)
+goes-on n m audits root words s None leads = absurd (let none : ⊥ = cc in none)
+goes-on n m audits root words s (Some (Stands x)) leads = absurd (let none : ⊥ = cc in none)
+goes-on n m audits root words s (Some (Nothing tried beyond None)) leads = absurd (let none : ⊥ = cc in none)
+goes-on n m audits root words s (Some (Nothing tried beyond (Some next))) leads =
+    let same : next.suspect ≡ s = cc in
+    ap (λ (x : Suspect). chain_from n m audits root (words ++ x ∷ []) (left_after m audits root (words ++ x ∷ []))) same
+
+ends-here : (n : ℕ) (m : Image) (audits : List AuditAt) (root : Root) (words : List Suspect) (left : Option Repair) → leads_on left ≡ None
+    → chain_from (suc n) m audits root words left ≡ ended words left
+unfolding chain_from
+ends-here n m audits root words None none = refl
+ends-here n m audits root words (Some (Stands x)) none = refl
+ends-here n m audits root words (Some (Nothing tried beyond None)) none = refl
+ends-here n m audits root words (Some (Nothing tried beyond (Some next))) none = absurd (let never : ⊥ = cc in never)
+
+pub chain-more : (image after : Option Image) (audits : List AuditAt) (root : Root) (first : Repair) (i : ℕ) (words : List Suspect) (s : Suspect) (left more : Option Repair)
+    → after ≡ image → i < 8 → leads_on left ≡ Some s → IfSome image (λ m. Ahead m audits root first i words left)
+    → IfSome after (λ m. more ≡ left_after m audits root (words ++ s ∷ [])) → IfSome image (λ m. Ahead m audits root first (i + 1) (words ++ s ∷ []) more)
+chain-more None after audits root first i words s left more same lt leads ahead found = tt
+chain-more (Some m) after audits root first i words s left more same lt leads ahead found =
+    ap (λ (r : Option Repair). chain_from (8 - (i + 1)) m audits root (words ++ s ∷ []) r) (rw same at found)
+    ∙ sym (goes-on (8 - (i + 1)) m audits root words s left leads)
+    ∙ ap (λ (n : ℕ). chain_from n m audits root words left) (sym (more-left i lt))
     ∙ ahead
 
-pub chain-ends : (image : Option Image) (audits : List AuditAt) (root : Root) (first : Repair) (i : ℕ) (words : List Suspect) (left : Option Repair) (s : Suspect)
-    → i < 8 → left ≡ Some (Stands s) → IfSome image (λ m. Ahead m audits root first i words left) → IfSome image (λ m. Some (words ++ s ∷ []) ≡ chain_of m audits root first)
-unfolding chain_from
-chain-ends None audits root first i words left s lt is ahead = tt
-chain-ends (Some m) audits root first i words left s lt is ahead =
-    ap (λ (n : ℕ). chain_from n m audits root words (Some (Stands s))) (sym (more-left i lt))
-    ∙ ap (λ (r : Option Repair). chain_from (most_words - i) m audits root words r) (sym is) ∙ ahead
+pub chain-ends : (image : Option Image) (audits : List AuditAt) (root : Root) (first : Repair) (i : ℕ) (words : List Suspect) (left : Option Repair) (all : Option (List Suspect))
+    → i < 8 → leads_on left ≡ None → IfSome image (λ m. Ahead m audits root first i words left) → all ≡ ended words left → IfSome image (λ m. all ≡ chain_of m audits root first)
+chain-ends None audits root first i words left all lt none ahead exact = tt
+chain-ends (Some m) audits root first i words left all lt none ahead exact =
+    exact ∙ sym (ends-here (8 - (i + 1)) m audits root words left none) ∙ ap (λ (n : ℕ). chain_from n m audits root words left) (sym (more-left i lt)) ∙ ahead
 
-pub chain-none : (image : Option Image) (audits : List AuditAt) (root : Root) (first : Repair) (i : ℕ) (words : List Suspect) (left : Option Repair)
-    → i < 8 → left ≡ None → IfSome image (λ m. Ahead m audits root first i words left) → IfSome image (λ m. None ≡ chain_of m audits root first)
+-- after the last word
+past : (m : Image) (audits : List AuditAt) (root : Root) (words : List Suspect) (left : Option Repair) (n : ℕ) → n ≡ 0 → None ≡ chain_from n m audits root words left
 unfolding chain_from
-chain-none None audits root first i words left lt is ahead = tt
-chain-none (Some m) audits root first i words left lt is ahead =
-    ap (λ (n : ℕ). chain_from n m audits root words None) (sym (more-left i lt))
-    ∙ ap (λ (r : Option Repair). chain_from (most_words - i) m audits root words r) (sym is) ∙ ahead
-
-pub chain-nothing : (image : Option Image) (audits : List AuditAt) (root : Root) (first : Repair) (i tried : ℕ) (beyond : Bool) (words : List Suspect) (left : Option Repair)
-    → i < 8 → left ≡ Some (Nothing tried beyond None) → IfSome image (λ m. Ahead m audits root first i words left) → IfSome image (λ m. None ≡ chain_of m audits root first)
-unfolding chain_from
-chain-nothing None audits root first i tried beyond words left lt is ahead = tt
-chain-nothing (Some m) audits root first i tried beyond words left lt is ahead =
-    ap (λ (n : ℕ). chain_from n m audits root words (Some (Nothing tried beyond None))) (sym (more-left i lt))
-    ∙ ap (λ (r : Option Repair). chain_from (most_words - i) m audits root words r) (sym is) ∙ ahead
+past m audits root words left zero is = refl
+past m audits root words left (suc n) is = absurd (let none : ⊥ = cc in none)
 
 pub chain-long : (image : Option Image) (audits : List AuditAt) (root : Root) (first : Repair) (i : ℕ) (words : List Suspect) (left : Option Repair)
     → 8 ≤ i → IfSome image (λ m. Ahead m audits root first i words left) → IfSome image (λ m. None ≡ chain_of m audits root first)
-unfolding chain_from
-chain-long None audits root first i words left past ahead = tt
-chain-long (Some m) audits root first i words left past ahead =
-    let none : most_words - i ≡ 0 = omega arith in
-    ap (λ (n : ℕ). chain_from n m audits root words left) (sym none) ∙ ahead
+chain-long None audits root first i words left beyond ahead = tt
+chain-long (Some m) audits root first i words left beyond ahead = past m audits root words left (8 - i) (omega arith) ∙ ahead
 
 -- ---- what the words of a chain say
 

@@ -2,6 +2,7 @@ mod ChainLemmas
 mod FileLemmas
 mod Fits
 mod ItemLemmas
+mod MendedLemmas
 mod PlannedLemmas
 mod PrintedLaws
 mod RepairLemmas

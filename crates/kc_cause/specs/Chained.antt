@@ -25,6 +25,19 @@ left_by image audits root words (Broken v) =
 abbrev pub left_after : Image → List AuditAt → Root → List Suspect → Option Repair
 left_after image audits root words = left_by image audits root words (root_verdict (with_words image words) audits root).verdict
 
+-- the word that leads to another violation, where none repairs
+abbrev pub leads_on : Option Repair → Option Suspect
+leads_on (Some (Nothing tried beyond (Some next))) = Some next.suspect
+leads_on (Some (Nothing tried beyond None)) = None
+leads_on (Some (Stands s)) = None
+leads_on None = None
+
+-- words with the one that repairs what is left, where there is one
+abbrev pub ended : List Suspect → Option Repair → Option (List Suspect)
+ended words (Some (Stands s)) = Some (words ++ s ∷ [])
+ended words (Some (Nothing tried beyond next)) = None
+ended words None = None
+
 -- Words that are changed one after the other, at most so many more: where a word repairs what is left, it is the last, and else the first that leads
 -- to another violation goes along.
 unfoldable pub chain_from : ℕ → Image → List AuditAt → Root → List Suspect → Option Repair → Option (List Suspect)

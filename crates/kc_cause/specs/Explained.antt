@@ -117,9 +117,9 @@ found_number audits v = option_map_or (λ (a : AuditAt). number_lines a.kind v) 
 abbrev pub repairs_by : Image → List AuditAt → Root → Violation → Repair → List ℕ
 repairs_by image audits root v repair = repair_lines v (chain_of image audits root repair) repair
 
-abbrev pub IsMended : Image → List AuditAt → Root → Kind → Violation → Mended → Type 0
-IsMended image audits root kind v m =
-    (m.repair ≡ repair_of image audits root kind v) × (m.words ≡ chain_of image audits root (repair_of image audits root kind v))
+-- the code has this first answer, and the words that repair together after it
+abbrev pub IsMended : Image → List AuditAt → Root → Repair → Mended → Type 0
+IsMended image audits root first m = (m.repair ≡ first) × (m.words ≡ chain_of image audits root first)
 
 -- under the root audit with a number
 abbrev pub repairs_as : Explained → ℕ → Kind → Violation → List ℕ

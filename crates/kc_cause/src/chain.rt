@@ -1,7 +1,6 @@
 // Several words that repair a root audit together.
 ghost use Rattle.std.specs.Prelude.{◌≡◌, ◌∷◌, [], ◌++◌, ◌<◌, length, IfOk, IfSome, OnOk, Some};
 ghost use Rattle.kc_found.specs.declared.verdict.Verdict.TheVariants.{Broken};
-ghost use Rattle.kc_found.specs.Failures.{CountsFailures};
 ghost use Rattle.kc_outside.specs.declared.store.Slot.TheVariants.{Dump};
 ghost use Rattle.kc_outside.specs.Files.{content};
 ghost use Rattle.kc_phys.specs.Stored.{stored};
@@ -9,7 +8,7 @@ ghost use Rattle.kc_mem.specs.Paged.{with_paging};
 ghost use Rattle.kc_plan.specs.Views.{plan_seen};
 ghost use Rattle.kc_repair.specs.Repairs.{repair_left};
 ghost use Rattle.kc_repair.specs.Suspect.Answers.{OnlyReadsFrames};
-ghost use Rattle.kc_cause.specs.Chained.{chain_of, left_after, left_by};
+ghost use Rattle.kc_cause.specs.Chained.{chain_of, ended, leads_on, left_after, left_by};
 ghost use Rattle.kc_cause.specs.Judged.{FitsTogether};
 
 use crate::judged::PlanOf;
@@ -33,17 +32,35 @@ fn left_as<'s, S: Store>(
     words: &[Suspect],
     kind: &Kind,
     found: &Found,
-) -> Repaired<'s, S>
+) -> Returned<Phys<'s, S>, Result<Option<Repair>, ReadFailed>>
     requires over { FitsTogether over.now }
     requires root { root.audit < length over.now.plan.now.audits }
 
-    ensures exact { IfOk result.repair (λ repair. IfSome (with_paging over.now.paging (stored memory.entry.segments.items memory.entry.tail (content (S.files memory.entry.store.now) Dump (S.opened memory.entry.store.now Dump))))
-        (λ image. repair ≡ repair_left image (plan_seen over.now.plan.now) (root.audit, root.start) words.now kind.now found.now)) }
-    ensures reads { OnlyReadsFrames (λ p. stored p.segments.items p.tail (content (S.files p.store.now) Dump (S.opened p.store.now Dump))) (λ p. S.files p.store.now) (λ p. p.store.ghost_name ∷ []) (λ p. S.faults p.store.now) result.repair memory.entry result.memory }
+    ensures exact { IfOk result.answer (λ left. IfSome (with_paging over.now.paging (stored memory.entry.segments.items memory.entry.tail (content (S.files memory.entry.store.now) Dump (S.opened memory.entry.store.now Dump))))
+        (λ image. left ≡ Some (repair_left image (plan_seen over.now.plan.now) (root.audit, root.start) words.now kind.now found.now))) }
+    ensures reads { OnlyReadsFrames (λ p. stored p.segments.items p.tail (content (S.files p.store.now) Dump (S.opened p.store.now Dump))) (λ p. S.files p.store.now) (λ p. p.store.ghost_name ∷ []) (λ p. S.faults p.store.now) result.answer memory.entry result.memory }
 {
     let PlanOf { plan, types, .. } = *over;
     let audit = RootAudit { plan, types, root };
-    repair_left(over.alloc, memory, over.paging, &audit, words, kind, found)
+    let Repaired { memory, repair } = repair_left(
+        over.alloc,
+        memory,
+        over.paging,
+        &audit,
+        words,
+        kind,
+        found,
+    );
+    match repair {
+        Ok(repair) => Returned {
+            memory,
+            answer: Ok(Some(repair)),
+        },
+        Err(stop) => Returned {
+            memory,
+            answer: Err(stop),
+        },
+    }
 }
 
 // And as it is suspected.
@@ -53,23 +70,23 @@ fn left_found<'s, S: Store>(
     root: Asked,
     words: &[Suspect],
     found: &Found,
-) -> Repaired<'s, S>
+) -> Returned<Phys<'s, S>, Result<Option<Repair>, ReadFailed>>
     requires over { FitsTogether over.now }
     requires root { root.audit < length over.now.plan.now.audits }
     requires found { found.now.audit < length over.now.plan.now.audits }
 
-    ensures exact { IfOk result.repair (λ repair. IfSome (with_paging over.now.paging (stored memory.entry.segments.items memory.entry.tail (content (S.files memory.entry.store.now) Dump (S.opened memory.entry.store.now Dump))))
-        (λ image. Some repair ≡ left_by image (plan_seen over.now.plan.now) (root.audit, root.start) words.now (Broken found.now))) }
-    ensures reads { OnlyReadsFrames (λ p. stored p.segments.items p.tail (content (S.files p.store.now) Dump (S.opened p.store.now Dump))) (λ p. S.files p.store.now) (λ p. p.store.ghost_name ∷ []) (λ p. S.faults p.store.now) result.repair memory.entry result.memory }
+    ensures exact { IfOk result.answer (λ left. IfSome (with_paging over.now.paging (stored memory.entry.segments.items memory.entry.tail (content (S.files memory.entry.store.now) Dump (S.opened memory.entry.store.now Dump))))
+        (λ image. left ≡ left_by image (plan_seen over.now.plan.now) (root.audit, root.start) words.now (Broken found.now))) }
+    ensures reads { OnlyReadsFrames (λ p. stored p.segments.items p.tail (content (S.files p.store.now) Dump (S.opened p.store.now Dump))) (λ p. S.files p.store.now) (λ p. p.store.ghost_name ∷ []) (λ p. S.faults p.store.now) result.answer memory.entry result.memory }
 {
     let kind = &over.plan.audit(found.audit).kind;
     let Returned { memory, answer } = as_ring_left(memory, over, words, kind, found);
     match answer {
         Ok(Some(ring)) => left_as(memory, over, root, words, &ring.kind, &ring.found),
         Ok(None) => left_as(memory, over, root, words, kind, found),
-        Err(stop) => Repaired {
+        Err(stop) => Returned {
             memory,
-            repair: Err(stop),
+            answer: Err(stop),
         },
     }
 }
@@ -91,27 +108,17 @@ fn left_after<'s, S: Store>(
     let PlanOf { plan, types, .. } = *over;
     let audit = RootAudit { plan, types, root };
     let Returned { memory, answer } = verdict_over(over.alloc, memory, over.paging, &audit, words);
-    let found = match answer {
-        Ok(Verdict::Broken(found)) => found,
-        Ok(Verdict::Clean(_)) => {
-            return Returned {
-                memory,
-                answer: Ok(None),
-            };
-        }
-        Err(stop) => {
-            return Returned {
-                memory,
-                answer: Err(stop),
-            };
-        }
-    };
-    let Repaired { memory, repair } = left_found(memory, over, root, words, &found);
-    let answer = match repair {
-        Ok(repair) => Ok(Some(repair)),
-        Err(stop) => Err(stop),
-    };
-    Returned { memory, answer }
+    match answer {
+        Ok(Verdict::Broken(found)) => left_found(memory, over, root, words, &found),
+        Ok(Verdict::Clean(_)) => Returned {
+            memory,
+            answer: Ok(None),
+        },
+        Err(stop) => Returned {
+            memory,
+            answer: Err(stop),
+        },
+    }
 }
 
 // One word more, and what repairs what is left then.
@@ -139,15 +146,29 @@ fn lead<'s, S: Store>(
     }
 }
 
-// The words and the last one.
-fn ended(words: Suspects, last: Suspect) -> Result<Option<Suspects>, ReadFailed>
-    ensures exact { IfOk result (λ all. all ≡ Some (words ++ last ∷ [])) }
-    ensures cause { CountsFailures result 0 0 }
+// The word that leads to another violation, where none repairs.
+fn leads_on(left: &Option<Repair>) -> Option<Suspect>
+    ensures { result ≡ leads_on left.now }
 {
+    match left {
+        Some(Repair::Nothing {
+            then: Some(next), ..
+        }) => Some(next.suspect),
+        Some(Repair::Nothing { then: None, .. }) | Some(Repair::Stands(_)) | None => None,
+    }
+}
+
+// The words with the one that repairs what is left, where there is one.
+fn ended(words: Suspects, left: Option<Repair>) -> Result<Option<Suspects>, NoMemory>
+    ensures { IfOk result (λ all. all ≡ ended words left) }
+{
+    let Some(Repair::Stands(last)) = left else {
+        return Ok(None);
+    };
     let mut words = words;
     match words.push(last) {
         Ok(()) => Ok(Some(words)),
-        Err(NoMemory) => Err(ReadFailed::NoMemory),
+        Err(NoMemory) => Err(NoMemory),
     }
 }
 
@@ -170,33 +191,26 @@ pub(crate) fn chain<'s, S: Store>(
     let mut words = Items::new(over.alloc);
     let mut left = Some(first);
     for _i in 0..MOST_WORDS {
-        match left {
-            Some(Repair::Stands(suspect)) => {
-                let answer = ended(words, suspect);
-                return Returned { memory, answer };
-            }
-            Some(
-                Repair::Nothing {
-                    then: Some(next),
-                    ..
+        let Some(suspect) = leads_on(&left) else {
+            return match ended(words, left) {
+                Ok(all) => Returned {
+                    memory,
+                    answer: Ok(all),
                 },
-            ) => {
-                let tried = lead(memory, over, root, &mut words, next.suspect);
-                memory = tried.memory;
-                match tried.answer {
-                    Ok(more) => left = more,
-                    Err(stop) => {
-                        return Returned {
-                            memory,
-                            answer: Err(stop),
-                        };
-                    }
-                }
-            }
-            Some(Repair::Nothing { then: None, .. }) | None => {
+                Err(NoMemory) => Returned {
+                    memory,
+                    answer: Err(ReadFailed::NoMemory),
+                },
+            };
+        };
+        let tried = lead(memory, over, root, &mut words, suspect);
+        memory = tried.memory;
+        match tried.answer {
+            Ok(more) => left = more,
+            Err(stop) => {
                 return Returned {
                     memory,
-                    answer: Ok(None),
+                    answer: Err(stop),
                 };
             }
         }

@@ -1,8 +1,12 @@
 // What repairs a violation, and its lines.
-ghost use Rattle.std.specs.Prelude.{◌≡◌, ◌++◌, ◌<◌, length, OnOk, IfOk, IfSome};
+ghost use Rattle.std.specs.Prelude.{◌≡◌, ◌∷◌, [], ◌++◌, ◌<◌, length, OnOk, IfOk, IfSome};
+ghost use Rattle.kc_outside.specs.declared.store.Slot.TheVariants.{Dump};
+ghost use Rattle.kc_outside.specs.Files.{content};
+ghost use Rattle.kc_phys.specs.Stored.{stored};
 ghost use Rattle.kc_memory.specs.Stays.{FramesStay};
 ghost use Rattle.kc_mem.specs.Paged.{with_paging};
 ghost use Rattle.kc_plan.specs.Views.{plan_seen};
+ghost use Rattle.kc_repair.specs.Repairs.{repair_of};
 ghost use Rattle.kc_repair.specs.Suspect.Answers.{OnlyReadsFrames};
 ghost use Rattle.kc_text.specs.Compose.{texts};
 ghost use Rattle.kc_cause.specs.Explained.{IsMended, repairs_as, repairs_found};
@@ -165,6 +169,33 @@ pub(crate) struct Mended {
     pub words: Option<Suspects>,
 }
 
+// One answer and the words that repair together after it.
+fn with_chain<'s, S: Store>(
+    memory: Phys<'s, S>,
+    over: &PlanOf<'_>,
+    root: Asked,
+    repair: Repair,
+) -> Returned<Phys<'s, S>, Result<Mended, ReadFailed>>
+    requires over { FitsTogether over.now }
+    requires root { root.audit < length over.now.plan.now.audits }
+
+    ensures exact { IfOk result.answer (λ mended. IfSome (with_paging over.now.paging (stored memory.entry.segments.items memory.entry.tail (content (S.files memory.entry.store.now) Dump (S.opened memory.entry.store.now Dump))))
+        (λ image. IsMended image (plan_seen over.now.plan.now) (root.audit, root.start) repair mended)) }
+    ensures reads { OnlyReadsFrames (λ p. stored p.segments.items p.tail (content (S.files p.store.now) Dump (S.opened p.store.now Dump))) (λ p. S.files p.store.now) (λ p. p.store.ghost_name ∷ []) (λ p. S.faults p.store.now) result.answer memory.entry result.memory }
+{
+    let Returned { memory, answer } = chain(memory, over, root, repair);
+    match answer {
+        Ok(words) => Returned {
+            memory,
+            answer: Ok(Mended { repair, words }),
+        },
+        Err(stop) => Returned {
+            memory,
+            answer: Err(stop),
+        },
+    }
+}
+
 /// A physical memory over which repairs are tried.
 pub(crate) trait Repairable: Frames {
     /// What repairs a violation that a root audit found, in an audit of this kind, and the memory. It fails where reading the dump does,
@@ -182,7 +213,7 @@ pub(crate) trait Repairable: Frames {
         requires root { root.audit < length over.now.plan.now.audits }
 
         ensures exact { IfOk result.answer (λ mended. IfSome (with_paging over.now.paging (Self.image self))
-            (λ image. IsMended image (plan_seen over.now.plan.now) (root.audit, root.start) kind.now found.now mended)) }
+            (λ image. IsMended image (plan_seen over.now.plan.now) (root.audit, root.start) (repair_of image (plan_seen over.now.plan.now) (root.audit, root.start) kind.now found.now) mended)) }
         ensures stays { FramesStay Self.image Self.files Self.through self result.memory }
         ensures cause { CountsFailures result.answer (Self.faults self) (Self.faults result.memory) };
 }
@@ -205,21 +236,13 @@ impl<'s, S: Store> Repairable for Phys<'s, S> {
             kind,
             found,
         );
-        let repair = match repair {
-            Ok(repair) => repair,
-            Err(stop) => {
-                return Returned {
-                    memory,
-                    answer: Err(stop),
-                };
-            }
-        };
-        let Returned { memory, answer } = chain(memory, over, root, repair);
-        let answer = match answer {
-            Ok(words) => Ok(Mended { repair, words }),
-            Err(stop) => Err(stop),
-        };
-        Returned { memory, answer }
+        match repair {
+            Ok(repair) => with_chain(memory, over, root, repair),
+            Err(stop) => Returned {
+                memory,
+                answer: Err(stop),
+            },
+        }
     }
 }
 
@@ -245,14 +268,22 @@ fn push_repairs_as<F: Repairable>(
         };
     };
     let Returned { memory, answer } = memory.repair(over, root, kind, found);
-    let answer = match answer {
+    match answer {
         Ok(mended) => match push_repair(text, found, &mended) {
-            Ok(()) => Ok(()),
-            Err(NoMemory) => Err(ReadFailed::NoMemory),
+            Ok(()) => Returned {
+                memory,
+                answer: Ok(()),
+            },
+            Err(NoMemory) => Returned {
+                memory,
+                answer: Err(ReadFailed::NoMemory),
+            },
         },
-        Err(stop) => Err(stop),
-    };
-    Returned { memory, answer }
+        Err(stop) => Returned {
+            memory,
+            answer: Err(stop),
+        },
+    }
 }
 
 /// Adds the lines of what repairs a violation under the root audit with a number, as it is suspected.

@@ -1,5 +1,5 @@
 // The suspects of a violation, and which of them repairs.
-ghost use Rattle.std.specs.Prelude.{◌≡◌, ◌∷◌, [], ◌%◌, ◌^◌, ◌<◌, ⊤, ◌++◌, if◌then◌else◌, filter, length, IfOk, IfSome, OnOk};
+ghost use Rattle.std.specs.Prelude.{◌≡◌, ◌∷◌, [], ◌%◌, ◌^◌, ◌<◌, ⊤, ◌++◌, if◌then◌else◌, filter, length, IfErr, IfOk, IfSome, OnOk};
 ghost use Rattle.kc_outside.specs.declared.store.Slot.TheVariants.{Dump};
 ghost use Rattle.kc_outside.specs.Files.{content};
 ghost use Rattle.kc_memory.specs.Stays.{FramesStay};
@@ -14,6 +14,7 @@ ghost use Rattle.kc_repair.specs.Suspect.Answers.{OnlyReadsFrames};
 ghost use Rattle.kc_repair.specs.Suspect.Suspects.{suspects};
 ghost use Rattle.kc_repair.specs.Repairs.{IsRepair, breach_of, is_apart, repair_left, repair_of, verdict_with, with_words};
 ghost use Rattle.kc_found.specs.Failures.{CountsFailures};
+ghost use Rattle.kc_found.specs.declared.failed.ReadFailed.TheVariants.{NoMemory};
 
 use crate::outcome::Breach;
 use crate::trial::{RootAudit, ask_changed};
@@ -161,6 +162,21 @@ fn is_apart(earlier: &[Suspect], suspect: Suspect) -> bool
     !shares_any(earlier, suspect.off)
 }
 
+// Those of some suspects, as an answer.
+fn left_of(
+    alloc: Global,
+    suspects: &[Suspect],
+    earlier: &[Suspect],
+) -> Result<Suspects, ReadFailed>
+    ensures exact { IfOk result (λ kept. kept ≡ filter (is_apart earlier.now) suspects.now) }
+    ensures cause { IfErr result (λ stop. stop ≡ NoMemory) }
+{
+    match apart(alloc, suspects, earlier) {
+        Ok(kept) => Ok(kept),
+        Err(NoMemory) => Err(ReadFailed::NoMemory),
+    }
+}
+
 // The suspects of a violation that is left with some words changed, but for those words.
 fn suspects_left<'s, S: Store>(
     alloc: Global,
@@ -179,14 +195,16 @@ fn suspects_left<'s, S: Store>(
 {
     let question = Suspecting { alloc, kind, found };
     let Returned { memory, answer } = ask_changed(alloc, memory, paging, earlier, &question);
-    let answer = match answer.unwrap_or(Err(ReadFailed::NoMemory)) {
-        Ok(suspects) => match apart(alloc, suspects.as_slice(), earlier) {
-            Ok(kept) => Ok(kept),
-            Err(NoMemory) => Err(ReadFailed::NoMemory),
+    match answer.unwrap_or(Err(ReadFailed::NoMemory)) {
+        Ok(suspects) => Returned {
+            memory,
+            answer: left_of(alloc, suspects.as_slice(), earlier),
         },
-        Err(stop) => Err(stop),
-    };
-    Returned { memory, answer }
+        Err(stop) => Returned {
+            memory,
+            answer: Err(stop),
+        },
+    }
 }
 
 /// What repairs a violation that is left where some words are changed. These words aren't tried again.
