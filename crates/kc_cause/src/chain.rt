@@ -151,9 +151,12 @@ fn leads_on(left: &Option<Repair>) -> Option<Suspect>
     ensures { result ≡ leads_on left.now }
 {
     match left {
-        Some(Repair::Nothing {
-            then: Some(next), ..
-        }) => Some(next.suspect),
+        Some(
+            Repair::Nothing {
+                then: Some(next),
+                ..
+            },
+        ) => Some(next.suspect),
         Some(Repair::Nothing { then: None, .. }) | Some(Repair::Stands(_)) | None => None,
     }
 }

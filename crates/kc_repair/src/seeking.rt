@@ -123,11 +123,7 @@ pub fn repair_over<'s, S: Store>(
 }
 
 // Those of some suspects whose words share no byte with those that are changed.
-fn apart(
-    alloc: Global,
-    suspects: &[Suspect],
-    earlier: &[Suspect],
-) -> Result<Suspects, NoMemory>
+fn apart(alloc: Global, suspects: &[Suspect], earlier: &[Suspect]) -> Result<Suspects, NoMemory>
     ensures { IfOk result (λ kept. kept ≡ filter (is_apart earlier.now) suspects.now) }
 {
     let mut kept = Items::new(alloc);
@@ -163,11 +159,7 @@ fn is_apart(earlier: &[Suspect], suspect: Suspect) -> bool
 }
 
 // Those of some suspects, as an answer.
-fn left_of(
-    alloc: Global,
-    suspects: &[Suspect],
-    earlier: &[Suspect],
-) -> Result<Suspects, ReadFailed>
+fn left_of(alloc: Global, suspects: &[Suspect], earlier: &[Suspect]) -> Result<Suspects, ReadFailed>
     ensures exact { IfOk result (λ kept. kept ≡ filter (is_apart earlier.now) suspects.now) }
     ensures cause { IfErr result (λ stop. stop ≡ NoMemory) }
 {
