@@ -1,12 +1,14 @@
 -- Words that are changed one after the other.
 use Rattle.std.proofs.Common.{◌≡◌, ℕ, Bool, zero, suc, ◌-◌, ◌+◌, ◌<◌, ◌≤◌, List, [], ◌∷◌, ◌++◌, slice_get, Option, Some, None, Result, Ok, Err, refl, sym, ap, ◌∙◌, subst, append_assoc, append-nil, arith}
-use Rattle.std.specs.Prelude.{⊤, option_map, filter, IfOk, IfSome}
+use Rattle.std.specs.Prelude.{⊤, option_map, filter, IfErr, IfOk, IfSome}
 use Rattle.std.specs.List.{AllByRecursion}
 use Rattle.kc_memory.specs.Image.{Image}
 use Rattle.kc_found.specs.declared.verdict.Verdict.{Verdict}
 use Rattle.kc_found.specs.declared.verdict.Verdict.TheVariants.{Clean, Broken}
 use Rattle.kc_found.specs.declared.verdict.AuditCount.{AuditCount}
+use Rattle.kc_found.specs.Failures.{CountsFailures}
 use Rattle.kc_found.specs.declared.failed.ReadFailed.{ReadFailed}
+use Rattle.kc_found.specs.declared.failed.ReadFailed.TheVariants.{Fault, NoMemory}
 use Rattle.kc_found.specs.Violations.{Violation}
 use Rattle.kc_kinds.specs.declared.kind.Kind.{Kind}
 use Rattle.kc_plan.specs.Planned.{AuditAt}
@@ -83,21 +85,34 @@ ends-here n m audits root words (Some (Stands x)) none = refl
 ends-here n m audits root words (Some (Nothing tried beyond None)) none = refl
 ends-here n m audits root words (Some (Nothing tried beyond (Some next))) none = absurd (let never : ⊥ = cc in never)
 
-pub chain-more : (image after : Option Image) (audits : List AuditAt) (root : Root) (first : Repair) (i : ℕ) (words : List Suspect) (s : Suspect) (left more : Option Repair)
-    → after ≡ image → i < 8 → leads_on left ≡ Some s → IfSome image (λ m. Ahead m audits root first i words left)
-    → IfSome after (λ m. more ≡ left_after m audits root (words ++ s ∷ [])) → IfSome image (λ m. Ahead m audits root first (i + 1) (words ++ s ∷ []) more)
-chain-more None after audits root first i words s left more same lt leads ahead found = tt
-chain-more (Some m) after audits root first i words s left more same lt leads ahead found =
-    ap (λ (r : Option Repair). chain_from (8 - (i + 1)) m audits root (words ++ s ∷ []) r) (rw same at found)
+pub chain-starts : (image : Option Image) (audits : List AuditAt) (root : Root) (first : Repair) (words : List Suspect) → words ≡ [] → IfSome image (λ m. Ahead m audits root first 0 words (Some first))
+chain-starts None audits root first words is = tt
+chain-starts (Some m) audits root first words is = ap (λ (l : List Suspect). chain_from 8 m audits root l (Some first)) is
+
+pub chain-more : (image after : Option Image) (audits : List AuditAt) (root : Root) (first : Repair) (i : ℕ) (words new : List Suspect) (s : Suspect) (left more : Option Repair)
+    → after ≡ image → i < 8 → leads_on left ≡ Some s → new ≡ words ++ s ∷ [] → IfSome image (λ m. Ahead m audits root first i words left)
+    → IfSome after (λ m. more ≡ left_after m audits root (words ++ s ∷ [])) → IfSome image (λ m. Ahead m audits root first (i + 1) new more)
+chain-more None after audits root first i words new s left more same lt leads grows ahead found = tt
+chain-more (Some m) after audits root first i words new s left more same lt leads grows ahead found =
+    ap (λ (l : List Suspect). chain_from (8 - (i + 1)) m audits root l more) grows
+    ∙ ap (λ (r : Option Repair). chain_from (8 - (i + 1)) m audits root (words ++ s ∷ []) r) (rw same at found)
     ∙ sym (goes-on (8 - (i + 1)) m audits root words s left leads)
     ∙ ap (λ (n : ℕ). chain_from n m audits root words left) (sym (more-left i lt))
     ∙ ahead
 
-pub chain-ends : (image : Option Image) (audits : List AuditAt) (root : Root) (first : Repair) (i : ℕ) (words : List Suspect) (left : Option Repair) (all : Option (List Suspect))
-    → i < 8 → leads_on left ≡ None → IfSome image (λ m. Ahead m audits root first i words left) → all ≡ ended words left → IfSome image (λ m. all ≡ chain_of m audits root first)
-chain-ends None audits root first i words left all lt none ahead exact = tt
-chain-ends (Some m) audits root first i words left all lt none ahead exact =
+pub chain-ends : (image : Option Image) (audits : List AuditAt) (root : Root) (first : Repair) (i : ℕ) (words : List Suspect) (left : Option Repair) (r : Result (Option (List Suspect)) ReadFailed)
+    → i < 8 → leads_on left ≡ None → IfSome image (λ m. Ahead m audits root first i words left) → IfOk r (λ all. all ≡ ended words left)
+    → IfOk r (λ all. IfSome image (λ m. all ≡ chain_of m audits root first))
+chain-ends image audits root first i words left (Err stop) lt none ahead exact = tt
+chain-ends None audits root first i words left (Ok all) lt none ahead exact = tt
+chain-ends (Some m) audits root first i words left (Ok all) lt none ahead exact =
     exact ∙ sym (ends-here (8 - (i + 1)) m audits root words left none) ∙ ap (λ (n : ℕ). chain_from n m audits root words left) (sym (more-left i lt)) ∙ ahead
+
+-- where only memory was wanting, the count of failures is as it was
+pub only-memory : (r : Result (Option (List Suspect)) ReadFailed) (old new : ℕ) → IfErr r (λ stop. stop ≡ NoMemory) → new ≡ old → CountsFailures r old new
+only-memory (Ok all) old new cause same = same
+only-memory (Err NoMemory) old new cause same = same
+only-memory (Err Fault) old new cause same = absurd (let never : ⊥ = cc in never)
 
 -- after the last word
 past : (m : Image) (audits : List AuditAt) (root : Root) (words : List Suspect) (left : Option Repair) (n : ℕ) → n ≡ 0 → None ≡ chain_from n m audits root words left

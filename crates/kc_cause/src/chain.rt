@@ -1,5 +1,6 @@
 // Several words that repair a root audit together.
-ghost use Rattle.std.specs.Prelude.{◌≡◌, ◌∷◌, [], ◌++◌, ◌<◌, length, IfOk, IfSome, OnOk, Some};
+ghost use Rattle.std.specs.Prelude.{◌≡◌, ◌∷◌, [], ◌++◌, ◌<◌, length, IfErr, IfOk, IfSome, OnOk, Some};
+ghost use Rattle.kc_found.specs.declared.failed.ReadFailed.TheVariants.{NoMemory as OutOfMemory};
 ghost use Rattle.kc_found.specs.declared.verdict.Verdict.TheVariants.{Broken};
 ghost use Rattle.kc_outside.specs.declared.store.Slot.TheVariants.{Dump};
 ghost use Rattle.kc_outside.specs.Files.{content};
@@ -162,8 +163,9 @@ fn leads_on(left: &Option<Repair>) -> Option<Suspect>
 }
 
 // The words with the one that repairs what is left, where there is one.
-fn ended(words: Suspects, left: Option<Repair>) -> Result<Option<Suspects>, NoMemory>
-    ensures { IfOk result (λ all. all ≡ ended words left) }
+fn ended(words: Suspects, left: Option<Repair>) -> Result<Option<Suspects>, ReadFailed>
+    ensures exact { IfOk result (λ all. all ≡ ended words left) }
+    ensures cause { IfErr result (λ stop. stop ≡ OutOfMemory) }
 {
     let Some(Repair::Stands(last)) = left else {
         return Ok(None);
@@ -171,7 +173,7 @@ fn ended(words: Suspects, left: Option<Repair>) -> Result<Option<Suspects>, NoMe
     let mut words = words;
     match words.push(last) {
         Ok(()) => Ok(Some(words)),
-        Err(NoMemory) => Err(NoMemory),
+        Err(NoMemory) => Err(ReadFailed::NoMemory),
     }
 }
 
@@ -195,15 +197,9 @@ pub(crate) fn chain<'s, S: Store>(
     let mut left = Some(first);
     for _i in 0..MOST_WORDS {
         let Some(suspect) = leads_on(&left) else {
-            return match ended(words, left) {
-                Ok(all) => Returned {
-                    memory,
-                    answer: Ok(all),
-                },
-                Err(NoMemory) => Returned {
-                    memory,
-                    answer: Err(ReadFailed::NoMemory),
-                },
+            return Returned {
+                memory,
+                answer: ended(words, left),
             };
         };
         let tried = lead(memory, over, root, &mut words, suspect);

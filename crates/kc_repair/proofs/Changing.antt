@@ -1,11 +1,9 @@
 -- The memory with some words changed.
 use Rattle.std.proofs.Common.{◌≡◌, ℕ, ◌<◌, ◌≤◌, ◌+◌, length, List, [], ◌∷◌, ◌++◌, map, take, get_or, Bool, true, false, if◌then◌else◌, Option, Some, None, option_map, Result, Ok, Err, refl, sym, ap, ◌∙◌}
-use Rattle.std.specs.Prelude.{IfErr, IfOk, IfSome}
-use Rattle.std.specs.Result.{result_unwrap_or}
+use Rattle.std.specs.Prelude.{IfOk, IfSome}
 use Rattle.std.specs.List.{AllByRecursion, filter}
 use Rattle.std.proofs.lemmas.List.{map-append, take_all, take_more}
 use Rattle.std.proofs.lemmas.List.Elements.{filter-append}
-use Rattle.kc_word.specs.declared.memory.NoMemory.{NoMemory as NoRoom}
 use Rattle.kc_word.specs.declared.plain.PageCfg.{PageCfg}
 use Rattle.kc_memory.specs.Image.{Image, Physical}
 use Rattle.kc_phys.specs.declared.patch.change.Change.{Change}
@@ -14,18 +12,11 @@ use Rattle.kc_phys.specs.Patch.Laws.{LastLiesOver}
 use Rattle.kc_mem.specs.Paged.{with_paging}
 use Rattle.kc_found.specs.declared.verdict.Verdict.{Verdict}
 use Rattle.kc_found.specs.declared.verdict.Verdict.TheVariants.{Clean, Broken}
-use Rattle.kc_found.specs.Failures.{CountsFailures}
 use Rattle.kc_found.specs.declared.failed.ReadFailed.{ReadFailed}
-use Rattle.kc_found.specs.declared.failed.ReadFailed.TheVariants.{Fault, NoMemory}
-use Rattle.kc_found.specs.Violations.{Violation}
-use Rattle.kc_kinds.specs.declared.kind.Kind.{Kind}
 use Rattle.kc_plan.specs.Planned.{AuditAt}
 use Rattle.kc_plan.specs.Roots.{FitsAmong, Root, root_verdict}
 use Rattle.kc_repair.specs.declared.suspect.suspect.Suspect.{Suspect}
-use Rattle.kc_repair.specs.declared.outcome.Repair.{Repair}
-use Rattle.kc_repair.specs.Suspect.Suspects.{suspects}
-use Rattle.kc_repair.specs.Repairs.{IsRepair, NamesAudit, breach_of, change_of, is_apart, repair, repair_left, verdict_with, with_suspect, with_words}
-use Rattle.kc_repair.proofs.Determined.{determined}
+use Rattle.kc_repair.specs.Repairs.{NamesAudit, change_of, verdict_with, with_suspect, with_words}
 
 -- one word more
 pub with-one_more : LastLiesOver → (image : Image) (words : List Suspect) (s : Suspect) → with_words image (words ++ s ∷ []) ≡ with_suspect (with_words image words) s
@@ -77,42 +68,6 @@ kept-more keeps xs i d kept new is_kept lt is same grows =
 
 pub kept-all : (keeps : Suspect → Bool) (xs : List Suspect) (i : ℕ) (kept : List Suspect) → length xs ≤ i → kept ≡ filter keeps (take i xs) → kept ≡ filter keeps xs
 kept-all keeps xs i kept past is = is ∙ ap (filter keeps) (take_all i xs past)
-
--- those that are left to be tried
-pub kept-left : (image : Option Image) (xs : List Suspect) (r : Result (List Suspect) ReadFailed) (earlier : List Suspect) (kind : Kind) (v : Violation)
-    → IfOk r (λ kept. kept ≡ filter (is_apart earlier) xs) → IfSome image (λ i. xs ≡ suspects (with_words i earlier) kind v)
-    → IfOk r (λ kept. IfSome image (λ i. kept ≡ filter (is_apart earlier) (suspects (with_words i earlier) kind v)))
-kept-left image xs (Err stop) earlier kind v is are = tt
-kept-left None xs (Ok kept) earlier kind v is are = tt
-kept-left (Some i) xs (Ok kept) earlier kind v is are = is ∙ ap (filter (is_apart earlier)) are
-
--- what was asked failed at no reading, and nor does what is answered
-pub left-quiet : {A : Type 0} (asked : Result (Result A ReadFailed) NoRoom) (a : A) (r : Result (List Suspect) ReadFailed) (old new : ℕ)
-    → result_unwrap_or asked (Err NoMemory) ≡ Ok a → IfOk asked (λ x. CountsFailures x old new) → IfErr r (λ stop. stop ≡ NoMemory) → CountsFailures r old new
-left-quiet (Err none) a r old new is counts cause = absurd (let never : ⊥ = cc in never)
-left-quiet (Ok asked) a r old new is counts cause = quiet r cause
-  where
-    same : asked ≡ Ok a
-    same = is
-
-    stays : new ≡ old
-    stays = rw same at counts
-
-    quiet : (r : Result (List Suspect) ReadFailed) → IfErr r (λ stop. stop ≡ NoMemory) → CountsFailures r old new
-    quiet (Ok kept) cause = stays
-    quiet (Err NoMemory) cause = stays
-    quiet (Err Fault) cause = absurd (let never : ⊥ = cc in never)
-
--- what repairs a violation that is left
-pub sought-left : (image image' : Option Image) (audits : List AuditAt) (root : Root) (earlier : List Suspect) (kind : Kind) (v : Violation) (asked : Result (List Suspect) ReadFailed) (left : List Suspect) (r : Result Repair ReadFailed)
-    → image' ≡ image → asked ≡ Ok left → IfOk asked (λ kept. IfSome image (λ i. kept ≡ filter (is_apart earlier) (suspects (with_words i earlier) kind v)))
-    → IfOk r (λ x. IfSome image' (λ i. IsRepair (verdict_with (with_words i earlier) audits root) (breach_of v) left x))
-    → IfOk r (λ x. IfSome image (λ i. x ≡ repair_left i audits root earlier kind v))
-sought-left image image' audits root earlier kind v asked left (Err stop) same is are exact = tt
-sought-left None image' audits root earlier kind v asked left (Ok x) same is are exact = tt
-sought-left (Some i) image' audits root earlier kind v asked left (Ok x) same is are exact =
-    let kept : left ≡ filter (is_apart earlier) (suspects (with_words i earlier) kind v) = rw is at are in
-    determined (verdict_with (with_words i earlier) audits root) (breach_of v) left x (rw same at exact) ∙ ap (repair (verdict_with (with_words i earlier) audits root) (breach_of v)) kept
 
 -- ---- what holds of all suspects holds of those that are kept
 

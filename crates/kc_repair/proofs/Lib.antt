@@ -1,5 +1,6 @@
 mod Changing
 mod Determined
+mod Left
 mod Told
 mod Trying
 mod Unchanged

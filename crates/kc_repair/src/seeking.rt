@@ -1,5 +1,5 @@
 // The suspects of a violation, and which of them repairs.
-ghost use Rattle.std.specs.Prelude.{◌≡◌, ◌∷◌, [], ◌%◌, ◌^◌, ◌<◌, ⊤, ◌++◌, if◌then◌else◌, filter, length, IfErr, IfOk, IfSome, OnOk};
+ghost use Rattle.std.specs.Prelude.{◌≡◌, ◌∷◌, [], ◌%◌, ◌^◌, ◌<◌, ⊤, ◌++◌, if◌then◌else◌, filter, length, IfOk, IfSome, OnOk};
 ghost use Rattle.kc_outside.specs.declared.store.Slot.TheVariants.{Dump};
 ghost use Rattle.kc_outside.specs.Files.{content};
 ghost use Rattle.kc_memory.specs.Stays.{FramesStay};
@@ -14,7 +14,6 @@ ghost use Rattle.kc_repair.specs.Suspect.Answers.{OnlyReadsFrames};
 ghost use Rattle.kc_repair.specs.Suspect.Suspects.{suspects};
 ghost use Rattle.kc_repair.specs.Repairs.{IsRepair, breach_of, is_apart, repair_left, repair_of, verdict_with, with_words};
 ghost use Rattle.kc_found.specs.Failures.{CountsFailures};
-ghost use Rattle.kc_found.specs.declared.failed.ReadFailed.TheVariants.{NoMemory};
 
 use crate::outcome::Breach;
 use crate::trial::{RootAudit, ask_changed};
@@ -161,7 +160,7 @@ fn is_apart(earlier: &[Suspect], suspect: Suspect) -> bool
 // Those of some suspects, as an answer.
 fn left_of(alloc: Global, suspects: &[Suspect], earlier: &[Suspect]) -> Result<Suspects, ReadFailed>
     ensures exact { IfOk result (λ kept. kept ≡ filter (is_apart earlier.now) suspects.now) }
-    ensures cause { IfErr result (λ stop. stop ≡ NoMemory) }
+    ensures cause { CountsFailures result 0 0 }
 {
     match apart(alloc, suspects, earlier) {
         Ok(kept) => Ok(kept),

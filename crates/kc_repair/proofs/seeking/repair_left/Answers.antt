@@ -1,7 +1,7 @@
 use Rattle.std.proofs.Common.{ap}
 use Rattle.kc_mem.specs.Paged.{with_paging}
 use Rattle.kc_plan.specs.Views.{plan_seen}
-use Rattle.kc_repair.proofs.Changing.{sought-left}
+use Rattle.kc_repair.proofs.Left.{sought-left}
 use Rattle.kc_repair.proofs.seeking.repair_left.Goals as goal
 
 pub returns-in-Ok-clause-exact : goal.returns-in-Ok-clause-exact

@@ -1,7 +1,7 @@
 use Rattle.std.proofs.Common.{◌≡◌, ◌∙◌, sym}
 use Rattle.kc_repair.specs.Repairs.{with_words}
 use Rattle.kc_repair.specs.Suspect.Suspects.{suspects}
-use Rattle.kc_repair.proofs.Changing.{kept-left, left-quiet}
+use Rattle.kc_repair.proofs.Left.{kept-left, left-quiet}
 use Rattle.kc_repair.proofs.Determined.{answered}
 use Rattle.kc_repair.proofs.seeking.suspects_left.Goals as goal
 
