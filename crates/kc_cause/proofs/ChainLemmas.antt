@@ -5,7 +5,6 @@ use Rattle.std.specs.List.{AllByRecursion}
 use Rattle.kc_memory.specs.Image.{Image}
 use Rattle.kc_found.specs.declared.verdict.Verdict.{Verdict}
 use Rattle.kc_found.specs.declared.verdict.Verdict.TheVariants.{Clean, Broken}
-use Rattle.kc_found.specs.declared.verdict.AuditCount.{AuditCount}
 use Rattle.kc_found.specs.Failures.{CountsFailures}
 use Rattle.kc_found.specs.declared.failed.ReadFailed.{ReadFailed}
 use Rattle.kc_found.specs.declared.failed.ReadFailed.TheVariants.{Fault, NoMemory}
@@ -44,19 +43,15 @@ found-left None after (Ok x) audits root words v a ring kind w is same tells see
 found-left (Some m) after (Ok x) audits root words v a ring kind w is same tells seen_as left =
     rw is ((rw same at left) ∙ ap (λ (s : Suspected). Some (left_as m audits root words s)) (sym seen_as ∙ tells))
 
-pub left-clean : (image : Option Image) (audits : List AuditAt) (root : Root) (words : List Suspect) (r : Result Verdict ReadFailed) (counts : List AuditCount) → r ≡ Ok (Clean counts)
-    → IfOk r (λ found. IfSome image (λ m. (root_verdict (with_words m words) audits root).verdict ≡ found)) → IfSome image (λ m. None ≡ left_after m audits root words)
-left-clean None audits root words r counts is exact = tt
-left-clean (Some m) audits root words r counts is exact =
-    let clean : (root_verdict (with_words m words) audits root).verdict ≡ Clean counts = rw is at exact in rw clean refl
-
-pub left-broken : (image after : Option Image) (audits : List AuditAt) (root : Root) (words : List Suspect) (r : Result Verdict ReadFailed) (v : Violation) (left : Result (Option Repair) ReadFailed)
-    → after ≡ image → r ≡ Ok (Broken v) → IfOk r (λ found. IfSome image (λ m. (root_verdict (with_words m words) audits root).verdict ≡ found))
-    → IfOk left (λ x. IfSome after (λ m. x ≡ left_by m audits root words (Broken v))) → IfOk left (λ x. IfSome image (λ m. x ≡ left_after m audits root words))
-left-broken image after audits root words r v (Err stop) same is exact found = tt
-left-broken None after audits root words r v (Ok x) same is exact found = tt
-left-broken (Some m) after audits root words r v (Ok x) same is exact found =
-    let broken : (root_verdict (with_words m words) audits root).verdict ≡ Broken v = rw is at exact in rw broken (rw same at found)
+-- and with the verdict that the root audit comes to
+pub left-judged : (image after : Option Image) (audits : List AuditAt) (root : Root) (words : List Suspect) (r : Result Verdict ReadFailed) (verdict : Verdict) (left : Result (Option Repair) ReadFailed)
+    → after ≡ image → r ≡ Ok verdict → IfOk r (λ found. IfSome image (λ m. (root_verdict (with_words m words) audits root).verdict ≡ found))
+    → IfOk left (λ x. IfSome after (λ m. x ≡ left_by m audits root words verdict)) → IfOk left (λ x. IfSome image (λ m. x ≡ left_after m audits root words))
+left-judged image after audits root words r verdict (Err stop) same is exact found = tt
+left-judged None after audits root words r verdict (Ok x) same is exact found = tt
+left-judged (Some m) after audits root words r verdict (Ok x) same is exact found =
+    let comes : (root_verdict (with_words m words) audits root).verdict ≡ verdict = rw is at exact in
+    (rw same at found) ∙ ap (λ (v : Verdict). left_by m audits root words v) (sym comes)
 
 -- ---- a step of the loop
 

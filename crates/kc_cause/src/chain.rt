@@ -7,7 +7,7 @@ ghost use Rattle.kc_outside.specs.Files.{content};
 ghost use Rattle.kc_phys.specs.Stored.{stored};
 ghost use Rattle.kc_mem.specs.Paged.{with_paging};
 ghost use Rattle.kc_plan.specs.Views.{plan_seen};
-ghost use Rattle.kc_repair.specs.Repairs.{repair_left};
+ghost use Rattle.kc_repair.specs.Repairs.{NamesAudit, repair_left};
 ghost use Rattle.kc_repair.specs.Suspect.Answers.{OnlyReadsFrames};
 ghost use Rattle.kc_cause.specs.Chained.{chain_of, ended, leads_on, left_after, left_by};
 ghost use Rattle.kc_cause.specs.Judged.{FitsTogether};
@@ -92,6 +92,31 @@ fn left_found<'s, S: Store>(
     }
 }
 
+// The same where the root audit comes to a verdict then, if it doesn't stand.
+fn left_by<'s, S: Store>(
+    memory: Phys<'s, S>,
+    over: &PlanOf<'_>,
+    root: Asked,
+    words: &[Suspect],
+    verdict: Verdict,
+) -> Returned<Phys<'s, S>, Result<Option<Repair>, ReadFailed>>
+    requires over { FitsTogether over.now }
+    requires root { root.audit < length over.now.plan.now.audits }
+    requires found { NamesAudit (length over.now.plan.now.audits) verdict }
+
+    ensures exact { IfOk result.answer (λ left. IfSome (with_paging over.now.paging (stored memory.entry.segments.items memory.entry.tail (content (S.files memory.entry.store.now) Dump (S.opened memory.entry.store.now Dump))))
+        (λ image. left ≡ left_by image (plan_seen over.now.plan.now) (root.audit, root.start) words.now verdict)) }
+    ensures reads { OnlyReadsFrames (λ p. stored p.segments.items p.tail (content (S.files p.store.now) Dump (S.opened p.store.now Dump))) (λ p. S.files p.store.now) (λ p. p.store.ghost_name ∷ []) (λ p. S.faults p.store.now) result.answer memory.entry result.memory }
+{
+    match verdict {
+        Verdict::Broken(found) => left_found(memory, over, root, words, &found),
+        Verdict::Clean(_) => Returned {
+            memory,
+            answer: Ok(None),
+        },
+    }
+}
+
 // What repairs what is left where some words are changed, if the root audit doesn't stand then.
 fn left_after<'s, S: Store>(
     memory: Phys<'s, S>,
@@ -110,11 +135,7 @@ fn left_after<'s, S: Store>(
     let audit = RootAudit { plan, types, root };
     let Returned { memory, answer } = verdict_over(over.alloc, memory, over.paging, &audit, words);
     match answer {
-        Ok(Verdict::Broken(found)) => left_found(memory, over, root, words, &found),
-        Ok(Verdict::Clean(_)) => Returned {
-            memory,
-            answer: Ok(None),
-        },
+        Ok(verdict) => left_by(memory, over, root, words, verdict),
         Err(stop) => Returned {
             memory,
             answer: Err(stop),
