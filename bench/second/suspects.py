@@ -31,6 +31,7 @@ from second.verdict import Kernel, Run, place_line, plan_of, told, verdict
 from second.why import Sights
 
 MOST = 4096
+MOST_WORDS = 8
 LINKS, TREE_LINKS, NEAR = 65536, 8192, 64
 
 # How each rule is suspected.
@@ -644,6 +645,11 @@ class Elements:
         return f"expected {wanted:016x} found {found:016x} bits {(found ^ wanted).bit_count()}\n"
 
 
+def columns(place, number):
+    """A word and the number that it may have held."""
+    return "%016x %016x %016x %016x" % place + f" {number:016x}"
+
+
 class Causes:
     """A dump whose words can be changed, with its types and symbols and a plan."""
 
@@ -676,19 +682,46 @@ class Causes:
     def put(self, offset, word):
         self.core.data[offset : offset + 8] = word.to_bytes(8, "little")
 
-    def repair(self, root, broken, audit):
-        """The lines of the repair."""
-        tried, then, suspects = 0, "", Suspects(self.kernel, audit, broken).all()
+    def tried(self, root, broken, audit, changed):
+        """How many words are tried, whether there are more, the one that repairs, and else the first that leads to another violation, and to which one. The
+        words that are changed so far aren't tried."""
+        tried, then = 0, None
+        suspects = (one for one in Suspects(self.kernel, audit, broken).all() if all(abs(one[0][2] - at) >= 8 for at in changed))
         for place, number in itertools.islice(suspects, MOST):
             tried += 1
-            words = "%016x %016x %016x %016x" % place + f" {number:016x}"
             found = self.judge_with(root, place, number)
             if found is None:
-                return f"{'fits' if only_fits(broken, place, number) else 'repair'} {words}\n"
+                return tried, False, (place, number), None
             if not then and (found[0].rule, found[0].at) != (broken.rule, broken.at):
-                then = f"then {words} {found[0].rule} {found[0].at:016x}\n"
-        more = next(suspects, None) is not None
-        return f"repair none of {'the first ' * more}{tried} tried\n{then}"
+                then = place, number, found
+        return tried, next(suspects, None) is not None, None, then
+
+    def chain(self, root, then):
+        """The words that repair together, after the first that leads to another violation; or nothing."""
+        words, old = [], []
+        try:
+            while then and len(words) < MOST_WORDS:
+                place, number, (broken, audit) = then
+                words.append((place, number))
+                old.append(place[2:])
+                self.put(place[2], number)
+                _, _, last, then = self.tried(root, broken, audit, [at for at, _ in old])
+                if last and len(words) < MOST_WORDS:
+                    return words + [last]
+            return []
+        finally:
+            for offset, word in reversed(old):
+                self.put(offset, word)
+
+    def repair(self, root, broken, audit):
+        """The lines of the repair."""
+        tried, more, last, then = self.tried(root, broken, audit, [])
+        if last:
+            return f"{'fits' if only_fits(broken, *last) else 'repair'} {columns(*last)}\n"
+        text, words = f"repair none of {'the first ' * more}{tried} tried\n", self.chain(root, then)
+        if words:
+            return text + f"chain {len(words)}\n" + "".join(f"word {columns(*word)}\n" for word in words)
+        return text + (f"then {columns(*then[:2])} {then[2][0].rule} {then[2][0].at:016x}\n" if then else "")
 
     def lines(self, root):
         """What explains the violation of a root audit, if it is broken."""

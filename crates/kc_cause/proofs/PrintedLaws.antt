@@ -14,23 +14,26 @@ use Rattle.kc_plan.specs.Planned.{AuditAt, StartAt}
 use Rattle.kc_plan.specs.Planned.StartAt.{RootAt, FromAt}
 use Rattle.kc_plan.specs.Roots.{Root, broken_in, root_verdict, root_verdicts}
 use Rattle.kc_plan.specs.Seen.{root_of, roots}
+use Rattle.kc_plan.specs.Stands.{RootStands}
 use Rattle.kc_run.specs.Each.{root_at, root_from}
 use Rattle.kc_repair.specs.declared.suspect.suspect.Suspect.{Suspect}
 use Rattle.kc_repair.specs.declared.outcome.Breach.{Breach}
 use Rattle.kc_repair.specs.declared.outcome.Next.{Next}
 use Rattle.kc_repair.specs.declared.outcome.Repair.{Repair}
 use Rattle.kc_repair.specs.declared.outcome.Repair.TheVariants.{Stands, Nothing}
-use Rattle.kc_repair.specs.Laws.{RepairWordsStand, RepairsAreExact, RepairsStand, told_suspects}
-use Rattle.kc_repair.specs.Repairs.{IsElsewhere, IsFirstNext, IsNext, IsRepair, StandsAs, breach_of, most, repair_of, verdict_with, with_suspect}
+use Rattle.kc_repair.specs.Laws.{LeftStand, LeftStandInFile, LeftWordsStand, OneMore, RepairWordsStand, RepairsAreExact, RepairsStand, told_suspects}
+use Rattle.kc_repair.specs.Repairs.{IsElsewhere, IsFirstNext, IsNext, IsRepair, StandsAs, breach_of, most, repair_of, verdict_with, with_suspect, with_words}
 use Rattle.kc_repair.specs.Suspect.Laws.{IsSuspect, SuspectsStand}
 use Rattle.kc_repair.specs.Suspect.Suspects.{suspects}
 use Rattle.kc_report.specs.Lines.{rule_code}
 use Rattle.kc_text.specs.Compose.{texts}
 use Rattle.kc_text.specs.Text.{hex}
-use Rattle.kc_cause.specs.Explained.{Explained, causes_text, cause_lines, explained_text, fault_lines, first_lines, found_named, found_number, is_broken, or_clean, repairs_found, root_line, shown_lines}
-use Rattle.kc_cause.specs.Lines.{bytes_line, next_lines, only_fits, repair_label, repair_lines, suspect_part}
-use Rattle.kc_cause.specs.Printed.{IsExplanation, IsPart, IsPartBy, IsPartOf, IsRepaired, IsThen, IsUnrepaired, IsWhole, columns, explained_roots}
+use Rattle.kc_cause.specs.Explained.{Explained, causes_text, cause_lines, explained_text, fault_lines, first_lines, found_named, found_number, is_broken, or_clean, repairs_by, repairs_found, root_line, shown_lines}
+use Rattle.kc_cause.specs.Lines.{after_lines, bytes_line, next_lines, only_fits, repair_label, repair_lines, suspect_part, word_line}
+use Rattle.kc_cause.specs.Printed.{IsChained, IsExplanation, IsPart, IsPartBy, IsPartOf, IsRepaired, IsThen, IsUnrepaired, IsWhole, columns, explained_roots}
+use Rattle.kc_cause.specs.Chained.{chain_of}
 use Rattle.kc_cause.specs.Suspected.{Suspected, suspected}
+use Rattle.kc_cause.proofs.ChainLemmas.{Together, chained}
 
 -- ---- the lines on a repair
 
@@ -85,37 +88,62 @@ first_told : (image : Image) (next : Option Next) (tried : ℕ) (more : Bool) �
 first_told image None tried more words n is = let none : ⊥ = cc in absurd none
 first_told image (Some m) tried more words n is = let same : n ≡ m = cc in rw same words.0
 
-none_said : (e : Explained) (root : Root) (found : Breach) (of : List Suspect) (tried : ℕ) (more : Bool) (next : Option Next) (v : Violation)
-    → AllByRecursion (IsSuspect e.image) of → IsRepair (verdict_with e.image e.audits root) found of (Nothing tried more next)
-    → StandsAs e.image e.audits root of (Nothing tried more next) → AllByRecursion (IsSuspect e.image) (told_suspects (Nothing tried more next))
-    → IsUnrepaired e root (repair_lines v (Nothing tried more next))
-none_said e root found of tried true next v all is fails words = record {
+-- the words that repair together
+word-lines : (words : List Suspect) → texts word_line words ≡ concat (map (λ s. codes "word " ++ columns s ++ codes "\n") words)
+word-lines [] = refl
+word-lines (s ∷ later) = ap (λ (l : List ℕ). word_line s ++ l) (word-lines later)
+
+after_said : (e : Explained) (root : Root) (words : Option (List Suspect)) (next : Option Next)
+    → ((all : List Suspect) → words ≡ Some all → Together e.image e.audits root all)
+    → ((n : Next) → next ≡ Some n → Breaks (verdict_with e.image e.audits root) n × IsSuspect e.image n.suspect)
+    → IsChained e root (after_lines words next) ⊎ ((after_lines words next ≡ []) ⊎ IsThen e root (after_lines words next))
+after_said e root None next chained holds = inr (next_said e root next holds)
+after_said e root (Some all) next chained holds =
+    let both = chained all refl in
+    inl (record {
+      words = all;
+      line = ap (λ (l : List ℕ). codes "chain " ++ decimal (length all) ++ codes "\n" ++ l) (word-lines all);
+      there = both.there;
+      in_file = both.in_file;
+      stands = both.stands;
+    })
+
+-- what an answer on a violation says
+record Answers (e : Explained) (root : Root) (found : Breach) (of : List Suspect) (words : Option (List Suspect)) (r : Repair) : Type 0 where
+  all : AllByRecursion (IsSuspect e.image) of
+  is : IsRepair (verdict_with e.image e.audits root) found of r
+  stands : StandsAs e.image e.audits root of r
+  told : AllByRecursion (IsSuspect e.image) (told_suspects r)
+  chained : (all : List Suspect) → words ≡ Some all → Together e.image e.audits root all
+
+none_said : (e : Explained) (root : Root) (found : Breach) (of : List Suspect) (words : Option (List Suspect)) (tried : ℕ) (more : Bool) (next : Option Next) (v : Violation)
+    → Answers e root found of words (Nothing tried more next) → IsUnrepaired e root (repair_lines v words (Nothing tried more next))
+none_said e root found of words tried true next v by = record {
   tried = take most of;
   label = codes "repair none of the first ";
   one = inr refl;
-  next = next_lines next;
-  line = ap (λ (n : ℕ). codes "repair none of the first " ++ decimal n ++ codes " tried\n" ++ next_lines next) (is.number ∙ sym (length-take most of));
-  there = all_taken (IsSuspect e.image) most of all;
-  fails = fails;
-  goes_on = next_said e root next (λ n some. (breaks (verdict_with e.image e.audits root) found (take most of) next n is.goes_on some, first_told e.image next tried true words n some));
+  next = after_lines words next;
+  line = ap (λ (n : ℕ). codes "repair none of the first " ++ decimal n ++ codes " tried\n" ++ after_lines words next) (by.is.number ∙ sym (length-take most of));
+  there = all_taken (IsSuspect e.image) most of by.all;
+  fails = by.stands;
+  goes_on = after_said e root words next by.chained (λ n some. (breaks (verdict_with e.image e.audits root) found (take most of) next n by.is.goes_on some, first_told e.image next tried true by.told n some));
 }
-none_said e root found of tried false next v all is fails words = record {
+none_said e root found of words tried false next v by = record {
   tried = take most of;
   label = codes "repair none of ";
   one = inl refl;
-  next = next_lines next;
-  line = ap (λ (n : ℕ). codes "repair none of " ++ decimal n ++ codes " tried\n" ++ next_lines next) (is.number ∙ sym (length-take most of));
-  there = all_taken (IsSuspect e.image) most of all;
-  fails = fails;
-  goes_on = next_said e root next (λ n some. (breaks (verdict_with e.image e.audits root) found (take most of) next n is.goes_on some, first_told e.image next tried false words n some));
+  next = after_lines words next;
+  line = ap (λ (n : ℕ). codes "repair none of " ++ decimal n ++ codes " tried\n" ++ after_lines words next) (by.is.number ∙ sym (length-take most of));
+  there = all_taken (IsSuspect e.image) most of by.all;
+  fails = by.stands;
+  goes_on = after_said e root words next by.chained (λ n some. (breaks (verdict_with e.image e.audits root) found (take most of) next n by.is.goes_on some, first_told e.image next tried false by.told n some));
 }
 
-repair_said : (e : Explained) (root : Root) (found : Breach) (of : List Suspect) (r : Repair) (v : Violation)
-    → AllByRecursion (IsSuspect e.image) of → IsRepair (verdict_with e.image e.audits root) found of r
-    → StandsAs e.image e.audits root of r → AllByRecursion (IsSuspect e.image) (told_suspects r) → IsSaid e root (repair_lines v r)
-repair_said e root found of (Stands s) v all is stands words =
-    inl (record { label = repair_label (only_fits v.rule v.at s); one = label_one (only_fits v.rule v.at s); word = s; line = refl; there = words.0; stands = stands })
-repair_said e root found of (Nothing tried more next) v all is fails words = inr (none_said e root found of tried more next v all is fails words)
+repair_said : (e : Explained) (root : Root) (found : Breach) (of : List Suspect) (words : Option (List Suspect)) (r : Repair) (v : Violation)
+    → Answers e root found of words r → IsSaid e root (repair_lines v words r)
+repair_said e root found of words (Stands s) v by =
+    inl (record { label = repair_label (only_fits v.rule v.at s); one = label_one (only_fits v.rule v.at s); word = s; line = refl; there = by.told.0; stands = by.stands })
+repair_said e root found of words (Nothing tried more next) v by = inr (none_said e root found of words tried more next v by)
 
 -- what is known of repairs
 pub record Known : Type 0 where
@@ -123,14 +151,25 @@ pub record Known : Type 0 where
   pub stand : RepairsStand
   pub words : RepairWordsStand
   pub suspects : SuspectsStand
+  pub left : LeftStand
+  pub left_words : LeftWordsStand
+  pub in_file : LeftStandInFile
+  pub one_more : OneMore
 
-kind_said : Known → (e : Explained) (root : Root) (kind : Kind) (v : Violation) → IsSaid e root (repair_lines v (repair_of e.image e.audits root kind v))
+kind_said : Known → (e : Explained) (root : Root) (kind : Kind) (v : Violation) → IsSaid e root (repairs_by e.image e.audits root v (repair_of e.image e.audits root kind v))
 kind_said law e root kind v =
-    repair_said e root (breach_of v) (suspects e.image kind v) (repair_of e.image e.audits root kind v) v (law.suspects e.image kind v)
-    (law.exact e.image e.audits root kind v) (law.stand e.image e.audits root kind v) (law.words e.image e.audits root kind v)
+    repair_said e root (breach_of v) (suspects e.image kind v) (chain_of e.image e.audits root (repair_of e.image e.audits root kind v)) (repair_of e.image e.audits root kind v) v
+    (record {
+      all = law.suspects e.image kind v;
+      is = law.exact e.image e.audits root kind v;
+      stands = law.stand e.image e.audits root kind v;
+      told = law.words e.image e.audits root kind v;
+      chained = λ all is.
+          chained (record { first_stand = law.stand; first_words = law.words; stand = law.left; words = law.left_words; in_file = law.in_file; one_more = law.one_more }) e.image e.audits root kind v all is;
+    })
 
 root_said : Known → (e : Explained) (number : ℕ) (at : Option Root) (root : Root) (s : Suspected) → at ≡ Some root
-    → IsSaid e root (option_map_or (λ (r : Root). repair_lines s.violation (repair_of e.image e.audits r s.kind s.violation)) at [])
+    → IsSaid e root (option_map_or (λ (r : Root). repairs_by e.image e.audits r s.violation (repair_of e.image e.audits r s.kind s.violation)) at [])
 root_said law e number at root s is = rw is (kind_said law e root s.kind s.violation)
 
 audit_said : Known → (e : Explained) (number : ℕ) (root : Root) (v : Violation) (audit : Option AuditAt) → root_at number e.audits ≡ Some root → slice_get e.audits v.audit ≡ audit

@@ -1,5 +1,5 @@
 -- What the report of a dump is explained by: the verdict on each root audit, the words that show it, and the word that repairs it.
-use Rattle.std.specs.Prelude.{ℕ, nat_eq, if◌then◌else◌, Bool, List, [], ◌∷◌, ◌++◌, codes, bytes_eq, find, is_some, slice_get, Option, Some, None}
+use Rattle.std.specs.Prelude.{◌≡◌, ℕ, nat_eq, if◌then◌else◌, Bool, List, [], ◌∷◌, ◌++◌, codes, bytes_eq, find, is_some, slice_get, Option, Some, None}
 use Rattle.std.specs.Option.{option_map_or}
 use Rattle.kc_btf.specs.Btf.{Types}
 use Rattle.kc_memory.specs.declared.words.Place.{Place}
@@ -11,7 +11,10 @@ use Rattle.kc_plan.specs.Planned.{AuditAt, PlanAt}
 use Rattle.kc_plan.specs.Roots.{Root, broken_in, root_verdicts}
 use Rattle.kc_plan.specs.Verdicts.{verdict}
 use Rattle.kc_run.specs.Each.{root_at}
+use Rattle.kc_repair.specs.declared.outcome.Repair.{Repair}
 use Rattle.kc_repair.specs.Repairs.{repair_of}
+use Rattle.kc_cause.specs.declared.repairs.Mended.{Mended}
+use Rattle.kc_cause.specs.Chained.{chain_of}
 use Rattle.kc_report.specs.declared.report.Report.{Report}
 use Rattle.kc_report.specs.Copies.{report_each, report_of}
 use Rattle.kc_report.specs.IsReport.{report_text}
@@ -110,9 +113,17 @@ found_named types audits v = option_map_or (λ (a : AuditAt). named_lines types 
 abbrev pub found_number : List AuditAt → Violation → List ℕ
 found_number audits v = option_map_or (λ (a : AuditAt). number_lines a.kind v) (slice_get audits v.audit) []
 
--- what repairs a violation of a kind of structure under the root audit with a number
+-- what repairs a violation of a kind of structure that a root audit found: a word, and else words that do together
+abbrev pub repairs_by : Image → List AuditAt → Root → Violation → Repair → List ℕ
+repairs_by image audits root v repair = repair_lines v (chain_of image audits root repair) repair
+
+-- the code has this first answer, and the words that repair together after it
+abbrev pub IsMended : Image → List AuditAt → Root → Repair → Mended → Type 0
+IsMended image audits root first m = (m.repair ≡ first) × (m.words ≡ chain_of image audits root first)
+
+-- under the root audit with a number
 abbrev pub repairs_as : Explained → ℕ → Kind → Violation → List ℕ
-repairs_as e root kind v = option_map_or (λ (r : Root). repair_lines v (repair_of e.image e.audits r kind v)) (root_at root e.audits) []
+repairs_as e root kind v = option_map_or (λ (r : Root). repairs_by e.image e.audits r v (repair_of e.image e.audits r kind v)) (root_at root e.audits) []
 
 -- of one as it is suspected, by the audit that found it
 abbrev pub repairs_of : Explained → ℕ → Suspected → List ℕ

@@ -1,3 +1,4 @@
+pub mod Chained
 pub mod Explained
 pub mod Files
 pub mod Judged

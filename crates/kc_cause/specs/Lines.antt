@@ -1,10 +1,11 @@
 -- The lines that explain a violation.
-use Rattle.std.specs.Prelude.{ℕ, ◌*◌, ◌/◌, ◌%◌, ◌==◌, ◌||◌, if◌then◌else◌, Bool, true, false, List, [], ◌∷◌, ◌++◌, codes, decimal, map, Option}
+use Rattle.std.specs.Prelude.{ℕ, ◌*◌, ◌/◌, ◌%◌, ◌==◌, ◌||◌, if◌then◌else◌, Bool, true, false, List, [], ◌∷◌, ◌++◌, codes, decimal, length, map, Option, Some, None}
 use Rattle.std.specs.Option.{option_map_or}
 use Rattle.kc_btf.specs.Btf.{Types}
 use Rattle.kc_btf.specs.Readers.{name_at, type_numbered}
 use Rattle.kc_memory.specs.declared.rule.Rule.{Rule}
 use Rattle.kc_memory.specs.declared.rule.Rule.TheVariants.{M1, M2, M3, M4, M5, M6, N, K, A, X5, X6, X7, X8, X9, U3, U4, U6, T2, C}
+use Rattle.kc_text.specs.Compose.{texts}
 use Rattle.kc_text.specs.Text.{hex, visible}
 use Rattle.kc_found.specs.Violations.{Violation}
 use Rattle.kc_kinds.specs.declared.kind.Kind.{Kind}
@@ -119,7 +120,19 @@ abbrev pub repair_label : Bool → List ℕ
 repair_label true = codes "fits "
 repair_label false = codes "repair "
 
+-- words that repair together: how many, and each of them in the order in which they are changed
+abbrev pub word_line : Suspect → List ℕ
+word_line s = codes "word " ++ suspect_part s ++ codes "\n"
+
+abbrev pub chain_lines : List Suspect → List ℕ
+chain_lines words = codes "chain " ++ decimal (length words) ++ codes "\n" ++ texts word_line words
+
+-- after that no word repairs: those that do together, or what the first leads to that leads elsewhere
+abbrev pub after_lines : Option (List Suspect) → Option Next → List ℕ
+after_lines (Some words) next = chain_lines words
+after_lines None next = next_lines next
+
 -- what repairs a violation
-abbrev pub repair_lines : Violation → Repair → List ℕ
-repair_lines v (Stands s) = repair_label (only_fits v.rule v.at s) ++ suspect_part s ++ codes "\n"
-repair_lines v (Nothing tried more next) = codes "repair none of " ++ tried_part tried more ++ codes " tried\n" ++ next_lines next
+abbrev pub repair_lines : Violation → Option (List Suspect) → Repair → List ℕ
+repair_lines v words (Stands s) = repair_label (only_fits v.rule v.at s) ++ suspect_part s ++ codes "\n"
+repair_lines v words (Nothing tried more next) = codes "repair none of " ++ tried_part tried more ++ codes " tried\n" ++ after_lines words next

@@ -1,6 +1,7 @@
 -- What the text that explains a report says of repairs: each line against the dump, and against the root audit that its part names.
-use Rattle.std.specs.Prelude.{◌≡◌, ℕ, nat_eq, ◌⊎◌, if◌then◌else◌, List, [], ◌∷◌, ◌++◌, codes, decimal, find, length, slice_get, Option, Some, None, option_to_list, IfSome, All}
+use Rattle.std.specs.Prelude.{◌≡◌, ℕ, nat_eq, ◌⊎◌, if◌then◌else◌, List, [], ◌∷◌, ◌++◌, codes, decimal, find, length, map, ⊤, slice_get, Option, Some, None, option_to_list, IfSome, All}
 use Rattle.std.specs.List.{AllByRecursion, AllZip, concat}
+use Rattle.kc_memory.specs.Image.{Image}
 use Rattle.kc_text.specs.Text.{hex}
 use Rattle.kc_found.specs.declared.verdict.RootVerdict.{RootVerdict}
 use Rattle.kc_found.specs.Violations.{Violation}
@@ -9,7 +10,8 @@ use Rattle.kc_plan.specs.Roots.{Root, broken_in, root_verdict, root_verdicts}
 use Rattle.kc_plan.specs.Stands.{RootStands}
 use Rattle.kc_run.specs.Each.{root_at}
 use Rattle.kc_repair.specs.declared.suspect.suspect.Suspect.{Suspect}
-use Rattle.kc_repair.specs.Repairs.{with_suspect}
+use Rattle.kc_repair.specs.Repairs.{with_suspect, with_words}
+use Rattle.kc_repair.specs.Laws.{IsLeft, StandsInFile}
 use Rattle.kc_repair.specs.Suspect.Laws.{IsSuspect}
 use Rattle.kc_report.specs.Lines.{rule_code}
 use Rattle.kc_cause.specs.Explained.{Explained, is_broken}
@@ -35,6 +37,20 @@ pub record IsThen (e : Explained) (root : Root) (text : List ℕ) : Type 0 where
   pub there : IsSuspect e.image word
   pub breaks : broken_in (root_verdict (with_suspect e.image word) e.audits root).verdict ≡ Some v
 
+-- Each of some words stands so in the dump with those before it changed, and shares no byte with them.
+abbrev pub StandInTurn : Image → List Suspect → List Suspect → Type 0
+StandInTurn image before [] = ⊤
+StandInTurn image before (s ∷ later) = IsLeft image before s × StandInTurn image (before ++ s ∷ []) later
+
+-- Under `chain`: so many words, in the order in which they are changed. The number of each stands at its physical address and its file offset in the
+-- dump as it is, and with all their other numbers the root audit stands.
+pub record IsChained (e : Explained) (root : Root) (text : List ℕ) : Type 0 where
+  pub words : List Suspect
+  pub line : text ≡ codes "chain " ++ decimal (length words) ++ codes "\n" ++ concat (map (λ s. codes "word " ++ columns s ++ codes "\n") words)
+  pub there : StandInTurn e.image [] words
+  pub in_file : AllByRecursion (StandsInFile e.image) words
+  pub stands : RootStands (with_words e.image words) e.audits root
+
 -- Under `repair none`: so many words stand in the dump so, and with the other number of none of them the root audit stands.
 pub record IsUnrepaired (e : Explained) (root : Root) (text : List ℕ) : Type 0 where
   pub tried : List Suspect
@@ -44,7 +60,7 @@ pub record IsUnrepaired (e : Explained) (root : Root) (text : List ℕ) : Type 0
   pub line : text ≡ label ++ decimal (length tried) ++ codes " tried\n" ++ next
   pub there : AllByRecursion (IsSuspect e.image) tried
   pub fails : All (λ s. RootStands (with_suspect e.image s) e.audits root → ⊥) tried
-  pub goes_on : (next ≡ []) ⊎ IsThen e root next
+  pub goes_on : IsChained e root next ⊎ ((next ≡ []) ⊎ IsThen e root next)
 
 -- The part of a root audit that is broken begins with the audit's name, and ends with what repairs this root audit, where the violation names an audit
 -- that found it.

@@ -1,31 +1,33 @@
 // What repairs a violation, and its lines.
-ghost use Rattle.std.specs.Prelude.{◌≡◌, ◌++◌, ◌<◌, length, OnOk, IfOk, IfSome};
+ghost use Rattle.std.specs.Prelude.{◌≡◌, ◌∷◌, [], ◌++◌, ◌<◌, length, OnOk, IfOk, IfSome};
+ghost use Rattle.kc_outside.specs.declared.store.Slot.TheVariants.{Dump};
+ghost use Rattle.kc_outside.specs.Files.{content};
+ghost use Rattle.kc_phys.specs.Stored.{stored};
 ghost use Rattle.kc_memory.specs.Stays.{FramesStay};
 ghost use Rattle.kc_mem.specs.Paged.{with_paging};
-ghost use Rattle.kc_plan.specs.Inside.{AreInside as TypesAreInside};
 ghost use Rattle.kc_plan.specs.Views.{plan_seen};
-ghost use Rattle.kc_repair.specs.Suspect.Answers.{OnlyReadsFrames};
 ghost use Rattle.kc_repair.specs.Repairs.{repair_of};
-ghost use Rattle.kc_command.specs.Paging.{IsTable};
-ghost use Rattle.kc_cause.specs.Explained.{repairs_as, repairs_found};
+ghost use Rattle.kc_repair.specs.Suspect.Answers.{OnlyReadsFrames};
+ghost use Rattle.kc_text.specs.Compose.{texts};
+ghost use Rattle.kc_cause.specs.Explained.{IsMended, repairs_as, repairs_found};
 ghost use Rattle.kc_cause.specs.Judged.{FitsTogether, over_plan};
-ghost use Rattle.kc_cause.specs.Lines.{next_line, next_lines, only_fits, repair_label, repair_lines, suspect_part, tried_part};
+ghost use Rattle.kc_cause.specs.Lines.{after_lines, chain_lines, next_line, next_lines, only_fits, repair_label, repair_lines, suspect_part, tried_part, word_line};
 ghost use Rattle.kc_found.specs.Failures.{CountsFailures};
 
+use crate::chain::chain;
 use crate::judged::PlanOf;
 use crate::suspected::as_ring_over;
-use kc_found::{Found, ReadFailed, Rule};
+use kc_found::{Asked, Found, ReadFailed, Rule};
 use kc_kinds::Kind;
 use kc_memory::Frames;
 use kc_outside::Store;
 use kc_phys::Phys;
 use kc_question::Returned;
-use kc_repair::{Next, Repair, Repaired, RootAudit, Suspect, repair_over};
+use kc_repair::{Next, Repair, Repaired, RootAudit, Suspect, Suspects, repair_over};
 use kc_report::rule_code;
 use kc_run::root_at;
 use kc_text::{push, push_decimal, push_hex};
-use kc_word::{NoMemory, PageCfg};
-use std::alloc::Global;
+use kc_word::NoMemory;
 
 // Adds a word that is suspected: the four columns of a place, and the number that it may have held.
 fn push_suspect(text: &mut Vec<u8>, suspect: Suspect) -> Result<(), NoMemory>
@@ -97,11 +99,53 @@ fn push_label(text: &mut Vec<u8>, fits: bool) -> Result<(), NoMemory>
     push(text, b"repair ")
 }
 
-// The lines of what repairs a violation.
-fn push_repair(text: &mut Vec<u8>, found: &Found, repair: &Repair) -> Result<(), NoMemory>
-    ensures { OnOk result (text.new.items ≡ text.old.items ++ repair_lines found.now repair.now) }
+// One of the words that repair together.
+fn push_word(text: &mut Vec<u8>, word: &Suspect) -> Result<(), NoMemory>
+    ensures { OnOk result (text.new.items ≡ text.old.items ++ word_line word.now) }
 {
-    match repair {
+    push(text, b"word ")?;
+    push_suspect(text, *word)?;
+    push(text, b"\n")
+}
+
+fn push_words(text: &mut Vec<u8>, words: &Suspects) -> Result<(), NoMemory>
+    ensures { OnOk result (text.new.items ≡ text.old.items ++ texts word_line words.now) }
+{
+    for i in 0..words.len() {
+        push_word(text, words.get(i))?;
+    }
+    Ok(())
+}
+
+// How many they are, and each of them.
+fn push_chain(text: &mut Vec<u8>, words: &Suspects) -> Result<(), NoMemory>
+    ensures { OnOk result (text.new.items ≡ text.old.items ++ chain_lines words.now) }
+{
+    push(text, b"chain ")?;
+    push_decimal(text, words.len() as u64)?;
+    push(text, b"\n")?;
+    push_words(text, words)
+}
+
+// The lines after what none of those tried repairs: those that repair together, or what one of them leads to.
+fn push_after(
+    text: &mut Vec<u8>,
+    words: &Option<Suspects>,
+    then: &Option<Next>,
+) -> Result<(), NoMemory>
+    ensures { OnOk result (text.new.items ≡ text.old.items ++ after_lines words.now then.now) }
+{
+    match words {
+        Some(words) => push_chain(text, words),
+        None => push_if_next(text, then),
+    }
+}
+
+// The lines of what repairs a violation.
+fn push_repair(text: &mut Vec<u8>, found: &Found, mended: &Mended) -> Result<(), NoMemory>
+    ensures { OnOk result (text.new.items ≡ text.old.items ++ repair_lines found.now mended.now.words mended.now.repair) }
+{
+    match &mended.repair {
         Repair::Stands(suspect) => {
             push_label(text, only_fits(found.rule, found.at, *suspect))?;
             push_suspect(text, *suspect)?;
@@ -111,8 +155,44 @@ fn push_repair(text: &mut Vec<u8>, found: &Found, repair: &Repair) -> Result<(),
             push(text, b"repair none of ")?;
             push_tried(text, *tried, *more)?;
             push(text, b" tried\n")?;
-            push_if_next(text, then)
+            push_after(text, &mended.words, then)
         }
+    }
+}
+
+/// What repairs a violation.
+#[derive(Drop)]
+pub(crate) struct Mended {
+    /// One word, or none.
+    pub repair: Repair,
+    /// Words that repair together, where there are such.
+    pub words: Option<Suspects>,
+}
+
+// One answer and the words that repair together after it.
+fn with_chain<'s, S: Store>(
+    memory: Phys<'s, S>,
+    over: &PlanOf<'_>,
+    root: Asked,
+    repair: Repair,
+) -> Returned<Phys<'s, S>, Result<Mended, ReadFailed>>
+    requires over { FitsTogether over.now }
+    requires root { root.audit < length over.now.plan.now.audits }
+
+    ensures exact { IfOk result.answer (λ mended. IfSome (with_paging over.now.paging (stored memory.entry.segments.items memory.entry.tail (content (S.files memory.entry.store.now) Dump (S.opened memory.entry.store.now Dump))))
+        (λ image. IsMended image (plan_seen over.now.plan.now) (root.audit, root.start) repair mended)) }
+    ensures reads { OnlyReadsFrames (λ p. stored p.segments.items p.tail (content (S.files p.store.now) Dump (S.opened p.store.now Dump))) (λ p. S.files p.store.now) (λ p. p.store.ghost_name ∷ []) (λ p. S.faults p.store.now) result.answer memory.entry result.memory }
+{
+    let Returned { memory, answer } = chain(memory, over, root, repair);
+    match answer {
+        Ok(words) => Returned {
+            memory,
+            answer: Ok(Mended { repair, words }),
+        },
+        Err(stop) => Returned {
+            memory,
+            answer: Err(stop),
+        },
     }
 }
 
@@ -122,20 +202,18 @@ pub(crate) trait Repairable: Frames {
     /// whose count of faults then rose, or where no memory was left.
     fn repair(
         self,
-        alloc: Global,
-        paging: PageCfg,
-        audit: &RootAudit<'_>,
+        over: &PlanOf<'_>,
+        root: Asked,
         kind: &Kind,
         found: &Found,
-    ) -> Returned<Self, Result<Repair, ReadFailed>>
+    ) -> Returned<Self, Result<Mended, ReadFailed>>
     where
         Self: Sized,
-        requires table { IsTable paging.table }
-        requires root { audit.now.root.audit < length audit.now.plan.now.audits }
-        requires types { TypesAreInside (length audit.now.types.now.records) audit.now.plan.now.audits }
+        requires over { FitsTogether over.now }
+        requires root { root.audit < length over.now.plan.now.audits }
 
-        ensures exact { IfOk result.answer (λ repair. IfSome (with_paging paging (Self.image self))
-            (λ image. repair ≡ repair_of image (plan_seen audit.now.plan.now) (audit.now.root.audit, audit.now.root.start) kind.now found.now)) }
+        ensures exact { IfOk result.answer (λ mended. IfSome (with_paging over.now.paging (Self.image self))
+            (λ image. IsMended image (plan_seen over.now.plan.now) (root.audit, root.start) (repair_of image (plan_seen over.now.plan.now) (root.audit, root.start) kind.now found.now) mended)) }
         ensures stays { FramesStay Self.image Self.files Self.through self result.memory }
         ensures cause { CountsFailures result.answer (Self.faults self) (Self.faults result.memory) };
 }
@@ -143,16 +221,27 @@ pub(crate) trait Repairable: Frames {
 impl<'s, S: Store> Repairable for Phys<'s, S> {
     fn repair(
         self,
-        alloc: Global,
-        paging: PageCfg,
-        audit: &RootAudit<'_>,
+        over: &PlanOf<'_>,
+        root: Asked,
         kind: &Kind,
         found: &Found,
-    ) -> Returned<Self, Result<Repair, ReadFailed>> {
-        let Repaired { memory, repair } = repair_over(alloc, self, paging, audit, kind, found);
-        Returned {
-            memory,
-            answer: repair,
+    ) -> Returned<Self, Result<Mended, ReadFailed>> {
+        let PlanOf { plan, types, .. } = *over;
+        let audit = RootAudit { plan, types, root };
+        let Repaired { memory, repair } = repair_over(
+            over.alloc,
+            self,
+            over.paging,
+            &audit,
+            kind,
+            found,
+        );
+        match repair {
+            Ok(repair) => with_chain(memory, over, root, repair),
+            Err(stop) => Returned {
+                memory,
+                answer: Err(stop),
+            },
         }
     }
 }
@@ -172,23 +261,29 @@ fn push_repairs_as<F: Repairable>(
         text.new.items ≡ text.old.items ++ repairs_as (over_plan over.now image) root kind.now found.now)) }
     ensures reads { OnlyReadsFrames F.image F.files F.through F.faults result.answer memory result.memory }
 {
-    let PlanOf { plan, types, .. } = *over;
-    let Some(root) = root_at(plan, root) else {
+    let Some(root) = root_at(over.plan, root) else {
         return Returned {
             memory,
             answer: Ok(()),
         };
     };
-    let audit = RootAudit { plan, types, root };
-    let Returned { memory, answer } = memory.repair(over.alloc, over.paging, &audit, kind, found);
-    let answer = match answer {
-        Ok(repair) => match push_repair(text, found, &repair) {
-            Ok(()) => Ok(()),
-            Err(NoMemory) => Err(ReadFailed::NoMemory),
+    let Returned { memory, answer } = memory.repair(over, root, kind, found);
+    match answer {
+        Ok(mended) => match push_repair(text, found, &mended) {
+            Ok(()) => Returned {
+                memory,
+                answer: Ok(()),
+            },
+            Err(NoMemory) => Returned {
+                memory,
+                answer: Err(ReadFailed::NoMemory),
+            },
         },
-        Err(stop) => Err(stop),
-    };
-    Returned { memory, answer }
+        Err(stop) => Returned {
+            memory,
+            answer: Err(stop),
+        },
+    }
 }
 
 /// Adds the lines of what repairs a violation under the root audit with a number, as it is suspected.

@@ -1,5 +1,9 @@
 // As what a violation is suspected.
-ghost use Rattle.std.specs.Prelude.{◌≡◌, length, IfOk, IfSome};
+ghost use Rattle.std.specs.Prelude.{◌≡◌, ◌∷◌, [], length, IfOk, IfSome};
+ghost use Rattle.kc_outside.specs.declared.store.Slot.TheVariants.{Dump};
+ghost use Rattle.kc_outside.specs.Files.{content};
+ghost use Rattle.kc_phys.specs.Stored.{stored};
+ghost use Rattle.kc_repair.specs.Repairs.{with_words};
 ghost use Rattle.kc_mem.specs.Paged.{with_paging};
 ghost use Rattle.kc_kinds.specs.declared.kind.Kind.TheVariants.{Slub, Tasks};
 ghost use Rattle.kc_kinds.specs.Inside.{KindInside};
@@ -15,7 +19,10 @@ use kc_found::{Found, ListShape, ReadFailed, Space, WalkStop};
 use kc_kinds::Kind;
 use kc_list::ring;
 use kc_memory::Frames;
+use kc_outside::Store;
+use kc_phys::Phys;
 use kc_question::{Question, Returned, ask_over};
+use kc_repair::{Suspect, ask_changed};
 use kc_view::{SlubShape, TaskShape};
 use kc_which::{partial_head, ring_head};
 use kc_word::Steps;
@@ -148,6 +155,39 @@ pub(crate) fn as_ring_over<F: Frames>(
 {
     let question = Suspecting { over, kind, found };
     let Returned { memory, answer } = ask_over(over.alloc, memory, over.paging, &question);
+    Returned {
+        memory,
+        answer: answer.unwrap_or(Err(ReadFailed::NoMemory)),
+    }
+}
+
+/// As what one is suspected that is left where some words are changed.
+///
+/// # Errors
+///
+/// A failed call of the store; no memory was left.
+pub(crate) fn as_ring_left<'s, S: Store>(
+    memory: Phys<'s, S>,
+    over: &PlanOf<'_>,
+    words: &[Suspect],
+    kind: &Kind,
+    found: &Found,
+) -> Returned<Phys<'s, S>, Result<Option<AsRing>, ReadFailed>>
+    requires over { FitsTogether over.now }
+    requires inside { KindInside (length over.now.types.now.records) kind.now }
+
+    ensures exact { IfSome (with_paging over.now.paging (stored memory.entry.segments.items memory.entry.tail (content (S.files memory.entry.store.now) Dump (S.opened memory.entry.store.now Dump))))
+        (λ image. IfOk result.answer (λ r. suspected_view kind.now found.now r ≡ suspected (with_words image words.now) found.now kind.now)) }
+    ensures reads { OnlyReadsFrames (λ p. stored p.segments.items p.tail (content (S.files p.store.now) Dump (S.opened p.store.now Dump))) (λ p. S.files p.store.now) (λ p. p.store.ghost_name ∷ []) (λ p. S.faults p.store.now) result.answer memory.entry result.memory }
+{
+    let question = Suspecting { over, kind, found };
+    let Returned { memory, answer } = ask_changed(
+        over.alloc,
+        memory,
+        over.paging,
+        words,
+        &question,
+    );
     Returned {
         memory,
         answer: answer.unwrap_or(Err(ReadFailed::NoMemory)),

@@ -1,4 +1,4 @@
-//! A dump in which one word is another: what its memory would hold if eight bytes of its file were others. No file is
+//! A dump in which some words are others: what its memory would hold if their bytes in its file were others. No file is
 //! written.
 
 mod change;
@@ -8,4 +8,4 @@ mod patched;
 
 pub use change::Change;
 pub use laws::know_changes;
-pub use patched::{Lent, Patched};
+pub use patched::{Lent, Patched, share};

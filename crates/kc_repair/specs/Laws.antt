@@ -1,7 +1,8 @@
 -- What repairs say.
-use Rattle.std.specs.Prelude.{List, [], ◌∷◌, Option, option_map, option_to_list}
+use Rattle.std.specs.Prelude.{◌≡◌, true, filter, ◌++◌, List, [], ◌∷◌, Option, Some, option_map, option_to_list}
 use Rattle.std.specs.List.{AllByRecursion}
-use Rattle.kc_memory.specs.Image.{Image}
+use Rattle.kc_memory.specs.declared.words.Origin.TheVariants.{File}
+use Rattle.kc_memory.specs.Image.{Image, pword}
 use Rattle.kc_found.specs.Violations.{Violation}
 use Rattle.kc_kinds.specs.declared.kind.Kind.{Kind}
 use Rattle.kc_plan.specs.Planned.{AuditAt}
@@ -12,7 +13,7 @@ use Rattle.kc_repair.specs.Suspect.Suspects.{suspects}
 use Rattle.kc_repair.specs.declared.outcome.Next.{Next}
 use Rattle.kc_repair.specs.declared.outcome.Repair.{Repair}
 use Rattle.kc_repair.specs.declared.outcome.Repair.TheVariants.{Stands, Nothing}
-use Rattle.kc_repair.specs.Repairs.{IsRepair, StandsAs, breach_of, repair_of, verdict_with}
+use Rattle.kc_repair.specs.Repairs.{IsRepair, StandsAs, breach_of, is_apart, repair_left, repair_of, verdict_with, with_suspect, with_words}
 
 -- With a suspect that repairs a violation the root audit's structures stand, and where none does, they stand with none that is tried.
 abbrev pub RepairsStand : Type 0
@@ -39,3 +40,31 @@ abbrev pub RepairWordsStand : Type 0
 RepairWordsStand =
     (image : Image) (audits : List AuditAt) (root : Root) (kind : Kind) (v : Violation)
     → AllByRecursion (IsSuspect image) (told_suspects (repair_of image audits root kind v))
+
+-- a suspect where some words are changed: it stands so in the memory with these, and shares no byte with them
+pub record IsLeft (image : Image) (earlier : List Suspect) (s : Suspect) : Type 0 where
+  pub there : IsSuspect (with_words image earlier) s
+  pub apart : is_apart earlier s ≡ true
+
+-- the same of a violation that is left where some words are changed
+abbrev pub LeftStand : Type 0
+LeftStand =
+    (image : Image) (audits : List AuditAt) (root : Root) (earlier : List Suspect) (kind : Kind) (v : Violation)
+    → StandsAs (with_words image earlier) audits root (filter (is_apart earlier) (suspects (with_words image earlier) kind v)) (repair_left image audits root earlier kind v)
+
+abbrev pub LeftWordsStand : Type 0
+LeftWordsStand =
+    (image : Image) (audits : List AuditAt) (root : Root) (earlier : List Suspect) (kind : Kind) (v : Violation)
+    → AllByRecursion (IsLeft image earlier) (told_suspects (repair_left image audits root earlier kind v))
+
+-- a word of the dump as it is, with no word changed: its number stands at its physical address, and in the file at its offset
+abbrev pub StandsInFile : Image → Suspect → Type 0
+StandsInFile image s = pword image.physical s.pa ≡ Some (record { value = s.now; off = File s.off })
+
+-- So does each that is left, since the changed words have none of its bytes. Its virtual address may lead there only with these changed.
+abbrev pub LeftStandInFile : Type 0
+LeftStandInFile = (image : Image) (earlier : List Suspect) (s : Suspect) → IsLeft image earlier s → StandsInFile image s
+
+-- one word more is changed over the others
+abbrev pub OneMore : Type 0
+OneMore = (image : Image) (words : List Suspect) (s : Suspect) → with_words image (words ++ s ∷ []) ≡ with_suspect (with_words image words) s

@@ -1,7 +1,7 @@
 -- Suspects that are tried one by one: what a root audit comes to where the word of one of them holds its value.
 use denote.Enum.Bare.{sameb}
-use Rattle.std.specs.Prelude.{◌≡◌, ℕ, min, nat_eq, nat_lt, ◌⊎◌, Bool, ◌&&◌, if◌then◌else◌, is_none, List, [], ◌∷◌, length, take, find, Option, Some, None, Result, Ok, Err}
-use Rattle.std.specs.List.{All}
+use Rattle.std.specs.Prelude.{◌≡◌, ℕ, ◌<◌, ⊤, min, nat_eq, nat_lt, ◌⊎◌, Bool, ◌&&◌, if◌then◌else◌, is_none, not, List, [], ◌∷◌, filter, length, map, take, find, Option, Some, None, Result, Ok, Err}
+use Rattle.std.specs.List.{All, list_any}
 use Rattle.kc_memory.specs.Image.{Image}
 use Rattle.kc_memory.specs.contracts.rule.Rule.{the_type}
 use Rattle.kc_found.specs.declared.verdict.Verdict.{Verdict}
@@ -15,7 +15,7 @@ use Rattle.kc_found.specs.declared.failed.ReadFailed.{ReadFailed}
 use Rattle.kc_repair.specs.declared.suspect.suspect.Suspect.{Suspect}
 use Rattle.kc_repair.specs.Suspect.Suspects.{suspects}
 use Rattle.kc_phys.specs.declared.patch.change.Change.{Change}
-use Rattle.kc_phys.specs.Patch.Changed.{patched}
+use Rattle.kc_phys.specs.Patch.Changed.{patched, patched_all, share}
 use Rattle.kc_repair.specs.declared.outcome.Breach.{Breach}
 use Rattle.kc_repair.specs.declared.outcome.Next.{Next}
 use Rattle.kc_repair.specs.declared.outcome.Repair.{Repair}
@@ -28,6 +28,10 @@ change_of s = record { off = s.off; value = s.value }
 -- the memory of a dump whose file has a suspect's value in its word's place
 abbrev pub with_suspect : Image → Suspect → Image
 with_suspect image s = record { physical = patched (change_of s) image.physical; paging = image.paging }
+
+-- and with the words of several changed, one after the other
+abbrev pub with_words : Image → List Suspect → Image
+with_words image words = record { physical = patched_all (map change_of words) image.physical; paging = image.paging }
 
 -- what a root audit comes to over it
 abbrev pub verdict_with : Image → List AuditAt → Root → Suspect → Verdict
@@ -125,3 +129,17 @@ breach_of v = record { rule = v.rule; at = v.at }
 -- what repairs a violation that an audit of this kind found under a root audit: the words that it suspects are tried
 abbrev pub repair_of : Image → List AuditAt → Root → Kind → Violation → Repair
 repair_of image audits root kind v = repair (verdict_with image audits root) (breach_of v) (suspects image kind v)
+
+-- a suspect whose word shares no byte with those that are changed
+abbrev pub is_apart : List Suspect → Suspect → Bool
+is_apart earlier s = not (list_any (λ (word : Suspect). share s.off word.off) earlier)
+
+-- what repairs one that is left in the memory with some words changed: of the words that it suspects those that aren't changed are tried
+abbrev pub repair_left : Image → List AuditAt → Root → List Suspect → Kind → Violation → Repair
+repair_left image audits root earlier kind v =
+    repair (verdict_with (with_words image earlier) audits root) (breach_of v) (filter (is_apart earlier) (suspects (with_words image earlier) kind v))
+
+-- a verdict names an audit of a plan of so many
+abbrev pub NamesAudit : ℕ → Verdict → Type 0
+NamesAudit count (Clean counts) = ⊤
+NamesAudit count (Broken v) = v.audit < count

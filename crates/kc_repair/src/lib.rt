@@ -11,7 +11,7 @@ mod tries;
 
 pub use laws::know_repairs;
 pub use outcome::{Breach, Next, Repair};
-pub use seeking::repair_over;
+pub use seeking::{repair_left, repair_over};
 pub use suspect::{Suspect, Suspects, know_suspects, suspects};
-pub use trial::RootAudit;
+pub use trial::{RootAudit, ask_changed, verdict_over};
 pub use tries::{MOST, Repaired, repair};

@@ -1,27 +1,30 @@
 // The suspects of a violation, and which of them repairs.
-ghost use Rattle.std.specs.Prelude.{◌≡◌, ◌∷◌, [], ◌%◌, ◌^◌, ◌<◌, ⊤, length, IfOk, IfSome};
+ghost use Rattle.std.specs.Prelude.{◌≡◌, ◌∷◌, [], ◌%◌, ◌^◌, ◌<◌, ⊤, ◌++◌, if◌then◌else◌, filter, length, IfOk, IfSome, OnOk};
 ghost use Rattle.kc_outside.specs.declared.store.Slot.TheVariants.{Dump};
 ghost use Rattle.kc_outside.specs.Files.{content};
 ghost use Rattle.kc_memory.specs.Stays.{FramesStay};
+ghost use Rattle.std.specs.List.{list_any};
+ghost use Rattle.kc_phys.specs.Patch.Changed.{share};
 ghost use Rattle.kc_phys.specs.Stored.{stored};
+ghost use Rattle.kc_repair.specs.declared.suspect.suspect.Suspect.{Suspect};
 ghost use Rattle.kc_mem.specs.Paged.{with_paging};
 ghost use Rattle.kc_plan.specs.Inside.{AreInside as TypesAreInside};
 ghost use Rattle.kc_plan.specs.Views.{plan_seen};
 ghost use Rattle.kc_repair.specs.Suspect.Answers.{OnlyReadsFrames};
 ghost use Rattle.kc_repair.specs.Suspect.Suspects.{suspects};
-ghost use Rattle.kc_repair.specs.Repairs.{IsRepair, breach_of, repair_of, verdict_with};
+ghost use Rattle.kc_repair.specs.Repairs.{IsRepair, breach_of, is_apart, repair_left, repair_of, verdict_with, with_words};
 ghost use Rattle.kc_found.specs.Failures.{CountsFailures};
 
 use crate::outcome::Breach;
-use crate::trial::RootAudit;
+use crate::trial::{RootAudit, ask_changed};
 use crate::tries::{Repaired, try_all};
 use crate::{Suspect, Suspects, suspects};
-use kc_found::{Found, ReadFailed, Space};
+use kc_found::{Found, Items, ReadFailed, Space};
 use kc_kinds::Kind;
 use kc_outside::Store;
-use kc_phys::Phys;
+use kc_phys::{Phys, share};
 use kc_question::{Question, Returned, ask_over};
-use kc_word::{PageCfg, Steps};
+use kc_word::{NoMemory, PageCfg, Steps};
 use std::alloc::Global;
 use std::sync::ledger::Ledger;
 
@@ -51,12 +54,13 @@ impl<'q> Question for Suspecting<'q> {
     }
 }
 
-// Tries the suspects of a violation.
+// Tries suspects of a violation, each after some words that are changed.
 fn try_found<'s, S: Store>(
     alloc: Global,
     memory: Phys<'s, S>,
     paging: PageCfg,
     audit: &RootAudit<'_>,
+    earlier: &[Suspect],
     found: &Found,
     suspects: &[Suspect],
 ) -> Repaired<'s, S>
@@ -66,14 +70,14 @@ fn try_found<'s, S: Store>(
     requires types { TypesAreInside (length audit.now.types.now.records) audit.now.plan.now.audits }
 
     ensures exact { IfOk result.repair (λ repair. IfSome (with_paging paging (stored memory.entry.segments.items memory.entry.tail (content (S.files memory.entry.store.now) Dump (S.opened memory.entry.store.now Dump))))
-        (λ image. IsRepair (verdict_with image (plan_seen audit.now.plan.now) (audit.now.root.audit, audit.now.root.start)) (breach_of found.now) suspects.now repair)) }
+        (λ image. IsRepair (verdict_with (with_words image earlier.now) (plan_seen audit.now.plan.now) (audit.now.root.audit, audit.now.root.start)) (breach_of found.now) suspects.now repair)) }
     ensures reads { OnlyReadsFrames (λ p. stored p.segments.items p.tail (content (S.files p.store.now) Dump (S.opened p.store.now Dump))) (λ p. S.files p.store.now) (λ p. p.store.ghost_name ∷ []) (λ p. S.faults p.store.now) result.repair memory.entry result.memory }
 {
     let breach = Breach {
         rule: found.rule,
         at: found.at,
     };
-    try_all(alloc, memory, paging, audit, breach, suspects)
+    try_all(alloc, memory, paging, audit, earlier, breach, suspects)
 }
 
 /// What repairs a violation that a root audit found over a memory, in an audit of this kind: the words that the violation suspects are
@@ -101,10 +105,134 @@ pub fn repair_over<'s, S: Store>(
     let question = Suspecting { alloc, kind, found };
     let Returned { memory, answer } = ask_over(alloc, memory, paging, &question);
     match answer.unwrap_or(Err(ReadFailed::NoMemory)) {
-        Ok(suspects) => try_found(alloc, memory, paging, audit, found, suspects.as_slice()),
+        Ok(suspects) => try_found(
+            alloc,
+            memory,
+            paging,
+            audit,
+            &[],
+            found,
+            suspects.as_slice(),
+        ),
         Err(stop) => Repaired {
             memory,
             repair: Err(stop),
+        },
+    }
+}
+
+// Those of some suspects whose words share no byte with those that are changed.
+fn apart(alloc: Global, suspects: &[Suspect], earlier: &[Suspect]) -> Result<Suspects, NoMemory>
+    ensures { IfOk result (λ kept. kept ≡ filter (is_apart earlier.now) suspects.now) }
+{
+    let mut kept = Items::new(alloc);
+    for i in 0..suspects.len() {
+        let keeps = is_apart(earlier, suspects[i]);
+        push_if(&mut kept, keeps, suspects[i])?;
+    }
+    Ok(kept)
+}
+
+// Adds a suspect, if it is kept.
+fn push_if(kept: &mut Suspects, keeps: bool, suspect: Suspect) -> Result<(), NoMemory>
+    ensures { OnOk result (kept.new ≡ kept.old ++ (if keeps then suspect ∷ [] else [])) }
+{
+    if keeps {
+        return kept.push(suspect);
+    }
+    Ok(())
+}
+
+// Whether the word at a file offset shares a byte with one of some words.
+fn shares_any(words: &[Suspect], off: u64) -> bool
+    ensures { result ≡ list_any (λ (word : Suspect). share off word.off) words.now }
+{
+    words.iter().any(|word| share(off, word.off))
+}
+
+// Whether a suspect's word shares no byte with those that are changed.
+fn is_apart(earlier: &[Suspect], suspect: Suspect) -> bool
+    ensures { result ≡ is_apart earlier.now suspect }
+{
+    !shares_any(earlier, suspect.off)
+}
+
+// Those of some suspects, as an answer.
+fn left_of(alloc: Global, suspects: &[Suspect], earlier: &[Suspect]) -> Result<Suspects, ReadFailed>
+    ensures exact { IfOk result (λ kept. kept ≡ filter (is_apart earlier.now) suspects.now) }
+    ensures cause { CountsFailures result 0 0 }
+{
+    match apart(alloc, suspects, earlier) {
+        Ok(kept) => Ok(kept),
+        Err(NoMemory) => Err(ReadFailed::NoMemory),
+    }
+}
+
+// The suspects of a violation that is left with some words changed, but for those words.
+fn suspects_left<'s, S: Store>(
+    alloc: Global,
+    memory: Phys<'s, S>,
+    paging: PageCfg,
+    earlier: &[Suspect],
+    kind: &Kind,
+    found: &Found,
+) -> Returned<Phys<'s, S>, Result<Suspects, ReadFailed>>
+    requires aligned { paging.table % 4096 ≡ 0 }
+    requires small { paging.table < 2 ^ 52 }
+
+    ensures exact { IfOk result.answer (λ kept. IfSome (with_paging paging (stored memory.entry.segments.items memory.entry.tail (content (S.files memory.entry.store.now) Dump (S.opened memory.entry.store.now Dump))))
+        (λ image. kept ≡ filter (is_apart earlier.now) (suspects (with_words image earlier.now) kind.now found.now))) }
+    ensures reads { OnlyReadsFrames (λ p. stored p.segments.items p.tail (content (S.files p.store.now) Dump (S.opened p.store.now Dump))) (λ p. S.files p.store.now) (λ p. p.store.ghost_name ∷ []) (λ p. S.faults p.store.now) result.answer memory.entry result.memory }
+{
+    let question = Suspecting { alloc, kind, found };
+    let Returned { memory, answer } = ask_changed(alloc, memory, paging, earlier, &question);
+    match answer.unwrap_or(Err(ReadFailed::NoMemory)) {
+        Ok(suspects) => Returned {
+            memory,
+            answer: left_of(alloc, suspects.as_slice(), earlier),
+        },
+        Err(stop) => Returned {
+            memory,
+            answer: Err(stop),
+        },
+    }
+}
+
+/// What repairs a violation that is left where some words are changed. These words aren't tried again.
+///
+/// The answer fails where the store did, whose count of faults then rose, or where no memory was left.
+pub fn repair_left<'s, S: Store>(
+    alloc: Global,
+    memory: Phys<'s, S>,
+    paging: PageCfg,
+    audit: &RootAudit<'_>,
+    earlier: &[Suspect],
+    kind: &Kind,
+    found: &Found,
+) -> Repaired<'s, S>
+    requires aligned { paging.table % 4096 ≡ 0 }
+    requires small { paging.table < 2 ^ 52 }
+    requires root { audit.now.root.audit < length audit.now.plan.now.audits }
+    requires types { TypesAreInside (length audit.now.types.now.records) audit.now.plan.now.audits }
+
+    ensures exact { IfOk result.repair (λ repair. IfSome (with_paging paging (stored memory.entry.segments.items memory.entry.tail (content (S.files memory.entry.store.now) Dump (S.opened memory.entry.store.now Dump))))
+        (λ image. repair ≡ repair_left image (plan_seen audit.now.plan.now) (audit.now.root.audit, audit.now.root.start) earlier.now kind.now found.now)) }
+    ensures reads { OnlyReadsFrames (λ p. stored p.segments.items p.tail (content (S.files p.store.now) Dump (S.opened p.store.now Dump))) (λ p. S.files p.store.now) (λ p. p.store.ghost_name ∷ []) (λ p. S.faults p.store.now) result.repair memory.entry result.memory }
+{
+    let Returned { memory, answer } = suspects_left(alloc, memory, paging, earlier, kind, found);
+    match answer {
+        Ok(left) => try_found(
+            alloc,
+            memory,
+            paging,
+            audit,
+            earlier,
+            found,
+            left.as_slice(),
+        ),
+        Err(failed) => Repaired {
+            memory,
+            repair: Err(failed),
         },
     }
 }

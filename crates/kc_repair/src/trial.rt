@@ -1,26 +1,27 @@
-// One suspect that is tried.
-ghost use Rattle.std.specs.Prelude.{◌≡◌, ◌∷◌, [], ◌%◌, ◌^◌, ◌<◌, length, IfOk, IfSome, option_map};
+// Some words of a dump that are changed, and one suspect that is tried with them.
+ghost use Rattle.std.specs.Prelude.{◌≡◌, ◌∷◌, [], ◌++◌, ◌%◌, ◌^◌, ◌<◌, length, map, IfErr, IfOk, IfSome, option_map};
 ghost use Rattle.kc_outside.specs.declared.store.Slot.TheVariants.{Dump};
 ghost use Rattle.kc_outside.specs.Files.{content};
+ghost use Rattle.kc_memory.specs.Stays.{FramesStay};
 ghost use Rattle.kc_phys.specs.Stored.{stored};
-ghost use Rattle.kc_phys.specs.Patch.Changed.{patched};
+ghost use Rattle.kc_phys.specs.Patch.Changed.{patched_all};
 ghost use Rattle.kc_mem.specs.Paged.{with_paging};
 ghost use Rattle.kc_plan.specs.Inside.{AreInside as TypesAreInside};
 ghost use Rattle.kc_plan.specs.Roots.{root_verdict};
 ghost use Rattle.kc_plan.specs.Views.{plan_seen};
 ghost use Rattle.kc_repair.specs.Suspect.Answers.{OnlyReadsFrames};
-ghost use Rattle.kc_repair.specs.Repairs.{change_of, verdict_with};
+ghost use Rattle.kc_repair.specs.Repairs.{NamesAudit, change_of, verdict_with, with_words};
 ghost use Rattle.kc_found.specs.Failures.{CountsFailures};
 
-use crate::Suspect;
+use crate::{Suspect, Suspects};
 use kc_btf::Btf;
-use kc_found::{Asked, ReadFailed, Space, Verdict};
+use kc_found::{Asked, Items, ReadFailed, Space, Verdict};
 use kc_outside::Store;
-use kc_phys::{Change, Lent, Patched, Phys};
+use kc_phys::{Change, Lent, Patched, Phys, know_changes};
 use kc_plan::Plan;
 use kc_question::{Question, Returned, ask_over};
 use kc_run::run_root;
-use kc_word::{PageCfg, Steps};
+use kc_word::{NoMemory, PageCfg, Steps};
 use std::alloc::Global;
 use std::marker::Brand;
 use std::sync::ledger::Ledger;
@@ -52,7 +53,7 @@ impl<'q> Question for OneRoot<'q> {
     ghost says = { λ of image answer. IfOk answer (λ found.
         (root_verdict image (plan_seen of.audit.now.plan.now) (of.audit.now.root.audit, of.audit.now.root.start)).verdict ≡ found) };
 
-    ghost leaves = { λ _ answer before after. CountsFailures answer before after };
+    ghost leaves = { λ of answer before after. CountsFailures answer before after × IfOk answer (NamesAudit (length of.audit.now.plan.now.audits)) };
 
     fn ask<M: Space, L: Ledger>(
         &self,
@@ -65,13 +66,121 @@ impl<'q> Question for OneRoot<'q> {
     }
 }
 
-/// What a root audit comes to over the memory with a suspect's word changed, and the memory as it is, handed back. A failure is
-/// one of the store, whose count of faults then rose, or want of memory.
+// The change of the file that a suspect stands for.
+fn change_of(word: Suspect) -> Change
+    ensures { result ≡ change_of word }
+{
+    Change {
+        off: word.off,
+        value: word.value,
+    }
+}
+
+// Those of some suspects.
+fn changes_of(alloc: Global, words: &[Suspect]) -> Result<Items<Change>, NoMemory>
+    ensures { IfOk result (λ changes. changes ≡ map change_of words.now) }
+{
+    let mut changes = Items::new(alloc);
+    for i in 0..words.len() {
+        changes.push(change_of(words[i]))?;
+    }
+    Ok(changes)
+}
+
+/// Asks a question over the memory with some words changed, and hands the memory back as it is.
+///
+/// # Errors
+///
+/// The answer is `NoMemory` where there is none for the translations that are kept. The memory isn't asked then.
+pub fn ask_changed<'s, S: Store, Q: Question>(
+    alloc: Global,
+    memory: Phys<'s, S>,
+    paging: PageCfg,
+    words: &[Suspect],
+    question: &Q,
+) -> Returned<Phys<'s, S>, Result<Q::Answer, NoMemory>>
+    requires may { Q.may question.now }
+    requires aligned { paging.table % 4096 ≡ 0 }
+    requires small { paging.table < 2 ^ 52 }
+
+    ensures says { IfOk result.answer (λ answer. IfSome (with_paging paging (stored memory.entry.segments.items memory.entry.tail (content (S.files memory.entry.store.now) Dump (S.opened memory.entry.store.now Dump))))
+        (λ image. Q.says question.now (with_words image words.now) answer)) }
+    ensures stays { FramesStay (λ p. stored p.segments.items p.tail (content (S.files p.store.now) Dump (S.opened p.store.now Dump))) (λ p. S.files p.store.now) (λ p. p.store.ghost_name ∷ []) memory.entry result.memory }
+    ensures leaves { IfOk result.answer (λ answer. Q.leaves question.now answer (S.faults memory.entry.store.now) (S.faults result.memory.store.now)) }
+    ensures unasked { IfErr result.answer (λ _. S.faults result.memory.store.now ≡ S.faults memory.entry.store.now) }
+{
+    match changes_of(alloc, words) {
+        Ok(changes) => {
+            ask_lent::<S, Q, Brand>(alloc, memory, paging, changes.as_slice(), question)
+        }
+        Err(NoMemory) => Returned {
+            memory,
+            answer: Err(NoMemory),
+        },
+    }
+}
+
+// The same with the changes.
+fn ask_lent<'s, S: Store, Q: Question, K: Lent>(
+    alloc: Global,
+    memory: Phys<'s, S>,
+    paging: PageCfg,
+    changes: &[Change],
+    question: &Q,
+) -> Returned<Phys<'s, S>, Result<Q::Answer, NoMemory>>
+    requires lent { stored memory.segments.items memory.tail (content (S.files memory.store.now) Dump (S.opened memory.store.now Dump)) ≡ K.physical }
+    requires may { Q.may question.now }
+    requires aligned { paging.table % 4096 ≡ 0 }
+    requires small { paging.table < 2 ^ 52 }
+
+    ensures says { IfOk result.answer (λ answer. IfSome (with_paging paging (option_map (patched_all changes.now) (stored memory.entry.segments.items memory.entry.tail (content (S.files memory.entry.store.now) Dump (S.opened memory.entry.store.now Dump)))))
+        (λ image. Q.says question.now image answer)) }
+    ensures stays { FramesStay (λ p. stored p.segments.items p.tail (content (S.files p.store.now) Dump (S.opened p.store.now Dump))) (λ p. S.files p.store.now) (λ p. p.store.ghost_name ∷ []) memory.entry result.memory }
+    ensures leaves { IfOk result.answer (λ answer. Q.leaves question.now answer (S.faults memory.entry.store.now) (S.faults result.memory.store.now)) }
+    ensures unasked { IfErr result.answer (λ _. S.faults result.memory.store.now ≡ S.faults memory.entry.store.now) }
+{
+    let patched = Patched::<S, K>::over(memory, changes);
+    let Returned { memory, answer } = ask_over(alloc, patched, paging, question);
+    Returned {
+        memory: memory.into_memory(),
+        answer,
+    }
+}
+
+/// What a root audit comes to over the memory with some words changed, and the memory as it is, handed back. A failure is one of the
+/// store, whose count of faults then rose, or want of memory.
+pub fn verdict_over<'s, S: Store>(
+    alloc: Global,
+    memory: Phys<'s, S>,
+    paging: PageCfg,
+    audit: &RootAudit<'_>,
+    words: &[Suspect],
+) -> Returned<Phys<'s, S>, Result<Verdict, ReadFailed>>
+    requires aligned { paging.table % 4096 ≡ 0 }
+    requires small { paging.table < 2 ^ 52 }
+    requires inside { audit.now.root.audit < length audit.now.plan.now.audits }
+    requires types { TypesAreInside (length audit.now.types.now.records) audit.now.plan.now.audits }
+
+    ensures exact { IfOk result.answer (λ found. IfSome (with_paging paging (stored memory.entry.segments.items memory.entry.tail (content (S.files memory.entry.store.now) Dump (S.opened memory.entry.store.now Dump))))
+        (λ image. (root_verdict (with_words image words.now) (plan_seen audit.now.plan.now) (audit.now.root.audit, audit.now.root.start)).verdict ≡ found)) }
+    ensures fits { IfOk result.answer (NamesAudit (length audit.now.plan.now.audits)) }
+    ensures reads { OnlyReadsFrames (λ p. stored p.segments.items p.tail (content (S.files p.store.now) Dump (S.opened p.store.now Dump))) (λ p. S.files p.store.now) (λ p. p.store.ghost_name ∷ []) (λ p. S.faults p.store.now) result.answer memory.entry result.memory }
+{
+    let question = OneRoot { alloc, audit };
+    let Returned { memory, answer } = ask_changed(alloc, memory, paging, words, &question);
+    Returned {
+        memory,
+        answer: answer.unwrap_or(Err(ReadFailed::NoMemory)),
+    }
+}
+
+/// The same with a suspect's word changed too, after these.
 pub fn try_suspect<'s, S: Store>(
     alloc: Global,
     memory: Phys<'s, S>,
     paging: PageCfg,
     audit: &RootAudit<'_>,
+    earlier: &[Suspect],
     suspect: Suspect,
 ) -> Returned<Phys<'s, S>, Result<Verdict, ReadFailed>>
     requires aligned { paging.table % 4096 ≡ 0 }
@@ -80,38 +189,24 @@ pub fn try_suspect<'s, S: Store>(
     requires types { TypesAreInside (length audit.now.types.now.records) audit.now.plan.now.audits }
 
     ensures exact { IfOk result.answer (λ found. IfSome (with_paging paging (stored memory.entry.segments.items memory.entry.tail (content (S.files memory.entry.store.now) Dump (S.opened memory.entry.store.now Dump))))
-        (λ image. verdict_with image (plan_seen audit.now.plan.now) (audit.now.root.audit, audit.now.root.start) suspect ≡ found)) }
+        (λ image. verdict_with (with_words image earlier.now) (plan_seen audit.now.plan.now) (audit.now.root.audit, audit.now.root.start) suspect ≡ found)) }
     ensures reads { OnlyReadsFrames (λ p. stored p.segments.items p.tail (content (S.files p.store.now) Dump (S.opened p.store.now Dump))) (λ p. S.files p.store.now) (λ p. p.store.ghost_name ∷ []) (λ p. S.faults p.store.now) result.answer memory.entry result.memory }
 {
-    let change = Change {
-        off: suspect.off,
-        value: suspect.value,
-    };
-    try_change::<S, Brand>(alloc, memory, paging, audit, change)
+    know_changes();
+    match and_one(alloc, earlier, suspect) {
+        Ok(words) => verdict_over(alloc, memory, paging, audit, words.as_slice()),
+        Err(NoMemory) => Returned {
+            memory,
+            answer: Err(ReadFailed::NoMemory),
+        },
+    }
 }
 
-// The same with a change.
-fn try_change<'s, S: Store, K: Lent>(
-    alloc: Global,
-    memory: Phys<'s, S>,
-    paging: PageCfg,
-    audit: &RootAudit<'_>,
-    change: Change,
-) -> Returned<Phys<'s, S>, Result<Verdict, ReadFailed>>
-    requires lent { stored memory.segments.items memory.tail (content (S.files memory.store.now) Dump (S.opened memory.store.now Dump)) ≡ K.physical }
-    requires aligned { paging.table % 4096 ≡ 0 }
-    requires small { paging.table < 2 ^ 52 }
-    requires inside { audit.now.root.audit < length audit.now.plan.now.audits }
-    requires types { TypesAreInside (length audit.now.types.now.records) audit.now.plan.now.audits }
-
-    ensures exact { IfOk result.answer (λ found. IfSome (with_paging paging (option_map (patched change) (stored memory.entry.segments.items memory.entry.tail (content (S.files memory.entry.store.now) Dump (S.opened memory.entry.store.now Dump)))))
-        (λ image. (root_verdict image (plan_seen audit.now.plan.now) (audit.now.root.audit, audit.now.root.start)).verdict ≡ found)) }
-    ensures reads { OnlyReadsFrames (λ p. stored p.segments.items p.tail (content (S.files p.store.now) Dump (S.opened p.store.now Dump))) (λ p. S.files p.store.now) (λ p. p.store.ghost_name ∷ []) (λ p. S.faults p.store.now) result.answer memory.entry result.memory }
+// Some words and one more.
+fn and_one(alloc: Global, earlier: &[Suspect], suspect: Suspect) -> Result<Suspects, NoMemory>
+    ensures { IfOk result (λ words. words ≡ earlier.now ++ suspect ∷ []) }
 {
-    let patched = Patched::<S, K>::over(memory, change);
-    let Returned { memory, answer } = ask_over(alloc, patched, paging, &OneRoot { alloc, audit });
-    Returned {
-        memory: memory.into_memory(),
-        answer: answer.unwrap_or(Err(ReadFailed::NoMemory)),
-    }
+    let mut words = Items::of_slice(alloc, earlier)?;
+    words.push(suspect)?;
+    Ok(words)
 }

@@ -8,7 +8,7 @@ ghost use Rattle.kc_plan.specs.Inside.{AreInside as TypesAreInside};
 ghost use Rattle.kc_plan.specs.Views.{plan_seen};
 ghost use Rattle.kc_question.specs.Memory.{image_of};
 ghost use Rattle.kc_repair.specs.Suspect.Answers.{OnlyReadsFrames};
-ghost use Rattle.kc_repair.specs.Repairs.{GoesOn, IsRepair, Judges, StandsAs, verdict_with};
+ghost use Rattle.kc_repair.specs.Repairs.{GoesOn, IsRepair, Judges, StandsAs, verdict_with, with_words};
 ghost use Rattle.kc_found.specs.Failures.{CountsFailures};
 
 use crate::Suspect;
@@ -61,7 +61,7 @@ pub fn repair<S: Store>(
         Err(NoMemory) => return Err(ReadFailed::NoMemory),
     };
     let memory = Phys::over(store, room);
-    let Repaired { memory, repair } = try_all(alloc, memory, paging, audit, found, suspects);
+    let Repaired { memory, repair } = try_all(alloc, memory, paging, audit, &[], found, suspects);
     let _store = memory.into_store();
     repair
 }
@@ -75,12 +75,13 @@ pub struct Repaired<'s, S: Store> {
     pub repair: Result<Repair, ReadFailed>,
 }
 
-// Tries suspects over a memory.
+// Tries suspects over a memory, each after some words that are changed.
 pub(crate) fn try_all<'s, S: Store>(
     alloc: Global,
     memory: Phys<'s, S>,
     paging: PageCfg,
     audit: &RootAudit<'_>,
+    earlier: &[Suspect],
     found: Breach,
     suspects: &[Suspect],
 ) -> Repaired<'s, S>
@@ -90,14 +91,14 @@ pub(crate) fn try_all<'s, S: Store>(
     requires types { TypesAreInside (length audit.now.types.now.records) audit.now.plan.now.audits }
 
     ensures exact { IfOk result.repair (λ repair. IfSome (with_paging paging (stored memory.entry.segments.items memory.entry.tail (content (S.files memory.entry.store.now) Dump (S.opened memory.entry.store.now Dump))))
-        (λ image. IsRepair (verdict_with image (plan_seen audit.now.plan.now) (audit.now.root.audit, audit.now.root.start)) found suspects.now repair)) }
+        (λ image. IsRepair (verdict_with (with_words image earlier.now) (plan_seen audit.now.plan.now) (audit.now.root.audit, audit.now.root.start)) found suspects.now repair)) }
     ensures reads { OnlyReadsFrames (λ p. stored p.segments.items p.tail (content (S.files p.store.now) Dump (S.opened p.store.now Dump))) (λ p. S.files p.store.now) (λ p. p.store.ghost_name ∷ []) (λ p. S.faults p.store.now) result.repair memory.entry result.memory }
 {
     let mut memory = memory;
     let tried = suspects.len().min(MOST);
     let mut then = None;
     for i in 0..tried {
-        let trial = try_suspect(alloc, memory, paging, audit, suspects[i]);
+        let trial = try_suspect(alloc, memory, paging, audit, earlier, suspects[i]);
         memory = trial.memory;
         match judge(trial.answer, suspects[i], found, &mut then) {
             Some(repair) => return Repaired { memory, repair },

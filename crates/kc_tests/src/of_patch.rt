@@ -50,11 +50,11 @@ const CHANGE: Change = Change {
     value: 0xf7f6_f5f4_f3f2_f1f0,
 };
 
-// The words at the multiples of 8 of these addresses, with a change.
+// The words at the multiples of 8 of these addresses, with changes.
 fn told<S: Store, K: Lent, L: Ledger>(
     alloc: Global,
     memory: Phys<'_, S>,
-    change: Change,
+    changes: &[Change],
     words: &[u64],
     blank: Blank,
 ) -> Result<String, AllocError>
@@ -64,7 +64,7 @@ fn told<S: Store, K: Lent, L: Ledger>(
     requires some { 0 < L.parts }
 {
     let mut steps = Steps::<L>::new(blank);
-    let mut patched = Patched::<S, K>::over(memory, change);
+    let mut patched = Patched::<S, K>::over(memory, changes);
     let mut text = String::new(alloc);
     for word in words {
         match patched.word(word / 8 * 8, &mut steps) {
@@ -88,6 +88,33 @@ const WORDS: [u64; 9] = [8, 16, 24, 40, 48, 0x1000, 0x1008, 0x1010, 0x1018];
 const TOLD: &str = "8=0f0e0d0c0b0a0908 10=f7f6f5f4f3f2f1f0 18=1f1e1d1c1b1a1918 tail=0 absent \
 4=0b0a090807060504 c=f3f2f1f00f0e0d0c 14=1b1a1918f7f6f5f4 1c=232221201f1e1d1c ";
 
+// A later change lies over an earlier one.
+const CHANGES: [Change; 2] = [
+    CHANGE,
+    Change {
+        off: 20,
+        value: 0x0706_0504_0302_0100,
+    },
+];
+
+const TOLD_ALL: &str = "8=0f0e0d0c0b0a0908 10=03020100f3f2f1f0 18=1f1e1d1c07060504 tail=0 absent \
+4=0b0a090807060504 c=f3f2f1f00f0e0d0c 14=0706050403020100 1c=232221201f1e1d1c ";
+
+#[test]
+fn several_changed_words_are_read_changed(rt: HostRuntime) -> Result<(), Fail> {
+    let alloc = rt.alloc();
+    let (mut store, size) = made(alloc)?;
+    let room = Room::new(alloc, &SEGMENTS, Tail::Zero)?;
+    assert!(rt; fit(&store, &room.segments, size));
+    if fit(&store, &room.segments, size) {
+        let memory = Phys::over(&mut store, room);
+        let blank = Blank::new(1);
+        let text = told::<MemStore, Brand, Brand>(alloc, memory, &CHANGES, &WORDS, blank)?;
+        assert_eq!(rt; text.as_str(), TOLD_ALL);
+    }
+    Ok(())
+}
+
 #[test]
 fn a_changed_word_is_read_changed(rt: HostRuntime) -> Result<(), Fail> {
     let alloc = rt.alloc();
@@ -97,7 +124,7 @@ fn a_changed_word_is_read_changed(rt: HostRuntime) -> Result<(), Fail> {
     if fit(&store, &room.segments, size) {
         let memory = Phys::over(&mut store, room);
         let blank = Blank::new(1);
-        let text = told::<MemStore, Brand, Brand>(alloc, memory, CHANGE, &WORDS, blank)?;
+        let text = told::<MemStore, Brand, Brand>(alloc, memory, &[CHANGE], &WORDS, blank)?;
         assert_eq!(rt; text.as_str(), TOLD);
     }
     Ok(())

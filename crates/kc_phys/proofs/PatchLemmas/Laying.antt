@@ -1,18 +1,20 @@
 -- Bytes that are laid over a file, and over a part of it that was read.
 use Rattle.std.proofs.Common.{◌≡◌, ℕ, zero, suc, ◌+◌, ◌-◌, ◌<◌, ◌≤◌, Bool, true, false, cond, List, [], ◌∷◌, ◌++◌, length, get_or, slice_get, take, drop, set, Some, None, inl, inr, append_assoc, refl, sym, ap, ◌∙◌, subst, arith, rules, tests}
-use Rattle.std.specs.Prelude.{◌⊎◌, nat_le}
+use Rattle.std.specs.Prelude.{◌⊎◌, ◌||◌, nat_le}
 use Rattle.std.specs.Int.{from_le_bytes, to_le_bytes, w64}
 use Rattle.std.specs.List.{All}
 use Rattle.std.proofs.Math.Seq.{set_out, sets, sets-eq, take-set-lt}
 use Rattle.std.proofs.lemmas.List.{drop-drop, drop-set-add, drop-set-lt, drop_at, get_or-take, get_or_past, length-drop, length-set, length-take, length-take-le, take-append-drop, take-set-le, take_all, take_more}
 use Rattle.std.proofs.lemmas.Bool.{leb-true}
+use Rattle.std.proofs.lemmas.Bool.Decides.{nat_tests}
 use Rattle.std.proofs.lemmas.List.Elements.{All-drop, All-get_or, All-take}
 use Rattle.std.proofs.lemmas.Nat.{le_bytes_8}
 use Rattle.std.proofs.lemmas.Option.{cond_some}
 use Rattle.byteorder.specs.Endian.{little_from, little_number}
 use Rattle.byteorder.specs.Numbers.{little_number-reads_back}
-use Rattle.kc_phys.specs.Patch.Changed.{IsPart, changed, laid}
-use Rattle.kc_phys.specs.Patch.Laws.{KeepsLength, OthersStay, ReadsBack, SameStays}
+use Rattle.kc_phys.specs.declared.patch.change.Change.{Change}
+use Rattle.kc_phys.specs.Patch.Changed.{IsPart, changed, changed_all, laid, share, share_any}
+use Rattle.kc_phys.specs.Patch.Laws.{AllKeepLength, AllOthersStay, KeepsLength, LastLiesOver, OthersStay, ReadsBack, SameStays}
 
 pub lt_or_le : (a b : ℕ) → (a < b) ⊎ (b ≤ a)
 lt_or_le zero zero = inr (omega arith)
@@ -180,3 +182,58 @@ word-other at value off file apart =
     sym (number-take (drop off (laid at (to_le_bytes w64 value) file)))
     ∙ ap (little_number 8) (part-laid_other (to_le_bytes w64 value) file 8 off at apart)
     ∙ number-take (drop off file)
+
+-- ---- several changes
+
+pub last-lies_over : LastLiesOver
+last-lies_over [] last file = refl
+last-lies_over (c ∷ changes) last file = last-lies_over changes last (changed c.off c.value file)
+
+pub all-keep_length : AllKeepLength
+all-keep_length [] file = refl
+all-keep_length (c ∷ changes) file = all-keep_length changes (changed c.off c.value file) ∙ keeps-length c.off c.value file
+
+pub all-others_stay : AllOthersStay
+all-others_stay [] i file all = refl
+all-others_stay (c ∷ changes) i file all = all-others_stay changes i (changed c.off c.value file) all.1 ∙ others-stay c.off c.value i file all.0
+
+-- a buffer over which one change more is laid
+pub changes_more : (changes : List Change) (file buffer new : List ℕ) (n start i : ℕ) (d : Change) → i < length changes → length buffer ≡ n
+    → IsPart buffer n start (changed_all (take i changes) file)
+    → (IsPart buffer (length buffer) start (changed_all (take i changes) file)
+    → IsPart new (length buffer) start (changed (get_or changes i d).off (get_or changes i d).value (changed_all (take i changes) file)))
+    → IsPart new n start (changed_all (take (i + 1) changes) file)
+changes_more changes file buffer new n start i d lt size is put =
+    let whole : changed_all (take (i + 1) changes) file ≡ changed (get_or changes i d).off (get_or changes i d).value (changed_all (take i changes) file) =
+    ap (λ (l : List Change). changed_all l file) (take_more changes i d lt) ∙ last-lies_over (take i changes) (get_or changes i d) file in
+    subst (λ (f : List ℕ). IsPart new n start f) (sym whole)
+    (subst (λ (m : ℕ). IsPart new m start (changed (get_or changes i d).off (get_or changes i d).value (changed_all (take i changes) file))) size
+    (put (subst (λ (m : ℕ). IsPart buffer m start (changed_all (take i changes) file)) (sym size) is)))
+
+-- and over which all are
+pub changes_all : (changes : List Change) (file buffer : List ℕ) (n start i : ℕ) → length changes ≤ i
+    → IsPart buffer n start (changed_all (take i changes) file) → IsPart buffer n start (changed_all changes file)
+changes_all changes file buffer n start i past is = subst (λ (l : List Change). IsPart buffer n start (changed_all l file)) (take_all i changes past) is
+
+-- two words that share no byte
+apart : (a b : ℕ) → share a b ≡ false → (b + 8 ≤ a) ⊎ (a + 8 ≤ b)
+apart a b none =
+    elim (lt_or_le a (b + 8)) [
+      | inr after ↦ inl after
+      | inl near ↦ elim (lt_or_le b (a + 8)) [
+        | inr before ↦ inr before
+        | inl close ↦ absurd (grind (arith, nat_tests))
+      ]
+    ]
+
+either-false : (a b : Bool) → a || b ≡ false → (a ≡ false) × (b ≡ false)
+either-false true b e = absurd (let none : ⊥ = cc in none)
+either-false false b e = (refl, e)
+
+-- a word that shares no byte with any of them stays
+pub word-other_all : (changes : List Change) (off : ℕ) (file : List ℕ) → share_any changes off ≡ false
+    → little_number 8 (drop off (changed_all changes file)) ≡ little_number 8 (drop off file)
+word-other_all [] off file none = refl
+word-other_all (c ∷ changes) off file none =
+    let parts = either-false (share off c.off) (share_any changes off) none in
+    word-other_all changes off (changed c.off c.value file) parts.1 ∙ word-other c.off c.value off file (apart off c.off parts.0)

@@ -1,4 +1,4 @@
--- The words of a dump with a change.
+-- The words of a dump with changes.
 use Rattle.std.proofs.Common.{◌≡◌, ℕ, ◌+◌, ◌≤◌, max, Bool, true, false, cond, List, [], ◌∷◌, find, Option, Some, None, option_map, Ok, inl, inr, refl, sym, ap, ◌∙◌, subst, arith}
 use Rattle.std.specs.Prelude.{◌⊎◌, ◌&&◌, nat_le}
 use Rattle.std.specs.List.{list_any}
@@ -13,8 +13,8 @@ use Rattle.kc_memory.specs.Image.{Physical, holder, holds, in_tail, offset_in, p
 use Rattle.kc_phys.specs.Blocks.{reach}
 use Rattle.kc_phys.specs.Stored.{stored}
 use Rattle.kc_phys.specs.declared.patch.change.Change.{Change}
-use Rattle.kc_phys.specs.Patch.Changed.{changed_at, patched, share}
-use Rattle.kc_phys.proofs.PatchLemmas.Laying.{lt_or_le, word-other}
+use Rattle.kc_phys.specs.Patch.Changed.{changed_at, patched_all, share_any}
+use Rattle.kc_phys.proofs.PatchLemmas.Laying.{word-other_all}
 
 -- the segment that holds a word ends before the greatest end
 found_reach : (segments : List Segment) (pa : ℕ) (s : Segment) → holder pa segments ≡ Some s → offset_in pa s + 8 ≤ reach segments
@@ -57,40 +57,37 @@ stands physical pa off w is file = by_holder (holder pa physical.segments) refl 
 file_word : (physical : Physical) (pa off : ℕ) → Stands physical pa off → pword physical pa ≡ Some (word_at physical.bytes off)
 file_word physical pa off st = rw (st.here, st.at) refl
 
--- two words that share no byte
-apart : (a b end : ℕ) → a + 8 ≤ end → cond (nat_le (a + 8) end && share a b) (Some a) None ≡ None → (b + 8 ≤ a) ⊎ (a + 8 ≤ b)
-apart a b end within none =
-    elim (lt_or_le a (b + 8)) [
-      | inr after ↦ inl after
-      | inl near ↦ elim (lt_or_le b (a + 8)) [
-        | inr before ↦ inr before
-        | inl close ↦ absurd (grind (arith, nat_tests))
-      ]
-    ]
+-- no byte of a word that lies before the end is changed
+none_shared : (is_inside shared : Bool) (off : ℕ) → is_inside ≡ true → cond (is_inside && shared) (Some off) None ≡ None → shared ≡ false
+none_shared true true off e none = absurd (let never : ⊥ = cc in never)
+none_shared true false off e none = refl
+none_shared false shared off e none = absurd (let never : ⊥ = cc in never)
 
--- a word outside it
-pub past_change : (content : Option (List ℕ)) (segments : List Segment) (tail : TailOf) (pa end : ℕ) (c : Change) (w : PWord)
-    → end ≡ reach segments → changed_at c end w.off ≡ None → ReadsWord (stored segments tail content) pa (Ok w)
-    → ReadsWord (option_map (patched c) (stored segments tail content)) pa (Ok w)
-past_change None segments tail pa end c w ends past read = tt
-past_change (Some bytes) segments tail pa end c w ends past read = at_origin w.off refl
+-- a word outside the changes
+pub past_change : (content : Option (List ℕ)) (segments : List Segment) (tail : TailOf) (pa end : ℕ) (changes : List Change) (w : PWord)
+    → end ≡ reach segments → changed_at changes end w.off ≡ None → ReadsWord (stored segments tail content) pa (Ok w)
+    → ReadsWord (option_map (patched_all changes) (stored segments tail content)) pa (Ok w)
+past_change None segments tail pa end changes w ends past read = tt
+past_change (Some bytes) segments tail pa end changes w ends past read = at_origin w.off refl
   where
     old : Physical
     old = record { bytes = bytes; segments = segments; tail = tail }
 
-    at_origin : (o : Origin) → w.off ≡ o → pword (patched c (record { bytes = bytes; segments = segments; tail = tail })) pa ≡ Some w
+    at_origin : (o : Origin) → w.off ≡ o → pword (patched_all changes (record { bytes = bytes; segments = segments; tail = tail })) pa ≡ Some w
     at_origin (File off) e =
         let st : Stands (record { bytes = bytes; segments = segments; tail = tail }) pa off = stands _ pa off w read e in
         let lies : off + 8 ≤ reach segments = rw (st.at) (found_reach segments pa st.by st.here) in
-        let none : changed_at c end (File off) ≡ None = rw e at past in
-        let away = apart off c.off end (omega arith) none in
-        file_word (patched c old) pa off (record { by = st.by; here = st.here; at = st.at })
-        ∙ ap (λ (v : ℕ). Some (record { value = v; off = File off })) (word-other c.off c.value off bytes away)
+        let none : changed_at changes end (File off) ≡ None = rw e at past in
+        let within : off + 8 ≤ end = omega arith in
+        let inside : nat_le (off + 8) end ≡ true = grind (arith, nat_tests) in
+        let away : share_any changes off ≡ false = none_shared (nat_le (off + 8) end) (share_any changes off) off inside none in
+        file_word (patched_all changes old) pa off (record { by = st.by; here = st.here; at = st.at })
+        ∙ ap (λ (v : ℕ). Some (record { value = v; off = File off })) (word-other_all changes off bytes away)
         ∙ sym (file_word old pa off st)
         ∙ read
     at_origin Tail e = by_holder (holder pa segments) refl read
       where
-        by_holder : (h : Option Segment) → holder pa segments ≡ h → pword old pa ≡ Some w → pword (patched c old) pa ≡ Some w
+        by_holder : (h : Option Segment) → holder pa segments ≡ h → pword old pa ≡ Some w → pword (patched_all changes old) pa ≡ Some w
         by_holder None h is = rw h (rw h at is)
         by_holder (Some s) h is =
             let here : Some (word_at bytes (offset_in pa s)) ≡ Some w = rw h at is in

@@ -1,8 +1,9 @@
 -- What a change does.
-use Rattle.std.specs.Prelude.{◌≡◌, ℕ, ◌+◌, ◌<◌, ◌≤◌, ◌^◌, ◌⊎◌, List, length, slice_get, Some}
-use Rattle.std.specs.List.{All}
+use Rattle.std.specs.Prelude.{◌≡◌, ℕ, ◌+◌, ◌<◌, ◌≤◌, ◌^◌, ◌⊎◌, List, [], ◌∷◌, ◌++◌, length, slice_get, Some}
+use Rattle.std.specs.List.{All, AllByRecursion}
 use Rattle.kc_word.specs.Numbers.{number_at}
-use Rattle.kc_phys.specs.Patch.Changed.{changed}
+use Rattle.kc_phys.specs.declared.patch.change.Change.{Change}
+use Rattle.kc_phys.specs.Patch.Changed.{changed, changed_all}
 
 -- the length stays
 abbrev pub KeepsLength : Type 0
@@ -22,3 +23,19 @@ ReadsBack =
 abbrev pub SameStays : Type 0
 SameStays =
     (off value : ℕ) (file : List ℕ) → All (λ b. b < 256) file → number_at 8 file off ≡ Some value → changed off value file ≡ file
+
+-- several changes keep the length too
+abbrev pub AllKeepLength : Type 0
+AllKeepLength = (changes : List Change) (file : List ℕ) → length (changed_all changes file) ≡ length file
+
+-- and each byte that none of them has
+abbrev pub AllOthersStay : Type 0
+AllOthersStay =
+    (changes : List Change) (i : ℕ) (file : List ℕ) → AllByRecursion (λ (c : Change). (i < c.off) ⊎ (c.off + 8 ≤ i)) changes
+    → slice_get (changed_all changes file) i ≡ slice_get file i
+
+-- the last of them is a change of the file that the others make
+abbrev pub LastLiesOver : Type 0
+LastLiesOver =
+    (changes : List Change) (last : Change) (file : List ℕ)
+    → changed_all (changes ++ last ∷ []) file ≡ changed last.off last.value (changed_all changes file)

@@ -1,11 +1,21 @@
 // The bytes of a change, over bytes of the file that were read.
 ghost use Rattle.std.specs.Prelude.{◌≡◌, ◌+◌, ◌<◌, ◌≤◌, ◌^◌, length, slice_set, nat_lt};
-ghost use Rattle.kc_phys.specs.Patch.Changed.{BecomesPart, changed};
+ghost use Rattle.kc_phys.specs.Patch.Changed.{BecomesPart, changed, changed_all};
 
 use crate::patch::change::Change;
 
-/// Lays a change over a buffer that holds the bytes of a file from the offset `start` on.
-pub fn lay(buffer: &mut [u8], start: u64, change: &Change)
+/// Lays changes over a buffer that holds the bytes of a file from the offset `start` on, one after the other.
+pub fn lay_all(buffer: &mut [u8], start: u64, changes: &[Change])
+    requires { start + length buffer.old < 2 ^ 64 }
+    ensures { BecomesPart start (changed_all changes.now) buffer.old buffer.new }
+{
+    for i in 0..changes.len() {
+        lay(buffer, start, &changes[i]);
+    }
+}
+
+// Lays a change over a buffer that holds the bytes of a file from the offset `start` on.
+fn lay(buffer: &mut [u8], start: u64, change: &Change)
     requires { start + length buffer.old < 2 ^ 64 }
     ensures { BecomesPart start (changed change.now.off change.now.value) buffer.old buffer.new }
 {

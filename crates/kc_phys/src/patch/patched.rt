@@ -1,4 +1,4 @@
-// The frames of a file with a change.
+// The frames of a file with changes.
 ghost use Rattle.std.specs.Prelude.{◌≡◌, ◌+◌, ◌%◌, ◌≤◌, ◌∷◌, [], Option, None, option_map};
 ghost use Rattle.kc_outside.specs.declared.store.Slot.TheVariants.{Dump};
 ghost use Rattle.kc_outside.specs.Files.{content};
@@ -6,11 +6,11 @@ ghost use Rattle.kc_memory.specs.Frames.{CountsFaults, ReadsWord};
 ghost use Rattle.kc_memory.specs.Image.{Physical};
 ghost use Rattle.kc_memory.specs.Stays.{FramesStay};
 ghost use Rattle.kc_phys.specs.Stored.{IsPart, stored};
-ghost use Rattle.kc_phys.specs.Patch.Changed.{changed_at, patched, with_change};
+ghost use Rattle.kc_phys.specs.Patch.Changed.{changed_at, patched_all, share, share_any, with_changes};
 
 use crate::Phys;
 use crate::patch::change::Change;
-use crate::patch::lay::lay;
+use crate::patch::lay::lay_all;
 use byteorder::{ByteOrder, LittleEndian};
 use kc_memory::{FrameStop, Frames, Origin, PWord};
 use kc_outside::{Failed, Slot, Store};
@@ -31,29 +31,29 @@ impl Lent for Brand {
     ghost physical = { None };
 }
 
-/// The physical memory of the file in slot Dump, as if a change were written into the file. A word that shares a byte with
-/// the change has a read of its own, over which the change is laid; of all others the blocks that are kept serve.
+/// The physical memory of the file in slot Dump, as if changes were written into the file, one after the other. A word
+/// that shares a byte with one of them has a read of its own, over which they are laid; of all others the blocks that are kept serve.
 #[derive(Drop)]
-pub struct Patched<'s, S: Store, K: Lent> {
+pub struct Patched<'s, 'c, S: Store, K: Lent> {
     /// The memory of the file as it is.
     pub memory: Phys<'s, S>,
-    /// The change.
-    pub change: Change,
+    /// The changes.
+    pub changes: &'c [Change],
     /// What is lent.
     pub of: PhantomData<K>,
     pub ghost lent: { stored memory.segments.items memory.tail (content (S.files memory.store.now) Dump (S.opened memory.store.now Dump)) ≡ K.physical },
 }
 
-impl<'s, S: Store, K: Lent> Patched<'s, S, K> {
-    /// The memory with a change. It takes no memory, and can't fail.
-    pub fn over(memory: Phys<'s, S>, change: Change) -> Self
+impl<'s, 'c, S: Store, K: Lent> Patched<'s, 'c, S, K> {
+    /// The memory with changes. It takes no memory, and can't fail.
+    pub fn over(memory: Phys<'s, S>, changes: &'c [Change]) -> Self
         requires { stored memory.segments.items memory.tail (content (S.files memory.store.now) Dump (S.opened memory.store.now Dump)) ≡ K.physical }
         ensures memory { result.memory ≡ memory.entry }
-        ensures change { result.change ≡ change }
+        ensures changes { result.changes.now ≡ changes.now }
     {
         Patched {
             memory,
-            change,
+            changes,
             of: PhantomData,
         }
     }
@@ -64,15 +64,15 @@ impl<'s, S: Store, K: Lent> Patched<'s, S, K> {
     {
         let Patched {
             memory,
-            change: _,
+            changes: _,
             of: _,
         } = self;
         memory
     }
 }
 
-impl<'s, S: Store, K: Lent> Frames for Patched<'s, S, K> {
-    ghost image = { λ p. option_map (patched p.change) (stored p.memory.segments.items p.memory.tail (content (S.files p.memory.store.now) Dump (S.opened p.memory.store.now Dump))) };
+impl<'s, 'c, S: Store, K: Lent> Frames for Patched<'s, 'c, S, K> {
+    ghost image = { λ p. option_map (patched_all p.changes.now) (stored p.memory.segments.items p.memory.tail (content (S.files p.memory.store.now) Dump (S.opened p.memory.store.now Dump))) };
 
     ghost files = { λ p. S.files p.memory.store.now };
 
@@ -88,15 +88,15 @@ impl<'s, S: Store, K: Lent> Frames for Patched<'s, S, K> {
     fn word<L: Ledger>(&mut self, pa: u64, steps: &mut Steps<L>) -> Result<PWord, FrameStop>
         requires { pa % 8 ≡ 0 }
 
-        ensures word { ReadsWord (option_map (patched self.old.change) (stored self.old.memory.segments.items self.old.memory.tail (content (S.files self.old.memory.store.now) Dump (S.opened self.old.memory.store.now Dump)))) pa result }
+        ensures word { ReadsWord (option_map (patched_all self.old.changes.now) (stored self.old.memory.segments.items self.old.memory.tail (content (S.files self.old.memory.store.now) Dump (S.opened self.old.memory.store.now Dump)))) pa result }
         ensures steps { steps.new ≡ steps.old + 1 }
 
-        ensures stays { FramesStay (λ p. option_map (patched p.change) (stored p.memory.segments.items p.memory.tail (content (S.files p.memory.store.now) Dump (S.opened p.memory.store.now Dump)))) (λ p. S.files p.memory.store.now) (λ p. p.memory.store.ghost_name ∷ []) self.old self.new }
+        ensures stays { FramesStay (λ p. option_map (patched_all p.changes.now) (stored p.memory.segments.items p.memory.tail (content (S.files p.memory.store.now) Dump (S.opened p.memory.store.now Dump)))) (λ p. S.files p.memory.store.now) (λ p. p.memory.store.ghost_name ∷ []) self.old self.new }
         ensures cause { CountsFaults result (S.faults self.old.memory.store.now) (S.faults self.new.memory.store.now) }
     {
         match self.memory.word(pa, steps) {
-            Ok(word) => match changed_at(&self.change, word.off, self.memory.end) {
-                Some(off) => read_changed(&mut self.memory, off, &self.change),
+            Ok(word) => match changed_at(self.changes, word.off, self.memory.end) {
+                Some(off) => read_changed(&mut self.memory, off, self.changes),
                 None => Ok(word),
             },
             Err(stop) => Err(stop),
@@ -104,36 +104,49 @@ impl<'s, S: Store, K: Lent> Frames for Patched<'s, S, K> {
     }
 }
 
+/// Whether the words of eight bytes at two file offsets share a byte.
+pub fn share(a: u64, b: u64) -> bool
+    ensures { result ≡ share a b }
+{
+    a.abs_diff(b) < WORD_BYTES
+}
+
+// Whether the word at a file offset shares a byte with one of some changes.
+fn share_any(changes: &[Change], off: u64) -> bool
+    ensures { result ≡ share_any changes.now off }
+{
+    changes.iter().any(|change| share(off, change.off))
+}
+
 // The file offset of a word that shares a byte with a change. It ends before `end`, or there.
-fn changed_at(change: &Change, origin: Origin, end: u64) -> Option<u64>
-    ensures { result ≡ changed_at change.now end origin }
+fn changed_at(changes: &[Change], origin: Origin, end: u64) -> Option<u64>
+    ensures { result ≡ changed_at changes.now end origin }
 {
     match origin {
         Origin::File(off) => {
             let is_inside = end.saturating_sub(off) >= WORD_BYTES;
-            let shares = off.abs_diff(change.off) < WORD_BYTES;
-            (is_inside && shares).then_some(off)
+            (is_inside && share_any(changes, off)).then_some(off)
         }
         Origin::Tail => None,
     }
 }
 
-// The word at a file offset, as the change leaves it.
+// The word at a file offset, as the changes leave it.
 fn read_changed<S: Store>(
     memory: &mut Phys<'_, S>,
     off: u64,
-    change: &Change,
+    changes: &[Change],
 ) -> Result<PWord, FrameStop>
     requires { off + 8 ≤ memory.old.end }
 
-    ensures word { IsPart (with_change change.now (content (S.files memory.old.store.now) Dump (S.opened memory.old.store.now Dump))) off result }
+    ensures word { IsPart (with_changes changes.now (content (S.files memory.old.store.now) Dump (S.opened memory.old.store.now Dump))) off result }
     ensures stays { FramesStay (λ p. stored p.segments.items p.tail (content (S.files p.store.now) Dump (S.opened p.store.now Dump))) (λ p. S.files p.store.now) (λ p. p.store.ghost_name ∷ []) memory.old memory.new }
     ensures cause { CountsFaults result (S.faults memory.old.store.now) (S.faults memory.new.store.now) }
 {
     let mut bytes = [0; 8];
     match memory.store.read_at(Slot::Dump, off, &mut bytes) {
         Ok(()) => {
-            lay(&mut bytes, off, change);
+            lay_all(&mut bytes, off, changes);
             Ok(PWord {
                 value: LittleEndian::read_u64(&bytes),
                 off: Origin::File(off),

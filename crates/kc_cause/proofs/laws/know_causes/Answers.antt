@@ -43,5 +43,9 @@ returns c = record {
     stand = c.know_repairs.ensures.stand;
     words = c.know_repairs.ensures.words;
     suspects = c.know_suspects.ensures;
+    left = c.know_repairs.ensures.left;
+    left_words = c.know_repairs.ensures.left_words;
+    in_file = c.know_repairs.ensures.in_file;
+    one_more = c.know_repairs.ensures.one_more;
   });
 }

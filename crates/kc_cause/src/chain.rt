@@ -1,0 +1,242 @@
+// Several words that repair a root audit together.
+ghost use Rattle.std.specs.Prelude.{◌≡◌, ◌∷◌, [], ◌++◌, ◌<◌, length, IfErr, IfOk, IfSome, OnOk, Some};
+ghost use Rattle.kc_found.specs.declared.failed.ReadFailed.TheVariants.{NoMemory as OutOfMemory};
+ghost use Rattle.kc_found.specs.declared.verdict.Verdict.TheVariants.{Broken};
+ghost use Rattle.kc_outside.specs.declared.store.Slot.TheVariants.{Dump};
+ghost use Rattle.kc_outside.specs.Files.{content};
+ghost use Rattle.kc_phys.specs.Stored.{stored};
+ghost use Rattle.kc_mem.specs.Paged.{with_paging};
+ghost use Rattle.kc_plan.specs.Views.{plan_seen};
+ghost use Rattle.kc_repair.specs.Repairs.{NamesAudit, repair_left};
+ghost use Rattle.kc_repair.specs.Suspect.Answers.{OnlyReadsFrames};
+ghost use Rattle.kc_cause.specs.Chained.{chain_of, ended, leads_on, left_after, left_by};
+ghost use Rattle.kc_cause.specs.Judged.{FitsTogether};
+
+use crate::judged::PlanOf;
+use crate::suspected::as_ring_left;
+use kc_found::{Asked, Found, Items, ReadFailed, Verdict};
+use kc_kinds::Kind;
+use kc_outside::Store;
+use kc_phys::Phys;
+use kc_question::Returned;
+use kc_repair::{Repair, Repaired, RootAudit, Suspect, Suspects, repair_left, verdict_over};
+use kc_word::NoMemory;
+
+// How many words are changed at most.
+const MOST_WORDS: u32 = 8;
+
+// What repairs a violation of a kind of structure, that is left where some words are changed.
+fn left_as<'s, S: Store>(
+    memory: Phys<'s, S>,
+    over: &PlanOf<'_>,
+    root: Asked,
+    words: &[Suspect],
+    kind: &Kind,
+    found: &Found,
+) -> Returned<Phys<'s, S>, Result<Option<Repair>, ReadFailed>>
+    requires over { FitsTogether over.now }
+    requires root { root.audit < length over.now.plan.now.audits }
+
+    ensures exact { IfOk result.answer (λ left. IfSome (with_paging over.now.paging (stored memory.entry.segments.items memory.entry.tail (content (S.files memory.entry.store.now) Dump (S.opened memory.entry.store.now Dump))))
+        (λ image. left ≡ Some (repair_left image (plan_seen over.now.plan.now) (root.audit, root.start) words.now kind.now found.now))) }
+    ensures reads { OnlyReadsFrames (λ p. stored p.segments.items p.tail (content (S.files p.store.now) Dump (S.opened p.store.now Dump))) (λ p. S.files p.store.now) (λ p. p.store.ghost_name ∷ []) (λ p. S.faults p.store.now) result.answer memory.entry result.memory }
+{
+    let PlanOf { plan, types, .. } = *over;
+    let audit = RootAudit { plan, types, root };
+    let Repaired { memory, repair } = repair_left(
+        over.alloc,
+        memory,
+        over.paging,
+        &audit,
+        words,
+        kind,
+        found,
+    );
+    match repair {
+        Ok(repair) => Returned {
+            memory,
+            answer: Ok(Some(repair)),
+        },
+        Err(stop) => Returned {
+            memory,
+            answer: Err(stop),
+        },
+    }
+}
+
+// And as it is suspected.
+fn left_found<'s, S: Store>(
+    memory: Phys<'s, S>,
+    over: &PlanOf<'_>,
+    root: Asked,
+    words: &[Suspect],
+    found: &Found,
+) -> Returned<Phys<'s, S>, Result<Option<Repair>, ReadFailed>>
+    requires over { FitsTogether over.now }
+    requires root { root.audit < length over.now.plan.now.audits }
+    requires found { found.now.audit < length over.now.plan.now.audits }
+
+    ensures exact { IfOk result.answer (λ left. IfSome (with_paging over.now.paging (stored memory.entry.segments.items memory.entry.tail (content (S.files memory.entry.store.now) Dump (S.opened memory.entry.store.now Dump))))
+        (λ image. left ≡ left_by image (plan_seen over.now.plan.now) (root.audit, root.start) words.now (Broken found.now))) }
+    ensures reads { OnlyReadsFrames (λ p. stored p.segments.items p.tail (content (S.files p.store.now) Dump (S.opened p.store.now Dump))) (λ p. S.files p.store.now) (λ p. p.store.ghost_name ∷ []) (λ p. S.faults p.store.now) result.answer memory.entry result.memory }
+{
+    let kind = &over.plan.audit(found.audit).kind;
+    let Returned { memory, answer } = as_ring_left(memory, over, words, kind, found);
+    match answer {
+        Ok(Some(ring)) => left_as(memory, over, root, words, &ring.kind, &ring.found),
+        Ok(None) => left_as(memory, over, root, words, kind, found),
+        Err(stop) => Returned {
+            memory,
+            answer: Err(stop),
+        },
+    }
+}
+
+// The same where the root audit comes to a verdict then, if it doesn't stand.
+fn left_by<'s, S: Store>(
+    memory: Phys<'s, S>,
+    over: &PlanOf<'_>,
+    root: Asked,
+    words: &[Suspect],
+    verdict: Verdict,
+) -> Returned<Phys<'s, S>, Result<Option<Repair>, ReadFailed>>
+    requires over { FitsTogether over.now }
+    requires root { root.audit < length over.now.plan.now.audits }
+    requires found { NamesAudit (length over.now.plan.now.audits) verdict }
+
+    ensures exact { IfOk result.answer (λ left. IfSome (with_paging over.now.paging (stored memory.entry.segments.items memory.entry.tail (content (S.files memory.entry.store.now) Dump (S.opened memory.entry.store.now Dump))))
+        (λ image. left ≡ left_by image (plan_seen over.now.plan.now) (root.audit, root.start) words.now verdict)) }
+    ensures reads { OnlyReadsFrames (λ p. stored p.segments.items p.tail (content (S.files p.store.now) Dump (S.opened p.store.now Dump))) (λ p. S.files p.store.now) (λ p. p.store.ghost_name ∷ []) (λ p. S.faults p.store.now) result.answer memory.entry result.memory }
+{
+    match verdict {
+        Verdict::Broken(found) => left_found(memory, over, root, words, &found),
+        Verdict::Clean(_) => Returned {
+            memory,
+            answer: Ok(None),
+        },
+    }
+}
+
+// What repairs what is left where some words are changed, if the root audit doesn't stand then.
+fn left_after<'s, S: Store>(
+    memory: Phys<'s, S>,
+    over: &PlanOf<'_>,
+    root: Asked,
+    words: &[Suspect],
+) -> Returned<Phys<'s, S>, Result<Option<Repair>, ReadFailed>>
+    requires over { FitsTogether over.now }
+    requires root { root.audit < length over.now.plan.now.audits }
+
+    ensures exact { IfOk result.answer (λ left. IfSome (with_paging over.now.paging (stored memory.entry.segments.items memory.entry.tail (content (S.files memory.entry.store.now) Dump (S.opened memory.entry.store.now Dump))))
+        (λ image. left ≡ left_after image (plan_seen over.now.plan.now) (root.audit, root.start) words.now)) }
+    ensures reads { OnlyReadsFrames (λ p. stored p.segments.items p.tail (content (S.files p.store.now) Dump (S.opened p.store.now Dump))) (λ p. S.files p.store.now) (λ p. p.store.ghost_name ∷ []) (λ p. S.faults p.store.now) result.answer memory.entry result.memory }
+{
+    let PlanOf { plan, types, .. } = *over;
+    let audit = RootAudit { plan, types, root };
+    let Returned { memory, answer } = verdict_over(over.alloc, memory, over.paging, &audit, words);
+    match answer {
+        Ok(verdict) => left_by(memory, over, root, words, verdict),
+        Err(stop) => Returned {
+            memory,
+            answer: Err(stop),
+        },
+    }
+}
+
+// One word more, and what repairs what is left then.
+fn lead<'s, S: Store>(
+    memory: Phys<'s, S>,
+    over: &PlanOf<'_>,
+    root: Asked,
+    words: &mut Suspects,
+    suspect: Suspect,
+) -> Returned<Phys<'s, S>, Result<Option<Repair>, ReadFailed>>
+    requires over { FitsTogether over.now }
+    requires root { root.audit < length over.now.plan.now.audits }
+
+    ensures words { OnOk result.answer (words.new ≡ words.old ++ suspect ∷ []) }
+    ensures exact { IfOk result.answer (λ left. IfSome (with_paging over.now.paging (stored memory.entry.segments.items memory.entry.tail (content (S.files memory.entry.store.now) Dump (S.opened memory.entry.store.now Dump))))
+        (λ image. left ≡ left_after image (plan_seen over.now.plan.now) (root.audit, root.start) (words.old ++ suspect ∷ []))) }
+    ensures reads { OnlyReadsFrames (λ p. stored p.segments.items p.tail (content (S.files p.store.now) Dump (S.opened p.store.now Dump))) (λ p. S.files p.store.now) (λ p. p.store.ghost_name ∷ []) (λ p. S.faults p.store.now) result.answer memory.entry result.memory }
+{
+    match words.push(suspect) {
+        Ok(()) => left_after(memory, over, root, words.as_slice()),
+        Err(NoMemory) => Returned {
+            memory,
+            answer: Err(ReadFailed::NoMemory),
+        },
+    }
+}
+
+// The word that leads to another violation, where none repairs.
+fn leads_on(left: &Option<Repair>) -> Option<Suspect>
+    ensures { result ≡ leads_on left.now }
+{
+    match left {
+        Some(
+            Repair::Nothing {
+                then: Some(next),
+                ..
+            },
+        ) => Some(next.suspect),
+        Some(Repair::Nothing { then: None, .. }) | Some(Repair::Stands(_)) | None => None,
+    }
+}
+
+// The words with the one that repairs what is left, where there is one.
+fn ended(words: Suspects, left: Option<Repair>) -> Result<Option<Suspects>, ReadFailed>
+    ensures exact { IfOk result (λ all. all ≡ ended words left) }
+    ensures cause { IfErr result (λ stop. stop ≡ OutOfMemory) }
+{
+    let Some(Repair::Stands(last)) = left else {
+        return Ok(None);
+    };
+    let mut words = words;
+    match words.push(last) {
+        Ok(()) => Ok(Some(words)),
+        Err(NoMemory) => Err(ReadFailed::NoMemory),
+    }
+}
+
+/// The words that repair a root audit together, after what its violation was answered by. It fails where reading the dump does, whose count of
+/// faults then rose, or where no memory was left.
+pub(crate) fn chain<'s, S: Store>(
+    memory: Phys<'s, S>,
+    over: &PlanOf<'_>,
+    root: Asked,
+    first: Repair,
+) -> Returned<Phys<'s, S>, Result<Option<Suspects>, ReadFailed>>
+    requires over { FitsTogether over.now }
+    requires root { root.audit < length over.now.plan.now.audits }
+
+    ensures exact { IfOk result.answer (λ words. IfSome (with_paging over.now.paging (stored memory.entry.segments.items memory.entry.tail (content (S.files memory.entry.store.now) Dump (S.opened memory.entry.store.now Dump))))
+        (λ image. words ≡ chain_of image (plan_seen over.now.plan.now) (root.audit, root.start) first)) }
+    ensures reads { OnlyReadsFrames (λ p. stored p.segments.items p.tail (content (S.files p.store.now) Dump (S.opened p.store.now Dump))) (λ p. S.files p.store.now) (λ p. p.store.ghost_name ∷ []) (λ p. S.faults p.store.now) result.answer memory.entry result.memory }
+{
+    let mut memory = memory;
+    let mut words = Items::new(over.alloc);
+    let mut left = Some(first);
+    for _i in 0..MOST_WORDS {
+        let Some(suspect) = leads_on(&left) else {
+            return Returned {
+                memory,
+                answer: ended(words, left),
+            };
+        };
+        let tried = lead(memory, over, root, &mut words, suspect);
+        memory = tried.memory;
+        match tried.answer {
+            Ok(more) => left = more,
+            Err(stop) => {
+                return Returned {
+                    memory,
+                    answer: Err(stop),
+                };
+            }
+        }
+    }
+    Returned {
+        memory,
+        answer: Ok(None),
+    }
+}
