@@ -2,6 +2,7 @@
 the task whose stack has it. It stands on `verdict.py`, and shares no code with the program.
 """
 from plans.reader import TOP, Broken, Refused, address
+from second.rings import first_of, reached
 from second.verdict import tasks
 
 PROCESSORS = 8192
@@ -65,13 +66,15 @@ class Areas:
         if head is None:
             return None
         paths, link, most = self.parts(), kernel.byte("module", "list"), self.length("module", "name")
-        for node in kernel.ring(head):
-            module = (node - link) % TOP
-            for path in paths:
-                base, size = (kernel.field(module, "module", f"{path}.{name}")[0] for name in ("base", "size"))
-                if base and base <= at < base + size:
-                    return f"{shown(self.text(module + kernel.byte('module', 'name'), most))}+{at - base}"
-        return None
+
+        def in_part(module, path):
+            base, size = (kernel.field(module, "module", f"{path}.{name}")[0] for name in ("base", "size"))
+            if base and base <= at < base + size:
+                return f"{shown(self.text(module + kernel.byte('module', 'name'), most))}+{at - base}"
+            return None
+
+        nodes, broken = reached(kernel, head)
+        return first_of(nodes, lambda node: first_of(paths, lambda path: in_part((node - link) % TOP, path)), broken)
 
     def variable(self, first, at):
         """The symbol nearest below an address, from the first one on, where it isn't the area's own."""
@@ -86,18 +89,41 @@ class Areas:
         count, offsets, first, end = (self.symbol(name) for name in ("nr_cpu_ids", "__per_cpu_offset", "__per_cpu_start", "__per_cpu_end"))
         if None in (count, offsets, first, end):
             return None
-        for number in range(min(memory.number(count, 0, 32)[0], PROCESSORS)):
-            listed = (at - memory.place((offsets + 8 * number) % TOP)[3]) % TOP
-            if first <= listed < end:
-                return f"{number}{self.variable(first, listed)}"
-        return None
 
-    def stacks(self):
-        """The stacks of all tasks, in their order, or what breaks the task list."""
-        if "stacks" not in self.kept:
-            kernel, first = self.kernel, self.symbol("init_task")
-            self.kept["stacks"] = [(kernel.field(task, "task_struct", "stack")[0], task) for task in tasks(kernel, first)]
-        return self.kept["stacks"]
+        def in_area(number):
+            listed = (at - memory.place((offsets + 8 * number) % TOP)[3]) % TOP
+            return f"{number}{self.variable(first, listed)}" if first <= listed < end else None
+
+        return first_of(range(min(memory.number(count, 0, 32)[0], PROCESSORS)), in_area)
+
+    def led_to(self, head, member):
+        """The tasks that have the nodes of a ring, also where it is broken."""
+        return [(node - self.kernel.byte("task_struct", member)) % TOP for node in reached(self.kernel, head)[0]]
+
+    def led_from(self, first):
+        """The tasks that the rings of a broken task list still lead to: leaders, and the threads of each."""
+        kernel = self.kernel
+        for leader in [first] + self.led_to(first + kernel.byte("task_struct", "tasks"), "tasks"):
+            yield leader
+            try:
+                signal = kernel.field(leader, "task_struct", "signal")[0]
+            except Broken:
+                continue
+            yield from self.led_to(signal + kernel.byte("signal_struct", "thread_head"), "thread_node")
+
+    def tasks(self):
+        """The tasks of the task list in their order, or those that its rings still lead to, and what it breaks."""
+        if "tasks" not in self.kept:
+            first = self.symbol("init_task")
+            try:
+                self.kept["tasks"] = tasks(self.kernel, first), None
+            except Broken as broken:
+                self.kept["tasks"] = list(self.led_from(first)), broken
+        return self.kept["tasks"]
+
+    def stack_of(self, task):
+        """Where a task's stack begins."""
+        return self.kernel.field(task, "task_struct", "stack")[0]
 
     def stack(self, at):
         kernel = self.kernel
@@ -105,11 +131,16 @@ class Areas:
         if first is None or end is None or end < first:
             return None
         size, most = end - first, self.length("task_struct", "comm")
-        for stack, task in self.stacks():
+
+        def in_stack(task):
+            stack = self.stack_of(task)
             if stack and stack <= at < stack + size:
                 pid = kernel.field(task, "task_struct", "pid")[0]
                 return f"{pid} {shown(self.text(task + kernel.byte('task_struct', 'comm'), most))}+{at - stack}"
-        return None
+            return None
+
+        found, broken = self.tasks()
+        return first_of(found, in_stack, broken)
 
     def told(self, name, act, at):
         try:

@@ -15,6 +15,7 @@ import files
 import timer
 from plans.reader import IMAGE, TOP, Broken, Core, Info, Memory, Refused, Types, address, symbols, vmcoreinfo
 from second.areas import Holders, shown
+from second.rings import reached
 from second.slabs import list_of, mark_of, processors
 from second.verdict import Kernel, free_list, slub
 
@@ -69,7 +70,7 @@ class Objects:
     def keys(self):
         """Where the direct map begins, and the caches that encode free pointers: the address, the name and the random number of each."""
         found = []
-        for node in self.kernel.ring(self.caches):
+        for node in reached(self.kernel, self.caches)[0]:
             cache = (node - self.kernel.byte("kmem_cache", "list")) % TOP
             coded = self.optional(cache, "random")
             if coded is not None:
@@ -78,7 +79,7 @@ class Objects:
 
     def unread(self):
         """The caches whose random number can't be read: the address and the name of each."""
-        for node in self.kernel.ring(self.caches):
+        for node in reached(self.kernel, self.caches)[0]:
             cache = (node - self.kernel.byte("kmem_cache", "list")) % TOP
             try:
                 self.kernel.field(cache, "kmem_cache", "random")
@@ -207,9 +208,11 @@ class Objects:
             return lines
         try:
             cache = self.kernel.field(head, "slab", "slab_cache")[0]
-            nodes = self.kernel.ring(self.caches)
+            nodes, broken = reached(self.kernel, self.caches)
             if (cache + self.kernel.byte("kmem_cache", "list")) % TOP in nodes:
                 lines += self.of_slab(head, cache, pa, bases)
+            elif broken:
+                raise broken
         except Broken as broken:
             lines = lines[:1] + [f"slab unknown {broken.rule} {broken.at:016x}"]
         return lines

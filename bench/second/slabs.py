@@ -21,6 +21,7 @@ import time
 import files
 from plans.reader import TOP, Broken, Core, Info, Memory, Refused, Types, address, dec_of, symbols, vmcoreinfo
 from second.areas import shown
+from second.rings import reached
 from second.verdict import Kernel, free_list, place_line
 
 
@@ -108,7 +109,7 @@ class Slabs:
         # SLAB_RED_ZONE, SLAB_POISON, SLAB_TYPESAFE_BY_RCU
         self.flags = (1 << 1, 1 << 2, 1 << 9) if (6, b"_slab_flag_bits") in kinds else (0x400, 0x800, 0x80000)
         self.caches = {}
-        self.nodes, self.ring = self.reached(address(kernel.rows, "slab_caches", info.kaslr))
+        self.nodes, self.ring = reached(kernel, address(kernel.rows, "slab_caches", info.kaslr))
         self.all_caches = wanted is None and self.ring is None
         self.named = {}
         for node in self.nodes:
@@ -117,29 +118,6 @@ class Slabs:
             if wanted is None or name == wanted:
                 laid = self.laid(cache)
                 self.caches[cache] = name, laid, self.runs(cache, laid)
-
-    def reached(self, head):
-        """The nodes of the ring of all caches, and the rule that it breaks: of a broken one those that are reached from either end."""
-        try:
-            return self.kernel.ring(head), None
-        except Broken as broken:
-            after, before = (self.kernel.byte("list_head", name) for name in ("next", "prev"))
-            first = self.along(head, after, before, (head,))
-            return first + self.along(head, before, after, (head, first[-1] if first else head)), broken
-
-    def along(self, node, on, back, ends):
-        """The nodes that one pointer leads to, while the other leads back."""
-        found, memory = [], self.kernel.memory
-        try:
-            while len(found) < 65536:
-                then = memory.place((node + on) % TOP)[3]
-                if memory.place((then + back) % TOP)[3] != node or then in ends:
-                    break
-                found.append(then)
-                node = then
-        except Broken:
-            pass
-        return found
 
     def word(self, at):
         """The 64 bits at an address, or none where they can't be read."""

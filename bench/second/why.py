@@ -16,6 +16,7 @@ import timer
 from plans.reader import IMAGE, TOP, Broken, Core, Info, Memory, Refused, Types, address, dec_of, symbols, vmcoreinfo
 from second.areas import NO_VARIABLE, Areas
 from second.objects import Objects, all_rows
+from second.rings import reached
 from second.verdict import POISON, Kernel
 
 POISON_H = """
@@ -263,7 +264,8 @@ def made_areas(areas, count):
         for number in range(kernel.memory.number(areas.symbol("nr_cpu_ids"), 0, 32)[0]):
             offset = kernel.memory.place(areas.symbol("__per_cpu_offset") + 8 * number)[3]
             some += [(offset + rng.randrange(areas.symbol("__per_cpu_end"))) % TOP, offset, (offset + areas.symbol("__per_cpu_end")) % TOP]
-        some += [(stack + rng.randrange(16384)) % TOP for stack, _ in rng.sample(areas.stacks(), min(count, len(areas.stacks())))]
+        stacks = [areas.stack_of(task) for task in areas.tasks()[0]]
+        some += [(stack + rng.randrange(16384)) % TOP for stack in rng.sample(stacks, min(count, len(stacks)))]
     except (Broken, Refused, TypeError):
         pass
     return some
@@ -325,15 +327,18 @@ class Sights:
 
     def refs(self, value):
         """The text of the words that hold a value, with what stops the search for encoded ones."""
-        unknown, keys = "", (0, [])
+        unknown, keys, broken = "", (0, []), None
         try:
             keys = self.objects.keys() if self.objects else keys
             unknown = "".join(f"unread {cache:016x} {name}\n" for cache, name in (self.objects.unread() if self.objects else []))
-        except Broken as broken:
-            unknown = f"encoded unknown {broken.rule} {broken.at:016x}\n"
+            broken = reached(self.objects.kernel, self.objects.caches)[1] if self.objects else None
+        except Broken as one:
+            broken = one
         except (Refused, TypeError):
             pass
         text = self.why.refs(value, self.why.encoded([value], keys)[value])
+        if broken:
+            unknown += f"encoded unknown {broken.rule} {broken.at:016x}\n"
         return re.sub(r"(words \d+\n)$", unknown + r"\1", text)
 
     def says(self, va, value):

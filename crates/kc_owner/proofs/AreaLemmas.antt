@@ -1,2 +1,3 @@
+pub mod Despite
 pub mod Finding
 pub mod HoldLaws

@@ -1,5 +1,4 @@
 pub mod Areas
-pub mod Firsts
 pub mod Laws
 pub mod Modules
 pub mod Processors

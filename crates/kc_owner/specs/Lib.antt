@@ -1,6 +1,9 @@
+pub mod Firsts
 pub mod Kernels
 pub mod Known
 pub mod Looked
+pub mod RingLaws
+pub mod Rings
 pub mod Texts
 pub mod Unread
 pub mod Object

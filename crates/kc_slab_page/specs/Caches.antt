@@ -19,7 +19,7 @@ use Rattle.kc_slab_page.specs.declared.caches.CacheSeen.{CacheSeen}
 use Rattle.kc_slab_page.specs.declared.caches.SlabCaches.{SlabCaches}
 use Rattle.kc_slab_page.specs.declared.shape.PageShape.{PageShape}
 use Rattle.kc_slab_page.specs.Guards.{runs_of}
-use Rattle.kc_slab_page.specs.Rings.{RingParts, ring_nodes}
+use Rattle.kc_owner.specs.Rings.{RingParts, ring_nodes}
 
 -- what a cache says of itself
 abbrev pub cache_with : Image → PageShape → ℕ → Result SlabObjects Violation → CacheSeen

@@ -4,7 +4,6 @@ pub mod Guards
 pub mod Laws
 pub mod Marks
 pub mod Pages
-pub mod Rings
 pub mod Shapes
 pub mod Slabs
 pub mod Frames

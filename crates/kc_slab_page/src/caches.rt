@@ -13,12 +13,11 @@ ghost use Rattle.kc_owner.specs.Object.Pages.{bases_at};
 ghost use Rattle.kc_slab_page.specs.Caches.{cache_seen, caches_from, caches_in, caches_view, is_wanted, with_cache};
 
 use crate::guards::read_runs;
-use crate::ring::read_ring;
 use crate::shape::PageShape;
 use kc_btf::Btf;
 use kc_found::{Found, Name, Space, WalkStop, Walked};
 use kc_guard::GuardRuns;
-use kc_owner::{looked_at, read_known, read_text, view_at};
+use kc_owner::{looked_at, read_known, read_ring, read_text, view_at};
 use kc_slub::{read_base, read_objects};
 use kc_view::{SlabObjects, SlubBases, View};
 use kc_word::Steps;

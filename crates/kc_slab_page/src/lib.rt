@@ -10,7 +10,6 @@ mod kernel;
 mod laws;
 mod mark;
 mod page;
-mod ring;
 mod shape;
 mod slab;
 
@@ -22,6 +21,5 @@ pub use kernel::page_shape;
 pub use laws::know_slab_pages;
 pub use mark::{Mark, read_mark, slab_mark};
 pub use page::{PageSeen, SlabSeen, look_at_page};
-pub use ring::RingNodes;
 pub use shape::PageShape;
 pub use slab::{SlabCounted, SlabFree, is_laid, read_counts, read_list};

@@ -25,7 +25,7 @@ use Rattle.kc_owner.specs.Object.Pages.{bases_at}
 use Rattle.kc_slab_page.specs.declared.shape.PageShape.{PageShape}
 use Rattle.kc_slab_page.specs.Caches.{Caches, caches_by, caches_in}
 use Rattle.kc_slab_page.specs.Pages.{page_seen}
-use Rattle.kc_slab_page.specs.Rings.{RingParts, parts_of, ring_by, ring_nodes}
+use Rattle.kc_owner.specs.Rings.{RingParts, parts_of, ring_by, ring_nodes}
 use Rattle.kc_slab_scan.specs.declared.cpu_words.CpuShape.{CpuShape}
 use Rattle.kc_slab_scan.specs.declared.cpus.Cpu.{Cpu}
 use Rattle.kc_slab_scan.specs.declared.totals.BrokenSlab.{BrokenSlab}

@@ -37,11 +37,16 @@ found_lines keys f = place_line (place_in f) ++ writing_text keys f.writing
 abbrev pub unread_line : Cache → List ℕ
 unread_line c = codes "unread " ++ hex c.at ++ codes " " ++ map visible c.name ++ codes "\n"
 
--- such caches; or why it can't be told what free pointers are encoded with, and none is found then but as it is
+-- why it can't be told what free pointers are encoded with, and none is found then but as it is; or what the ring of all caches breaks, and
+-- caches may then be missing
+abbrev pub broken_line : Option Violation → List ℕ
+broken_line None = []
+broken_line (Some v) = codes "encoded" ++ unknown_text v
+
 abbrev pub untold_lines : Option (Result FreeKeys Violation) → List ℕ
 untold_lines None = []
-untold_lines (Some (Ok keys)) = texts unread_line keys.unread
-untold_lines (Some (Err v)) = codes "encoded" ++ unknown_text v
+untold_lines (Some (Ok keys)) = texts unread_line keys.unread ++ broken_line keys.broken
+untold_lines (Some (Err v)) = broken_line (Some v)
 
 -- the lines of each word, and how many they are
 abbrev pub words_text : Option (Result FreeKeys Violation) → List FoundWord → List ℕ

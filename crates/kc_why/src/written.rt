@@ -1,14 +1,15 @@
 // The text of where a value is written in a dump.
-ghost use Rattle.std.specs.Prelude.{◌≡◌, ◌++◌, nat_eq, Some, IfOk, OnOk};
+ghost use Rattle.std.specs.Prelude.{◌≡◌, ◌++◌, nat_eq, Some, Ok, IfOk, OnOk};
 ghost use Rattle.std.specs.List.{find};
 ghost use Rattle.kc_owner.specs.declared.object.keys.CacheKey.{CacheKey as Key};
 ghost use Rattle.kc_text.specs.Compose.{texts};
 ghost use Rattle.kc_why.specs.Searching.{keys_in};
-ghost use Rattle.kc_why.specs.WordText.{found_lines, key_line, place_in, unread_line, untold_lines, words_text, writing_text};
+ghost use Rattle.kc_why.specs.WordText.{broken_line, found_lines, key_line, place_in, unread_line, untold_lines, words_text, writing_text};
 
 use crate::searching::ToldKeys;
+use kc_found::Found;
 use kc_memory::{Origin, Place};
-use kc_owner::{Cache, CacheKey};
+use kc_owner::{Cache, CacheKey, FreeKeys};
 use kc_report::push_place;
 use kc_sight::{FoundWord, Writing};
 use kc_text::{push, push_hex, push_name, push_numbered};
@@ -93,17 +94,33 @@ fn push_all_unread(text: &mut Vec<u8>, caches: &[Cache]) -> Result<(), NoMemory>
     Ok(())
 }
 
+// Why it can't be told what free pointers, or some of them, are encoded with.
+fn push_broken(text: &mut Vec<u8>, found: &Found) -> Result<(), NoMemory>
+    ensures { OnOk result (text.new.items ≡ text.old.items ++ broken_line (Some found.now)) }
+{
+    push(text, b"encoded")?;
+    push_unknown(text, found)
+}
+
+// Such caches, and what their ring breaks.
+fn push_keys(text: &mut Vec<u8>, keys: &FreeKeys) -> Result<(), NoMemory>
+    ensures { OnOk result (text.new.items ≡ text.old.items ++ untold_lines (Some (Ok keys.now))) }
+{
+    push_all_unread(text, keys.unread.as_slice())?;
+    match &keys.broken {
+        None => Ok(()),
+        Some(found) => push_broken(text, found),
+    }
+}
+
 // Such caches, or why it can't be told what free pointers are encoded with.
 fn push_untold(text: &mut Vec<u8>, told: &ToldKeys) -> Result<(), NoMemory>
     ensures { OnOk result (text.new.items ≡ text.old.items ++ untold_lines told.now) }
 {
     match told {
         None => Ok(()),
-        Some(Ok(keys)) => push_all_unread(text, keys.unread.as_slice()),
-        Some(Err(found)) => {
-            push(text, b"encoded")?;
-            push_unknown(text, found)
-        }
+        Some(Ok(keys)) => push_keys(text, keys),
+        Some(Err(found)) => push_broken(text, found),
     }
 }
 

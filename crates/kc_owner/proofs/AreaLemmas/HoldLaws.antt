@@ -1,6 +1,6 @@
 -- What is told of an area has the address.
-use Rattle.std.proofs.Common.{◌≡◌, ℕ, ◌+◌, ◌-◌, ◌*◌, ◌<◌, Bool, true, false, ◌&&◌, nat_lt, nat_le, List, slice_get, Option, Some, None, refl, arith}
-use Rattle.std.specs.Prelude.{Ok, IfOk, IfSome, if◌then◌else◌, min, option_map}
+use Rattle.std.proofs.Common.{◌≡◌, ℕ, ◌+◌, ◌-◌, ◌*◌, ◌<◌, Bool, true, false, ◌&&◌, nat_lt, nat_le, List, ◌∷◌, slice_get, Option, Some, None, refl, sym, subst, arith}
+use Rattle.std.specs.Prelude.{Result, Ok, Err, IfOk, IfSome, if◌then◌else◌, min, option_map}
 use Rattle.std.specs.List.{range_with_len}
 use Rattle.std.proofs.lemmas.Bool.Decides.{nat_tests}
 use Rattle.kc_memory.specs.declared.words.VWord.{VWord}
@@ -12,7 +12,8 @@ use Rattle.kc_view.specs.Steps.{field_is, missed_ok}
 use Rattle.kc_view.specs.TaskLists.{task_list, task_of}
 use Rattle.kc_found.specs.FreeLists.{low_word}
 use Rattle.kc_found.specs.Nodes.{at_offset}
-use Rattle.kc_found.specs.Rings.{ring_walk}
+use Rattle.kc_found.specs.Violations.{Violation}
+use Rattle.kc_owner.specs.Rings.{ring_nodes}
 use Rattle.kc_owner.specs.declared.area.modules.InModule.{InModule}
 use Rattle.kc_owner.specs.declared.area.processors.InProcessor.{InProcessor}
 use Rattle.kc_owner.specs.declared.area.shape.ModuleShape.{ModuleShape}
@@ -20,12 +21,12 @@ use Rattle.kc_owner.specs.declared.area.shape.ProcessorShape.{ProcessorShape}
 use Rattle.kc_owner.specs.declared.area.shape.StackShape.{StackShape}
 use Rattle.kc_owner.specs.declared.area.stacks.InStack.{InStack}
 use Rattle.kc_owner.specs.Looked.{looked_at}
-use Rattle.kc_owner.specs.Area.Firsts.{byte_of, first_of}
-use Rattle.kc_owner.specs.Area.Laws.{IsInModule, IsInPart, IsInProcessor, IsInStack, ModulesHold, ProcessorsHold, StacksHold}
+use Rattle.kc_owner.specs.Firsts.{byte_of, first_of}
+use Rattle.kc_owner.specs.Area.Laws.{IsAmong, IsInModule, IsInPart, IsInProcessor, IsInStack, IsTaskOf, ModulesHold, ProcessorsHold, StacksHold}
 use Rattle.kc_owner.specs.Area.Modules.{in_module, in_part, named}
 use Rattle.kc_owner.specs.Area.Processors.{in_processor, less}
-use Rattle.kc_owner.specs.Area.Stacks.{in_stack, owner}
-use Rattle.kc_owner.proofs.GivesLemmas.{first_gives, given, in_range, then_gives}
+use Rattle.kc_owner.specs.Area.Stacks.{in_group, in_stack, leaders, owner, stack_by, threads_of}
+use Rattle.kc_owner.proofs.GivesLemmas.{any_gives, despite_gives, first_gives, given, in_range, then_gives}
 
 -- a byte of a range
 abbrev IsByte : ℕ → ℕ → ℕ → ℕ → Type 0
@@ -66,21 +67,22 @@ module _ (image : Image) (shape : ModuleShape) (address : ℕ) where
         inside = lies.1;
       }) (byte_is (value_of base) (value_of size) address)))
 
-  one_is : (nodes : List ℕ) → ring_walk image shape.list 0 shape.head ≡ Ok nodes → (i node : ℕ) → slice_get nodes i ≡ Some node
+  one_is : (i node : ℕ) → slice_get (ring_nodes image shape.list shape.head).nodes i ≡ Some node
       → IfOk (in_module image shape address (task_of shape.link node)) (λ m. IfSome m (IsInModule image shape address))
-  one_is nodes ring i node listed =
+  one_is i node listed =
       let at = task_of shape.link node in
       let parts = range_with_len 0 shape.parts.count in
       then_gives (λ (m : Option InModule). IfSome m (IsInModule image shape address)) (first_of (in_part image shape.parts address at) parts) _ (λ byte is.
       some_gives (IsInPart image shape.parts address at) (IsInModule image shape address) (named image shape at) byte (λ n lies.
-      record { nodes = nodes; ring = ring; place = i; node = node; listed = listed; at = refl; part = lies })
+      record { node = node; listed = record { place = i; listed = listed }; at = refl; part = lies })
       (given (λ byte. IfSome byte (IsInPart image shape.parts address at)) (first_of (in_part image shape.parts address at) parts) byte is
       (first_gives (IsInPart image shape.parts address at) (in_part image shape.parts address at) parts (part_is at))))
 
 pub modules_hold : ModulesHold
 modules_hold image shape address =
-    then_gives (λ (m : Option InModule). IfSome m (IsInModule image shape address)) (ring_walk image shape.list 0 shape.head) _ (λ nodes ring.
-    first_gives (IsInModule image shape address) (λ node. in_module image shape address (task_of shape.link node)) nodes (one_is image shape address nodes ring))
+    let ring = ring_nodes image shape.list shape.head in
+    any_gives (IsInModule image shape address) ring.broken (first_of (λ node. in_module image shape address (task_of shape.link node)) ring.nodes)
+    (first_gives (IsInModule image shape address) (λ node. in_module image shape address (task_of shape.link node)) ring.nodes (one_is image shape address))
 
 -- a processor
 module _ (image : Image) (shape : ProcessorShape) (address : ℕ) where
@@ -113,16 +115,16 @@ processors_hold image shape address =
     (processor_is image shape address n (missed_ok (looked_at shape.count) (bits image shape.count 0 32 false) n counted)))
 
 -- a stack
-module _ (image : Image) (shape : StackShape) (address : ℕ) (tasks : List ℕ) (list : task_list image shape.tasks (record { audit = 0; start = shape.first }) ≡ Ok tasks) where
-  owner_is : (i task base : ℕ) → slice_get tasks i ≡ Some task → FieldIs image task shape.tasks.stack base → (byte : Option ℕ) → IfSome byte (IsByte base shape.bytes address)
+module _ (image : Image) (shape : StackShape) (address : ℕ) where
+  abbrev tasks_in : Result (List ℕ) Violation
+  tasks_in = task_list image shape.tasks (record { audit = 0; start = shape.first })
+
+  owner_is : (task base : ℕ) → IsTaskOf image shape task tasks_in → FieldIs image task shape.tasks.stack base → (byte : Option ℕ) → IfSome byte (IsByte base shape.bytes address)
       → IfOk (owner image shape task byte) (λ s. IfSome s (IsInStack image shape address))
-  owner_is i task base listed begins None lies = tt
-  owner_is i task base listed begins (Some byte) lies =
+  owner_is task base listed begins None lies = tt
+  owner_is task base listed begins (Some byte) lies =
       then_gives (λ (s : Option InStack). IfSome s (IsInStack image shape address)) (read_field image (looked_at task) task shape.tasks.pid) _ (λ pid is.
       record {
-        tasks = tasks;
-        list = list;
-        place = i;
         listed = listed;
         base = base;
         begins = begins;
@@ -131,12 +133,27 @@ module _ (image : Image) (shape : StackShape) (address : ℕ) (tasks : List ℕ)
         inside = lies.1;
       })
 
-  stack_is : (i task : ℕ) → slice_get tasks i ≡ Some task → IfOk (in_stack image shape address task) (λ s. IfSome s (IsInStack image shape address))
-  stack_is i task listed =
+  stack_is : (task : ℕ) → IsTaskOf image shape task tasks_in → IfOk (in_stack image shape address task) (λ s. IfSome s (IsInStack image shape address))
+  stack_is task listed =
       then_gives (λ (s : Option InStack). IfSome s (IsInStack image shape address)) (read_field image (looked_at task) task shape.tasks.stack) _ (λ stack is.
-      owner_is i task (value_of stack) listed (field_is image (looked_at task) task shape.tasks.stack stack is) (byte_of (value_of stack) shape.bytes address) (byte_is (value_of stack) shape.bytes address))
+      owner_is task (value_of stack) listed (field_is image (looked_at task) task shape.tasks.stack stack is) (byte_of (value_of stack) shape.bytes address) (byte_is (value_of stack) shape.bytes address))
+
+  abbrev Holds : Result (Option InStack) Violation → Type 0
+  Holds r = IfOk r (λ s. IfSome s (IsInStack image shape address))
+
+  group_is : (v : Violation) → tasks_in ≡ Err v → (i leader : ℕ) → slice_get (leaders image shape) i ≡ Some leader → Holds (in_group image shape address leader)
+  group_is v broken i leader led =
+      first_gives (IsInStack image shape address) (in_stack image shape address) (leader ∷ threads_of image shape.tasks leader) (λ k task listed.
+      stack_is task (subst (IsTaskOf image shape task) (sym broken)
+      (record { leader = leader; led = record { place = i; listed = led }; thread = record { place = k; listed = listed } })))
+
+  by_list : (tasks : Result (List ℕ) Violation) → tasks_in ≡ tasks → Holds (stack_by image shape address tasks)
+  by_list (Ok tasks) whole =
+      first_gives (IsInStack image shape address) (in_stack image shape address) tasks (λ i task listed.
+      stack_is task (subst (IsTaskOf image shape task) (sym whole) (record { place = i; listed = listed })))
+  by_list (Err v) broken =
+      despite_gives (IsInStack image shape address) v (first_of (in_group image shape address) (leaders image shape))
+      (first_gives (IsInStack image shape address) (in_group image shape address) (leaders image shape) (group_is v broken))
 
 pub stacks_hold : StacksHold
-stacks_hold image shape address =
-    then_gives (λ (s : Option InStack). IfSome s (IsInStack image shape address)) (task_list image shape.tasks (record { audit = 0; start = shape.first })) _ (λ tasks list.
-    first_gives (IsInStack image shape address) (in_stack image shape address) tasks (stack_is image shape address tasks list))
+stacks_hold image shape address = by_list image shape address (tasks_in image shape address) refl

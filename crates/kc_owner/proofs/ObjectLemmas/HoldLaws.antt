@@ -20,7 +20,6 @@ use Rattle.kc_found.specs.declared.asked.Asked.{Asked}
 use Rattle.kc_found.specs.declared.free.Grid.{Grid}
 use Rattle.kc_found.specs.FreeLists.{IsGrid, free_list}
 use Rattle.kc_found.specs.Nodes.{at_offset}
-use Rattle.kc_found.specs.Rings.{ring_walk}
 use Rattle.kc_found.specs.Violations.{Violation, breaks_field}
 use Rattle.kc_slub.specs.Laws.{FreeListsAreWalked}
 use Rattle.kc_owner.specs.declared.object.cache.Cache.{Cache}
@@ -30,7 +29,9 @@ use Rattle.kc_owner.specs.declared.object.slab.Slab.{Slab}
 use Rattle.kc_owner.specs.declared.object.spot.ObjectSpot.{ObjectSpot}
 use Rattle.kc_owner.specs.declared.object.spot.Spot.{Spot}
 use Rattle.kc_owner.specs.declared.object.spot.Spot.TheVariants.{Before, Pad, Object, Past}
+use Rattle.kc_owner.specs.Firsts.{despite_any}
 use Rattle.kc_owner.specs.Looked.{looked_at}
+use Rattle.kc_owner.specs.Rings.{ring_nodes}
 use Rattle.kc_owner.specs.Object.Caches.{cache_of}
 use Rattle.kc_owner.specs.Object.FreeSpots.{free_spot}
 use Rattle.kc_owner.specs.Object.Laws.{IfObject, IsFreeAt, IsHeld, IsPlace, ObjectsHold}
@@ -218,15 +219,19 @@ module _ (law : FreeListsAreWalked) (image : Image) (shape : ObjectShape) (b : S
   some_is (Ok s) here = here
   some_is (Err v) here = tt
 
-  listed_is : (listed : Bool) (r : Result (Option Slab) Violation) → IfOk r (λ found. IfSome found Holds) → IfOk (if listed then r else Ok None) (λ found. IfSome found Holds)
-  listed_is true r here = here
-  listed_is false r here = tt
+  unlisted_is : (broken : Option Violation) → IfOk (despite_any broken (Ok None)) (λ (found : Option Slab). IfSome found Holds)
+  unlisted_is None = tt
+  unlisted_is (Some v) = tt
+
+  listed_is : (listed : Bool) (r other : Result (Option Slab) Violation) → IfOk r (λ found. IfSome found Holds) → IfOk other (λ found. IfSome found Holds) → IfOk (if listed then r else other) (λ found. IfSome found Holds)
+  listed_is true r other here there = here
+  listed_is false r other here there = there
 
   slab_at_is : IfOk (slab_at image shape b slab pa) (λ found. IfSome found Holds)
   slab_at_is =
       then_gives (λ found. IfSome found Holds) (read_field image (looked_at slab) slab shape.slub.slab_cache) _ (λ c is.
-      then_gives (λ found. IfSome found Holds) (ring_walk image shape.slub.list 0 shape.caches) _ (λ nodes walked.
-      listed_is (is_listed shape nodes (value_of c)) (some_slab (slab_of image shape b slab pa c)) (some_is (slab_of image shape b slab pa c) (slab_is c))))
+      let ring = ring_nodes image shape.slub.list shape.caches in
+      listed_is (is_listed shape ring.nodes (value_of c)) (some_slab (slab_of image shape b slab pa c)) (despite_any ring.broken (Ok None)) (some_is (slab_of image shape b slab pa c) (slab_is c)) (unlisted_is ring.broken))
 
 pub objects_hold : FreeListsAreWalked → ObjectsHold
 objects_hold law image shape pa =

@@ -1,5 +1,5 @@
 -- What shows why something of an object can't be told stands in the dump.
-use Rattle.std.proofs.Common.{◌≡◌, ℕ, ◌+◌, Bool, true, false, not, nat_eq, nat_lt, ◌||◌, Option, Some, None, refl}
+use Rattle.std.proofs.Common.{◌≡◌, ℕ, ◌+◌, Bool, true, false, not, nat_eq, nat_lt, ◌||◌, List, Option, Some, None, refl}
 use Rattle.std.specs.Prelude.{Result, Ok, Err, if◌then◌else◌}
 use Rattle.std.specs.Option.{unwrap_or}
 use Rattle.kc_memory.specs.declared.rule.Rule.TheVariants.{U3, U4}
@@ -21,6 +21,7 @@ use Rattle.kc_view.specs.Steps.{Shows, field_shows, number_stands, shows_all, th
 use Rattle.kc_found.specs.declared.asked.Asked.{Asked}
 use Rattle.kc_found.specs.declared.free.Grid.{Grid}
 use Rattle.kc_found.specs.FreeLists.{free_list}
+use Rattle.kc_found.specs.declared.shapes.ListShape.{ListShape}
 use Rattle.kc_found.specs.Rings.{ring_walk}
 use Rattle.kc_found.specs.Trials.{and_then}
 use Rattle.kc_found.specs.Violations.{Violation, breaks_field}
@@ -33,7 +34,9 @@ use Rattle.kc_owner.specs.declared.object.slab.Slab.{Slab}
 use Rattle.kc_owner.specs.declared.object.spot.Spot.{Spot}
 use Rattle.kc_owner.specs.Object.FreeSpots.{free_spot}
 use Rattle.kc_owner.specs.Object.Laws.{ObjectsStand, broken_places, places, slab_places}
+use Rattle.kc_owner.specs.Firsts.{despite_any}
 use Rattle.kc_owner.specs.Looked.{looked_at}
+use Rattle.kc_owner.specs.Rings.{parts_of, ring_by, ring_nodes}
 use Rattle.kc_owner.specs.Object.Pages.{bases_at, descriptor_of, number_of, page_of}
 use Rattle.kc_owner.specs.Object.Slabs.{counts_of, held, is_listed, slab_at, slab_of, some_slab}
 
@@ -116,19 +119,28 @@ some_stands : (image : Image) (r : Result Slab Violation) → Stands image (λ (
 some_stands image (Ok s) here = here
 some_stands image (Err v) here = here
 
-listed_stands : (image : Image) (listed : Bool) (r : Result (Option Slab) Violation) → Stands image (λ (o : Option Slab). AllStandIn image (slab_places (Ok o))) r
-    → Stands image (λ (o : Option Slab). AllStandIn image (slab_places (Ok o))) (if listed then r else Ok None)
-listed_stands image true r here = here
-listed_stands image false r here = tt
+listed_stands : (image : Image) (listed : Bool) (r other : Result (Option Slab) Violation) → Stands image (λ (o : Option Slab). AllStandIn image (slab_places (Ok o))) r
+    → Stands image (λ (o : Option Slab). AllStandIn image (slab_places (Ok o))) other → Stands image (λ (o : Option Slab). AllStandIn image (slab_places (Ok o))) (if listed then r else other)
+listed_stands image true r other here there = here
+listed_stands image false r other here there = there
+
+-- what the ring of all caches breaks
+unlisted_stands : (image : Image) (parts : List ℕ) (r : Result (List ℕ) Violation) → Shows image r → Stands image (λ (o : Option Slab). AllStandIn image (slab_places (Ok o))) (despite_any (ring_by parts r).broken (Ok None))
+unlisted_stands image parts (Ok nodes) here = tt
+unlisted_stands image parts (Err v) here = here
+
+ring_stands : Known → (image : Image) (list : ListShape) (head : ℕ) → Stands image (λ (o : Option Slab). AllStandIn image (slab_places (Ok o))) (despite_any (ring_nodes image list head).broken (Ok None))
+ring_stands known image list head =
+    unlisted_stands image (parts_of image list head) (ring_walk image list 0 head) (shows_all image (ring_walk image list 0 head) (λ v e. known.rings image list 0 head v e))
 
 slab_at_stands : Known → (image : Image) (shape : ObjectShape) (b : SlubBases) (head pa : ℕ) → Stands image (λ (o : Option Slab). AllStandIn image (slab_places (Ok o))) (slab_at image shape b head pa)
 slab_at_stands known image shape b head pa =
     let asked = looked_at head in
     then_stands image (λ (o : Option Slab). AllStandIn image (slab_places (Ok o))) (read_field image asked head shape.slub.slab_cache) _ (field_shows known.values image asked head shape.slub.slab_cache) (λ c is.
-    then_stands image (λ (o : Option Slab). AllStandIn image (slab_places (Ok o))) (ring_walk image shape.slub.list 0 shape.caches) _
-    (shows_all image (ring_walk image shape.slub.list 0 shape.caches) (λ v e. known.rings image shape.slub.list 0 shape.caches v e)) (λ nodes e.
-    listed_stands image (is_listed shape nodes (value_of c)) (some_slab (slab_of image shape b head pa c))
-    (some_stands image (slab_of image shape b head pa c) (slab_stands known image shape b head pa c (number_stands known.values image asked head shape.slub.slab_cache c is)))))
+    let ring = ring_nodes image shape.slub.list shape.caches in
+    listed_stands image (is_listed shape ring.nodes (value_of c)) (some_slab (slab_of image shape b head pa c)) (despite_any ring.broken (Ok None))
+    (some_stands image (slab_of image shape b head pa c) (slab_stands known image shape b head pa c (number_stands known.values image asked head shape.slub.slab_cache c is)))
+    (ring_stands known image shape.slub.list shape.caches))
 
 slab_places_stand : (image : Image) (r : Result (Option Slab) Violation) → Stands image (λ (o : Option Slab). AllStandIn image (slab_places (Ok o))) r → AllStandIn image (slab_places r)
 slab_places_stand image (Ok o) here = here

@@ -1,5 +1,5 @@
 -- What is told of an area has the address.
-use Rattle.std.specs.Prelude.{◌≡◌, ℕ, ◌+◌, ◌*◌, ◌<◌, ◌≤◌, min, false, List, slice_get, Some, Ok, IfOk, IfSome}
+use Rattle.std.specs.Prelude.{◌≡◌, ℕ, ◌+◌, ◌*◌, ◌<◌, ◌≤◌, ◌∷◌, min, false, List, slice_get, Some, Result, Ok, Err, IfOk, IfSome}
 use Rattle.kc_memory.specs.declared.words.VWord.{VWord}
 use Rattle.kc_memory.specs.Bits.{Number, bits}
 use Rattle.kc_memory.specs.Image.{Image}
@@ -8,7 +8,8 @@ use Rattle.kc_view.specs.Fields.{FieldIs}
 use Rattle.kc_view.specs.TaskLists.{task_list, task_of}
 use Rattle.kc_found.specs.FreeLists.{low_word}
 use Rattle.kc_found.specs.Nodes.{at_offset}
-use Rattle.kc_found.specs.Rings.{ring_walk}
+use Rattle.kc_found.specs.Violations.{Violation}
+use Rattle.kc_owner.specs.Rings.{ring_nodes}
 use Rattle.kc_owner.specs.declared.area.modules.InModule.{InModule}
 use Rattle.kc_owner.specs.declared.area.processors.InProcessor.{InProcessor}
 use Rattle.kc_owner.specs.declared.area.shape.ModuleShape.{ModuleShape}
@@ -18,7 +19,7 @@ use Rattle.kc_owner.specs.declared.area.shape.StackShape.{StackShape}
 use Rattle.kc_owner.specs.declared.area.stacks.InStack.{InStack}
 use Rattle.kc_owner.specs.Area.Modules.{module_at}
 use Rattle.kc_owner.specs.Area.Processors.{less, processor_at}
-use Rattle.kc_owner.specs.Area.Stacks.{stack_at}
+use Rattle.kc_owner.specs.Area.Stacks.{leaders, stack_at, threads_of}
 
 -- an address is a byte of a part of a module's memory, which begins there and is so long by the module's own words
 pub record IsInPart (image : Image) (shape : PartShape) (address owner byte : ℕ) : Type 0 where
@@ -31,13 +32,15 @@ pub record IsInPart (image : Image) (shape : PartShape) (address owner byte : �
   pub address_is : address ≡ base + byte
   pub inside : byte < size
 
--- and the module is one of the kernel's ring
-pub record IsInModule (image : Image) (shape : ModuleShape) (address : ℕ) (m : InModule) : Type 0 where
-  pub nodes : List ℕ
-  pub ring : ring_walk image shape.list 0 shape.head ≡ Ok nodes
+-- something is one of a list
+pub record IsAmong (xs : List ℕ) (x : ℕ) : Type 0 where
   pub place : ℕ
+  pub listed : slice_get xs place ≡ Some x
+
+-- and the module is one of the kernel's ring, or of what is still led to of a broken one
+pub record IsInModule (image : Image) (shape : ModuleShape) (address : ℕ) (m : InModule) : Type 0 where
   pub node : ℕ
-  pub listed : slice_get nodes place ≡ Some node
+  pub listed : IsAmong (ring_nodes image shape.list shape.head).nodes node
   pub at : m.at ≡ task_of shape.link node
   pub part : IsInPart image shape.parts address m.at m.byte
 
@@ -54,12 +57,20 @@ pub record IsInProcessor (image : Image) (shape : ProcessorShape) (address : ℕ
   pub from : shape.start ≤ p.variable
   pub before : p.variable < shape.end
 
+-- a task is a leader that the rings of a broken task list lead to, or a thread of its group
+pub record IsOfGroup (image : Image) (shape : StackShape) (task : ℕ) : Type 0 where
+  pub leader : ℕ
+  pub led : IsAmong (leaders image shape) leader
+  pub thread : IsAmong (leader ∷ threads_of image shape.tasks leader) task
+
+-- a task is one of the task list, or such a one
+abbrev pub IsTaskOf : Image → StackShape → ℕ → Result (List ℕ) Violation → Type 0
+IsTaskOf image shape task (Ok tasks) = IsAmong tasks task
+IsTaskOf image shape task (Err v) = IsOfGroup image shape task
+
 -- an address is a byte of the stack of one of the kernel's tasks, which begins where the task's own word says, and this is the task's number
 pub record IsInStack (image : Image) (shape : StackShape) (address : ℕ) (s : InStack) : Type 0 where
-  pub tasks : List ℕ
-  pub list : task_list image shape.tasks (record { audit = 0; start = shape.first }) ≡ Ok tasks
-  pub place : ℕ
-  pub listed : slice_get tasks place ≡ Some s.task
+  pub listed : IsTaskOf image shape s.task (task_list image shape.tasks (record { audit = 0; start = shape.first }))
   pub base : ℕ
   pub begins : FieldIs image s.task shape.tasks.stack base
   pub pid : FieldIs image s.task shape.tasks.pid s.pid

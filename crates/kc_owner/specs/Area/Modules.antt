@@ -5,15 +5,15 @@ use Rattle.kc_memory.specs.Image.{Image}
 use Rattle.kc_view.specs.Fields.{read_field, value_of}
 use Rattle.kc_view.specs.TaskLists.{task_of}
 use Rattle.kc_found.specs.Nodes.{at_offset}
-use Rattle.kc_found.specs.Rings.{ring_walk}
 use Rattle.kc_found.specs.Trials.{and_then}
 use Rattle.kc_found.specs.Violations.{Violation}
 use Rattle.kc_owner.specs.Looked.{looked_at}
+use Rattle.kc_owner.specs.Rings.{RingParts, ring_nodes}
 use Rattle.kc_owner.specs.Texts.{text}
 use Rattle.kc_owner.specs.declared.area.modules.InModule.{InModule}
 use Rattle.kc_owner.specs.declared.area.shape.ModuleShape.{ModuleShape}
 use Rattle.kc_owner.specs.declared.area.shape.PartShape.{PartShape}
-use Rattle.kc_owner.specs.Area.Firsts.{byte_of, first_of}
+use Rattle.kc_owner.specs.Firsts.{byte_of, despite_any, first_of}
 
 -- the byte in a part of a module's memory, by the part's number
 abbrev pub in_part : Image → PartShape → ℕ → ℕ → ℕ → Result (Option ℕ) Violation
@@ -32,8 +32,11 @@ in_module image shape address owner =
     and_then (first_of (in_part image shape.parts address owner) (range_with_len 0 shape.parts.count)) (λ byte.
     Ok (option_map (named image shape owner) byte))
 
--- in the first of the modules that has it, in the order of their ring
+-- in the first of the modules that has it, of those that have these nodes; where none has it, the ring's violation comes first
+abbrev pub module_by : Image → ModuleShape → ℕ → RingParts → Result (Option InModule) Violation
+module_by image shape address ring =
+    despite_any ring.broken (first_of (λ node. in_module image shape address (task_of shape.link node)) ring.nodes)
+
+-- in the first of the modules of the ring that has it, also where that is broken
 abbrev pub module_at : Image → ModuleShape → ℕ → Result (Option InModule) Violation
-module_at image shape address =
-    and_then (ring_walk image shape.list 0 shape.head) (λ nodes.
-    first_of (λ node. in_module image shape address (task_of shape.link node)) nodes)
+module_at image shape address = module_by image shape address (ring_nodes image shape.list shape.head)

@@ -13,7 +13,7 @@ use Rattle.kc_found.specs.Violations.{Violation}
 use Rattle.kc_owner.specs.Looked.{looked_at}
 use Rattle.kc_owner.specs.declared.area.processors.InProcessor.{InProcessor}
 use Rattle.kc_owner.specs.declared.area.shape.ProcessorShape.{ProcessorShape}
-use Rattle.kc_owner.specs.Area.Firsts.{first_of}
+use Rattle.kc_owner.specs.Firsts.{first_of}
 
 -- an address less an offset; addresses wrap at 2^64
 abbrev pub less : ℕ → ℕ → ℕ

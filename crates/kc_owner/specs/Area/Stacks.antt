@@ -1,17 +1,20 @@
 -- The task whose stack has an address. Source: the kernel's include/linux/sched.h, `stack`, `pid` and `comm` of `struct task_struct`; the tasks are
--- those of the task list.
-use Rattle.std.specs.Prelude.{ℕ, Option, Some, None, Result, Ok}
+-- those of the task list, or, where that breaks a rule, those that its rings still lead to (include/linux/sched/signal.h, `thread_head`).
+use Rattle.std.specs.Prelude.{ℕ, List, [], ◌∷◌, map, Option, Some, None, Result, Ok, Err}
 use Rattle.kc_memory.specs.Image.{Image}
+use Rattle.kc_view.specs.declared.tasks.TaskShape.{TaskShape}
 use Rattle.kc_view.specs.Fields.{read_field, value_of}
-use Rattle.kc_view.specs.TaskLists.{task_list}
+use Rattle.kc_view.specs.TaskLists.{task_list, task_of}
 use Rattle.kc_found.specs.Nodes.{at_offset}
 use Rattle.kc_found.specs.Trials.{and_then}
 use Rattle.kc_found.specs.Violations.{Violation}
+use Rattle.kc_owner.specs.Known.{known}
 use Rattle.kc_owner.specs.Looked.{looked_at}
+use Rattle.kc_owner.specs.Rings.{ring_nodes}
 use Rattle.kc_owner.specs.Texts.{text}
 use Rattle.kc_owner.specs.declared.area.shape.StackShape.{StackShape}
 use Rattle.kc_owner.specs.declared.area.stacks.InStack.{InStack}
-use Rattle.kc_owner.specs.Area.Firsts.{byte_of, first_of}
+use Rattle.kc_owner.specs.Firsts.{byte_of, despite, first_of}
 
 -- a task that has the address in its stack, with its number and its name
 abbrev pub owner : Image → StackShape → ℕ → Option ℕ → Result (Option InStack) Violation
@@ -25,8 +28,27 @@ in_stack image shape address task =
     and_then (read_field image (looked_at task) task shape.tasks.stack) (λ stack.
     owner image shape task (byte_of (value_of stack) shape.bytes address))
 
--- the first of the tasks that has it, in the order of the task list
+-- the leaders of thread groups: the first task, and those of the ring that it has a node of
+abbrev pub leaders : Image → StackShape → List ℕ
+leaders image shape =
+    shape.first ∷ map (task_of shape.tasks.tasks) (ring_nodes image shape.tasks.list (at_offset shape.first shape.tasks.tasks)).nodes
+
+-- the threads of the group that a leader's `signal` names, where it can be read
+abbrev pub threads_by : Image → TaskShape → Option ℕ → List ℕ
+threads_by image shape None = []
+threads_by image shape (Some signal) = map (task_of shape.thread_node) (ring_nodes image shape.list (at_offset signal shape.thread_head)).nodes
+
+abbrev pub threads_of : Image → TaskShape → ℕ → List ℕ
+threads_of image shape leader = threads_by image shape (known image leader (Some shape.signal))
+
+-- the first of a leader and these threads that has it
+abbrev pub in_group : Image → StackShape → ℕ → ℕ → Result (Option InStack) Violation
+in_group image shape address leader = first_of (in_stack image shape address) (leader ∷ threads_of image shape.tasks leader)
+
+-- the first of the tasks that has it, in the order of the task list; where that breaks a rule, of those that its rings still lead to
+abbrev pub stack_by : Image → StackShape → ℕ → Result (List ℕ) Violation → Result (Option InStack) Violation
+stack_by image shape address (Ok tasks) = first_of (in_stack image shape address) tasks
+stack_by image shape address (Err v) = despite v (first_of (in_group image shape address) (leaders image shape))
+
 abbrev pub stack_at : Image → StackShape → ℕ → Result (Option InStack) Violation
-stack_at image shape address =
-    and_then (task_list image shape.tasks (record { audit = 0; start = shape.first })) (λ tasks.
-    first_of (in_stack image shape address) tasks)
+stack_at image shape address = stack_by image shape address (task_list image shape.tasks (record { audit = 0; start = shape.first }))

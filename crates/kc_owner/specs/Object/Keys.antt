@@ -3,11 +3,11 @@
 use Rattle.std.specs.Prelude.{ℕ, ◌+◌, ◌-◌, ◌%◌, ◌^◌, is_some, if◌then◌else◌, List, [], Option, Some, None, option_map, Result, Ok}
 use Rattle.std.specs.List.{filter_map}
 use Rattle.kc_memory.specs.Image.{Image}
-use Rattle.kc_found.specs.Rings.{ring_walk}
 use Rattle.kc_found.specs.Trials.{and_then}
 use Rattle.kc_found.specs.Violations.{Violation}
 use Rattle.kc_owner.specs.Known.{known}
 use Rattle.kc_owner.specs.Looked.{looked_at}
+use Rattle.kc_owner.specs.Rings.{RingParts, ring_nodes}
 use Rattle.kc_owner.specs.declared.object.cache.Cache.{Cache}
 use Rattle.kc_owner.specs.declared.object.keys.CacheKey.{CacheKey}
 use Rattle.kc_owner.specs.declared.object.keys.FreeKeys.{FreeKeys}
@@ -42,9 +42,16 @@ unread_in image shape nodes = filter_map (λ node. unread_of image shape (cache_
 abbrev pub unread : Image → ObjectShape → List ℕ → List Cache
 unread image shape nodes = if is_some shape.slub.random then unread_in image shape nodes else []
 
--- the keys of all caches, in the order of their ring, where the direct map begins, and the caches whose key can't be told
+-- where the direct map begins, the keys of all caches, in the order of their ring, the caches whose key can't be told, and what the ring breaks
+abbrev pub keys_by : Image → ObjectShape → ℕ → RingParts → FreeKeys
+keys_by image shape direct ring = record {
+  direct = direct;
+  keys = keys_of image shape ring.nodes;
+  unread = unread image shape ring.nodes;
+  broken = ring.broken;
+}
+
 abbrev pub free_keys : Image → ObjectShape → Result FreeKeys Violation
 free_keys image shape =
     and_then (bases_at image (looked_at shape.caches) shape.slub) (λ b.
-    and_then (ring_walk image shape.slub.list 0 shape.caches) (λ nodes.
-    Ok (record { direct = b.direct; keys = keys_of image shape nodes; unread = unread image shape nodes })))
+    Ok (keys_by image shape b.direct (ring_nodes image shape.slub.list shape.caches)))

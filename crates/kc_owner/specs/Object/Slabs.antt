@@ -13,7 +13,6 @@ use Rattle.kc_view.specs.Caches as caches
 use Rattle.kc_view.specs.Fields.{breaks_at, read_field, unless, value_of}
 use Rattle.kc_found.specs.declared.asked.Asked.{Asked}
 use Rattle.kc_found.specs.Nodes.{at_offset}
-use Rattle.kc_found.specs.Rings.{ring_walk}
 use Rattle.kc_found.specs.Trials.{and_then}
 use Rattle.kc_found.specs.Violations.{Violation, breaks_field}
 use Rattle.kc_owner.specs.declared.object.cache.Cache.{Cache}
@@ -21,6 +20,8 @@ use Rattle.kc_owner.specs.declared.object.counts.SlabCounts.{SlabCounts}
 use Rattle.kc_owner.specs.declared.object.held.Held.{Held}
 use Rattle.kc_owner.specs.declared.object.shape.ObjectShape.{ObjectShape}
 use Rattle.kc_owner.specs.declared.object.slab.Slab.{Slab}
+use Rattle.kc_owner.specs.Rings.{RingParts, ring_nodes}
+use Rattle.kc_owner.specs.Firsts.{despite_any}
 use Rattle.kc_owner.specs.Object.Caches.{cache_of}
 use Rattle.kc_owner.specs.Object.FreeSpots.{free_spot}
 use Rattle.kc_owner.specs.Looked.{looked_at}
@@ -69,12 +70,16 @@ is_listed shape nodes cache = list_any (λ n. nat_eq n (at_offset cache shape.ca
 abbrev pub some_slab : Result Slab Violation → Result (Option Slab) Violation
 some_slab slab = and_then slab (λ s. Ok (Some s))
 
--- the slab of a head page's descriptor, whose `slab_cache` names a cache of the ring; none where it names another address
+-- the slab of a head page's descriptor, by its `slab_cache` and by the ring of all caches; where that has no such cache there is none, unless it is broken
+abbrev pub slab_by : Image → ObjectShape → SlubBases → ℕ → ℕ → FieldNumber → RingParts → Result (Option Slab) Violation
+slab_by image shape b head pa c ring =
+    if is_listed shape ring.nodes (value_of c) then some_slab (slab_of image shape b head pa c) else despite_any ring.broken (Ok None)
+
+-- the slab of a head page's descriptor, whose `slab_cache` names a cache of the ring, also where that is broken; none where it names another address
 abbrev pub slab_at : Image → ObjectShape → SlubBases → ℕ → ℕ → Result (Option Slab) Violation
 slab_at image shape b head pa =
     and_then (read_field image (looked_at head) head shape.slub.slab_cache) (λ c.
-    and_then (ring_walk image shape.slub.list 0 shape.caches) (λ nodes.
-    if is_listed shape nodes (value_of c) then some_slab (slab_of image shape b head pa c) else Ok None))
+    slab_by image shape b head pa c (ring_nodes image shape.slub.list shape.caches))
 
 -- what holds a physical address: its page, and of that what can be told of a slab
 abbrev pub held : Image → ObjectShape → ℕ → Result Held Violation

@@ -5,14 +5,14 @@ ghost use Rattle.kc_memory.specs.Stays.{SpaceStays};
 ghost use Rattle.kc_found.specs.Nodes.{at_offset};
 ghost use Rattle.kc_found.specs.Walks.{CountsWalkFaults, WalksAs};
 ghost use Rattle.kc_view.specs.TaskLists.{task_of};
-ghost use Rattle.kc_owner.specs.Area.Firsts.{byte_of, first_of};
+ghost use Rattle.kc_owner.specs.Firsts.{first_of};
 ghost use Rattle.kc_owner.specs.Area.Modules.{in_module, in_part, module_at, named};
 
 use crate::area::shape::{ModuleShape, PartShape};
-use crate::{looked_at, read_text, view_at};
+use crate::firsts::{byte_of, despite_any, none_found, pass_broken};
+use crate::{looked_at, read_ring, read_text, view_at};
 use kc_btf::Btf;
-use kc_found::{Name, Space, WalkStop, Walked};
-use kc_list::ring;
+use kc_found::{Found, Name, Space, WalkStop, Walked};
 use kc_steps::read_field;
 use kc_word::Steps;
 use std::alloc::Global;
@@ -27,17 +27,6 @@ pub struct InModule {
     pub name: Name,
     /// The byte, counted from the start of the part of its memory that has the address.
     pub byte: u64,
-}
-
-// The byte of a range that stands at an address. A range at 0 is none.
-pub(crate) fn byte_of(base: u64, size: u64, address: u64) -> Option<u64>
-    ensures { result ≡ byte_of base size address }
-{
-    if base > 0 && address >= base && address - base < size {
-        Some(address - base)
-    } else {
-        None
-    }
 }
 
 // The module that has a node of the ring of modules.
@@ -91,14 +80,16 @@ fn in_parts<S: Space, L: Ledger>(
     ensures stays { SpaceStays S.image S.files S.through S.most space.old space.new }
     ensures cause { CountsWalkFaults result (S.faults space.old) (S.faults space.new) }
 {
+    let mut missed: Option<Found> = None;
     for number in 0..shape.count {
-        match in_part(alloc, space, btf, shape, address, module_va, number, steps) {
+        let told = in_part(alloc, space, btf, shape, address, module_va, number, steps);
+        match pass_broken(&mut missed, told) {
             Ok(None) => {}
             Ok(Some(found)) => return Ok(Some(found)),
             Err(stop) => return Err(stop),
         }
     }
-    Ok(None)
+    none_found(missed)
 }
 
 // A module that has an address in its memory, with its name.
@@ -142,21 +133,23 @@ fn in_modules<S: Space, L: Ledger>(
     ensures stays { SpaceStays S.image S.files S.through S.most space.old space.new }
     ensures cause { CountsWalkFaults result (S.faults space.old) (S.faults space.new) }
 {
+    let mut missed: Option<Found> = None;
     let mut i = 0;
     while i < nodes.len() {
         let node = *nodes.get(i);
         let module_va = module_by(shape.link, node);
-        match in_module(alloc, space, btf, shape, address, module_va, steps) {
+        let told = in_module(alloc, space, btf, shape, address, module_va, steps);
+        match pass_broken(&mut missed, told) {
             Ok(None) => {}
             Ok(Some(found)) => return Ok(Some(found)),
             Err(stop) => return Err(stop),
         }
         i += 1;
     }
-    Ok(None)
+    none_found(missed)
 }
 
-// The first module of the ring that has an address.
+// The first module of the ring that has an address, also where that is broken.
 pub(crate) fn read_module<S: Space, L: Ledger>(
     alloc: Global,
     space: &mut S,
@@ -169,6 +162,7 @@ pub(crate) fn read_module<S: Space, L: Ledger>(
     ensures stays { SpaceStays S.image S.files S.through S.most space.old space.new }
     ensures cause { CountsWalkFaults result (S.faults space.old) (S.faults space.new) }
 {
-    let nodes = ring(alloc, space, &shape.list, shape.head, 0, steps)?;
-    in_modules(alloc, space, btf, shape, address, &nodes, steps)
+    let ring = read_ring(alloc, space, &shape.list, shape.head, steps)?;
+    let found = in_modules(alloc, space, btf, shape, address, &ring.nodes, steps);
+    despite_any(ring.broken, found)
 }

@@ -7,13 +7,14 @@ ghost use Rattle.kc_found.specs.FreeLists.{low_word};
 ghost use Rattle.kc_found.specs.Trials.{and_then};
 ghost use Rattle.kc_found.specs.Walks.{CountsWalkFaults, WalksAs};
 ghost use Rattle.kc_view.specs.Fields.{or_missed};
-ghost use Rattle.kc_owner.specs.Area.Firsts.{first_of};
+ghost use Rattle.kc_owner.specs.Firsts.{first_of};
 ghost use Rattle.kc_owner.specs.Area.Processors.{in_area, in_processor, less, processor_at};
 ghost use Rattle.kc_owner.specs.Looked.{looked_at};
 
 use crate::area::shape::ProcessorShape;
+use crate::firsts::{none_found, pass_broken};
 use crate::looked_at;
-use kc_found::{Space, WalkStop, low_word, read_bits, stopped};
+use kc_found::{Found, Space, WalkStop, low_word, read_bits, stopped};
 use kc_word::{Bits, Steps};
 use std::alloc::Global;
 use std::sync::ledger::Ledger;
@@ -110,14 +111,16 @@ fn in_processors<S: Space, L: Ledger>(
     ensures stays { SpaceStays S.image S.files S.through S.most space.old space.new }
     ensures cause { CountsWalkFaults result (S.faults space.old) (S.faults space.new) }
 {
+    let mut missed: Option<Found> = None;
     for number in 0..count {
-        match in_processor(alloc, space, shape, address, number, steps) {
+        let told = in_processor(alloc, space, shape, address, number, steps);
+        match pass_broken(&mut missed, told) {
             Ok(None) => {}
             Ok(Some(found)) => return Ok(Some(found)),
             Err(stop) => return Err(stop),
         }
     }
-    Ok(None)
+    none_found(missed)
 }
 
 // The first processor whose area has an address.

@@ -1,18 +1,20 @@
 // The task whose stack has an address.
-ghost use Rattle.std.specs.Prelude.{◌≡◌, Ok};
+ghost use Rattle.std.specs.Prelude.{◌≡◌, ◌∷◌, map, Ok, IfOk};
 ghost use Rattle.kc_memory.specs.Stays.{SpaceStays};
-ghost use Rattle.kc_found.specs.Walks.{CountsWalkFaults, WalksAs};
-ghost use Rattle.kc_view.specs.TaskLists.{IsInside};
-ghost use Rattle.kc_owner.specs.Area.Firsts.{first_of};
-ghost use Rattle.kc_owner.specs.Area.Stacks.{in_stack, owner, stack_at};
+ghost use Rattle.kc_found.specs.Walks.{CountsWalkFaults, OnBroken, OnWalkFault, WalksAs};
+ghost use Rattle.kc_view.specs.TaskLists.{IsInside, task_of};
+ghost use Rattle.kc_owner.specs.Firsts.{first_of};
+ghost use Rattle.kc_owner.specs.Area.Stacks.{in_group, in_stack, leaders, owner, stack_at, threads_of};
+ghost use Rattle.kc_owner.specs.Rings.{ring_nodes};
 
-use crate::area::modules::byte_of;
 use crate::area::shape::StackShape;
-use crate::{looked_at, read_text, view_at};
+use crate::firsts::{byte_of, despite, none_found, pass_broken};
+use crate::{looked_at, read_known, read_ring, read_text, view_at};
 use kc_btf::Btf;
-use kc_found::{Name, Space, WalkStop, Walked};
+use kc_found::{Found, Name, Space, WalkStop, Walked, push_node};
 use kc_steps::read_field;
 use kc_task::tasks_walk;
+use kc_view::TaskShape;
 use kc_word::Steps;
 use std::alloc::Global;
 use std::sync::ledger::Ledger;
@@ -95,20 +97,144 @@ fn in_stacks<S: Space, L: Ledger>(
     ensures stays { SpaceStays S.image S.files S.through S.most space.old space.new }
     ensures cause { CountsWalkFaults result (S.faults space.old) (S.faults space.new) }
 {
+    let mut missed: Option<Found> = None;
     let mut i = 0;
     while i < tasks.len() {
         let task = *tasks.get(i);
-        match in_stack(alloc, space, btf, shape, address, task, steps) {
+        let told = in_stack(alloc, space, btf, shape, address, task, steps);
+        match pass_broken(&mut missed, told) {
             Ok(None) => {}
             Ok(Some(found)) => return Ok(Some(found)),
             Err(stop) => return Err(stop),
         }
         i += 1;
     }
-    Ok(None)
+    none_found(missed)
 }
 
-// The first task of the task list that has an address in its stack.
+// The tasks that these nodes stand in, each at an offset, after another one.
+fn tasks_from(alloc: Global, first: u64, nodes: &Walked, offset: u64) -> Result<Walked, WalkStop>
+    ensures tasks { IfOk result (λ tasks. tasks ≡ first ∷ map (task_of offset) nodes.now) }
+    ensures broken { OnBroken result ⊥ }
+    ensures no_fault { OnWalkFault result ⊥ }
+{
+    let mut tasks = Walked::new(alloc);
+    push_node(&mut tasks, first)?;
+    for i in 0..nodes.len() {
+        push_node(&mut tasks, nodes.get(i).wrapping_sub(offset))?;
+    }
+    Ok(tasks)
+}
+
+// A task, and those of a ring, each at an offset, also where that is broken.
+fn read_tasks<S: Space, L: Ledger>(
+    alloc: Global,
+    space: &mut S,
+    shape: &TaskShape,
+    first: u64,
+    head: u64,
+    offset: u64,
+    steps: &mut Steps<L>,
+) -> Result<Walked, WalkStop>
+    ensures exact { WalksAs (λ ts. ts) (λ i. Ok (first ∷ map (task_of offset) (ring_nodes i shape.now.list head).nodes)) (S.image space.old) result }
+    ensures broken { OnBroken result ⊥ }
+    ensures stays { SpaceStays S.image S.files S.through S.most space.old space.new }
+    ensures cause { CountsWalkFaults result (S.faults space.old) (S.faults space.new) }
+{
+    let ring = read_ring(alloc, space, &shape.list, head, steps)?;
+    tasks_from(alloc, first, &ring.nodes, offset)
+}
+
+// A leader, and the threads of its group.
+fn read_group<S: Space, L: Ledger>(
+    alloc: Global,
+    space: &mut S,
+    btf: &Btf,
+    shape: &TaskShape,
+    leader: u64,
+    steps: &mut Steps<L>,
+) -> Result<Walked, WalkStop>
+    ensures exact { WalksAs (λ ts. ts) (λ i. Ok (leader ∷ threads_of i shape.now leader)) (S.image space.old) result }
+    ensures broken { OnBroken result ⊥ }
+    ensures stays { SpaceStays S.image S.files S.through S.most space.old space.new }
+    ensures cause { CountsWalkFaults result (S.faults space.old) (S.faults space.new) }
+{
+    let view = view_at(btf, leader);
+    let field = Some(shape.signal);
+    let Some(signal) = read_known(alloc, space, &view, &field, steps)? else {
+        return tasks_from(alloc, leader, &Walked::new(alloc), 0);
+    };
+    let head = signal.wrapping_add(shape.thread_head);
+    read_tasks(alloc, space, shape, leader, head, shape.thread_node, steps)
+}
+
+// The first of a leader and the threads of its group that has an address in its stack.
+fn in_group<S: Space, L: Ledger>(
+    alloc: Global,
+    space: &mut S,
+    btf: &Btf,
+    shape: &StackShape,
+    address: u64,
+    leader: u64,
+    steps: &mut Steps<L>,
+) -> Result<Option<InStack>, WalkStop>
+    ensures exact { WalksAs (λ found. found) (λ i. in_group i shape.now address leader) (S.image space.old) result }
+    ensures stays { SpaceStays S.image S.files S.through S.most space.old space.new }
+    ensures cause { CountsWalkFaults result (S.faults space.old) (S.faults space.new) }
+{
+    let tasks = read_group(alloc, space, btf, &shape.tasks, leader, steps)?;
+    in_stacks(alloc, space, btf, shape, address, &tasks, steps)
+}
+
+// The first task of these groups that has an address in its stack.
+fn in_groups<S: Space, L: Ledger>(
+    alloc: Global,
+    space: &mut S,
+    btf: &Btf,
+    shape: &StackShape,
+    address: u64,
+    leaders: &Walked,
+    steps: &mut Steps<L>,
+) -> Result<Option<InStack>, WalkStop>
+    ensures exact { WalksAs (λ found. found) (λ i. first_of (in_group i shape.now address) leaders.now) (S.image space.old) result }
+    ensures stays { SpaceStays S.image S.files S.through S.most space.old space.new }
+    ensures cause { CountsWalkFaults result (S.faults space.old) (S.faults space.new) }
+{
+    let mut missed: Option<Found> = None;
+    let mut i = 0;
+    while i < leaders.len() {
+        let leader = *leaders.get(i);
+        let told = in_group(alloc, space, btf, shape, address, leader, steps);
+        match pass_broken(&mut missed, told) {
+            Ok(None) => {}
+            Ok(Some(found)) => return Ok(Some(found)),
+            Err(stop) => return Err(stop),
+        }
+        i += 1;
+    }
+    none_found(missed)
+}
+
+// The first task that the rings of a broken task list lead to and that has an address in its stack.
+fn in_rings<S: Space, L: Ledger>(
+    alloc: Global,
+    space: &mut S,
+    btf: &Btf,
+    shape: &StackShape,
+    address: u64,
+    steps: &mut Steps<L>,
+) -> Result<Option<InStack>, WalkStop>
+    ensures exact { WalksAs (λ found. found) (λ i. first_of (in_group i shape.now address) (leaders i shape.now)) (S.image space.old) result }
+    ensures stays { SpaceStays S.image S.files S.through S.most space.old space.new }
+    ensures cause { CountsWalkFaults result (S.faults space.old) (S.faults space.new) }
+{
+    let tasks = &shape.tasks;
+    let head = shape.first.wrapping_add(tasks.tasks);
+    let leaders = read_tasks(alloc, space, tasks, shape.first, head, tasks.tasks, steps)?;
+    in_groups(alloc, space, btf, shape, address, &leaders, steps)
+}
+
+// The first task of the task list that has an address in its stack; where that breaks a rule, of those that its rings still lead to.
 pub(crate) fn read_stack<S: Space, L: Ledger>(
     alloc: Global,
     space: &mut S,
@@ -122,6 +248,13 @@ pub(crate) fn read_stack<S: Space, L: Ledger>(
     ensures stays { SpaceStays S.image S.files S.through S.most space.old space.new }
     ensures cause { CountsWalkFaults result (S.faults space.old) (S.faults space.new) }
 {
-    let tasks = tasks_walk(alloc, space, btf, &shape.tasks, shape.first, 0, steps)?;
-    in_stacks(alloc, space, btf, shape, address, &tasks, steps)
+    match tasks_walk(alloc, space, btf, &shape.tasks, shape.first, 0, steps) {
+        Ok(tasks) => in_stacks(alloc, space, btf, shape, address, &tasks, steps),
+        Err(WalkStop::Broken(broken)) => {
+            let found = in_rings(alloc, space, btf, shape, address, steps);
+            despite(broken, found)
+        }
+        Err(WalkStop::Fault) => Err(WalkStop::Fault),
+        Err(WalkStop::NoMemory) => Err(WalkStop::NoMemory),
+    }
 }

@@ -7,10 +7,9 @@ ghost use Rattle.kc_owner.specs.Object.Keys.{cache_by, free_keys, key_of, keys_o
 use crate::object::bases::read_bases;
 use crate::object::cache::{Cache, read_cache};
 use crate::object::shape::ObjectShape;
-use crate::{looked_at, read_known, view_at};
+use crate::{looked_at, read_known, read_ring, view_at};
 use kc_btf::Btf;
-use kc_found::{Items, Space, WalkStop, Walked};
-use kc_list::ring;
+use kc_found::{Found, Items, Space, WalkStop, Walked};
 use kc_word::{NoMemory, Steps};
 use std::alloc::Global;
 use std::sync::ledger::Ledger;
@@ -33,6 +32,8 @@ pub struct FreeKeys {
     pub keys: Items<CacheKey>,
     /// The caches whose random number can't be read, where the kernel's caches have one.
     pub unread: Items<Cache>,
+    /// What the ring of all caches breaks, where it does: of a broken one the caches are those that it still leads to.
+    pub broken: Option<Found>,
 }
 
 // The cache that has a node of the ring of all caches.
@@ -179,11 +180,11 @@ fn read_unread<S: Space, L: Ledger>(
 }
 
 /// What the free pointers of a kernel are encoded with: the random numbers of the caches of the ring `slab_caches`, of those that have
-/// one and where it can be read, and the caches where it can't.
+/// one and where it can be read, and the caches where it can't. Of a broken ring they are those that it still leads to.
 ///
 /// # Errors
 ///
-/// A violation of the ring, or a word that can't be read; a failure of the space, whose count of faults then rose; or out of memory.
+/// A word that can't be read, of those that tell where the direct map begins; a failure of the space, whose count of faults then rose; or out of memory.
 pub fn free_keys<S: Space, L: Ledger>(
     alloc: Global,
     space: &mut S,
@@ -196,12 +197,13 @@ pub fn free_keys<S: Space, L: Ledger>(
     ensures cause { CountsWalkFaults result (S.faults space.old) (S.faults space.new) }
 {
     let bases = read_bases(alloc, space, &looked_at(shape.caches), &shape.slub, steps)?;
-    let nodes = ring(alloc, space, &shape.slub.list, shape.caches, 0, steps)?;
-    let keys = read_keys(alloc, space, btf, shape, &nodes, steps)?;
-    let unread = read_unread(alloc, space, btf, shape, &nodes, steps)?;
+    let ring = read_ring(alloc, space, &shape.slub.list, shape.caches, steps)?;
+    let keys = read_keys(alloc, space, btf, shape, &ring.nodes, steps)?;
+    let unread = read_unread(alloc, space, btf, shape, &ring.nodes, steps)?;
     Ok(FreeKeys {
         direct: bases.direct,
         keys,
         unread,
+        broken: ring.broken,
     })
 }

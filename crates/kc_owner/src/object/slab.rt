@@ -5,16 +5,17 @@ ghost use Rattle.kc_found.specs.Walks.{CountsWalkFaults, WalksAs};
 ghost use Rattle.kc_view.specs.Caches.{is_descriptor};
 ghost use Rattle.kc_owner.specs.Object.Bounds.{WithinWalks};
 ghost use Rattle.kc_owner.specs.Object.Slabs.{is_listed, slab_at, slab_of, slab_with, start_of};
+ghost use Rattle.kc_owner.specs.Rings.{most_nodes};
 
+use crate::firsts::none_found;
 use crate::object::cache::{Cache, read_cache};
 use crate::object::counts::{SlabCounts, read_counts};
 use crate::object::free::{FreeSpot, tell_free};
 use crate::object::shape::ObjectShape;
 use crate::object::spot::{Spot, spot_of};
-use crate::{looked_at, view_at};
+use crate::{RingNodes, looked_at, read_ring, view_at};
 use kc_btf::Btf;
 use kc_found::{Found, Rule, Space, WalkStop, Walked, broken_field};
-use kc_list::ring;
 use kc_slub::{grid_of, is_descriptor, page_of, read_objects};
 use kc_steps::read_field;
 use kc_view::{FieldNumber, SlabObjects, SlubBases};
@@ -140,16 +141,22 @@ pub(crate) fn slab_at<S: Space, L: Ledger>(
     steps: &mut Steps<L>,
 ) -> Result<Option<Slab>, WalkStop>
     ensures exact { WalksAs (λ s. s) (λ i. slab_at i shape.now bases.now head pa) (S.image space.old) result }
-    ensures bound { WithinWalks (S.image space.old) (S.most space.old) 2 1428 steps.old steps.new }
+    ensures bound { WithinWalks (S.image space.old) (S.most space.old) 2 (1428 + 24 * most_nodes) steps.old steps.new }
     ensures stays { SpaceStays S.image S.files S.through S.most space.old space.new }
     ensures cause { CountsWalkFaults result (S.faults space.old) (S.faults space.new) }
 {
     let asked = looked_at(head);
     let view = view_at(btf, head);
     let cache = read_field(alloc, space, &asked, &view, &shape.slub.slab_cache, steps)?;
-    let nodes = ring(alloc, space, &shape.slub.list, shape.caches, 0, steps)?;
+    let RingNodes { nodes, broken } = read_ring(
+        alloc,
+        space,
+        &shape.slub.list,
+        shape.caches,
+        steps,
+    )?;
     if !is_listed(shape, &nodes, cache.value()) {
-        return Ok(None);
+        return none_found(broken);
     }
     let slab = read_slab(alloc, space, btf, shape, bases, head, pa, &cache, steps)?;
     Ok(Some(slab))

@@ -6,7 +6,7 @@ use Rattle.kc_owner.proofs.area.stacks.in_stacks.Given as goal
 
 abbrev pub invariant-loop-i : goal.invariant-loop-i
 invariant-loop-i g l = record {
-  left : Left (g.S.Space.image l.fn.space) (λ i. in_stack i l.shape l.address) l.tasks (drop l.i l.tasks);
+  left : Left (g.S.Space.image l.fn.space) (λ i. in_stack i l.shape l.address) (l.tasks) (drop l.i l.tasks) l.missed;
   inside : l.i ≤ length l.tasks;
   stays : SpaceStays g.S.Space.image g.S.Space.files g.S.Space.through g.S.Space.most l.fn.space l.space;
   quiet : g.S.Space.faults l.space ≡ g.S.Space.faults l.fn.space;

@@ -1,5 +1,5 @@
 use Rattle.std.proofs.Common.{◌≡◌, ◌++◌, drop}
-use Rattle.kc_slab_page.proofs.ring.join.Given as goal
+use Rattle.kc_owner.proofs.ring.join.Given as goal
 
 -- what was added, and what is still to come, are the whole
 abbrev pub invariant-loop-node : goal.invariant-loop-node

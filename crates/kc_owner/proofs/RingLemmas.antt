@@ -3,10 +3,10 @@ use Rattle.std.proofs.Common.{◌≡◌, ℕ, suc, ◌+◌, ◌-◌, ◌<◌, �
 use Rattle.std.specs.Prelude.{IfSome, Ok}
 use Rattle.kc_memory.specs.Image.{Image}
 use Rattle.kc_found.specs.Walks.{WalksAs}
-use Rattle.kc_slab_page.specs.declared.ring.Ends.{Ends}
-use Rattle.kc_slab_page.specs.declared.ring.Way.{Way}
+use Rattle.kc_owner.specs.declared.ring.Ends.{Ends}
+use Rattle.kc_owner.specs.declared.ring.Way.{Way}
 use Rattle.kc_list.specs.Listed.{last_or}
-use Rattle.kc_slab_page.specs.Rings.{next_in, on_node, reached}
+use Rattle.kc_owner.specs.Rings.{next_in, on_node, reached}
 
 pushed : (xs : List ℕ) (x : ℕ) (ys : List ℕ) → (xs ++ x ∷ []) ++ ys ≡ xs ++ (x ∷ ys)
 pushed [] x ys = refl

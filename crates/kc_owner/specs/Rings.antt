@@ -1,6 +1,6 @@
 -- The nodes of a ring, also where it is broken. Source: the kernel's include/linux/list.h: `next` of a node and `prev` of the one after it name
--- each other, so a ring that is broken at one place is whole up to there from either end.
-use Rattle.std.specs.Prelude.{ℕ, zero, suc, ◌||◌, nat_eq, if◌then◌else◌, List, [], ◌∷◌, ◌++◌, Option, Some, None, option_and_then, option_map, Result, Ok, Err}
+-- each other, so a ring that is broken at one place is whole up to there from either end; include/linux/threads.h, PID_MAX_LIMIT: no more tasks.
+use Rattle.std.specs.Prelude.{◌≡◌, ℕ, zero, suc, ◌^◌, ◌||◌, nat_eq, if◌then◌else◌, List, [], ◌∷◌, ◌++◌, Option, Some, None, option_and_then, option_map, Result, Ok, Err, ⊤}
 use Rattle.kc_memory.specs.declared.words.VWord.{VWord}
 use Rattle.kc_memory.specs.Image.{Image}
 use Rattle.kc_memory.specs.Translation.{vword}
@@ -9,9 +9,9 @@ use Rattle.kc_found.specs.Nodes.{at_offset, readable}
 use Rattle.kc_found.specs.Rings.{ring_walk}
 use Rattle.kc_found.specs.Violations.{Violation}
 use Rattle.kc_list.specs.Listed.{last_or}
-use Rattle.kc_slab_page.specs.declared.ring.Ends.{Ends}
-use Rattle.kc_slab_page.specs.declared.ring.RingNodes.{RingNodes}
-use Rattle.kc_slab_page.specs.declared.ring.Way.{Way}
+use Rattle.kc_owner.specs.declared.ring.Ends.{Ends}
+use Rattle.kc_owner.specs.declared.ring.RingNodes.{RingNodes}
+use Rattle.kc_owner.specs.declared.ring.Way.{Way}
 
 -- the word at an address, where it can be read
 abbrev pub word_at : Image → ℕ → Option ℕ
@@ -40,12 +40,23 @@ unfoldable pub reached : Image → Way → Ends → ℕ → ℕ → List ℕ
 reached image way ends zero node = []
 reached image way ends (suc left) node = on_node (next_in image way ends node) (λ next. reached image way ends left next)
 
+-- how many nodes of a broken ring are looked for from each end, at most
+abbrev pub most_nodes : ℕ
+most_nodes = 2 ^ 22
+
+-- the two ways along a ring
+abbrev pub by_next : ListShape → Way
+by_next list = record { on = list.next; back = list.prev }
+
+abbrev pub by_prev : ListShape → Way
+by_prev list = record { on = list.prev; back = list.next }
+
 -- those that are reached from the head by `next`, and then those that are by `prev`, up to the last of the first ones
 abbrev pub reached_by_next : Image → ListShape → ℕ → List ℕ
-reached_by_next image list head = reached image (record { on = list.next; back = list.prev }) (record { head = head; last = head }) 65536 head
+reached_by_next image list head = reached image (by_next list) (record { head = head; last = head }) most_nodes head
 
 abbrev pub reached_by_prev : Image → ListShape → ℕ → ℕ → List ℕ
-reached_by_prev image list head last = reached image (record { on = list.prev; back = list.next }) (record { head = head; last = last }) 65536 head
+reached_by_prev image list head last = reached image (by_prev list) (record { head = head; last = last }) most_nodes head
 
 abbrev pub with_others : Image → ListShape → ℕ → List ℕ → List ℕ
 with_others image list head nodes = nodes ++ reached_by_prev image list head (last_or head nodes)

@@ -1,19 +1,20 @@
-// The nodes of the ring of all caches, also where it is broken.
-ghost use Rattle.std.specs.Prelude.{◌≡◌, ◌++◌, Ok, OnOk};
+// The nodes of a ring, also where it is broken.
+ghost use Rattle.std.specs.Prelude.{◌≡◌, ◌+◌, ◌*◌, ◌≤◌, ◌++◌, Ok, OnOk};
 ghost use Rattle.kc_memory.specs.Stays.{SpaceStays};
 ghost use Rattle.kc_found.specs.Walks.{CountsWalkFaults, OnBroken, OnWalkFault, WalksAs};
 ghost use Rattle.kc_list.specs.Listed.{last_or};
 ghost use Rattle.kc_owner.specs.Unread.{IsUnread};
-ghost use Rattle.kc_slab_page.specs.Rings.{next_in, next_of, parts_of, reached, ring_nodes, ring_view, within, word_at};
+ghost use Rattle.kc_owner.specs.Object.Bounds.{WithinWalks};
+ghost use Rattle.kc_owner.specs.Rings.{most_nodes, next_in, next_of, parts_of, reached, ring_nodes, ring_view, within, word_at};
 
-use kc_found::{Found, ListShape, Space, Stop, WalkStop, Walked, push_node};
+use kc_found::{Found, ListShape, Space, Stop, WalkStop, Walked, know_most, push_node};
 use kc_list::ring;
 use kc_word::Steps;
 use std::alloc::Global;
 use std::sync::ledger::Ledger;
 
-/// How many nodes of a broken ring are looked for from each end, at most.
-const MOST: u64 = 65_536;
+// How many nodes of a broken ring are looked for from each end, at most.
+const MOST: u64 = 1 << 22;
 
 /// The nodes of a ring.
 #[derive(Drop)]
@@ -56,6 +57,7 @@ fn read_word<S: Space, L: Ledger>(
 ) -> Result<Option<u64>, WalkStop>
     ensures exact { WalksAs (λ w. w) (λ i. Ok (word_at i at)) (S.image space.old) result }
     ensures broken { OnBroken result ⊥ }
+    ensures steps { steps.new ≤ steps.old + S.most space.old }
     ensures stays { SpaceStays S.image S.files S.through S.most space.old space.new }
     ensures cause { CountsWalkFaults result (S.faults space.old) (S.faults space.new) }
 {
@@ -74,6 +76,7 @@ fn read_next<S: Space, L: Ledger>(
 ) -> Result<Option<u64>, WalkStop>
     ensures exact { WalksAs (λ n. n) (λ i. Ok (next_of i way node)) (S.image space.old) result }
     ensures broken { OnBroken result ⊥ }
+    ensures steps { steps.new ≤ steps.old + 2 * S.most space.old }
     ensures stays { SpaceStays S.image S.files S.through S.most space.old space.new }
     ensures cause { CountsWalkFaults result (S.faults space.old) (S.faults space.new) }
 {
@@ -111,9 +114,11 @@ fn read_within<S: Space, L: Ledger>(
 ) -> Result<Option<u64>, WalkStop>
     ensures exact { WalksAs (λ n. n) (λ i. Ok (next_in i way ends node)) (S.image space.old) result }
     ensures broken { OnBroken result ⊥ }
+    ensures steps { steps.new ≤ steps.old + 12 }
     ensures stays { SpaceStays S.image S.files S.through S.most space.old space.new }
     ensures cause { CountsWalkFaults result (S.faults space.old) (S.faults space.new) }
 {
+    know_most(space);
     match read_next(space, way, node, steps)? {
         Some(next) => Ok(within(ends, next)),
         None => Ok(None),
@@ -128,8 +133,9 @@ fn reach<S: Space, L: Ledger>(
     ends: Ends,
     steps: &mut Steps<L>,
 ) -> Result<Walked, WalkStop>
-    ensures exact { WalksAs (λ ns. ns) (λ i. Ok (reached i way ends 65536 ends.head)) (S.image space.old) result }
+    ensures exact { WalksAs (λ ns. ns) (λ i. Ok (reached i way ends most_nodes ends.head)) (S.image space.old) result }
     ensures broken { OnBroken result ⊥ }
+    ensures steps { steps.new ≤ steps.old + 12 * most_nodes }
     ensures stays { SpaceStays S.image S.files S.through S.most space.old space.new }
     ensures cause { CountsWalkFaults result (S.faults space.old) (S.faults space.new) }
 {
@@ -182,6 +188,7 @@ fn read_parts<S: Space, L: Ledger>(
 ) -> Result<Walked, WalkStop>
     ensures exact { WalksAs (λ ns. ns) (λ i. Ok (parts_of i list.now head)) (S.image space.old) result }
     ensures broken { OnBroken result ⊥ }
+    ensures steps { steps.new ≤ steps.old + 24 * most_nodes }
     ensures stays { SpaceStays S.image S.files S.through S.most space.old space.new }
     ensures cause { CountsWalkFaults result (S.faults space.old) (S.faults space.new) }
 {
@@ -200,8 +207,14 @@ fn read_parts<S: Space, L: Ledger>(
     Ok(nodes)
 }
 
-// The nodes of a ring, also where it is broken.
-pub(crate) fn read_ring<S: Space, L: Ledger>(
+/// The nodes of the ring with a head at virtual address `head`, without the head: of a broken ring those that are reached from its head by
+/// `next`, and then by `prev`, of which each node and the one before it name each other, 4,194,304 at most from each end. What is broken names
+/// audit 0.
+///
+/// # Errors
+///
+/// A failure of the space, whose count of faults then rose; or out of memory.
+pub fn read_ring<S: Space, L: Ledger>(
     alloc: Global,
     space: &mut S,
     list: &ListShape,
@@ -210,6 +223,7 @@ pub(crate) fn read_ring<S: Space, L: Ledger>(
 ) -> Result<RingNodes, WalkStop>
     ensures exact { WalksAs ring_view (λ i. Ok (ring_nodes i list.now head)) (S.image space.old) result }
     ensures broken { OnBroken result ⊥ }
+    ensures bound { WithinWalks (S.image space.old) (S.most space.old) 1 (24 * most_nodes) steps.old steps.new }
     ensures stays { SpaceStays S.image S.files S.through S.most space.old space.new }
     ensures cause { CountsWalkFaults result (S.faults space.old) (S.faults space.new) }
 {
