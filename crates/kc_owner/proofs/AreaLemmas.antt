@@ -1,3 +1,4 @@
 pub mod Despite
 pub mod Finding
+pub mod Grouping
 pub mod HoldLaws

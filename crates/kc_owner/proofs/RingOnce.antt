@@ -185,10 +185,13 @@ module _ (image : Image) (list : ListShape) (head : ℕ) where
   round at [] members is =
       same_value (vword image (at_offset at list.next)) ∙ same_head (value_of (vword image (at_offset at list.next))) (Some head) [] [] is
   round at (n ∷ ns) members is =
-      let more = values (vword image) list.next (n ∷ ns) in
-      (same_value (vword image (at_offset at list.next)) ∙ same_head (value_of (vword image (at_offset at list.next))) (Some n) more (map Some (ns ++ head ∷ [])) is,
-      (member_isnt head n (nat_eq n 0) (is_poison n) (nat_eq n head) refl members.0,
-      round n ns members.1 (same_tail (value_of (vword image (at_offset at list.next))) (Some n) more (map Some (ns ++ head ∷ [])) is)))
+      let more = values (vword image) list.next (n ∷ ns) in (
+        same_value (vword image (at_offset at list.next)) ∙ same_head (value_of (vword image (at_offset at list.next))) (Some n) more (map Some (ns ++ head ∷ [])) is,
+        (
+          member_isnt head n (nat_eq n 0) (is_poison n) (nat_eq n head) refl members.0,
+          round n ns members.1 (same_tail (value_of (vword image (at_offset at list.next))) (Some n) more (map Some (ns ++ head ∷ [])) is),
+        ),
+      )
 
   one_way : (at : ℕ) (xs ys : List ℕ) → LeadsRound image list head at xs → LeadsRound image list head at ys → xs ≡ ys
   one_way at [] [] first second = refl

@@ -4,7 +4,7 @@ ghost use Rattle.kc_memory.specs.Stays.{SpaceStays};
 ghost use Rattle.kc_found.specs.Walks.{CountsWalkFaults, OnBroken, OnWalkFault, WalksAs};
 ghost use Rattle.kc_list.specs.Listed.{last_or};
 ghost use Rattle.kc_owner.specs.Unread.{IsUnread};
-ghost use Rattle.kc_owner.specs.Object.Bounds.{WithinWalks};
+ghost use Rattle.kc_owner.specs.Object.Bounds.{WithinRing};
 ghost use Rattle.kc_owner.specs.Rings.{most_nodes, next_in, next_of, parts_of, reached, ring_nodes, ring_view, within, word_at};
 
 use kc_found::{Found, ListShape, Space, Stop, WalkStop, Walked, know_most, push_node};
@@ -14,7 +14,7 @@ use std::alloc::Global;
 use std::sync::ledger::Ledger;
 
 // How many nodes of a broken ring are looked for from each end, at most.
-const MOST: u64 = 1 << 22;
+pub(crate) const MOST: u64 = 1 << 22;
 
 /// The nodes of a ring.
 #[derive(Drop)]
@@ -167,7 +167,7 @@ fn last_or(head: u64, nodes: &Walked) -> u64
 }
 
 // Adds nodes to others.
-fn join(nodes: &mut Walked, more: &[u64]) -> Result<(), WalkStop>
+pub(crate) fn join(nodes: &mut Walked, more: &[u64]) -> Result<(), WalkStop>
     ensures added { OnOk result (nodes.new ≡ nodes.old ++ more.now) }
     ensures broken { OnBroken result ⊥ }
     ensures no_fault { OnWalkFault result ⊥ }
@@ -223,7 +223,7 @@ pub fn read_ring<S: Space, L: Ledger>(
 ) -> Result<RingNodes, WalkStop>
     ensures exact { WalksAs ring_view (λ i. Ok (ring_nodes i list.now head)) (S.image space.old) result }
     ensures broken { OnBroken result ⊥ }
-    ensures bound { WithinWalks (S.image space.old) (S.most space.old) 1 (24 * most_nodes) steps.old steps.new }
+    ensures bound { WithinRing (S.image space.old) list.now head (S.most space.old) 1 0 steps.old steps.new }
     ensures stays { SpaceStays S.image S.files S.through S.most space.old space.new }
     ensures cause { CountsWalkFaults result (S.faults space.old) (S.faults space.new) }
 {

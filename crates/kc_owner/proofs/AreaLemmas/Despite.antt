@@ -14,7 +14,7 @@ use Rattle.kc_owner.specs.declared.area.stacks.InStack.{InStack}
 use Rattle.kc_owner.specs.declared.ring.RingNodes.{RingNodes}
 use Rattle.kc_owner.specs.Firsts.{IsDespite, IsDespiteAny, despite, despite_any, first_of}
 use Rattle.kc_owner.specs.Area.Modules.{in_module, module_at, module_by}
-use Rattle.kc_owner.specs.Area.Stacks.{in_group, leaders, stack_at, stack_by}
+use Rattle.kc_owner.specs.Area.Stacks.{in_stack, led_to, stack_at, stack_by}
 use Rattle.kc_owner.specs.Rings.{RingParts, ring_nodes, ring_view}
 
 module _ {B : Type 0} where
@@ -44,10 +44,10 @@ module_told (Some i) shape address ring found r is tells answered =
 
 pub stack_told : (image : Option Image) (shape : StackShape) (address : ℕ) (v : Violation) (found r : Result (Option InStack) WalkStop)
     → WalksAs {A = List ℕ} {B = List ℕ} (λ (ts : List ℕ). ts) (λ i. task_list i shape.tasks (record { audit = 0; start = shape.first })) image (Err (ends.Broken v))
-    → WalksAs {A = Option InStack} {B = Option InStack} (λ (f : Option InStack). f) (λ i. first_of (in_group i shape address) (leaders i shape)) image found
+    → WalksAs {A = Option InStack} {B = Option InStack} (λ (f : Option InStack). f) (λ i. first_of (in_stack i shape address) (led_to i shape)) image found
     → IsDespite v found r
     → WalksAs {A = Option InStack} {B = Option InStack} (λ (f : Option InStack). f) (λ i. stack_at i shape address) image r
 stack_told None shape address v found r is tells answered = tt
 stack_told (Some i) shape address v found r is tells answered =
     subst (λ (ts : Result (List ℕ) Violation). IsWalk {A = Option InStack} {B = Option InStack} (λ (f : Option InStack). f) (stack_by i shape address ts) r) (sym is)
-    (despite_walks v (first_of (in_group i shape address) (leaders i shape)) found r tells answered)
+    (despite_walks v (first_of (in_stack i shape address) (led_to i shape)) found r tells answered)

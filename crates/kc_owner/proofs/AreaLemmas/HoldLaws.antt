@@ -25,7 +25,8 @@ use Rattle.kc_owner.specs.Firsts.{byte_of, first_of}
 use Rattle.kc_owner.specs.Area.Laws.{IsAmong, IsInModule, IsInPart, IsInProcessor, IsInStack, IsTaskOf, ModulesHold, ProcessorsHold, StacksHold}
 use Rattle.kc_owner.specs.Area.Modules.{in_module, in_part, named}
 use Rattle.kc_owner.specs.Area.Processors.{in_processor, less}
-use Rattle.kc_owner.specs.Area.Stacks.{in_group, in_stack, leaders, owner, stack_by, threads_of}
+use Rattle.kc_owner.specs.Area.Stacks.{in_stack, leaders, led_to, owner, stack_by}
+use Rattle.kc_owner.proofs.AreaLemmas.Grouping.{of_groups}
 use Rattle.kc_owner.proofs.GivesLemmas.{any_gives, despite_gives, first_gives, given, in_range, then_gives}
 
 -- a byte of a range
@@ -141,19 +142,19 @@ module _ (image : Image) (shape : StackShape) (address : ℕ) where
   abbrev Holds : Result (Option InStack) Violation → Type 0
   Holds r = IfOk r (λ s. IfSome s (IsInStack image shape address))
 
-  group_is : (v : Violation) → tasks_in ≡ Err v → (i leader : ℕ) → slice_get (leaders image shape) i ≡ Some leader → Holds (in_group image shape address leader)
-  group_is v broken i leader led =
-      first_gives (IsInStack image shape address) (in_stack image shape address) (leader ∷ threads_of image shape.tasks leader) (λ k task listed.
+  thread_is : (v : Violation) → tasks_in ≡ Err v → (k task : ℕ) → slice_get (led_to image shape) k ≡ Some task → Holds (in_stack image shape address task)
+  thread_is v broken k task listed =
+      of_groups image shape.tasks (Holds (in_stack image shape address task)) 0 (leaders image shape) k task (λ i leader led place thread.
       stack_is task (subst (IsTaskOf image shape task) (sym broken)
-      (record { leader = leader; led = record { place = i; listed = led }; thread = record { place = k; listed = listed } })))
+      (record { leader = leader; led = record { place = i; listed = led }; thread = record { place = place; listed = thread } }))) listed
 
   by_list : (tasks : Result (List ℕ) Violation) → tasks_in ≡ tasks → Holds (stack_by image shape address tasks)
   by_list (Ok tasks) whole =
       first_gives (IsInStack image shape address) (in_stack image shape address) tasks (λ i task listed.
       stack_is task (subst (IsTaskOf image shape task) (sym whole) (record { place = i; listed = listed })))
   by_list (Err v) broken =
-      despite_gives (IsInStack image shape address) v (first_of (in_group image shape address) (leaders image shape))
-      (first_gives (IsInStack image shape address) (in_group image shape address) (leaders image shape) (group_is v broken))
+      despite_gives (IsInStack image shape address) v (first_of (in_stack image shape address) (led_to image shape))
+      (first_gives (IsInStack image shape address) (in_stack image shape address) (led_to image shape) (thread_is v broken))
 
 pub stacks_hold : StacksHold
 stacks_hold image shape address = by_list image shape address (tasks_in image shape address) refl

@@ -19,7 +19,7 @@ use Rattle.kc_owner.specs.declared.area.shape.StackShape.{StackShape}
 use Rattle.kc_owner.specs.declared.area.stacks.InStack.{InStack}
 use Rattle.kc_owner.specs.Area.Modules.{module_at}
 use Rattle.kc_owner.specs.Area.Processors.{less, processor_at}
-use Rattle.kc_owner.specs.Area.Stacks.{leaders, stack_at, threads_of}
+use Rattle.kc_owner.specs.Area.Stacks.{group_of, leaders, stack_at}
 
 -- an address is a byte of a part of a module's memory, which begins there and is so long by the module's own words
 pub record IsInPart (image : Image) (shape : PartShape) (address owner byte : ℕ) : Type 0 where
@@ -61,7 +61,7 @@ pub record IsInProcessor (image : Image) (shape : ProcessorShape) (address : ℕ
 pub record IsOfGroup (image : Image) (shape : StackShape) (task : ℕ) : Type 0 where
   pub leader : ℕ
   pub led : IsAmong (leaders image shape) leader
-  pub thread : IsAmong (leader ∷ threads_of image shape.tasks leader) task
+  pub thread : IsAmong (group_of image shape.tasks leader) task
 
 -- a task is one of the task list, or such a one
 abbrev pub IsTaskOf : Image → StackShape → ℕ → Result (List ℕ) Violation → Type 0

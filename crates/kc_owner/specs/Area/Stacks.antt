@@ -1,6 +1,6 @@
 -- The task whose stack has an address. Source: the kernel's include/linux/sched.h, `stack`, `pid` and `comm` of `struct task_struct`; the tasks are
 -- those of the task list, or, where that breaks a rule, those that its rings still lead to (include/linux/sched/signal.h, `thread_head`).
-use Rattle.std.specs.Prelude.{ℕ, List, [], ◌∷◌, map, Option, Some, None, Result, Ok, Err}
+use Rattle.std.specs.Prelude.{ℕ, ◌+◌, nat_le, if◌then◌else◌, List, [], ◌∷◌, ◌++◌, length, map, Option, Some, None, Result, Ok, Err}
 use Rattle.kc_memory.specs.Image.{Image}
 use Rattle.kc_view.specs.declared.tasks.TaskShape.{TaskShape}
 use Rattle.kc_view.specs.Fields.{read_field, value_of}
@@ -10,7 +10,7 @@ use Rattle.kc_found.specs.Trials.{and_then}
 use Rattle.kc_found.specs.Violations.{Violation}
 use Rattle.kc_owner.specs.Known.{known}
 use Rattle.kc_owner.specs.Looked.{looked_at}
-use Rattle.kc_owner.specs.Rings.{ring_nodes}
+use Rattle.kc_owner.specs.Rings.{most_nodes, ring_nodes}
 use Rattle.kc_owner.specs.Texts.{text}
 use Rattle.kc_owner.specs.declared.area.shape.StackShape.{StackShape}
 use Rattle.kc_owner.specs.declared.area.stacks.InStack.{InStack}
@@ -41,14 +41,24 @@ threads_by image shape (Some signal) = map (task_of shape.thread_node) (ring_nod
 abbrev pub threads_of : Image → TaskShape → ℕ → List ℕ
 threads_of image shape leader = threads_by image shape (known image leader (Some shape.signal))
 
--- the first of a leader and these threads that has it
-abbrev pub in_group : Image → StackShape → ℕ → ℕ → Result (Option InStack) Violation
-in_group image shape address leader = first_of (in_stack image shape address) (leader ∷ threads_of image shape.tasks leader)
+-- a leader and its threads
+abbrev pub group_of : Image → TaskShape → ℕ → List ℕ
+group_of image shape leader = leader ∷ threads_of image shape leader
+
+-- the tasks of the groups of these leaders, group after group until there are as many as a kernel can have, some of which are there already
+unfoldable pub groups_of : Image → TaskShape → ℕ → List ℕ → List ℕ
+groups_of image shape had [] = []
+groups_of image shape had (l ∷ ls) =
+    if nat_le most_nodes had then [] else group_of image shape l ++ groups_of image shape (had + length (group_of image shape l)) ls
+
+-- the tasks that the rings of a broken task list lead to
+abbrev pub led_to : Image → StackShape → List ℕ
+led_to image shape = groups_of image shape.tasks 0 (leaders image shape)
 
 -- the first of the tasks that has it, in the order of the task list; where that breaks a rule, of those that its rings still lead to
 abbrev pub stack_by : Image → StackShape → ℕ → Result (List ℕ) Violation → Result (Option InStack) Violation
 stack_by image shape address (Ok tasks) = first_of (in_stack image shape address) tasks
-stack_by image shape address (Err v) = despite v (first_of (in_group image shape address) (leaders image shape))
+stack_by image shape address (Err v) = despite v (first_of (in_stack image shape address) (led_to image shape))
 
 abbrev pub stack_at : Image → StackShape → ℕ → Result (Option InStack) Violation
 stack_at image shape address = stack_by image shape address (task_list image shape.tasks (record { audit = 0; start = shape.first }))

@@ -4,11 +4,12 @@ ghost use Rattle.kc_memory.specs.Stays.{SpaceStays};
 ghost use Rattle.kc_found.specs.Walks.{CountsWalkFaults, OnBroken, OnWalkFault, WalksAs};
 ghost use Rattle.kc_view.specs.TaskLists.{IsInside, task_of};
 ghost use Rattle.kc_owner.specs.Firsts.{first_of};
-ghost use Rattle.kc_owner.specs.Area.Stacks.{in_group, in_stack, leaders, owner, stack_at, threads_of};
+ghost use Rattle.kc_owner.specs.Area.Stacks.{groups_of, in_stack, led_to, owner, stack_at, threads_of};
 ghost use Rattle.kc_owner.specs.Rings.{ring_nodes};
 
 use crate::area::shape::StackShape;
 use crate::firsts::{byte_of, despite, none_found, pass_broken};
+use crate::ring::{MOST, join};
 use crate::{looked_at, read_known, read_ring, read_text, view_at};
 use kc_btf::Btf;
 use kc_found::{Found, Name, Space, WalkStop, Walked, push_node};
@@ -168,51 +169,32 @@ fn read_group<S: Space, L: Ledger>(
     read_tasks(alloc, space, shape, leader, head, shape.thread_node, steps)
 }
 
-// The first of a leader and the threads of its group that has an address in its stack.
-fn in_group<S: Space, L: Ledger>(
+// The tasks of these groups, each leader before its threads, group after group until there are so many.
+fn read_groups<S: Space, L: Ledger>(
     alloc: Global,
     space: &mut S,
     btf: &Btf,
-    shape: &StackShape,
-    address: u64,
-    leader: u64,
-    steps: &mut Steps<L>,
-) -> Result<Option<InStack>, WalkStop>
-    ensures exact { WalksAs (λ found. found) (λ i. in_group i shape.now address leader) (S.image space.old) result }
-    ensures stays { SpaceStays S.image S.files S.through S.most space.old space.new }
-    ensures cause { CountsWalkFaults result (S.faults space.old) (S.faults space.new) }
-{
-    let tasks = read_group(alloc, space, btf, &shape.tasks, leader, steps)?;
-    in_stacks(alloc, space, btf, shape, address, &tasks, steps)
-}
-
-// The first task of these groups that has an address in its stack.
-fn in_groups<S: Space, L: Ledger>(
-    alloc: Global,
-    space: &mut S,
-    btf: &Btf,
-    shape: &StackShape,
-    address: u64,
+    shape: &TaskShape,
     leaders: &Walked,
     steps: &mut Steps<L>,
-) -> Result<Option<InStack>, WalkStop>
-    ensures exact { WalksAs (λ found. found) (λ i. first_of (in_group i shape.now address) leaders.now) (S.image space.old) result }
+) -> Result<Walked, WalkStop>
+    ensures exact { WalksAs (λ ts. ts) (λ i. Ok (groups_of i shape.now 0 leaders.now)) (S.image space.old) result }
+    ensures broken { OnBroken result ⊥ }
     ensures stays { SpaceStays S.image S.files S.through S.most space.old space.new }
     ensures cause { CountsWalkFaults result (S.faults space.old) (S.faults space.new) }
 {
-    let mut missed: Option<Found> = None;
+    let mut tasks = Walked::new(alloc);
     let mut i = 0;
     while i < leaders.len() {
-        let leader = *leaders.get(i);
-        let told = in_group(alloc, space, btf, shape, address, leader, steps);
-        match pass_broken(&mut missed, told) {
-            Ok(None) => {}
-            Ok(Some(found)) => return Ok(Some(found)),
-            Err(stop) => return Err(stop),
+        if tasks.len() as u64 >= MOST {
+            return Ok(tasks);
         }
+        let leader = *leaders.get(i);
+        let group = read_group(alloc, space, btf, shape, leader, steps)?;
+        join(&mut tasks, group.as_slice())?;
         i += 1;
     }
-    none_found(missed)
+    Ok(tasks)
 }
 
 // The first task that the rings of a broken task list lead to and that has an address in its stack.
@@ -224,14 +206,15 @@ fn in_rings<S: Space, L: Ledger>(
     address: u64,
     steps: &mut Steps<L>,
 ) -> Result<Option<InStack>, WalkStop>
-    ensures exact { WalksAs (λ found. found) (λ i. first_of (in_group i shape.now address) (leaders i shape.now)) (S.image space.old) result }
+    ensures exact { WalksAs (λ found. found) (λ i. first_of (in_stack i shape.now address) (led_to i shape.now)) (S.image space.old) result }
     ensures stays { SpaceStays S.image S.files S.through S.most space.old space.new }
     ensures cause { CountsWalkFaults result (S.faults space.old) (S.faults space.new) }
 {
     let tasks = &shape.tasks;
     let head = shape.first.wrapping_add(tasks.tasks);
     let leaders = read_tasks(alloc, space, tasks, shape.first, head, tasks.tasks, steps)?;
-    in_groups(alloc, space, btf, shape, address, &leaders, steps)
+    let tasks = read_groups(alloc, space, btf, tasks, &leaders, steps)?;
+    in_stacks(alloc, space, btf, shape, address, &tasks, steps)
 }
 
 // The first task of the task list that has an address in its stack; where that breaks a rule, of those that its rings still lead to.

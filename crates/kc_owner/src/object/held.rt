@@ -1,10 +1,9 @@
 // What holds a physical address.
-ghost use Rattle.std.specs.Prelude.{◌≡◌, ◌+◌, ◌*◌};
+ghost use Rattle.std.specs.Prelude.{◌≡◌};
 ghost use Rattle.kc_memory.specs.Stays.{SpaceStays};
 ghost use Rattle.kc_found.specs.Walks.{CountsWalkFaults, WalksAs};
-ghost use Rattle.kc_owner.specs.Object.Bounds.{WithinWalks};
+ghost use Rattle.kc_owner.specs.Object.Bounds.{WithinRing};
 ghost use Rattle.kc_owner.specs.Object.Slabs.{held};
-ghost use Rattle.kc_owner.specs.Rings.{most_nodes};
 
 use crate::looked_at;
 use crate::object::bases::read_bases;
@@ -41,7 +40,7 @@ pub fn find_object<S: Space, L: Ledger>(
     steps: &mut Steps<L>,
 ) -> Result<Held, WalkStop>
     ensures exact { WalksAs (λ h. h) (λ i. held i shape.now pa) (S.image space.old) result }
-    ensures bound { WithinWalks (S.image space.old) (S.most space.old) 2 (1500 + 24 * most_nodes) steps.old steps.new }
+    ensures bound { WithinRing (S.image space.old) shape.now.slub.list shape.now.caches (S.most space.old) 2 1500 steps.old steps.new }
     ensures stays { SpaceStays S.image S.files S.through S.most space.old space.new }
     ensures cause { CountsWalkFaults result (S.faults space.old) (S.faults space.new) }
 {

@@ -3,9 +3,8 @@ ghost use Rattle.std.specs.Prelude.{◌≡◌, ◌≤◌, ◌+◌, ◌*◌, ◌<
 ghost use Rattle.kc_memory.specs.Stays.{SpaceStays};
 ghost use Rattle.kc_found.specs.Walks.{CountsWalkFaults, WalksAs};
 ghost use Rattle.kc_view.specs.Caches.{is_descriptor};
-ghost use Rattle.kc_owner.specs.Object.Bounds.{WithinWalks};
+ghost use Rattle.kc_owner.specs.Object.Bounds.{WithinRing, WithinWalks};
 ghost use Rattle.kc_owner.specs.Object.Slabs.{is_listed, slab_at, slab_of, slab_with, start_of};
-ghost use Rattle.kc_owner.specs.Rings.{most_nodes};
 
 use crate::firsts::none_found;
 use crate::object::cache::{Cache, read_cache};
@@ -141,7 +140,7 @@ pub(crate) fn slab_at<S: Space, L: Ledger>(
     steps: &mut Steps<L>,
 ) -> Result<Option<Slab>, WalkStop>
     ensures exact { WalksAs (λ s. s) (λ i. slab_at i shape.now bases.now head pa) (S.image space.old) result }
-    ensures bound { WithinWalks (S.image space.old) (S.most space.old) 2 (1428 + 24 * most_nodes) steps.old steps.new }
+    ensures bound { WithinRing (S.image space.old) shape.now.slub.list shape.now.caches (S.most space.old) 2 1428 steps.old steps.new }
     ensures stays { SpaceStays S.image S.files S.through S.most space.old space.new }
     ensures cause { CountsWalkFaults result (S.faults space.old) (S.faults space.new) }
 {
