@@ -1,5 +1,5 @@
 -- One answer, and the words that repair together after it.
-use Rattle.std.proofs.Common.{◌≡◌, ℕ, List, ◌++◌, Option, Some, None, Result, Ok, Err, refl, ap, ◌∙◌, subst}
+use Rattle.std.proofs.Common.{◌≡◌, List, Option, Some, None, Result, Ok, Err, refl, subst}
 use Rattle.std.specs.Prelude.{IfOk, IfSome}
 use Rattle.kc_memory.specs.Image.{Image}
 use Rattle.kc_found.specs.declared.failed.ReadFailed.{ReadFailed}
@@ -7,17 +7,12 @@ use Rattle.kc_found.specs.Violations.{Violation}
 use Rattle.kc_kinds.specs.declared.kind.Kind.{Kind}
 use Rattle.kc_plan.specs.Planned.{AuditAt}
 use Rattle.kc_plan.specs.Roots.{Root}
-use Rattle.kc_plan.specs.Views.{plan_seen}
-use Rattle.kc_run.specs.Each.{root_at}
 use Rattle.kc_repair.specs.declared.suspect.suspect.Suspect.{Suspect}
 use Rattle.kc_repair.specs.declared.outcome.Repair.{Repair}
 use Rattle.kc_repair.specs.Repairs.{repair_of}
-use Rattle.kc_cause.specs.declared.judged.PlanOf.{PlanOf}
 use Rattle.kc_cause.specs.declared.repairs.Mended.{Mended}
 use Rattle.kc_cause.specs.Chained.{chain_of}
-use Rattle.kc_cause.specs.Explained.{IsMended, repairs_as}
-use Rattle.kc_cause.specs.Judged.{over_plan}
-use Rattle.kc_cause.specs.Lines.{repair_lines}
+use Rattle.kc_cause.specs.Explained.{IsMended}
 
 pub with-words_after : (image : Option Image) (audits : List AuditAt) (root : Root) (first : Repair) (r : Result (Option (List Suspect)) ReadFailed) (words : Option (List Suspect)) → r ≡ Ok words
     → IfOk r (λ w. IfSome image (λ m. w ≡ chain_of m audits root first)) → IfSome image (λ m. (first ≡ first) × (words ≡ chain_of m audits root first))
@@ -32,15 +27,3 @@ mended-as None after audits root kind v r first (Ok x) same is exact told = tt
 mended-as (Some m) after audits root kind v r first (Ok x) same is exact told =
     let answer : first ≡ repair_of m audits root kind v = rw is at exact in
     subst (λ (f : Repair). IsMended m audits root f x) answer (rw same at told)
-
--- and their lines
-pub mended-told : (image : Option Image) (o : PlanOf) (number : ℕ) (root : Root) (kind : Kind) (v : Violation) (r : Result Mended ReadFailed) (mended : Mended) (old new : List ℕ)
-    → root_at number (plan_seen o.plan.now) ≡ Some root → r ≡ Ok mended
-    → IfOk r (λ x. IfSome image (λ m. IsMended m (plan_seen o.plan.now) root (repair_of m (plan_seen o.plan.now) root kind v) x))
-    → new ≡ old ++ repair_lines v mended.words mended.repair → IfSome image (λ m. new ≡ old ++ repairs_as (over_plan o m) number kind v)
-mended-told None o number root kind v r mended old new there is exact added = tt
-mended-told (Some m) o number root kind v r mended old new there is exact added =
-    let both : IsMended m (plan_seen o.plan.now) root (repair_of m (plan_seen o.plan.now) root kind v) mended = rw is at exact in
-    rw there (added
-    ∙ ap (λ (w : Option (List Suspect)). old ++ repair_lines v w mended.repair) both.1
-    ∙ ap (λ (x : Repair). old ++ repair_lines v (chain_of m (plan_seen o.plan.now) root (repair_of m (plan_seen o.plan.now) root kind v)) x) both.0)

@@ -100,19 +100,20 @@ fn push_label(text: &mut Vec<u8>, fits: bool) -> Result<(), NoMemory>
 }
 
 // One of the words that repair together.
-fn push_word(text: &mut Vec<u8>, word: &Suspect) -> Result<(), NoMemory>
-    ensures { OnOk result (text.new.items ≡ text.old.items ++ word_line word.now) }
+fn push_word(text: &mut Vec<u8>, word: Suspect) -> Result<(), NoMemory>
+    ensures { OnOk result (text.new.items ≡ text.old.items ++ word_line word) }
 {
     push(text, b"word ")?;
-    push_suspect(text, *word)?;
+    push_suspect(text, word)?;
     push(text, b"\n")
 }
 
+// Those words, one after the other.
 fn push_words(text: &mut Vec<u8>, words: &Suspects) -> Result<(), NoMemory>
     ensures { OnOk result (text.new.items ≡ text.old.items ++ texts word_line words.now) }
 {
     for i in 0..words.len() {
-        push_word(text, words.get(i))?;
+        push_word(text, *words.get(i))?;
     }
     Ok(())
 }
