@@ -1,5 +1,7 @@
 -- Which bytes slub_debug keeps at each object of a cache. Source: the kernel's mm/slub.c, `calculate_sizes` and `check_object`, whose order this
--- is; include/linux/poison.h: SLUB_RED_INACTIVE bb, SLUB_RED_ACTIVE cc, POISON_INUSE 5a, POISON_FREE 6b, POISON_END a5.
+-- is, but for what isn't looked at: the bytes of a kmalloc object past those asked for (`slub_debug_orig_size`, not in 6.1), the padding after
+-- what follows an object (`check_pad_bytes`), and free pointers. include/linux/poison.h: SLUB_RED_INACTIVE bb, SLUB_RED_ACTIVE cc,
+-- POISON_INUSE 5a, POISON_FREE 6b, POISON_END a5.
 use Rattle.std.specs.Prelude.{◌+◌, ◌-◌, ◌%◌, ◌^◌, Bool, ◌&&◌, nat_le, if◌then◌else◌, List, [], ◌∷◌, ◌++◌, Some, None}
 use Rattle.kc_guard.specs.declared.guards.CacheBytes.{CacheBytes}
 use Rattle.kc_guard.specs.declared.guards.GuardRule.TheVariants.{Z1, Z2, Z3, Z4}

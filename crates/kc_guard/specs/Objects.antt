@@ -1,5 +1,5 @@
--- The bytes that a cache keeps at the objects of a slab. Source: the kernel's mm/slub.c, `check_object`: an object in its slab's free list is
--- looked at as a free one, and another as one in use (`on_freelist`).
+-- The bytes that a cache keeps at the objects of a slab. Source: the kernel's mm/slub.c, `validate_slab`: `check_object` looks at an object in
+-- its slab's free list as a free one, and at another as one in use.
 use Rattle.std.specs.Prelude.{ℕ, zero, suc, ◌+◌, ◌*◌, ◌%◌, ◌^◌, Bool, nat_eq, if◌then◌else◌, List, [], ◌∷◌, Option, Some, None, option_map, Result, Ok, Err}
 use Rattle.std.specs.BTreeMap.{is_at}
 use Rattle.std.specs.List.{list_any}

@@ -1,4 +1,6 @@
--- The map of the kernel as its build writes it (scripts/mksysmap), out of its own symbol table.
+-- A map of the kernel in the form of its build's System.map (scripts/mksysmap), out of its own symbol table. That table lacks the symbols
+-- of its own parts and most absolute ones (scripts/kallsyms.c, is_ignored_symbol), and orders the symbols at one address anew
+-- (compare_symbols).
 use Rattle.std.specs.Prelude.{ℕ, ◌&&◌, ◌==◌, nat_le, nat_lt, ◌^◌, Bool, false, if◌then◌else◌, List, [], ◌∷◌, ◌++◌, codes, Option, Some, None, Result, Ok}
 use Rattle.std.specs.List.{flat_map}
 use Rattle.kc_memory.specs.Image.{Image}

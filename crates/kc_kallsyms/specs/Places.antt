@@ -1,5 +1,5 @@
--- Where the kernel's symbol table lies, by VMCOREINFO (the kernel's kdump documents, "VMCOREINFO": the lines of `kallsyms_..` are
--- those of Linux 6.0 and later).
+-- Where the kernel's symbol table lies, by VMCOREINFO: the lines that `crash_save_vmcoreinfo_init` writes (kernel/vmcore_info.c, before
+-- Linux 6.9 kernel/crash_core.c). Those of `kallsyms_..` are there from Linux 6.0 on.
 use Rattle.std.specs.Prelude.{ℕ, List, codes, Result, Ok, ok_or, option_and_then}
 use Rattle.kc_word.specs.Hex.{hex_number}
 use Rattle.kc_notes.specs.Values.{value_of}

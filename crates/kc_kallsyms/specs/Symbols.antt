@@ -20,7 +20,7 @@ pub record Symbol : Type 0 where
   pub offset : ℕ
 
 -- How many tokens the name at an address has, and where these begin: a length of one byte, or where its bit 7 is set of two, the low
--- seven bits and then the bits from 7 on.
+-- seven bits and then the bits from 7 on (Linux 6.0, whose names are shorter than 128 bytes, has lengths of one byte).
 pub record Length : Type 0 where
   pub count : ℕ
   pub start : ℕ

@@ -1,5 +1,5 @@
-//! The kernel's own symbol table in the memory of a dump (scripts/kallsyms.c, kernel/kallsyms.c), and what it leads to: the map of the
-//! kernel as its build writes it, its types, and its lists of modules.
+//! The kernel's own symbol table in the memory of a dump (scripts/kallsyms.c, kernel/kallsyms.c), and what it leads to: a map of the
+//! kernel in the form of its build's System.map, its types, and its lists of modules.
 #![tactic(auto)]
 
 mod bytes;

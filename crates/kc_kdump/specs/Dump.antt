@@ -14,7 +14,7 @@ use Rattle.kc_kdump.specs.Runs.{cut_runs, page_count, runs_of}
 pub record Dump : Type 0 where
   pub layout : Layout
   pub runs : List PageRun
-  -- whether the pages of all page frames that the second bitmap marks are in the file
+  -- whether the last page that the second bitmap marks is in the file, and the header doesn't say that pages lack
   pub is_whole : Bool
   -- the bytes of the PT_NOTE segment of the machine's memory image, and the erase info
   pub notes : List ℕ
@@ -50,8 +50,9 @@ unfoldable pub there_from : ℕ → Layout → List ℕ → ℕ → ℕ → ℕ
 there_from size layout bytes index zero = index
 there_from size layout bytes index (suc n) = if is_there size layout bytes index then there_from size layout bytes (index + 1) n else index
 
--- Whether so many pages are all there: the header doesn't say that the dump is incomplete, and the last page is there.
--- Pages are written in order (makedumpfile, IMPLEMENTATION).
+-- Whether so many pages are taken to be there: the header doesn't say that the dump is incomplete, and the last page is there.
+-- Pages are written in order (makedumpfile, IMPLEMENTATION), but for pages of zeros where these are excluded (-d 1): they share one, which is
+-- written first. So a file that was cut passes where its last page is one of zeros, and those past its end are faults then.
 unfoldable pub is_whole : ℕ → Layout → List ℕ → ℕ → Bool
 is_whole size layout bytes pages =
     if layout.is_cut then false

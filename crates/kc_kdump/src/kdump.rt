@@ -14,7 +14,8 @@ pub struct Kdump {
     pub runs: Vec<PageRun>,
     /// How many pages are in the dump.
     pub pages: u64,
-    /// Whether the pages of all page frames that the bitmaps speak of are in the file.
+    /// Whether the last page that the bitmaps speak of is in the file, and the header doesn't say that pages lack. Of a file that was cut
+    /// pages may lack all the same, where its last page is one of zeros, which share one at the front.
     pub is_whole: bool,
     /// The bytes of the PT_NOTE segment of the machine's memory image, and after them the erase info as a note, where there is some.
     pub notes: Vec<u8>,

@@ -46,7 +46,7 @@ abbrev pub note_fields : ℕ → ℕ → List Field
 note_fields offset size = U32 4 ∷ U32 0 ∷ U64 offset ∷ U64 0 ∷ U64 0 ∷ U64 size ∷ U64 size ∷ U64 4 ∷ []
 
 -- PT_LOAD of a run whose pages begin at a file offset: what was left out of the dump is memory without bytes in the file. No virtual
--- address is known, and those from 2^63 on are none of x86-64.
+-- address is known: 2^63 and a physical address is none of x86-64, since it isn't canonical.
 abbrev pub load_fields : ℕ → PageRun → List Field
 load_fields offset run =
     U32 1 ∷ U32 7 ∷ U64 offset ∷ U64 (2 ^ 63 + 4096 * run.first) ∷ U64 (4096 * run.first) ∷ U64 (4096 * run.dumped)

@@ -6,7 +6,8 @@ use Rattle.kc_bytes.specs.Bytes.{onward}
 use Rattle.kc_printk.specs.declared.block.Block.{Block}
 use Rattle.kc_printk.specs.declared.block.Block.TheVariants.{Empty, Filled, Wrong}
 
--- a record without data has positions with bit 0 set
+-- A record without data has positions with bit 0 set. It may be an empty line (EMPTY_LINE_LPOS, in 6.1 NO_LPOS), for which dmesg
+-- prints the time alone, and makedumpfile nothing.
 abbrev pub is_empty : ℕ → ℕ → Bool
 is_empty begin next = nat_eq (begin % 2) 1 && nat_eq (next % 2) 1
 

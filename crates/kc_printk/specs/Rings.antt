@@ -48,7 +48,8 @@ ids_of first last = (last + 2 ^ 62 - first) % 2 ^ 62 + 1
 abbrev pub fits : ℕ → ℕ → ℕ → Bool
 fits first last count = is_id first && is_id last && nat_le (ids_of first last) count
 
--- the ring, or why it can't be: at most 2^22 descriptors, at most 2^31 bytes of texts (LOG_BUF_LEN_MAX), and ids that fit
+-- The ring, or why it isn't read: at most 2^22 descriptors, at most 2^31 bytes of texts (LOG_BUF_LEN_MAX), and ids that fit. The first
+-- bound is this project's: a kernel has a descriptor for each 32 bytes of texts (PRB_AVGBITS), so more of them from log_buf_len=256M on.
 unfoldable pub ring_of : RingWords → Result Ring LogFault
 ring_of words =
     if not (nat_le words.count_bits 22) then Err P2

@@ -1,4 +1,4 @@
--- The lines of the log, as `makedumpfile --dump-dmesg` prints them (version 1.7.2).
+-- The lines of the log, as `makedumpfile --dump-dmesg` prints those of records that are in order (version 1.7.2).
 use Rattle.std.specs.Prelude.{ℕ, ◌-◌, ◌/◌, ◌%◌, Bool, ◌&&◌, ◌||◌, nat_eq, nat_le, nat_lt, List, [], ◌∷◌, ◌++◌, length, codes, decimal, replicate, if◌then◌else◌}
 use Rattle.kc_text.specs.Compose.{texts}
 use Rattle.kc_text.specs.Text.{hex}

@@ -81,7 +81,7 @@ pub enum LogFault {
     /// number that isn't 0.
     #[error("P1: no value of {0:?}")]
     P1(LogLine),
-    /// The ring has more than 2^22 descriptors.
+    /// The ring has more than 2^22 descriptors, as of a kernel that was started with log_buf_len=256M or more.
     #[error("P2: too many descriptors")]
     P2,
     /// The ring has more than 2^31 bytes of texts.

@@ -1,6 +1,7 @@
--- The bytes that slub_debug keeps at the objects of a slab. A slab that a processor owns isn't looked at: with slub_debug one is owned at most for the
--- moment in which an object is given out (mm/slub.c, `kmem_cache_debug` in `___slab_alloc`). Nor is one of more bytes than the kernel's largest block
--- of pages: include/linux/mmzone.h, MAX_PAGE_ORDER.
+-- The bytes that slub_debug keeps at the objects of a slab. A frozen slab isn't looked at. With slub_debug a processor owns one at most for the
+-- moment in which an object is given out, and none from 6.1 on (mm/slub.c, `kmem_cache_debug` in `___slab_alloc`); but a kernel may freeze a slab
+-- that it found corrupt, with all objects marked as used (`alloc_debug_processing`, in 6.1.192 and 6.12.117). Nor is one looked at of more bytes than
+-- the kernel's largest block of pages: include/linux/mmzone.h, MAX_PAGE_ORDER, in 6.1 MAX_ORDER - 1.
 use Rattle.std.specs.Prelude.{ℕ, ◌*◌, ◌^◌, Bool, true, ◌&&◌, nat_eq, nat_le, not, if◌then◌else◌, List, length, Option, Some, None, Result, Ok, Err}
 use Rattle.kc_memory.specs.Image.{Image}
 use Rattle.kc_view.specs.declared.slub.SlabObjects.{SlabObjects}

@@ -1,6 +1,6 @@
 -- The kernel's own mark of a slab's first page. Source: the kernel's include/linux/page-flags.h, `PG_slab` of the field `flags` up to 6.9,
--- and the page types of the field `page_type` from 6.10 on; Documentation/admin-guide/kdump/vmcoreinfo.rst: a kernel tells the bit as
--- NUMBER(PG_slab), and the page type as NUMBER(PAGE_SLAB_MAPCOUNT_VALUE).
+-- and the page types of the field `page_type` from 6.10 on; kernel/vmcore_info.c (before 6.9 kernel/crash_core.c),
+-- `crash_save_vmcoreinfo_init`: a kernel tells the bit as NUMBER(PG_slab), and the page type as NUMBER(PAGE_SLAB_MAPCOUNT_VALUE).
 use Rattle.std.specs.Prelude.{ℕ, ◌^◌, ℤ, pos, negsuc, unsigned_abs, Bool, nat_eq, nat_lt, not, bit_and, if◌then◌else◌, List, codes, Option, Some, None, option_and_then, option_map}
 use Rattle.std.specs.Int.{int_rem_euclid}
 use Rattle.std.specs.Option.{option_or}

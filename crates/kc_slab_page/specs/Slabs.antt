@@ -1,6 +1,7 @@
 -- A slab, by its page's descriptor. Source: the kernel's mm/slab.h, `struct slab`, which overlays its first page's descriptor, and mm/slub.c:
--- `freelist` and `inuse` are changed together (`slab_update_freelist`), also where a processor owns the slab, so the slab's own free list has
--- as many objects as aren't in use. The order is this project's.
+-- `freelist` and `inuse` are changed together (`slab_update_freelist`, in 6.1 `cmpxchg_double_slab`; in a cache with slub_debug one right after
+-- the other, under the node's `list_lock`), also where a processor owns the slab, so the slab's own free list has as many objects as aren't in
+-- use. The order is this project's.
 use Rattle.std.specs.Prelude.{ℕ, ◌+◌, ◌-◌, Bool, ◌&&◌, ◌||◌, nat_eq, nat_le, nat_lt, not, false, List, length, Some, None, Result, Ok}
 use Rattle.kc_memory.specs.declared.rule.Rule.TheVariants.{U3, U4, U6}
 use Rattle.kc_memory.specs.Image.{Image}

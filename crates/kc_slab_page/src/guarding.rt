@@ -39,7 +39,7 @@ pub enum SlabState {
     Untold,
 }
 
-// The bytes at a slab's objects are looked at: its cache keeps some, no processor owns it, and it isn't larger than the kernel makes one.
+// The bytes at a slab's objects are looked at: its cache keeps some, it isn't frozen, and it isn't larger than the kernel makes one.
 fn is_guarded(runs: &GuardRuns, objects: &SlabObjects, free: SlabFree) -> bool
     ensures { result ≡ is_guarded runs.now objects.now free }
 {

@@ -22,7 +22,8 @@ pub struct SlabFree {
     pub objects: u64,
     /// How many of them its own free list has.
     pub free: u64,
-    /// Whether a processor owns it, and keeps further free objects in a list of its own.
+    /// Whether it is frozen: a processor owns it, and keeps further free objects in a list of its own; or has it in its partial list (before
+    /// Linux 6.8); or, with slub_debug, the kernel found it corrupt.
     pub frozen: bool,
     /// Whether the bytes that slub_debug keeps at its objects were looked at.
     pub guarded: bool,
@@ -35,7 +36,7 @@ pub struct SlabCounted {
     pub objects: u64,
     /// Those that its own free list doesn't have: at most `objects`.
     pub inuse: FieldNumber,
-    /// Whether a processor owns it.
+    /// Whether it is frozen.
     pub frozen: bool,
 }
 

@@ -14,7 +14,7 @@ use Rattle.kc_owner.specs.Looked.{looked_at}
 use Rattle.kc_slab_scan.specs.declared.cpus.Cpu.{Cpu}
 use Rattle.kc_slab_scan.specs.declared.cpu_words.CpuShape.{CpuShape}
 
--- how many processors there are, of 8192 at most
+-- how many processors there are, of 8192 at most (arch/x86/Kconfig, NR_CPUS_RANGE_END)
 abbrev pub count_of : Image → CpuShape → Result ℕ Violation
 count_of image shape = and_then (or_missed (looked_at shape.count) (bits image shape.count 0 32 false)) (λ n. Ok (min (low_word n.value) 8192))
 
