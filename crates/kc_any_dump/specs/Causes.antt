@@ -1,13 +1,43 @@
 -- How a program ends whose dump can't be read.
-use Rattle.std.specs.Prelude.{◌≡◌, ◌⊎◌, ℕ, List, Bool, true, false, Option}
+use Rattle.std.specs.Prelude.{◌≡◌, ◌⊎◌, ⊤, ℕ, List, Bool, true, false, Option, Some, None, IfSome}
 use Rattle.kc_outside.specs.Texts.{with_piece}
 use Rattle.kc_command.specs.declared.ends.status.Status.{Status}
 use Rattle.kc_command.specs.declared.ends.status.Status.TheVariants.{Refused, StoreFailed, OutOfMemory}
 use Rattle.kc_command.specs.Ends.Ends.{TookPrefix}
 use Rattle.kc_command.specs.Ends.Failures.{memory_refused}
+use Rattle.kc_flattened_store.specs.declared.stop.FlattenedFault.{FlattenedFault}
+use Rattle.kc_flattened_store.specs.declared.stop.FlattenedFault.TheVariants as flattened
+use Rattle.kc_plain_store.specs.declared.stop.ViewFault.{ViewFault}
+use Rattle.kc_plain_store.specs.declared.stop.ViewFault.TheVariants as view
+use Rattle.kc_plain_store.specs.Faults.{page_fault, refusal}
 use Rattle.kc_any_dump.specs.declared.cause.Cause.{Cause}
 use Rattle.kc_any_dump.specs.declared.cause.Cause.TheVariants.{Flattened, Compressed, Page, Memory}
 use Rattle.kc_any_dump.specs.Lines.{cause_line}
+
+-- what bytes say of a cause: those of the dump's file, of a flattened one those that it means
+abbrev pub IsCauseIn : List ℕ → Cause → Type 0
+IsCauseIn bytes (Flattened fault) = ⊤
+IsCauseIn bytes (Compressed fault) = refusal bytes ≡ Some fault
+IsCauseIn bytes (Page bad) = page_fault bytes bad.number ≡ Some bad.fault
+IsCauseIn bytes Memory = ⊤
+
+-- a cause that is told is what the bytes say that are held, where these are known
+abbrev pub IsTrueOf : Option Cause → Option (List ℕ) → Type 0
+IsTrueOf told held = (cause : Cause) → told ≡ Some cause → IfSome held (λ bytes. IsCauseIn bytes cause)
+
+-- the cause by the fault of a flattened file, and of a dump over it: none where only a call of the store failed
+abbrev pub flattened_cause : Option FlattenedFault → Option Cause
+flattened_cause None = None
+flattened_cause (Some flattened.Store) = None
+flattened_cause (Some (flattened.Refused fault)) = Some (Flattened fault)
+flattened_cause (Some flattened.NoMemory) = Some Memory
+
+abbrev pub dump_cause : Option ViewFault → Option FlattenedFault → Option Cause
+dump_cause None below = None
+dump_cause (Some view.Store) below = flattened_cause below
+dump_cause (Some (view.Refused fault)) below = Some (Compressed fault)
+dump_cause (Some (view.Page bad)) below = Some (Page bad)
+dump_cause (Some view.NoMemory) below = Some Memory
 
 -- the status by a cause
 abbrev pub cause_status : Cause → Status
@@ -33,9 +63,11 @@ SaysCause cause ends old new =
 abbrev pub TookCause : Cause → Option (List ℕ) → Option (List ℕ) → Type 0
 TookCause cause old new = TookPrefix old new (cause_line cause) ⊎ TookPrefix old new memory_refused
 
--- the same by some cause; or by none, where only a call of the store failed
-abbrev pub SaysAny : Status → Option (List ℕ) → Option (List ℕ) → Type 0
-SaysAny ends old new = ((ends ≡ StoreFailed) × (new ≡ old)) ⊎ ((cause : Cause) × SaysCause cause ends old new)
+-- the same by the cause that is told; or by none, where only a call of the store failed
+abbrev pub SaysAny : Option Cause → Status → Option (List ℕ) → Option (List ℕ) → Type 0
+SaysAny None ends old new = (ends ≡ StoreFailed) × (new ≡ old)
+SaysAny (Some cause) ends old new = SaysCause cause ends old new
 
-abbrev pub TookAny : Option (List ℕ) → Option (List ℕ) → Type 0
-TookAny old new = (new ≡ old) ⊎ ((cause : Cause) × TookCause cause old new)
+abbrev pub TookAny : Option Cause → Option (List ℕ) → Option (List ℕ) → Type 0
+TookAny None old new = new ≡ old
+TookAny (Some cause) old new = TookCause cause old new

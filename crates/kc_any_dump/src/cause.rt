@@ -1,6 +1,10 @@
 // Why a dump can't be read.
-ghost use Rattle.std.specs.Prelude.{◌≡◌};
-ghost use Rattle.kc_any_dump.specs.Causes.{cause_status};
+ghost use Rattle.std.specs.Prelude.{◌≡◌, ℕ, List, Option, Some, IsSome, IfSome, option_and_then};
+ghost use Rattle.kc_outside.specs.declared.store.Slot.TheVariants.{Dump};
+ghost use Rattle.kc_outside.specs.Files.{content};
+ghost use Rattle.kc_plain_store.specs.Faults.{is_complete};
+ghost use Rattle.kc_plain_store.specs.Seen.{seen_bytes};
+ghost use Rattle.kc_any_dump.specs.Causes.{cause_status, flattened_cause};
 
 use kc_command::Status;
 use kc_flattened::FlatFault;
@@ -23,7 +27,9 @@ pub enum Cause {
 }
 
 // Why the store below failed, where it is a flattened file that did.
-fn flattened_cause(fault: Option<FlattenedFault>) -> Option<Cause> {
+fn flattened_cause(fault: Option<FlattenedFault>) -> Option<Cause>
+    ensures { result ≡ flattened_cause fault }
+{
     match fault? {
         FlattenedFault::Store => None,
         FlattenedFault::Refused(fault) => Some(Cause::Flattened(fault)),
@@ -32,15 +38,44 @@ fn flattened_cause(fault: Option<FlattenedFault>) -> Option<Cause> {
 }
 
 /// A store that tells why a dump can't be read.
-pub trait TellsCause {
-    /// Why the last call failed that did, where the dump's form has to do with it.
-    fn cause(&self) -> Option<Cause>;
+pub trait TellsCause: Store {
+    ghost use Rattle.kc_any_dump.specs.declared.cause.Cause.{Cause};
+    ghost use Rattle.kc_any_dump.specs.Causes.{IsTrueOf};
+
+    /// The bytes of the file in slot Dump as it is, of a flattened one those that it means; or `None` where they aren't told.
+    ghost held: { Self → Option (List ℕ) };
+
+    /// Why the last call failed that did since the dump was opened, where the dump's form has to do with it.
+    ghost told: { Self → Option Cause };
+
+    /// Why the last call failed that did since the dump was opened, where the dump's form has to do with it.
+    fn cause(&self) -> Option<Cause>
+        ensures { result ≡ told self.now };
 
     /// Whether the dump lacks no page at its end.
-    fn is_whole(&self) -> bool;
+    fn is_whole(&self) -> bool
+        ensures { (name : List ℕ) → Self.opened self.now Dump ≡ Some name → IfSome (held self.now) (λ bytes. result ≡ is_complete bytes) };
+
+    /// The cause is what the bytes say.
+    ghost is_true: { (store : Self) → IsTrueOf (told store) (held store) };
+
+    /// What is shown of a dump is the plain core file that stands for its bytes.
+    ghost shown: { (store : Self) → IsSome (Self.opened store Dump)
+        → content (Self.files store) Dump (Self.opened store Dump) ≡ option_and_then seen_bytes (held store) };
 }
 
 impl<S: Store + Drop> TellsCause for PlainView<Flattened<S>> {
+    ghost use Rattle.kc_any_dump.specs.Causes.{dump_cause};
+    ghost use Rattle.kc_any_dump.specs.Laws.{cause_true, held_seen};
+
+    ghost held = { λ v. content (⟦<Flattened<S> as Store>⟧.files v.store) Dump (⟦<Flattened<S> as Store>⟧.opened v.store Dump) };
+
+    ghost told = { λ v. dump_cause v.calls.last v.store.calls.last };
+
+    ghost is_true = { λ v. cause_true v.calls.last v.store.calls.last (content (⟦<Flattened<S> as Store>⟧.files v.store) Dump (⟦<Flattened<S> as Store>⟧.opened v.store Dump)) v.refused v.bad };
+
+    ghost shown = { λ v there. held_seen v.shape (⟦<Flattened<S> as Store>⟧.files v.store) (⟦<Flattened<S> as Store>⟧.opened v.store Dump) there };
+
     fn cause(&self) -> Option<Cause> {
         match self.fault()? {
             ViewFault::Store => flattened_cause(self.store().fault()),

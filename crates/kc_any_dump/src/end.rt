@@ -7,7 +7,7 @@ ghost use Rattle.kc_command.specs.declared.ends.status.Status.TheVariants.{SinkF
 ghost use Rattle.kc_command.specs.Ends.Ends.{TookPrefix};
 ghost use Rattle.kc_command.specs.Ends.Last.{StopsAtFailure};
 ghost use Rattle.kc_command.specs.Ends.Status.{At, is_sink_quiet, number};
-ghost use Rattle.kc_any_dump.specs.Causes.{SaysAny, SaysCause, TookAny, TookCause, is_unread};
+ghost use Rattle.kc_any_dump.specs.Causes.{IsTrueOf, SaysAny, SaysCause, TookAny, TookCause, is_unread};
 
 use crate::cause::{Cause, TellsCause, status_of};
 use crate::line::cause_line;
@@ -54,9 +54,9 @@ pub fn end_by<E: Sink>(alloc: Global, cause: Cause, err: &mut E) -> Status
 
 // The same by a cause, or by none where only a call of the store failed, which was said.
 fn end_by_any<E: Sink>(alloc: Global, cause: Option<Cause>, err: &mut E) -> Status
-    ensures told { OnTrue (is_sink_quiet result) (SaysAny result (E.taken err.old) (E.taken err.new)) }
+    ensures told { OnTrue (is_sink_quiet result) (SaysAny cause result (E.taken err.old) (E.taken err.new)) }
     ensures unread { OnTrue (is_sink_quiet result) (is_unread result ≡ true) }
-    ensures part { TookAny (E.taken err.old) (E.taken err.new) }
+    ensures part { TookAny cause (E.taken err.old) (E.taken err.new) }
     ensures sink_failed { At result SinkFailed (Rose (E.faults err.old) (E.faults err.new)) }
     ensures quiet { OnTrue (is_sink_quiet result) (E.faults err.new ≡ E.faults err.old) }
     ensures last { StopsAtFailure E.taken E.faults E.asked err.old err.new }
@@ -80,9 +80,11 @@ pub fn end_with_cause<D: TellsCause, E: Sink>(
     ensures same { OnFalse (nat_eq (number status) 3) (result ≡ status) }
     ensures untouched { OnFalse (nat_eq (number status) 3) (err.new ≡ err.old) }
 
-    ensures told { At status StoreFailed (OnTrue (is_sink_quiet result) (SaysAny result (E.taken err.old) (E.taken err.new))) }
+    // The line is that of the cause that the store tells, and this is what the bytes say that it holds.
+    ensures told { At status StoreFailed (OnTrue (is_sink_quiet result) (SaysAny (D.told dump.now) result (E.taken err.old) (E.taken err.new))) }
+    ensures is_true { IsTrueOf (D.told dump.now) (D.held dump.now) }
     ensures unread { At status StoreFailed (OnTrue (is_sink_quiet result) (is_unread result ≡ true)) }
-    ensures part { At status StoreFailed (TookAny (E.taken err.old) (E.taken err.new)) }
+    ensures part { At status StoreFailed (TookAny (D.told dump.now) (E.taken err.old) (E.taken err.new)) }
     ensures sink_failed { At status StoreFailed (At result SinkFailed (Rose (E.faults err.old) (E.faults err.new))) }
     ensures quiet { OnTrue (is_sink_quiet result) (E.faults err.new ≡ E.faults err.old) }
     ensures last { StopsAtFailure E.taken E.faults E.asked err.old err.new }

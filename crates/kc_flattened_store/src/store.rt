@@ -53,7 +53,9 @@ impl<S: Store + Drop> Flattened<S> {
     }
 
     /// Why the last call that failed did, if one did.
-    pub fn fault(&self) -> Option<FlattenedFault> {
+    pub fn fault(&self) -> Option<FlattenedFault>
+        ensures { result ≡ self.now.calls.last }
+    {
         self.calls.last
     }
 }

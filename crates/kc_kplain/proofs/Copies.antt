@@ -1,18 +1,22 @@
 -- How `core` ends.
-use Rattle.std.proofs.Common.{◌≡◌, ◌⊎◌, ℕ, Bool, true, false, nat_eq, List, Option, IfSome, Result, Ok, Err, refl, sym, ap, ◌∙◌, subst, inl, inr}
+use Rattle.std.proofs.Common.{◌≡◌, ◌⊎◌, ℕ, Bool, true, false, nat_eq, List, Option, Some, None, IfSome, IsSome, Result, Ok, Err, refl, sym, ap, ◌∙◌, subst, inl, inr}
+use Rattle.std.specs.Prelude.{option_and_then}
 use Rattle.std.specs.Bool.{OnTrue}
+use Rattle.kc_outside.specs.declared.store.Slot.{Slot}
 use Rattle.kc_outside.specs.declared.store.Slot.TheVariants.{Dump}
 use Rattle.kc_outside.specs.Counts.{Rose}
-use Rattle.kc_outside.specs.Files.{Files, named}
+use Rattle.kc_outside.specs.Files.{Files, content, named}
 use Rattle.kc_outside.specs.Texts.{with_piece}
 use Rattle.kc_command.specs.declared.ends.status.Status.{Status}
 use Rattle.kc_command.specs.declared.ends.status.Status.TheVariants.{Done, Broken, Refused, StoreFailed, SinkFailed, OutOfMemory, NoCommand}
 use Rattle.kc_command.specs.Ends.Failures.{memory_refused, store_failed}
 use Rattle.kc_command.specs.Ends.Last.{FailedLast, StopsAtFailure}
 use Rattle.kc_command.specs.Ends.Status.{At, is_sink_quiet, number}
+use Rattle.kc_plain_store.specs.Faults.{is_complete}
+use Rattle.kc_plain_store.specs.Seen.{seen_bytes}
 use Rattle.kc_any_dump.specs.declared.cause.Cause.{Cause}
 use Rattle.kc_any_dump.specs.declared.cause.Cause.TheVariants.{Flattened, Compressed, Page, Memory}
-use Rattle.kc_any_dump.specs.Causes.{SaysCause, cause_status, is_unread}
+use Rattle.kc_any_dump.specs.Causes.{IsTrueOf, SaysCause, cause_status, is_unread}
 use Rattle.kc_any_dump.specs.Lines.{cause_line}
 use Rattle.kc_kplain.specs.declared.copy.CopyStop.{CopyStop}
 use Rattle.kc_kplain.specs.declared.copy.CopyStop.TheVariants.{Store, Sink}
@@ -21,27 +25,27 @@ use Rattle.kc_kplain.specs.Stops.{OnSink, OnStore, UnlessSink}
 
 -- ---- by the line of a cause
 
-caused : (ends : Status) (cause : Cause) (old new : Option (List ℕ)) → (ends ≡ OutOfMemory → ⊥) → SaysCause cause ends old new → CausedBy ends old new
-caused ends cause old new other (inl says) = (cause, says.0, says.1)
-caused ends cause old new other (inr says) = absurd (other says.0)
+caused : (told : Option Cause) (ends : Status) (cause : Cause) (old new : Option (List ℕ)) → told ≡ Some cause → (ends ≡ OutOfMemory → ⊥) → SaysCause cause ends old new → CausedBy told ends old new
+caused told ends cause old new is other (inl says) = (cause, is, says.0, says.1)
+caused told ends cause old new is other (inr says) = absurd (other says.0)
 
-pub by_refused : (cause : Cause) (ends : Status) (old new : Option (List ℕ)) → OnTrue (is_sink_quiet ends) (SaysCause cause ends old new) → At ends Refused (CausedBy ends old new)
-by_refused cause Done old new says = tt
-by_refused cause Broken old new says = tt
-by_refused cause Refused old new says = caused Refused cause old new (λ is. let none : ⊥ = cc in none) says
-by_refused cause StoreFailed old new says = tt
-by_refused cause SinkFailed old new says = tt
-by_refused cause OutOfMemory old new says = tt
-by_refused cause NoCommand old new says = tt
+pub by_refused : (told : Option Cause) (cause : Cause) (ends : Status) (old new : Option (List ℕ)) → told ≡ Some cause → OnTrue (is_sink_quiet ends) (SaysCause cause ends old new) → At ends Refused (CausedBy told ends old new)
+by_refused told cause Done old new is says = tt
+by_refused told cause Broken old new is says = tt
+by_refused told cause Refused old new is says = caused told Refused cause old new is (λ same. let none : ⊥ = cc in none) says
+by_refused told cause StoreFailed old new is says = tt
+by_refused told cause SinkFailed old new is says = tt
+by_refused told cause OutOfMemory old new is says = tt
+by_refused told cause NoCommand old new is says = tt
 
-pub by_store : (cause : Cause) (ends : Status) (old new : Option (List ℕ)) → OnTrue (is_sink_quiet ends) (SaysCause cause ends old new) → At ends StoreFailed (StoreSays old new)
-by_store cause Done old new says = tt
-by_store cause Broken old new says = tt
-by_store cause Refused old new says = tt
-by_store cause StoreFailed old new says = inr (caused StoreFailed cause old new (λ is. let none : ⊥ = cc in none) says)
-by_store cause SinkFailed old new says = tt
-by_store cause OutOfMemory old new says = tt
-by_store cause NoCommand old new says = tt
+pub by_store : (told : Option Cause) (cause : Cause) (ends : Status) (old new : Option (List ℕ)) → told ≡ Some cause → OnTrue (is_sink_quiet ends) (SaysCause cause ends old new) → At ends StoreFailed (StoreSays told old new)
+by_store told cause Done old new is says = tt
+by_store told cause Broken old new is says = tt
+by_store told cause Refused old new is says = tt
+by_store told cause StoreFailed old new is says = inr (caused told StoreFailed cause old new is (λ same. let none : ⊥ = cc in none) says)
+by_store told cause SinkFailed old new is says = tt
+by_store told cause OutOfMemory old new is says = tt
+by_store told cause NoCommand old new is says = tt
 
 memory_line : (cause : Cause) (old new : Option (List ℕ)) → OutOfMemory ≡ cause_status cause → new ≡ with_piece old (cause_line cause) → new ≡ with_piece old memory_refused
 memory_line (Flattened fault) old new is took = absurd (let none : ⊥ = cc in none)
@@ -268,14 +272,31 @@ at_sink P Q SinkFailed q = inr q
 at_sink P Q OutOfMemory q = tt
 at_sink P Q NoCommand q = tt
 
+pub always : (P : Type 0) (b : Bool) → P → OnTrue b P
+always P true p = p
+always P false p = tt
+
+-- whether the dump lacks pages, by its bytes
+pub told_whole : (opened held : Option (List ℕ)) (is : Bool) → IsSome opened → ((name : List ℕ) → opened ≡ Some name → IfSome held (λ bytes. is ≡ is_complete bytes)) → IfSome held (λ bytes. is_complete bytes ≡ is)
+told_whole None held is there whole = absurd (let none : ⊥ = cc in none)
+told_whole (Some name) None is there whole = tt
+told_whole (Some name) (Some bytes) is there whole = sym (whole name refl)
+
+-- what is shown stays with the files and the name
+pub shown_same : (one two : Option Files) (first then : Slot → Option (List ℕ)) (seen : Option (List ℕ)) → two ≡ one → then ≡ first → content two Dump (then Dump) ≡ seen → content one Dump (first Dump) ≡ seen
+shown_same one two first then seen files opened shown = ap (λ (f : Option Files). content f Dump (first Dump)) (sym files) ∙ ap (λ (o : Slot → Option (List ℕ)). content two Dump (o Dump)) (sym opened) ∙ shown
+
 -- where the dump was opened
-pub opened_ends : (files : Option Files) (name : List ℕ) (ends : Status) (out_old out_new err_old err_new : Option (List ℕ)) → is_copy ends ≡ true
-    → At ends Done (IfSome (named files Dump name) (λ bytes. out_new ≡ with_piece out_old bytes)) → At ends Done (DoneSays err_old err_new) → At ends StoreFailed (StoreSays err_old err_new)
-    → CoreEnds files name ends out_old out_new err_old err_new
-opened_ends files name ends out_old out_new err_old err_new is whole said store = record {
+pub opened_ends : (files : Option Files) (name : List ℕ) (held : Option (List ℕ)) (told : Option Cause) (ends : Status) (out_old out_new err_old err_new : Option (List ℕ)) → is_copy ends ≡ true
+    → At ends Done (IfSome (named files Dump name) (λ bytes. out_new ≡ with_piece out_old bytes)) → named files Dump name ≡ option_and_then seen_bytes held
+    → At ends Done (DoneSays held err_old err_new) → IsTrueOf told held → At ends StoreFailed (StoreSays told err_old err_new)
+    → CoreEnds files name held told ends out_old out_new err_old err_new
+opened_ends files name held told ends out_old out_new err_old err_new is whole shown said is_true store = record {
   status = copy_core ends is;
   whole = whole;
+  shown = always _ (nat_eq (number ends) 0) shown;
   said = said;
+  is_true = is_true;
   refused = copy_refused _ ends is;
   store = store;
   memory = copy_memory _ ends is;
@@ -300,18 +321,16 @@ unread_done P SinkFailed is = tt
 unread_done P OutOfMemory is = tt
 unread_done P NoCommand is = tt
 
-pub always : (P : Type 0) (b : Bool) → P → OnTrue b P
-always P true p = p
-always P false p = tt
-
 -- where it wasn't
-pub unopened_ends : (files : Option Files) (name : List ℕ) (ends : Status) (out err_old err_new : Option (List ℕ)) → OnTrue (is_sink_quiet ends) (is_unread ends ≡ true)
-    → At ends Refused (CausedBy ends err_old err_new) → At ends StoreFailed (StoreSays err_old err_new) → At ends OutOfMemory (err_new ≡ with_piece err_old memory_refused)
-    → CoreEnds files name ends out out err_old err_new
-unopened_ends files name ends out err_old err_new is refused store memory = record {
+pub unopened_ends : (files : Option Files) (name : List ℕ) (held : Option (List ℕ)) (told : Option Cause) (ends : Status) (out err_old err_new : Option (List ℕ)) → OnTrue (is_sink_quiet ends) (is_unread ends ≡ true) → IsTrueOf told held
+    → At ends Refused (CausedBy told ends err_old err_new) → At ends StoreFailed (StoreSays told err_old err_new) → At ends OutOfMemory (err_new ≡ with_piece err_old memory_refused)
+    → CoreEnds files name held told ends out out err_old err_new
+unopened_ends files name held told ends out err_old err_new is is_true refused store memory = record {
   status = unread_core ends is;
   whole = unread_done _ ends is;
+  shown = unread_done _ ends is;
   said = unread_done _ ends is;
+  is_true = is_true;
   refused = refused;
   store = store;
   memory = memory;

@@ -1,5 +1,5 @@
 -- How the program ends by how kaudit did.
-use Rattle.std.proofs.Common.{◌≡◌, ◌⊎◌, ℕ, ◌<◌, ◌-◌, ◌^◌, Bool, true, false, ◌||◌, nat_eq, List, Option, IfSome, refl, sym, ap, ◌∙◌, subst, inl, inr, arith}
+use Rattle.std.proofs.Common.{◌≡◌, ◌⊎◌, ℕ, ◌<◌, ◌-◌, ◌^◌, Bool, true, false, ◌||◌, nat_eq, List, Option, Some, None, IfSome, refl, sym, ap, ◌∙◌, subst, inl, inr, arith}
 use Rattle.std.specs.Prelude.{IsTrue}
 use Rattle.std.specs.Bool.{OnTrue, OnFalse}
 use Rattle.kc_outside.specs.declared.store.Slot.{Slot}
@@ -14,7 +14,7 @@ use Rattle.kc_command.specs.Ends.Last.{FailedLast, StopsAtFailure}
 use Rattle.kc_command.specs.Ends.Status.{At, is_answer, is_silent, is_sink_quiet, is_store_quiet, number}
 use Rattle.kc_command.specs.Ends.Unopened.{AskedStay}
 use Rattle.kc_any_dump.specs.declared.cause.Cause.{Cause}
-use Rattle.kc_any_dump.specs.Causes.{SaysAny, SaysCause, is_unread}
+use Rattle.kc_any_dump.specs.Causes.{IsTrueOf, SaysAny, SaysCause, is_unread}
 use Rattle.kc_app.specs.CertHeadline.{CertifyEnds, RecheckEnds}
 use Rattle.kc_app.specs.Headline.{CheckEnds, CheckPrints}
 use Rattle.kc_app.specs.ModuleHeadline.{ModuleCheckEnds, ModuleCheckPrints}
@@ -59,10 +59,15 @@ on_left : (P R : Type 0) (b : Bool) → OnTrue b P → OnTrue b (P ⊎ R)
 on_left P R true p = inl p
 on_left P R false p = tt
 
+never : (P : Type 0) (b : Bool) → b ≡ false → OnTrue b P
+never P true is = absurd (let none : ⊥ = cc in none)
+never P false is = tt
+
 -- where kaudit's end stays, it is the program's
-own_end : (words : List (List ℕ)) (files : Option Files) (opened_old opened_new : Slot → Option (List ℕ)) (ends : Status) (out_old out_new err_old err_new : Option (List ℕ))
-    → OwnEnds words files opened_old opened_new ends out_old out_new err_old err_new → AuditEnds words files opened_old opened_new ends out_old out_new err_old err_new
-own_end words files opened_old opened_new ends out_old out_new err_old err_new own = record {
+own_end : (words : List (List ℕ)) (files : Option Files) (held : Option (List ℕ)) (told : Option Cause) (opened_old opened_new : Slot → Option (List ℕ)) (ends : Status) (out_old out_new err_old err_new : Option (List ℕ))
+    → nat_eq (number ends) 3 ≡ false → IsTrueOf told held
+    → OwnEnds words files opened_old opened_new ends out_old out_new err_old err_new → AuditEnds words files held told opened_old opened_new ends out_old out_new err_old err_new
+own_end words files held told opened_old opened_new ends out_old out_new err_old err_new other is_true own = record {
   told = settled _ ends own.told;
   stands = settled _ ends own.stands;
   stands_with_module = settled _ ends own.stands_with_module;
@@ -72,8 +77,9 @@ own_end words files opened_old opened_new ends out_old out_new err_old err_new o
   certified = settled _ ends own.certified;
   rechecked = settled _ ends own.rechecked;
   refused = own_refused _ _ _ ends own.told own.unopened;
-  store = on_left _ _ (nat_eq (number ends) 3) own.store_text;
+  store = never _ (nat_eq (number ends) 3) other;
   memory = on_left _ _ (nat_eq (number ends) 5) own.memory_text;
+  is_true = is_true;
   silent = own.silent;
 }
 
@@ -88,10 +94,10 @@ unsettled P OutOfMemory unread = tt
 unsettled P NoCommand unread = absurd (let none : ⊥ = cc in none)
 
 -- what standard error took where the store failed in kaudit
-after : (ends : Status) (old mid new : Option (List ℕ)) → mid ≡ with_piece old store_failed → SaysAny ends mid new
-    → ((ends ≡ StoreFailed) × (new ≡ with_piece old store_failed)) ⊎ SaysAfter ends old new
-after ends old mid new text (inl says) = inl (says.0, says.1 ∙ text)
-after ends old mid new text (inr says) = inr (says.0, subst (λ (e : Option (List ℕ)). SaysCause says.0 ends e new) text says.1)
+after : (told : Option Cause) (ends : Status) (old mid new : Option (List ℕ)) → mid ≡ with_piece old store_failed → SaysAny told ends mid new
+    → ((ends ≡ StoreFailed) × ((told ≡ None) × (new ≡ with_piece old store_failed))) ⊎ SaysAfter told ends old new
+after None ends old mid new text says = inl (says.0, (refl, says.1 ∙ text))
+after (Some cause) ends old mid new text says = inr (cause, refl, subst (λ (e : Option (List ℕ)). SaysCause cause ends e new) text says)
 
 only_after : (ends : Status) {P Q : Type 0} → (ends ≡ StoreFailed → ⊥) → ((ends ≡ StoreFailed) × P) ⊎ Q → Q
 only_after ends other (inl is) = absurd (other is.0)
@@ -134,12 +140,12 @@ always true p = p
 always false p = tt
 
 -- where the store failed in kaudit, the program ends by a cause or by none
-caused_end : (words : List (List ℕ)) (files : Option Files) (opened_old opened_new : Slot → Option (List ℕ)) (ends : Status) (out_old out_new err_old err_mid err_new : Option (List ℕ))
-    → err_mid ≡ with_piece err_old store_failed → out_new ≡ out_old
-    → OnTrue (is_sink_quiet ends) (SaysAny ends err_mid err_new) → OnTrue (is_sink_quiet ends) (is_unread ends ≡ true)
-    → AuditEnds words files opened_old opened_new ends out_old out_new err_old err_new
-caused_end words files opened_old opened_new ends out_old out_new err_old err_mid err_new text silent says unread =
-    let said = under (is_sink_quiet ends) (after ends err_old err_mid err_new text) says in
+caused_end : (words : List (List ℕ)) (files : Option Files) (held : Option (List ℕ)) (told : Option Cause) (opened_old opened_new : Slot → Option (List ℕ)) (ends : Status) (out_old out_new err_old err_mid err_new : Option (List ℕ))
+    → err_mid ≡ with_piece err_old store_failed → out_new ≡ out_old → IsTrueOf told held
+    → OnTrue (is_sink_quiet ends) (SaysAny told ends err_mid err_new) → OnTrue (is_sink_quiet ends) (is_unread ends ≡ true)
+    → AuditEnds words files held told opened_old opened_new ends out_old out_new err_old err_new
+caused_end words files held told opened_old opened_new ends out_old out_new err_old err_mid err_new text silent is_true says unread =
+    let said = under (is_sink_quiet ends) (after told ends err_old err_mid err_new text) says in
     record {
       told = unsettled _ ends unread;
       stands = unsettled _ ends unread;
@@ -152,29 +158,30 @@ caused_end words files opened_old opened_new ends out_old out_new err_old err_mi
       refused = at_refused _ _ _ ends said;
       store = at_store _ _ ends said;
       memory = at_memory _ _ _ ends said;
+      is_true = is_true;
       silent = always (is_silent ends) silent;
     }
 
 -- by both
-pub audit_ends : (words : List (List ℕ)) (files : Option Files) (opened_old opened_new : Slot → Option (List ℕ)) (own ends : Status) (out_old out_new err_old err_mid err_new : Option (List ℕ))
+pub audit_ends : (words : List (List ℕ)) (files : Option Files) (held : Option (List ℕ)) (told : Option Cause) (opened_old opened_new : Slot → Option (List ℕ)) (own ends : Status) (out_old out_new err_old err_mid err_new : Option (List ℕ))
     → OwnEnds words files opened_old opened_new own out_old out_new err_old err_mid
     → OnFalse (nat_eq (number own) 3) (ends ≡ own) → OnFalse (nat_eq (number own) 3) (err_new ≡ err_mid)
-    → At own StoreFailed (OnTrue (is_sink_quiet ends) (SaysAny ends err_mid err_new)) → At own StoreFailed (OnTrue (is_sink_quiet ends) (is_unread ends ≡ true))
-    → AuditEnds words files opened_old opened_new ends out_old out_new err_old err_new
-audit_ends words files opened_old opened_new StoreFailed ends out_old out_new err_old err_mid err_new k same err says unread =
-    caused_end words files opened_old opened_new ends out_old out_new err_old err_mid err_new k.store_text k.silent says unread
-audit_ends words files opened_old opened_new Done ends out_old out_new err_old err_mid err_new k same err says unread =
-    rw (same, err) (own_end words files opened_old opened_new Done out_old out_new err_old err_mid k)
-audit_ends words files opened_old opened_new Broken ends out_old out_new err_old err_mid err_new k same err says unread =
-    rw (same, err) (own_end words files opened_old opened_new Broken out_old out_new err_old err_mid k)
-audit_ends words files opened_old opened_new Refused ends out_old out_new err_old err_mid err_new k same err says unread =
-    rw (same, err) (own_end words files opened_old opened_new Refused out_old out_new err_old err_mid k)
-audit_ends words files opened_old opened_new SinkFailed ends out_old out_new err_old err_mid err_new k same err says unread =
-    rw (same, err) (own_end words files opened_old opened_new SinkFailed out_old out_new err_old err_mid k)
-audit_ends words files opened_old opened_new OutOfMemory ends out_old out_new err_old err_mid err_new k same err says unread =
-    rw (same, err) (own_end words files opened_old opened_new OutOfMemory out_old out_new err_old err_mid k)
-audit_ends words files opened_old opened_new NoCommand ends out_old out_new err_old err_mid err_new k same err says unread =
-    rw (same, err) (own_end words files opened_old opened_new NoCommand out_old out_new err_old err_mid k)
+    → IsTrueOf told held → At own StoreFailed (OnTrue (is_sink_quiet ends) (SaysAny told ends err_mid err_new)) → At own StoreFailed (OnTrue (is_sink_quiet ends) (is_unread ends ≡ true))
+    → AuditEnds words files held told opened_old opened_new ends out_old out_new err_old err_new
+audit_ends words files held told opened_old opened_new StoreFailed ends out_old out_new err_old err_mid err_new k same err is_true says unread =
+    caused_end words files held told opened_old opened_new ends out_old out_new err_old err_mid err_new k.store_text k.silent is_true says unread
+audit_ends words files held told opened_old opened_new Done ends out_old out_new err_old err_mid err_new k same err is_true says unread =
+    rw (same, err) (own_end words files held told opened_old opened_new Done out_old out_new err_old err_mid refl is_true k)
+audit_ends words files held told opened_old opened_new Broken ends out_old out_new err_old err_mid err_new k same err is_true says unread =
+    rw (same, err) (own_end words files held told opened_old opened_new Broken out_old out_new err_old err_mid refl is_true k)
+audit_ends words files held told opened_old opened_new Refused ends out_old out_new err_old err_mid err_new k same err is_true says unread =
+    rw (same, err) (own_end words files held told opened_old opened_new Refused out_old out_new err_old err_mid refl is_true k)
+audit_ends words files held told opened_old opened_new SinkFailed ends out_old out_new err_old err_mid err_new k same err is_true says unread =
+    rw (same, err) (own_end words files held told opened_old opened_new SinkFailed out_old out_new err_old err_mid refl is_true k)
+audit_ends words files held told opened_old opened_new OutOfMemory ends out_old out_new err_old err_mid err_new k same err is_true says unread =
+    rw (same, err) (own_end words files held told opened_old opened_new OutOfMemory out_old out_new err_old err_mid refl is_true k)
+audit_ends words files held told opened_old opened_new NoCommand ends out_old out_new err_old err_mid err_new k same err is_true says unread =
+    rw (same, err) (own_end words files held told opened_old opened_new NoCommand out_old out_new err_old err_mid refl is_true k)
 
 -- ---- counts and calls
 

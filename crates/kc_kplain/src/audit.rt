@@ -22,7 +22,7 @@ use std::alloc::Global;
 
 /// Runs kaudit on its words, over dumps of up to 2^22 runs of pages. Where it ends since the store failed, and the dump's form has to do with that, the line of the cause
 /// follows its own.
-pub fn audit<D: Store + TellsCause, O: Sink, E: Sink>(
+pub fn audit<D: TellsCause, O: Sink, E: Sink>(
     alloc: Global,
     words: &[String],
     dump: &mut D,
@@ -31,7 +31,7 @@ pub fn audit<D: Store + TellsCause, O: Sink, E: Sink>(
 ) -> Status
     requires { (slot : Slot) → ForSome (word_in (program view_headers (map string_bytes words.now)) slot) (D.may dump.old slot) }
 
-    ensures ends { AuditEnds (map string_bytes words.now) (D.files dump.old) (D.opened dump.old) (D.opened dump.new) result
+    ensures ends { AuditEnds (map string_bytes words.now) (D.files dump.old) (D.held dump.new) (D.told dump.new) (D.opened dump.old) (D.opened dump.new) result
         (O.taken out.old) (O.taken out.new) (E.taken err.old) (E.taken err.new) }
 
     // Where nothing failed, there is an answer or want of memory.

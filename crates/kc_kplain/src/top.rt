@@ -29,7 +29,7 @@ const USAGE: &[u8] =
     b"usage: kplain core DUMP\nusage: kplain word DUMP TABLE ADDRESS\nusage: kplain show DUMP BTF MAP SYMBOL TYPE PATH\nusage: kplain check DUMP BTF MAP PLAN\nusage: kplain check DUMP BTF MAP PLAN MODULE\nusage: kplain certify DUMP BTF MAP PLAN\nusage: kplain recheck DUMP BTF MAP PLAN CERT\n";
 
 /// The program. It answers the status that it ends with. The store shows dumps of any form, and says why one can't be read.
-pub fn kplain<D: Store + TellsCause, O: Sink, E: Sink>(
+pub fn kplain<D: TellsCause, O: Sink, E: Sink>(
     alloc: Global,
     words: &[String],
     dump: &mut D,
@@ -42,10 +42,10 @@ pub fn kplain<D: Store + TellsCause, O: Sink, E: Sink>(
 
     // `core` writes the file that is shown for the dump; kaudit's commands end as kaudit does over the files that are shown.
     ensures core { (name : List ℕ) → form_of (map string_bytes words.now) ≡ Core name
-        → CoreEnds (D.files dump.old) name result (O.taken out.old) (O.taken out.new) (E.taken err.old) (E.taken err.new) }
+        → CoreEnds (D.files dump.old) name (D.held dump.new) (D.told dump.new) result (O.taken out.old) (O.taken out.new) (E.taken err.old) (E.taken err.new) }
     ensures audit { form_of (map string_bytes words.now) ≡ Audit
-        → AuditEnds (map string_bytes words.now) (D.files dump.old) (D.opened dump.old) (D.opened dump.new) result
-        (O.taken out.old) (O.taken out.new) (E.taken err.old) (E.taken err.new) }
+        → AuditEnds (map string_bytes words.now) (D.files dump.old) (D.held dump.new) (D.told dump.new) (D.opened dump.old)
+        (D.opened dump.new) result (O.taken out.old) (O.taken out.new) (E.taken err.old) (E.taken err.new) }
 
     // Other words are told the usage, and no call is made of the store.
     ensures usage { form_of (map string_bytes words.now) ≡ Usage

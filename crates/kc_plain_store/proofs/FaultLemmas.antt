@@ -1,5 +1,5 @@
 -- Why a page can't be had.
-use Rattle.std.proofs.Common.{◌≡◌, ℕ, ◌+◌, ◌<◌, Bool, true, false, nat_lt, cond, List, length, Option, Some, None, IfSome, IsSome, Result, Ok, Err, refl, sym, ap, ◌∙◌, subst, arith}
+use Rattle.std.proofs.Common.{◌≡◌, ℕ, ◌+◌, ◌<◌, ◌≤◌, Bool, true, false, nat_lt, cond, List, length, Option, Some, None, IfSome, IsSome, Result, Ok, Err, refl, sym, ap, ◌∙◌, subst, arith}
 use Rattle.std.proofs.lemmas.Bool.{cond-true, lt-ltb}
 use Rattle.std.specs.Result.{result_err}
 use Rattle.kc_outside.specs.Files.{HasLength}
@@ -105,3 +105,16 @@ pub said_whole : (shape : Option PlainShape) (told : Option (List ℕ)) (result 
     → ((t : PlainShape) (bytes : List ℕ) → shape ≡ Some t → told ≡ Some bytes → container_of bytes ≡ shape_container t) → IfSome told (λ bytes. result ≡ is_complete bytes)
 said_whole shape None result s shown is law = tt
 said_whole shape (Some bytes) result s shown is law = is ∙ sym (ap is_complete_in (law s bytes shown refl))
+
+-- what was put down to the store below
+pub still_failed : (old new : Option ViewFault) (before after : ℕ) → new ≡ old → before ≤ after → (old ≡ Some Store → 0 < before) → new ≡ Some Store → 0 < after
+still_failed old new before after same more law is = omega (arith, law (sym same ∙ is), more)
+
+-- a failed read wants no memory
+pub none_wanted : (A : Type 0) (shape : Option PlainShape) (fault : ViewFault) (P : PlainShape → BadPage → Type 0) → IsSome shape → ((s : PlainShape) → shape ≡ Some s → IfBad {A = A} (Err fault) (P s))
+    → Some fault ≡ Some NoMemory → ⊥
+none_wanted A None fault P there is kept = let none : ⊥ = cc in none
+none_wanted A (Some s) Store P there is kept = let none : ⊥ = cc in none
+none_wanted A (Some s) (Refused g) P there is kept = is s refl
+none_wanted A (Some s) (Page bad) P there is kept = let none : ⊥ = cc in none
+none_wanted A (Some s) NoMemory P there is kept = is s refl

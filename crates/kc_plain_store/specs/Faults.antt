@@ -29,9 +29,9 @@ container_in (Err fault) = None
 unfoldable pub container_of : List ℕ → Option Container
 container_of bytes = if is_kdump bytes then container_in (dump_of bytes) else None
 
--- why a compressed dump is refused
-abbrev pub refusal : List ℕ → Option KdumpFault
-refusal bytes = result_err (dump_of bytes)
+-- why a compressed dump is refused; another file never is
+unfoldable pub refusal : List ℕ → Option KdumpFault
+refusal bytes = if is_kdump bytes then result_err (dump_of bytes) else None
 
 -- why a page can't be had, by its number among those in the dump
 abbrev pub fault_in : List ℕ → ℕ → Option Container → Option PageFault

@@ -1,5 +1,6 @@
 // Opening a dump.
 ghost use Rattle.std.specs.Prelude.{◌≡◌, ℕ, ◌+◌, ◌<◌, ◌^◌, List, Ok, Some, IsSome, IfSome, IfOk, IfErr, OnOk};
+ghost use Rattle.std.specs.Result.{result_err};
 ghost use Rattle.kc_outside.specs.declared.store.Slot.{Slot};
 ghost use Rattle.kc_outside.specs.declared.store.Slot.TheVariants.{Dump};
 ghost use Rattle.kc_outside.specs.Files.{content, named, OthersStay};
@@ -45,7 +46,7 @@ fn core_of<S: Store>(alloc: Global, store: &mut S, size: u64) -> Result<PlainCor
     requires learnt { S.sizes store.old Dump ≡ Some size }
     ensures told { IfOk result (λ core. IfSome (content (S.files store.old) Dump (S.opened store.old Dump)) (λ bytes. plain bytes ≡ Ok (core_bytes core bytes))) }
     ensures container { IfOk result (λ core. IfSome (content (S.files store.old) Dump (S.opened store.old Dump)) (λ bytes. container_in (dump_of bytes) ≡ Some (core_container core))) }
-    ensures refused { IfRefused result (λ fault. IfSome (content (S.files store.old) Dump (S.opened store.old Dump)) (λ bytes. refusal bytes ≡ Some fault)) }
+    ensures refused { IfRefused result (λ fault. IfSome (content (S.files store.old) Dump (S.opened store.old Dump)) (λ bytes. result_err (dump_of bytes) ≡ Some fault)) }
     ensures size { IfOk result (λ core. core.file_size ≡ size) }
     ensures stays { StoreStays S.opened S.sizes S.files S.may S.asked store.old store.new }
     ensures counts { CountsOpening result (S.faults store.old) (S.faults store.new) }
@@ -70,7 +71,7 @@ fn core_of<S: Store>(alloc: Global, store: &mut S, size: u64) -> Result<PlainCor
 }
 
 // What is shown of the file.
-#[tactic(auto, unfolding(crate::specs::Faults::container_of, crate::specs::Seen::seen_bytes))]
+#[tactic(auto, unfolding(crate::specs::Faults::container_of, crate::specs::Faults::refusal, crate::specs::Seen::seen_bytes))]
 fn shape_of<S: Store>(alloc: Global, store: &mut S, size: u64) -> Result<PlainShape, ViewFault>
     requires learnt { S.sizes store.old Dump ≡ Some size }
     ensures told { IfOk result (λ shape. IfSome (content (S.files store.old) Dump (S.opened store.old Dump)) (λ bytes. seen_bytes bytes ≡ Some (shape_bytes shape bytes))) }

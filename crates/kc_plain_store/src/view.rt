@@ -1,5 +1,5 @@
 // A store that shows a compressed dump as the plain core file that stands for it.
-ghost use Rattle.std.specs.Prelude.{◌≡◌, ◌<◌, ◌^◌, ℕ, List, Some, IsSome, IfSome, All};
+ghost use Rattle.std.specs.Prelude.{◌≡◌, ◌<◌, ◌^◌, ℕ, List, Some, None, IsSome, IfSome, All};
 ghost use Rattle.std.proofs.Props.{props};
 ghost use Rattle.kc_outside.specs.declared.store.Slot.TheVariants.{Dump};
 ghost use Rattle.kc_outside.specs.Files.{content};
@@ -44,6 +44,9 @@ pub struct PlainView<S: Store + Drop> {
     ghost container: { (s : PlainShape) (bytes : List ℕ) → shape ≡ Some s → content (S.files store) Dump (S.opened store Dump) ≡ Some bytes → container_of bytes ≡ shape_container s } by { Prim.hlevel props },
     ghost refused: { (fault : KdumpFault) (bytes : List ℕ) → calls.last ≡ Some (as_fault.Refused fault) → content (S.files store) Dump (S.opened store Dump) ≡ Some bytes → refusal bytes ≡ Some fault } by { Prim.hlevel props },
     ghost bad: { (bad : BadPage) (bytes : List ℕ) → calls.last ≡ Some (as_fault.Page bad) → content (S.files store) Dump (S.opened store Dump) ≡ Some bytes → page_fault bytes bad.number ≡ Some bad.fault } by { Prim.hlevel props },
+    // Nothing is put down to the store that didn't fail, or to want of memory where a file is shown.
+    ghost failed: { calls.last ≡ Some as_fault.Store → 0 < S.faults store } by { Prim.hlevel props },
+    ghost wanted: { (s : PlainShape) → calls.last ≡ Some as_fault.NoMemory → shape ≡ Some s → ⊥ } by { Prim.hlevel props },
     ghost held: { (s : PlainShape) → shape ≡ Some s → IsSome (S.opened store Dump) } by { Prim.hlevel props },
 }
 
@@ -101,6 +104,9 @@ impl<S: Store + Drop> PlainView<S> {
             → IfSome (content (S.files self.now.store) Dump (S.opened self.now.store Dump)) (λ bytes. refusal bytes ≡ Some fault) }
         ensures page { (bad : BadPage) → result ≡ Some (as_fault.Page bad)
             → IfSome (content (S.files self.now.store) Dump (S.opened self.now.store Dump)) (λ bytes. page_fault bytes bad.number ≡ Some bad.fault) }
+        // The store below is named only where a call of it failed, and want of memory only where the dump wasn't opened.
+        ensures store { result ≡ Some as_fault.Store → 0 < S.faults self.now.store }
+        ensures memory { result ≡ Some as_fault.NoMemory → ⟦<PlainView<S> as Store>⟧.opened self.now Dump ≡ None }
     {
         self.calls.last
     }

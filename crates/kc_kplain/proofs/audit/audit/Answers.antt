@@ -9,7 +9,8 @@ returns-clause-ends g c =
     let k = c.kaudit_within-status.ensures in
     let end = c.end_with_cause.ensures in
     let own = c.kaudit_within-status.result in
-    audit_ends (map string_bytes c.args.words.now) (g.D.Store.files c.args.dump.now) (g.D.Store.opened c.args.dump.now) (g.D.Store.opened c.kaudit_within-status.new.store) own c.end_with_cause.result
+    let dump = c.kaudit_within-status.new.store in
+    audit_ends (map string_bytes c.args.words.now) (g.D.Store.files c.args.dump.now) (g.D.TellsCause.held dump) (g.D.TellsCause.told dump) (g.D.Store.opened c.args.dump.now) (g.D.Store.opened c.kaudit_within-status.new.store) own c.end_with_cause.result
     (g.O.Sink.taken c.args.out.now) (g.O.Sink.taken c.kaudit_within-status.new.out) (g.E.Sink.taken c.args.err.now) (g.E.Sink.taken c.kaudit_within-status.new.err) (g.E.Sink.taken c.end_with_cause.new.err)
     (record {
       told = k.told;
@@ -25,7 +26,7 @@ returns-clause-ends g c =
       memory_text = k.memory_text;
       silent = k.silent_text;
     })
-    end.same (under_false (nat_eq (number own) 3) (λ same. ap g.E.Sink.taken same) end.untouched) end.told end.unread
+    end.same (under_false (nat_eq (number own) 3) (λ same. ap g.E.Sink.taken same) end.untouched) end.is_true end.told end.unread
 
 pub returns-clause-complete : goal.returns-clause-complete
 returns-clause-complete g c =

@@ -10,7 +10,7 @@ returns-in-Ok-clause-failed g c = line_failed c.end_with_line.result c.end_with_
 pub returns-in-Ok-clause-store : goal.returns-in-Ok-clause-store
 returns-in-Ok-clause-store g c =
     at_store _ _ c.end_with_line.result
-    (λ took. inr (Page c.args.bad, refl, took ∙ ap (λ (t : List ℕ). with_piece (g.E.Sink.taken c.args.err.now) t) (c.deref.ensures.value ∙ c.in-Ok.ensures)))
+    (λ took. inr (Page c.args.bad, refl, refl, took ∙ ap (λ (t : List ℕ). with_piece (g.E.Sink.taken c.args.err.now) t) (c.deref.ensures.value ∙ c.in-Ok.ensures)))
     c.end_with_line.ensures.whole
 
 pub returns-in-Err-clause-failed : goal.returns-in-Err-clause-failed

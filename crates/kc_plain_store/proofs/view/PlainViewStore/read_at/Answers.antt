@@ -3,7 +3,7 @@ use Rattle.kc_outside.specs.declared.store.Slot.TheVariants.{Dump}
 use Rattle.kc_outside.specs.Files.{content}
 use Rattle.kc_plain_store.specs.Seen.{is_dump}
 use Rattle.kc_plain_store.specs.declared.calls.Calls.{Calls}
-use Rattle.kc_plain_store.proofs.FaultLemmas.{bad_kept, none_kept, shape_there}
+use Rattle.kc_plain_store.proofs.FaultLemmas.{bad_kept, none_kept, none_wanted, shape_there}
 use Rattle.kc_plain_store.proofs.ViewLemmas.{read_part}
 use Rattle.kc_plain_store.proofs.view.PlainViewStore.read_at.Goals as goal
 
@@ -65,3 +65,8 @@ invariant_of-self-in-Err-clause-bad g c =
     let same : content (g.S.Store.files c.read_shown.new.store) Dump (g.S.Store.opened c.read_shown.new.store Dump) ≡ told = rw (c.read_shown.ensures.stays.same_files, c.read_shown.ensures.stays.same_opened) refl in
     let there : IsSome c.args.self.now.shape = shape_there c.args.self.now.is_learnt c.args.self.now.shape (g.S.Store.sizes c.args.self.now.store c.args.slot) (is_dump c.args.slot) (sym c.is_dump.ensures ∙ c.if-is_dump.true) c.requires.learnt in
     λ bad bytes kept here. bad_kept (Unit {0}) c.args.self.now.shape c.in-Err.fault told there c.in-Err.ensures.bad c.args.self.now.container bad bytes (sym (ap (λ (k : Calls). k.last) c.fail.ensures.next) ∙ kept) (sym same ∙ here)
+
+pub invariant_of-self-in-Err-clause-wanted : goal.invariant_of-self-in-Err-clause-wanted
+invariant_of-self-in-Err-clause-wanted g c =
+    let there : IsSome c.args.self.now.shape = shape_there c.args.self.now.is_learnt c.args.self.now.shape (g.S.Store.sizes c.args.self.now.store c.args.slot) (is_dump c.args.slot) (sym c.is_dump.ensures ∙ c.if-is_dump.true) c.requires.learnt in
+    λ s kept shown. none_wanted (Unit {0}) c.args.self.now.shape c.in-Err.fault _ there c.in-Err.ensures.bad (sym (ap (λ (k : Calls). k.last) c.fail.ensures.next) ∙ kept)

@@ -3,6 +3,7 @@ use Rattle.kc_outside.specs.declared.store.Slot.TheVariants.{Dump}
 use Rattle.kc_outside.specs.Files.{IsOther, content}
 use Rattle.kc_plain_store.specs.Kept.{IsKept}
 use Rattle.kc_plain_store.specs.declared.calls.Calls.{Calls}
+use Rattle.kc_plain_store.proofs.FaultLemmas.{still_failed}
 use Rattle.kc_plain_store.proofs.ViewLemmas.{not_dump, size_long}
 use Rattle.kc_plain_store.proofs.view.PlainViewStore.size.Goals as goal
 
@@ -35,5 +36,7 @@ invariant_of-self-in-Ok-1 g c =
       container = λ s bytes shown here. view.container s bytes shown (sym same ∙ here);
       refused = λ f bytes kept here. view.refused f bytes (sym last ∙ kept) (sym same ∙ here);
       bad = λ b bytes kept here. view.bad b bytes (sym last ∙ kept) (sym same ∙ here);
+      failed = still_failed view.calls.last _ _ _ last c.size-answer.ensures.later view.failed;
+      wanted = λ s kept shown. view.wanted s (sym last ∙ kept) shown;
       held = λ s shown. rw c.size-answer.ensures.opened (view.held s shown);
     }
