@@ -94,7 +94,7 @@ SaysAfter told ends old new = (cause : Cause) × (told ≡ Some cause) × SaysCa
 
 -- An answer is kaudit's over the files that are shown, and so is a refusal; but for the refusal of the dump's form, whose line follows the
 -- one that the store failed. The cause of such a line is what the bytes say that the store holds.
-pub record AuditEnds (words : List (List ℕ)) (files : Option Files) (held : Option (List ℕ)) (told : Option Cause) (opened_old opened_new : Slot → Option (List ℕ)) (ends : Status) (out_old out_new err_old err_new : Option (List ℕ)) : Type 0 where
+pub record AuditEnds (words : List (List ℕ)) (files : Option Files) (held : Option (List ℕ)) (blamed : Option Cause) (opened_old opened_new : Slot → Option (List ℕ)) (ends : Status) (out_old out_new err_old err_new : Option (List ℕ)) : Type 0 where
   pub told : OnTrue (is_settled ends) (IsToldBy view_headers words files ends out_old out_new err_old err_new)
   pub stands : OnTrue (is_settled ends) (IfSome files (λ f. CheckEnds view_headers words f ends))
   pub stands_with_module : OnTrue (is_settled ends) (IfSome files (λ f. ModuleCheckEnds view_headers words f ends))
@@ -103,8 +103,8 @@ pub record AuditEnds (words : List (List ℕ)) (files : Option Files) (held : Op
   pub shown : OnTrue (is_settled ends) (IfSome files (λ f. TookTrue (out_of view_headers words f) out_old out_new))
   pub certified : OnTrue (is_settled ends) (IfSome files (λ f. CertifyEnds view_headers words f ends out_old out_new))
   pub rechecked : OnTrue (is_settled ends) (IfSome files (λ f. RecheckEnds view_headers words f ends out_old out_new err_old err_new))
-  pub refused : At ends Refused ((IsToldBy view_headers words files ends out_old out_new err_old err_new × AskedStay (program view_headers words) files opened_old opened_new) ⊎ SaysAfter told ends err_old err_new)
-  pub store : At ends StoreFailed (((told ≡ None) × (err_new ≡ with_piece err_old store_failed)) ⊎ SaysAfter told ends err_old err_new)
-  pub memory : At ends OutOfMemory ((err_new ≡ with_piece err_old memory_refused) ⊎ SaysAfter told ends err_old err_new)
-  pub is_true : IsTrueOf told held
+  pub refused : At ends Refused ((IsToldBy view_headers words files ends out_old out_new err_old err_new × AskedStay (program view_headers words) files opened_old opened_new) ⊎ SaysAfter blamed ends err_old err_new)
+  pub store : At ends StoreFailed (((blamed ≡ None) × (err_new ≡ with_piece err_old store_failed)) ⊎ SaysAfter blamed ends err_old err_new)
+  pub memory : At ends OutOfMemory ((err_new ≡ with_piece err_old memory_refused) ⊎ SaysAfter blamed ends err_old err_new)
+  pub is_true : IsTrueOf blamed held
   pub silent : OnTrue (is_silent ends) (out_new ≡ out_old)
