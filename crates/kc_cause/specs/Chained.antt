@@ -6,7 +6,6 @@ use Rattle.kc_found.specs.declared.verdict.Verdict.TheVariants.{Clean, Broken}
 use Rattle.kc_plan.specs.Planned.{AuditAt}
 use Rattle.kc_plan.specs.Roots.{Root, root_verdict}
 use Rattle.kc_repair.specs.declared.suspect.suspect.Suspect.{Suspect}
-use Rattle.kc_repair.specs.declared.outcome.Next.{Next}
 use Rattle.kc_repair.specs.declared.outcome.Repair.{Repair}
 use Rattle.kc_repair.specs.declared.outcome.Repair.TheVariants.{Stands, Nothing}
 use Rattle.kc_repair.specs.Repairs.{repair_left, with_words}

@@ -1,5 +1,5 @@
 -- In which list of tasks or of a slab cache a violation lies, and what of it has the pointer.
-use Rattle.std.specs.Prelude.{ℕ, List, [], ◌++◌, codes, decimal, Option, Some, None, option_map, option_and_then}
+use Rattle.std.specs.Prelude.{ℕ, List, [], ◌++◌, codes, decimal, Option, Some, option_map, option_and_then}
 use Rattle.std.specs.Option.{option_map_or}
 use Rattle.kc_btf.specs.Btf.{Types}
 use Rattle.kc_layout.specs.Find.{find}
