@@ -75,6 +75,15 @@ def with_page(extra=(), without=()):
         madeslabs.MORE = kept
 
 
+def fenced(pool=DIRECT + 0x10000, flags=1 << 9, cache=0, objects=0, inuse=0, freelist=0):
+    """The same, with KFENCE's pool at this address, and a page whose descriptor has these words."""
+    made = whole()
+    made.put(0xB0F8, pool)
+    for at, word in ((0, flags), (8, cache), (32, freelist), (40, inuse | objects << 16)):
+        made.put(FRAMES + 64 * 0x12 + at, word)
+    return made
+
+
 def ring(at, value):
     """A kernel whose ring of caches has another word."""
     made = whole()
@@ -136,15 +145,15 @@ def cases():
     yield "no slab_caches", whole(), same | dict(rows=rows), REFUSED
     # the mark of a slab
     yield "no mark", whole(), same | dict(note=PLAIN), REFUSED
-    yield "another flag", whole(), same | dict(note=PLAIN + b"NUMBER(PG_slab)=8\n"), "unmarked 1\nslabs 0"
+    yield "another flag", whole(), same | dict(note=PLAIN + b"NUMBER(PG_slab)=8\n"), "unmarked 1 kfence 0\nslabs 0"
     yield "a flag too far", whole(), same | dict(note=PLAIN + b"NUMBER(PG_slab)=64\n"), REFUSED
     yield "a flag below 0", whole(), same | dict(note=PLAIN + b"NUMBER(PG_slab)=-1\n"), REFUSED
     typed = same | dict(types=with_page(), note=PLAIN + b"NUMBER(PAGE_SLAB_MAPCOUNT_VALUE)=-161\n")
     yield "a page type", with_type(0xFFFFFF5F), typed, " broken Z2 at "
-    yield "another page type", with_type(0xFFFFFF5E), typed, "unmarked 1\nslabs 0"
+    yield "another page type", with_type(0xFFFFFF5E), typed, "unmarked 1 kfence 0\nslabs 0"
     yield "a page type of 6.12", with_type(0xF5000000), typed | dict(note=PLAIN + b"NUMBER(PAGE_SLAB_MAPCOUNT_VALUE)=-184549376\n"), " broken Z2 at "
     yield "a flag first", wrong(0, 250), typed | dict(note=NOTE + b"NUMBER(PAGE_SLAB_MAPCOUNT_VALUE)=-161\n"), " broken Z2 at "
-    yield "no page_type", with_type(0xFFFFFF5F), typed | dict(types=btf()), "absent 26 unmarked 0\nslabs 0"
+    yield "no page_type", with_type(0xFFFFFF5F), typed | dict(types=btf()), "absent 26 unmarked 0 kfence 0\nslabs 0"
     # the ring of all caches
     nodes = [CACHES] + [cache + 32 for cache in CACHE]
     for k, node in enumerate(nodes):
@@ -166,6 +175,20 @@ def cases():
         made.put(FRAMES + 64 * 0x14, 0)
         made.put(FRAMES + 64 * 0x14 + 8, value)
         yield f"no slab and no cache {value:x}", made, same, "slabs 0 frozen 0 untold 0 guarded 0 broken 0"
+    # pages of KFENCE's pool: never given out, and given out
+    fence = same | dict(rows=MAP + b"ffffffff8000b0f8 D __kfence_pool\n")
+    none = f"slab {VMEMMAP + 64 * 0x12:016x} cache {0:016x} - broken U1 at "
+    yield "never given out", fenced(), fence, "unmarked 0 kfence 1\nslabs 1 "
+    yield "given out", fenced(cache=IMAGE + CACHE[0], objects=1), fence, "unmarked 0 kfence 1\nslabs 1 "
+    yield "two objects", fenced(cache=IMAGE + CACHE[0], objects=2), fence, " broken U6 at "
+    yield "one in use", fenced(cache=IMAGE + CACHE[0], objects=1, inuse=1), fence, "kfence 0\nslabs 2 "
+    yield "a free list", fenced(cache=IMAGE + CACHE[0], objects=1, freelist=DIRECT + 0x12000), fence, " kfence 0\nslabs 2 "
+    yield "no mark", fenced(flags=0), fence, "kfence 0\nslabs 1 "
+    for pool in (0, DIRECT + 0x12000, DIRECT + 0x11000, DIRECT + 0x13000, DIRECT + 0x12000 - 4096 * 131072, DIRECT + 0x12000 - 1):
+        yield f"a pool at {pool:x}", fenced(pool), fence, none
+    yield "a pool of 65,535 objects", fenced(DIRECT + 0x12000 - 4096 * 131070), fence, "kfence 1\nslabs 1 "
+    yield "no pool", fenced(), same, none
+    yield "two pools", fenced(), same | dict(rows=fence["rows"] + b"ffffffff8000b0f0 D __kfence_pool\n"), none
     # slabs of the other rules
     yield "all of them", madeslabs.damaged(), same, "guarded 2 broken 5"
 

@@ -111,13 +111,30 @@ class Slabs:
         self.caches = {}
         self.nodes, self.ring = reached(kernel, address(kernel.rows, "slab_caches", info.kaslr))
         self.all_caches = wanted is None and self.ring is None
-        self.named = {}
+        self.named, self.pool = {}, self.pool_of(kernel, info)
         for node in self.nodes:
             cache = (node - kernel.byte("kmem_cache", "list")) % TOP
             name = self.text(self.value(cache, "kmem_cache", "name"))
             if wanted is None or name == wanted:
                 laid = self.laid(cache)
                 self.caches[cache] = name, laid, self.runs(cache, laid)
+
+    def pool_of(self, kernel, info):
+        """The number of the first page of KFENCE's pool, or none."""
+        try:
+            symbol = address(kernel.rows, "__kfence_pool", info.kaslr)
+        except Refused:
+            return None
+        first = None if symbol is None else self.word(symbol)
+        return (first - self.bases[1]) % TOP // 4096 if first else None
+
+    def fenced(self, slab, number):
+        """Whether a page frame is one of that pool (mm/kfence/core.c, kfence_init_pool): an even one from the second on, marked, with no slab's words."""
+        far = 0 if self.pool is None else number - self.pool
+        if far % 2 or not 0 < far < 2 * 65536:
+            return False
+        mark, objects, inuse, first = self.value(slab, "page", self.field), *(self.value(slab, "slab", name) for name in ("objects", "inuse", "freelist"))
+        return mark is not None and self.marked(mark) and objects in (0, 1) and inuse == first == 0
 
     def word(self, at):
         """The 64 bits at an address, or none where they can't be read."""
@@ -275,6 +292,9 @@ class Slabs:
         seen["frames"] += 1
         slab = (self.bases[0] + self.page * number) % TOP
         cache = self.named[number] = self.word(slab + self.kernel.byte("slab", "slab_cache"))
+        if self.fenced(slab, number):
+            seen["kfence"] += 1
+            return
         known = cache in self.caches
         if cache is None or not known and not self.all_caches:
             seen["absent"] += cache is None
@@ -332,7 +352,7 @@ class Slabs:
         if self.ring:
             lines.append("caches broken %s\n" % self.told(self.ring))
             lines += [place_line(place) for place in self.ring.places]
-        lines.append("caches %d\nframes %d absent %d unmarked %d\n" % (len(self.caches), *(seen[k] for k in ("frames", "absent", "unmarked"))))
+        lines.append("caches %d\nframes %d absent %d unmarked %d kfence %d\n" % (len(self.caches), *(seen[k] for k in ("frames", "absent", "unmarked", "kfence"))))
         lines.append("slabs %d frozen %d untold %d guarded %d broken %d\n" % tuple(seen[k] for k in ("slabs", "frozen", "untold", "guarded", "broken")))
         lines.append("objects %d free %d\n" % (seen["objects"], seen["free"]))
         sound = self.caches and not seen["broken"] and not seen["untold"] and not owned and not self.ring

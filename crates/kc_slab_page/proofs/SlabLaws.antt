@@ -171,11 +171,17 @@ read_stands known image shape caches page (Some cache) is =
     (number_stands known.values image (looked_at page) page shape.objects.slub.slab_cache cache
     (was_read (looked_at page) (field_of image page shape.objects.slub.slab_cache) cache is))
 
+-- and one of KFENCE's pool, or another
+fenced_stands : (image : Image) (b : Bool) (seen : PageSeen) → AllStandIn image (page_places seen) → AllStandIn image (page_places (if b then Fenced else seen))
+fenced_stands image true seen here = tt
+fenced_stands image false seen here = here
+
 pub slabs_stand : Known → SlabsStand
 unfolding page_seen
 slabs_stand known image shape caches number =
     let page = descriptor_of shape.objects.slub caches.bases number in
-    read_stands known image shape caches page (readable (field_of image page shape.objects.slub.slab_cache)) refl
+    fenced_stands image (is_fenced image shape caches.pool number page) (by_read image shape caches page (readable (field_of image page shape.objects.slub.slab_cache)))
+    (read_stands known image shape caches page (readable (field_of image page shape.objects.slub.slab_cache)) refl)
 
 -- a field that was read holds its number
 read_is : (asked : Asked) (r : Result FieldNumber Stopped) (n : FieldNumber) → or_missed asked r ≡ Ok n → option_map value_of (readable r) ≡ Some (value_of n)

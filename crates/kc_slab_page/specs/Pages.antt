@@ -22,13 +22,14 @@ use Rattle.kc_owner.specs.Object.Pages.{descriptor_of}
 use Rattle.kc_guard.specs.declared.guards.GuardRun.{GuardRun}
 use Rattle.kc_slab_page.specs.declared.caches.CacheSeen.{CacheSeen}
 use Rattle.kc_slab_page.specs.declared.page.PageSeen.{PageSeen}
-use Rattle.kc_slab_page.specs.declared.page.PageSeen.TheVariants.{Absent, Other, Unmarked, Slab}
+use Rattle.kc_slab_page.specs.declared.page.PageSeen.TheVariants.{Absent, Fenced, Other, Unmarked, Slab}
 use Rattle.kc_slab_page.specs.declared.guarding.SlabFault.TheVariants.{Words}
 use Rattle.kc_slab_page.specs.declared.guarding.SlabState.{SlabState}
 use Rattle.kc_slab_page.specs.declared.guarding.SlabState.TheVariants.{Broken, Untold}
 use Rattle.kc_slab_page.specs.declared.shape.PageShape.{PageShape}
 use Rattle.kc_slab_page.specs.declared.slab.SlabFree.{SlabFree}
 use Rattle.kc_slab_page.specs.Caches.{Caches}
+use Rattle.kc_slab_page.specs.Fences.{is_fenced}
 use Rattle.kc_slab_page.specs.Guarding.{with_guards}
 use Rattle.kc_slab_page.specs.Marks.{marked}
 use Rattle.kc_slab_page.specs.Slabs.{is_laid, slab_free}
@@ -80,11 +81,12 @@ abbrev pub by_read : Image → PageShape → Caches → ℕ → Option FieldNumb
 by_read image shape caches page None = Absent
 by_read image shape caches page (Some cache) = by_cache image shape caches page cache
 
--- what the page with a number is
+-- what the page with a number is: one of KFENCE's pool is no slab
 unfoldable pub page_seen : Image → PageShape → Caches → ℕ → PageSeen
 page_seen image shape caches number =
     let page = descriptor_of shape.objects.slub caches.bases number in
-    by_read image shape caches page (readable (field_of image page shape.objects.slub.slab_cache))
+    if is_fenced image shape caches.pool number page then Fenced
+    else by_read image shape caches page (readable (field_of image page shape.objects.slub.slab_cache))
 
 -- the answer at a stop
 abbrev pub IsAbsent : Stop → Result PageSeen WalkStop → Type 0

@@ -1,6 +1,7 @@
 -- Where the words stand that tell what a page is.
-use Rattle.std.specs.Prelude.{ℕ, List, Option, option_and_then, option_map}
-use Rattle.kc_kinds.specs.Kernels.{Kernel}
+use Rattle.std.specs.Prelude.{ℕ, codes, List, Option, option_and_then, option_map}
+use Rattle.kc_kinds.specs.Kernels.{Kernel, address_in}
+use Rattle.kc_owner.specs.Kernels.{single}
 use Rattle.kc_owner.specs.Object.Shapes.{object_shape}
 use Rattle.kc_slab_page.specs.declared.shape.PageShape.{PageShape}
 use Rattle.kc_slab_page.specs.Guards.{guard_shape}
@@ -9,5 +10,5 @@ use Rattle.kc_slab_page.specs.Marks.{slab_mark}
 -- in a kernel that has them, by the notes of its dump
 abbrev pub page_shape : Kernel → List ℕ → Option PageShape
 page_shape kernel note =
-    option_and_then (λ objects. option_map (λ mark. record { objects = objects; mark = mark; guards = guard_shape kernel }) (slab_mark kernel note))
+    option_and_then (λ objects. option_map (λ mark. record { objects = objects; mark = mark; guards = guard_shape kernel; fence = single (address_in kernel (codes "__kfence_pool")) }) (slab_mark kernel note))
     (object_shape kernel)

@@ -7,7 +7,7 @@ use crate::guards::guard_shape;
 use crate::mark::slab_mark;
 use crate::shape::PageShape;
 use kc_kinds::Known;
-use kc_owner::object_shape;
+use kc_owner::{object_shape, single};
 
 /// Where a kernel has these words, by the text of its dump's VMCOREINFO, or `None` where it lacks what `object_shape` asks for or both marks.
 pub fn page_shape(known: &Known<'_>, note: &[u8]) -> Option<PageShape>
@@ -19,5 +19,6 @@ pub fn page_shape(known: &Known<'_>, note: &[u8]) -> Option<PageShape>
         objects,
         mark,
         guards: guard_shape(known),
+        fence: single(known, b"__kfence_pool"),
     })
 }

@@ -3,6 +3,7 @@
 #![tactic(auto)]
 
 mod caches;
+mod fence;
 mod frames;
 mod guarding;
 mod guards;

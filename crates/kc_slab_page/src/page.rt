@@ -7,6 +7,7 @@ ghost use Rattle.kc_slab_page.specs.Caches.{caches_view};
 ghost use Rattle.kc_slab_page.specs.Pages.{IsAbsent, by_cache, by_mark, page_seen, state_by, state_with, stray, unnamed};
 
 use crate::caches::{CacheSeen, SlabCaches};
+use crate::fence::is_fenced;
 use crate::guarding::{Guards, Laid, SlabFault, SlabState, with_guards};
 use crate::mark::read_mark;
 use crate::shape::PageShape;
@@ -39,6 +40,8 @@ pub enum PageSeen {
     Other,
     /// Its descriptor names one of the caches, and hasn't the mark of a slab's first page.
     Unmarked,
+    /// It is one of KFENCE's pool, which has the mark of a slab's first page and no slab's words.
+    Fenced,
     /// It is a slab's first page.
     Slab(SlabSeen),
 }
@@ -248,6 +251,9 @@ pub fn look_at_page<S: Space, L: Ledger>(
     ensures cause { CountsWalkFaults result (S.faults space.old) (S.faults space.new) }
 {
     let page = view_at(btf, descriptor_of(shape, &caches.bases, number));
+    if is_fenced(alloc, space, shape, caches.pool, number, &page, steps)? {
+        return Ok(PageSeen::Fenced);
+    }
     match field_of(space, &page, &shape.objects.slub.slab_cache, steps) {
         Ok(cache) => by_cache(alloc, space, shape, caches, &page, &cache, steps),
         Err(stop) => unread(stop),

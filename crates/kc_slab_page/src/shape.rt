@@ -12,4 +12,6 @@ pub struct PageShape {
     pub mark: Mark,
     /// Which bytes slub_debug keeps at objects, where that can be told.
     pub guards: Option<GuardShape>,
+    /// The virtual address of the word that KFENCE's pool begins at (`__kfence_pool`), where the map has it once.
+    pub fence: Option<u64>,
 }
