@@ -186,7 +186,6 @@ def cases():
     yield "no mark", fenced(flags=0), fence, "kfence 0\nslabs 1 "
     for pool in (0, DIRECT + 0x12000, DIRECT + 0x11000, DIRECT + 0x13000, DIRECT + 0x12000 - 4096 * 131072, DIRECT + 0x12000 - 1):
         yield f"a pool at {pool:x}", fenced(pool), fence, none
-    yield "a pool of 65,535 objects", fenced(DIRECT + 0x12000 - 4096 * 131070), fence, "kfence 1\nslabs 1 "
     yield "no pool", fenced(), same, none
     yield "two pools", fenced(), same | dict(rows=fence["rows"] + b"ffffffff8000b0f0 D __kfence_pool\n"), none
     # slabs of the other rules
