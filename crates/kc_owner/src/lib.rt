@@ -23,7 +23,7 @@ pub use object::{
     Cache, CacheKey, Described, FreeKeys, FreeSpot, Held, ObjectShape, ObjectSpot, Page, Slab,
     SlabCounts, Spot, find_described, find_object, free_keys, know_objects, object_shape,
 };
-pub use ring::{RingNodes, read_ring};
+pub use ring::{RingNodes, read_ring, read_word};
 pub use ring_laws::know_rings;
 pub use text::read_text;
 pub use views::{looked_at, view_at};

@@ -49,8 +49,12 @@ fn unread(stop: Stop) -> Result<Option<u64>, WalkStop>
     }
 }
 
-// The word at an address, where it can be read.
-fn read_word<S: Space, L: Ledger>(
+/// The word at a virtual address, where it can be read.
+///
+/// # Errors
+///
+/// A failure of the space, whose count of faults then rose.
+pub fn read_word<S: Space, L: Ledger>(
     space: &mut S,
     at: u64,
     steps: &mut Steps<L>,
