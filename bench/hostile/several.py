@@ -19,6 +19,7 @@ import tempfile
 import files
 import timer
 from hostile.oldwords import PASSED, Trials, reader_of
+from plans.reader import Broken
 from second.suspects import Causes
 
 LINE = re.compile(r"^(repair|fits|word) \w{16} \w{16} (\w{16}) (\w{16}) (\w{16})$", re.M)
@@ -122,13 +123,14 @@ class Ways:
         """A node that is listed is added once more, after another one of its ring."""
         offset, va = self.rng.choice(self.nodes[plan])
         before = self.word(offset + 8)
-        for _ in range(self.rng.randrange(1, 4)):
-            before = self.word(self.offset(before) + 8)
-        after = self.word(self.offset(before))
-        if va in (before, after):
+        try:
+            for _ in range(self.rng.randrange(1, 4)):
+                before = self.word(self.offset(before) + 8)
+            after = self.word(self.offset(before))
+            words = {self.offset(after) + 8: va, offset: after, offset + 8: before, self.offset(before): va}
+        except Broken:
             return None
-        words = {self.offset(after) + 8: va, offset: after, offset + 8: before, self.offset(before): va}
-        return {at: word.to_bytes(8, "little") for at, word in words.items()}
+        return {at: word.to_bytes(8, "little") for at, word in words.items()} if va not in (before, after) else None
 
     def page_text(self, plan):
         return {self.any_word(plan)[0] // 4096 * 4096: (TEXT * 64)[:4096]}

@@ -32,6 +32,7 @@ use Rattle.kc_cause.specs.Explained.{Explained, causes_text, cause_lines, explai
 use Rattle.kc_cause.specs.Lines.{after_lines, bytes_line, next_lines, only_fits, repair_label, repair_lines, suspect_part, word_line}
 use Rattle.kc_cause.specs.Printed.{IsChained, IsExplanation, IsPart, IsPartBy, IsPartOf, IsRepaired, IsThen, IsUnrepaired, IsWhole, columns, explained_roots}
 use Rattle.kc_cause.specs.Chained.{chain_of}
+use Rattle.kc_cause.specs.Signs.{sign_lines, sign_of}
 use Rattle.kc_cause.specs.Suspected.{Suspected, suspected}
 use Rattle.kc_cause.proofs.ChainLemmas.{Together, chained}
 
@@ -102,7 +103,7 @@ after_said e root (Some all) next chained holds =
     let both = chained all refl in
     inl (record {
       words = all;
-      line = ap (λ (l : List ℕ). codes "chain " ++ decimal (length all) ++ codes "\n" ++ l) (word-lines all);
+      line = ap (λ (l : List ℕ). codes "chain " ++ decimal (length all) ++ codes "\n" ++ l ++ sign_lines (sign_of all)) (word-lines all);
       there = both.there;
       in_file = both.in_file;
       stands = both.stands;

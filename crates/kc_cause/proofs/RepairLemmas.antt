@@ -21,7 +21,7 @@ use Rattle.kc_cause.specs.declared.judged.PlanOf.{PlanOf}
 use Rattle.kc_kinds.specs.declared.kind.Kind.{Kind}
 use Rattle.kc_cause.specs.declared.suspected.AsRing.{AsRing}
 use Rattle.kc_cause.specs.Suspected.{Suspected, suspected, suspected_view}
-use Rattle.kc_cause.specs.Explained.{listed_lines, place_told, repairs_as, repairs_found, repairs_of, says_at, shown_lines, slabs_found, slabs_lines, told_at}
+use Rattle.kc_cause.specs.Explained.{listed_lines, place_told, repairs_as, repairs_found, repairs_of, says_at, slabs_found, slabs_lines, told_at, with_slabs}
 use Rattle.kc_cause.specs.Judged.{over_plan}
 use Rattle.kc_cause.specs.Rings.{ring_lines}
 use Rattle.kc_cause.proofs.ItemLemmas.{texts_item}
@@ -77,7 +77,7 @@ listed_added image after r o v a ps old mid new placed is same one two =
 -- and what kslab finds in the slabs of its cache
 pub shown_added : {A E : Type 0} (image after : Option Image) (r : Result A E) (o : PlanOf) (v : Violation) (a : AuditAt) (old mid new : List ℕ)
     → slice_get (plan_seen o.plan.now) v.audit ≡ Some a → after ≡ image → IfSome image (λ m. mid ≡ old ++ listed_lines (over_plan o m) v)
-    → OnOk r (IfSome after (λ m. new ≡ mid ++ slabs_lines (over_plan o m) v a.kind)) → OnOk r (IfSome image (λ m. new ≡ old ++ shown_lines (over_plan o m) v))
+    → OnOk r (IfSome after (λ m. new ≡ mid ++ slabs_lines (over_plan o m) v a.kind)) → OnOk r (IfSome image (λ m. new ≡ old ++ with_slabs (over_plan o m) v))
 shown_added image after r o v a old mid new is same one two =
     then_lines image after r old mid new (λ m. listed_lines (over_plan o m) v) (λ m. slabs_found (over_plan o m) v) same one (rw is two)
 

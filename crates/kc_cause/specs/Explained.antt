@@ -44,6 +44,7 @@ use Rattle.kc_slabs.specs.OfCache.{cache_line, of_cache, slab_shapes}
 use Rattle.kc_question.specs.Memory.{bytes_of, image_of}
 use Rattle.kc_audit.specs.Audits.{names_of, plan_over}
 use Rattle.kc_cause.specs.Rings.{ring_lines}
+use Rattle.kc_cause.specs.Signs.{shown_signs}
 use Rattle.kc_cause.specs.Suspected.{Suspected, suspected}
 use Rattle.kc_cause.specs.Lines.{bytes_line, named_lines, number_lines, repair_lines}
 
@@ -102,9 +103,12 @@ slabs_lines e v _ = []
 abbrev pub slabs_found : Explained → Violation → List ℕ
 slabs_found e v = option_map_or (λ (a : AuditAt). slabs_lines e v a.kind) (slice_get e.audits v.audit) []
 
--- and all that
+abbrev pub with_slabs : Explained → Violation → List ℕ
+with_slabs e v = listed_lines e v ++ slabs_found e v
+
+-- and all that, with what the words beside it show
 abbrev pub shown_lines : Explained → Violation → List ℕ
-shown_lines e v = listed_lines e v ++ slabs_found e v
+shown_lines e v = with_slabs e v ++ shown_signs e.image v
 
 -- a violation up to its words, and the number that it expects, by the audit that found it
 abbrev pub found_named : Types → List AuditAt → Violation → List ℕ

@@ -7,4 +7,5 @@ pub mod Lines
 pub mod Printed
 pub mod Rings
 pub mod Sentences
+pub mod Signs
 pub mod Suspected

@@ -23,6 +23,7 @@ use Rattle.kc_repair.specs.declared.outcome.Next.{Next}
 use Rattle.kc_repair.specs.declared.outcome.Repair.{Repair}
 use Rattle.kc_repair.specs.declared.outcome.Repair.TheVariants.{Stands, Nothing}
 use Rattle.kc_cause.specs.Sentences.{sentence}
+use Rattle.kc_cause.specs.Signs.{sign_lines, sign_of}
 
 abbrev pub bytes_line : List ℕ → List ℕ → List ℕ
 bytes_line label bytes = label ++ bytes ++ codes "\n"
@@ -120,12 +121,12 @@ abbrev pub repair_label : Bool → List ℕ
 repair_label true = codes "fits "
 repair_label false = codes "repair "
 
--- words that repair together: how many, and each of them in the order in which they are changed
+-- words that repair together: how many, each of them in the order in which they are changed, and what they show
 abbrev pub word_line : Suspect → List ℕ
 word_line s = codes "word " ++ suspect_part s ++ codes "\n"
 
 abbrev pub chain_lines : List Suspect → List ℕ
-chain_lines words = codes "chain " ++ decimal (length words) ++ codes "\n" ++ texts word_line words
+chain_lines words = codes "chain " ++ decimal (length words) ++ codes "\n" ++ texts word_line words ++ sign_lines (sign_of words)
 
 -- after that no word repairs: those that do together, or what the first leads to that leads elsewhere
 abbrev pub after_lines : Option (List Suspect) → Option Next → List ℕ

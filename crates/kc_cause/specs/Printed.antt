@@ -15,6 +15,7 @@ use Rattle.kc_repair.specs.Laws.{IsLeft, StandsInFile}
 use Rattle.kc_repair.specs.Suspect.Laws.{IsSuspect}
 use Rattle.kc_report.specs.Lines.{rule_code}
 use Rattle.kc_cause.specs.Explained.{Explained, is_broken}
+use Rattle.kc_cause.specs.Signs.{sign_lines, sign_of}
 
 -- the columns of a word: its virtual and its physical address, its file offset, the number that stands there, and another
 abbrev pub columns : Suspect → List ℕ
@@ -46,7 +47,7 @@ StandInTurn image before (s ∷ later) = IsLeft image before s × StandInTurn im
 -- dump as it is, and with all their other numbers the root audit stands.
 pub record IsChained (e : Explained) (root : Root) (text : List ℕ) : Type 0 where
   pub words : List Suspect
-  pub line : text ≡ codes "chain " ++ decimal (length words) ++ codes "\n" ++ concat (map (λ s. codes "word " ++ columns s ++ codes "\n") words)
+  pub line : text ≡ codes "chain " ++ decimal (length words) ++ codes "\n" ++ concat (map (λ s. codes "word " ++ columns s ++ codes "\n") words) ++ sign_lines (sign_of words)
   pub there : StandInTurn e.image [] words
   pub in_file : AllByRecursion (StandsInFile e.image) words
   pub stands : RootStands (with_words e.image words) e.audits root

@@ -12,6 +12,7 @@ mod planned;
 mod repairs;
 mod rings;
 mod sentences;
+mod signs;
 mod slabs;
 mod suspected;
 

@@ -5,12 +5,13 @@ ghost use Rattle.kc_text.specs.Compose.{texts};
 ghost use Rattle.kc_plan.specs.Inside.{AreInside};
 ghost use Rattle.kc_repair.specs.Suspect.Answers.{OnlyReads, OnlyReadsFrames};
 ghost use Rattle.kc_sight.specs.Sights.{page_start};
-ghost use Rattle.kc_cause.specs.Explained.{listed_lines, place_told, shown_lines};
+ghost use Rattle.kc_cause.specs.Explained.{listed_lines, place_told, shown_lines, with_slabs};
 ghost use Rattle.kc_cause.specs.Judged.{FitsTogether, TasksAreInside, over_plan};
 ghost use Rattle.kc_found.specs.Failures.{CountsFailures};
 
 use crate::judged::PlanOf;
 use crate::rings::push_ring;
+use crate::signs::push_signs;
 use crate::slabs::push_slabs;
 use kc_found::{Found, Places, ReadFailed, Space};
 use kc_memory::{Frames, Place};
@@ -89,6 +90,25 @@ fn push_listed<M: Space, L: Ledger>(
 }
 
 // The same, and what kslab finds in the slabs of the cache in which it lies.
+fn push_with_slabs<M: Space, L: Ledger>(
+    text: &mut Vec<u8>,
+    over: &PlanOf<'_>,
+    memory: &mut M,
+    found: &Found,
+    steps: &mut Steps<L>,
+) -> Result<(), ReadFailed>
+    requires tasks { TasksAreInside over.now }
+    requires types { AreInside (length over.now.types.now.records) over.now.plan.now.audits }
+    requires found { found.now.audit < length over.now.plan.now.audits }
+    ensures added { OnOk result (IfSome (M.image memory.old) (λ image. text.new.items ≡ text.old.items ++ with_slabs (over_plan over.now image) found.now)) }
+    ensures reads { OnlyReads M.image M.files M.through M.most M.faults result memory.old memory.new }
+{
+    push_listed(text, over, memory, found, steps)?;
+    let audit = over.plan.audit(found.audit);
+    push_slabs(text, over, memory, &audit.kind, found, steps)
+}
+
+// All that, and what the words beside it show.
 fn push_shown<M: Space, L: Ledger>(
     text: &mut Vec<u8>,
     over: &PlanOf<'_>,
@@ -102,9 +122,8 @@ fn push_shown<M: Space, L: Ledger>(
     ensures added { OnOk result (IfSome (M.image memory.old) (λ image. text.new.items ≡ text.old.items ++ shown_lines (over_plan over.now image) found.now)) }
     ensures reads { OnlyReads M.image M.files M.through M.most M.faults result memory.old memory.new }
 {
-    push_listed(text, over, memory, found, steps)?;
-    let audit = over.plan.audit(found.audit);
-    push_slabs(text, over, memory, &audit.kind, found, steps)
+    push_with_slabs(text, over, memory, found, steps)?;
+    push_signs(text, memory, found, steps)
 }
 
 // The question which lines show a violation.

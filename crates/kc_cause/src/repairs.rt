@@ -16,6 +16,7 @@ ghost use Rattle.kc_found.specs.Failures.{CountsFailures};
 
 use crate::chain::chain;
 use crate::judged::PlanOf;
+use crate::signs::{push_sign, sign_of};
 use crate::suspected::as_ring_over;
 use kc_found::{Asked, Found, ReadFailed, Rule};
 use kc_kinds::Kind;
@@ -118,14 +119,15 @@ fn push_words(text: &mut Vec<u8>, words: &Suspects) -> Result<(), NoMemory>
     Ok(())
 }
 
-// How many they are, and each of them.
+// How many they are, each of them, and what they show.
 fn push_chain(text: &mut Vec<u8>, words: &Suspects) -> Result<(), NoMemory>
     ensures { OnOk result (text.new.items ≡ text.old.items ++ chain_lines words.now) }
 {
     push(text, b"chain ")?;
     push_decimal(text, words.len() as u64)?;
     push(text, b"\n")?;
-    push_words(text, words)
+    push_words(text, words)?;
+    push_sign(text, sign_of(words.as_slice()))
 }
 
 // The lines after what none of those tried repairs: those that repair together, or what one of them leads to.

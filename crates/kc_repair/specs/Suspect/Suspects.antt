@@ -76,6 +76,19 @@ relinked image _ v link = shown v.places
 abbrev pub led_by : Image → Kind → Violation → Option ℕ → List Change
 led_by image kind v link = option_map_or (relinked image kind v) link (laid_changes kind v)
 
+-- A node that was added to its ring once more, and still stands where it did: two links lead to it. The second may lead to the node whose `prev` still leads to
+-- it, which is met first backwards. Source: the kernel's include/linux/list.h, `__list_add`, which writes the node's own pointers and those of its new neighbours.
+abbrev pub joined_changes : Image → Kind → Violation → ℕ → List Change
+joined_changes image (Ring s) v link = option_to_list (option_map (to link) (node_behind image s v.start (node_of v.at s.next)))
+joined_changes image _ v link = []
+
+-- the link that led to a word for the second time
+abbrev pub met_by : Image → Kind → Violation → ℕ → List Change
+met_by image kind v link = joined_changes image kind v link ++ relinked image kind v link
+
+abbrev pub met_changes : Image → Kind → Violation → List Change
+met_changes image kind v = option_map_or (met_by image kind v) (second_link image kind v) (laid_changes kind v)
+
 -- the word at the violation's address becomes what is expected there
 abbrev pub word_changes : Violation → List Change
 word_changes v = option_to_list (option_map (to v.at) v.expected)
@@ -138,7 +151,7 @@ red_changes image kind v = word_changes v ++ colours image kind v
 -- what may have happened
 abbrev pub by_way : Image → Kind → Violation → Way → List Change
 by_way image kind v Led = led_by image kind v (first_address v.places)
-by_way image kind v Met = led_by image kind v (second_link image kind v)
+by_way image kind v Met = met_changes image kind v
 by_way image kind v Word = word_changes v ++ head_backs image kind v
 by_way image kind v Byte = byte_changes image v
 by_way image kind v Bytes = byte_changes image v ++ whole_words image kind v ++ head_backs image kind v

@@ -5,7 +5,7 @@ ghost use Rattle.std.specs.Option.{option_map_or};
 ghost use Rattle.kc_kinds.specs.declared.kind.Kind.TheVariants.{Ring};
 ghost use Rattle.kc_repair.specs.Suspect.Answers.{OnlyReads};
 ghost use Rattle.kc_repair.specs.Suspect.Changes.{each, each_pointer, to};
-ghost use Rattle.kc_repair.specs.Suspect.Suspects.{alone, alone_from, before_changes, by_way, byte_changes, changes, check_changes, entry_by, entry_changes, first_address, laid_changes, led_by, listed_changes, node_changes, number_changes, passed_changes, place_bits, pointed_changes, red_changes, relinked, second_link, shown, word_changes, zeroed};
+ghost use Rattle.kc_repair.specs.Suspect.Suspects.{alone, alone_from, before_changes, by_way, byte_changes, changes, check_changes, entry_by, entry_changes, first_address, joined_changes, laid_changes, led_by, listed_changes, met_by, met_changes, node_changes, number_changes, passed_changes, place_bits, pointed_changes, red_changes, relinked, second_link, shown, word_changes, zeroed};
 
 use crate::suspect::backs::{
     push_backs, push_entry_backs, push_hash_backs, push_head_backs, push_tree_backs,
@@ -230,6 +230,60 @@ fn push_led<S: Space, L: Ledger>(
     }
 }
 
+// Adds the link to a node that was added to its ring once more, as one to the node that still lies after it.
+fn push_joined<S: Space, L: Ledger>(
+    changes: &mut Changes,
+    kind: &Kind,
+    found: &Found,
+    link: u64,
+    space: &mut S,
+    steps: &mut Steps<L>,
+) -> Result<(), ReadFailed>
+    ensures added { OnOk result (IfSome (S.image space.old) (λ image. changes.new ≡ changes.old ++ joined_changes image kind.now found.now link)) }
+    ensures reads { OnlyReads S.image S.files S.through S.most S.faults result space.old space.new }
+{
+    if let Kind::Ring(shape) = kind {
+        let node = node_of(found.at, shape.next);
+        let behind = node_behind(space, shape, found.start, node, steps)?;
+        push_some(changes, behind.map(|node| to(link, node)))?;
+    }
+    Ok(())
+}
+
+// Adds the link that led to a word for the second time as such a one, and what else it may have held.
+fn push_met_by<S: Space, L: Ledger>(
+    changes: &mut Changes,
+    kind: &Kind,
+    found: &Found,
+    link: u64,
+    space: &mut S,
+    steps: &mut Steps<L>,
+) -> Result<(), ReadFailed>
+    ensures added { OnOk result (IfSome (S.image space.old) (λ image. changes.new ≡ changes.old ++ met_by image kind.now found.now link)) }
+    ensures reads { OnlyReads S.image S.files S.through S.most S.faults result space.old space.new }
+{
+    push_joined(changes, kind, found, link, space, steps)?;
+    push_relinked(changes, kind, found, link, space, steps)
+}
+
+// Adds that of a link that may not be told, and then the words that show the violation.
+fn push_met<S: Space, L: Ledger>(
+    alloc: Global,
+    changes: &mut Changes,
+    kind: &Kind,
+    found: &Found,
+    space: &mut S,
+    steps: &mut Steps<L>,
+) -> Result<(), ReadFailed>
+    ensures added { OnOk result (IfSome (S.image space.old) (λ image. changes.new ≡ changes.old ++ met_changes image kind.now found.now)) }
+    ensures reads { OnlyReads S.image S.files S.through S.most S.faults result space.old space.new }
+{
+    match second_link(alloc, kind, found, space, steps)? {
+        Some(link) => push_met_by(changes, kind, found, link, space, steps),
+        None => Ok(push_laid(changes, kind, found)?),
+    }
+}
+
 // Adds the word at the violation's address, as it is expected.
 fn push_word(changes: &mut Changes, found: &Found) -> Result<(), NoMemory>
     ensures { OnOk result (changes.new ≡ changes.old ++ word_changes found.now) }
@@ -425,10 +479,7 @@ fn push_by_way<S: Space, L: Ledger>(
             let link = first_address(found.places.as_slice());
             push_led(changes, kind, found, link, space, steps)
         }
-        Way::Met => {
-            let link = second_link(alloc, kind, found, space, steps)?;
-            push_led(changes, kind, found, link, space, steps)
-        }
+        Way::Met => push_met(alloc, changes, kind, found, space, steps),
         Way::Word => {
             push_word(changes, found)?;
             push_head_backs(changes, kind, found, space, steps)

@@ -1,7 +1,7 @@
 use Rattle.std.proofs.Common.{rules}
 use Rattle.kc_plan.specs.Planned.{audit_seen}
 use Rattle.kc_cause.proofs.RepairLemmas.{shown_added}
-use Rattle.kc_cause.proofs.places.push_shown.Goals as goal
+use Rattle.kc_cause.proofs.places.push_with_slabs.Goals as goal
 
 pub returns-clause-added : goal.returns-clause-added
 returns-clause-added g c =
