@@ -33,6 +33,7 @@ from second.why import Sights
 MOST = 4096
 MOST_WORDS = 8
 LINKS, TREE_LINKS, NEAR = 65536, 8192, 64
+POISONS = 0xDEAD000000000100, 0xDEAD000000000122
 
 # How each rule is suspected.
 WAYS = {
@@ -99,6 +100,19 @@ def shown(broken):
     return [each(place[0]) for place in broken.places if place[0] != "-"]
 
 
+def chain_sign(words):
+    """What two words that repair together show: a node that was added twice, or one that was taken out."""
+    if len(words) != 2:
+        return ""
+    (one, new), (other, newer) = words
+    if one[3] == other[3] and (new + 8) % TOP == other[0] and newer == one[0]:
+        return f"twice {one[3]:016x}\n"
+    for first, second in ((one, other), (other, one)):
+        if (first[3], second[3]) == POISONS and (first[0] + 8) % TOP == second[0]:
+            return f"deleted {first[0]:016x}\n"
+    return ""
+
+
 def only_fits(broken, place, number):
     """Whether others may stand as well as this number: by the rule; of a node's counts where they are changed, or a value is emptied; of a link that is 0."""
     if broken.rule == "X5":
@@ -139,7 +153,10 @@ class Suspects:
         return self.led(next((place[0] for place in self.broken.places if place[0] != "-"), None))
 
     def by_met(self):
-        return self.led(self.second_link())
+        """First the second link to a ring's node leads to the one after it, by `prev`."""
+        link = self.second_link()
+        behind = self.node_behind((self.at - self.offset("next")) % TOP) if self.kind == "ring" and link is not None else None
+        return ([] if behind is None else [to(link, behind)]) + list(self.led(link))
 
     def by_word(self):
         return self.word() + self.head_backs()
@@ -720,7 +737,7 @@ class Causes:
             return f"{'fits' if only_fits(broken, *last) else 'repair'} {columns(*last)}\n"
         text, words = f"repair none of {'the first ' * more}{tried} tried\n", self.chain(root, then)
         if words:
-            return text + f"chain {len(words)}\n" + "".join(f"word {columns(*word)}\n" for word in words)
+            return text + f"chain {len(words)}\n" + "".join(f"word {columns(*word)}\n" for word in words) + chain_sign(words)
         return text + (f"then {columns(*then[:2])} {then[2][0].rule} {then[2][0].at:016x}\n" if then else "")
 
     def lines(self, root):
@@ -731,7 +748,28 @@ class Causes:
         broken, audit = found
         elements = Elements(self.kernel, audit, broken)
         text = f"root {self.audits[root].name}\naudit {audit.name}\nrule {broken.rule} {SENTENCES[broken.rule]}\n{elements.line()}{elements.list_lines()}"
-        return text + "".join(map(self.place_lines, broken.places)) + elements.number_line() + self.repair(root, broken, audit)
+        return text + "".join(map(self.place_lines, broken.places)) + self.signs(broken) + elements.number_line() + self.repair(root, broken, audit)
+
+    def value(self, at):
+        """The number at an address, if it can be read."""
+        try:
+            return self.kernel.memory.place(at % TOP)[3]
+        except Broken:
+            return None
+
+    def signs(self, broken):
+        """Where the pointer that is expected stands beside its place, and whether a node has another one's bytes."""
+        text = ""
+        if broken.rule in ("L1", "H1", "R1", "X3", "X4") and broken.expected:
+            for far in (8, 16) if broken.rule == "L1" else (8, 16, -8, -16):
+                value = self.value(broken.at + far)
+                if value is not None and (value & ~3 if broken.rule == "R1" else value) == broken.expected:
+                    text += f"beside {(broken.at + far) % TOP:016x}\n"
+        back = self.value(broken.at) if broken.rule in ("L1", "H1") else None
+        other, node = None if back is None else self.value(back), (broken.at - 8) % TOP
+        if other not in (None, node) and self.value(other + 8) == back and self.value(other) and self.value(other) == self.value(node):
+            text += f"copy of {other:016x}\n"
+        return text
 
     def place_lines(self, place):
         """A word of a violation, and what lies at its address."""
@@ -797,8 +835,18 @@ def words_read(given):
     return sorted(offset for offset in found if offset != "tail")
 
 
+def paired(rng, core, offsets):
+    """A word and the next are those of another place, or what `list_del` leaves, or stand 8 bytes further on."""
+    at, other = rng.choice(offsets), rng.choice(offsets)
+    poisons = b"".join(word.to_bytes(8, "little") for word in POISONS)
+    to, pair = rng.choice(((at, core[other : other + 16]), (at, poisons), (at + 8, core[at : at + 16])))
+    core[to : to + 16] = pair
+
+
 def damaged(rng, core, offsets):
     """One of these words is changed, or two: by a bit, by little, to what nothing may be, or to what another holds."""
+    if rng.random() < 0.2:
+        return paired(rng, core, offsets)
     for _ in range(rng.choice((1, 1, 2))):
         at, other = rng.choice(offsets), rng.choice(offsets)
         old, far = (int.from_bytes(core[k : k + 8], "little") for k in (at, other))

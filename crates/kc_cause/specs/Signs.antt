@@ -53,19 +53,21 @@ number_at image at = option_map (λ (w : VWord). w.value) (readable (vword image
 abbrev pub is_some_of : ℕ → Option ℕ → Bool
 is_some_of value found = option_map_or (λ (n : ℕ). n == value) found false
 
--- whether two addresses hold the same number
-abbrev pub same_at : Image → ℕ → ℕ → Bool
-same_at image one other = option_map_or (λ (n : ℕ). is_some_of n (number_at image one)) (number_at image other) false
+-- whether two addresses hold the same number, which isn't 0
+abbrev pub is_shared : Option ℕ → ℕ → Bool
+is_shared found n = not (n == 0) && is_some_of n found
 
--- A ring's node whose `prev` is a node that isn't the one before. Where that one leads here too, the node was added once more. Where it leads to another
--- node that leads back to it, and has the same `next`, the node's bytes are those of the other one.
+abbrev pub same_at : Image → ℕ → ℕ → Bool
+same_at image one other = option_map_or (is_shared (number_at image one)) (number_at image other) false
+
+-- A ring's node whose `prev` is a node that isn't the one before, or a hash chain's node whose `pprev` is a link that isn't the one that led here. Where that
+-- one leads to another node, which leads back to it and has the same `next`, the node's bytes are those of the other one. (`struct hlist_node` has `pprev` 8
+-- bytes after its `next`.)
 abbrev pub is_copied : Image → ℕ → ℕ → ℕ → Bool
-is_copied image node prev other = is_some_of prev (number_at image (at_offset other 8)) && same_at image node other
+is_copied image node prev other = not (other == node) && (is_some_of prev (number_at image (at_offset other 8)) && same_at image node other)
 
 abbrev pub led_sign : Image → ℕ → ℕ → ℕ → Option Sign
-led_sign image node prev other =
-    if other == node then Some (Twice node)
-    else (if is_copied image node prev other then Some (Copied other) else None)
+led_sign image node prev other = if is_copied image node prev other then Some (Copied other) else None
 
 abbrev pub prev_sign : Image → ℕ → ℕ → Option Sign
 prev_sign image node prev = option_and_then (led_sign image node prev) (number_at image prev)
@@ -73,12 +75,13 @@ prev_sign image node prev = option_and_then (led_sign image node prev) (number_a
 abbrev pub list_sign : Image → Violation → Option Sign
 list_sign image v = option_and_then (prev_sign image (node_of v.at 8)) (number_at image v.at)
 
-abbrev pub is_of_list : Rule → Bool
-is_of_list L1 = true
-is_of_list _ = false
+abbrev pub is_of_links : Rule → Bool
+is_of_links L1 = true
+is_of_links H1 = true
+is_of_links _ = false
 
-abbrev pub ring_sign : Image → Violation → Option Sign
-ring_sign image v = if is_of_list v.rule then list_sign image v else None
+abbrev pub found_sign : Image → Violation → Option Sign
+found_sign image v = if is_of_links v.rule then list_sign image v else None
 
 -- Which rules expect a pointer in a whole word: of a tree's node one that has the colour in its lowest bits (include/linux/rbtree_augmented.h, `rb_parent`).
 abbrev pub is_of_pointer : Rule → Bool
@@ -96,12 +99,16 @@ is_of_parent _ = false
 abbrev pub pointer_of : Rule → ℕ → ℕ
 pointer_of rule value = if is_of_parent rule then value / 4 * 4 else value
 
--- the number that is expected stands beside its place, as in an object that was moved
+-- the number that is expected stands beside its place, as in an object that was moved, or where a pointer to it is off
 abbrev pub beside_line : Image → Rule → ℕ → ℕ → List ℕ
 beside_line image rule number at =
     if option_map_or (λ (n : ℕ). pointer_of rule n == number) (number_at image at) false then codes "beside " ++ hex at ++ codes "\n" else []
 
 -- after its place, and before it: the word before the `prev` of a list's node is its `next`, which in a list of one node is the same
+abbrev pub is_of_list : Rule → Bool
+is_of_list L1 = true
+is_of_list _ = false
+
 abbrev pub before_lines : Image → Rule → ℕ → ℕ → List ℕ
 before_lines image rule number at = if is_of_list rule then [] else beside_line image rule number (node_of at 8) ++ beside_line image rule number (node_of at 16)
 
@@ -109,9 +116,13 @@ abbrev pub around_lines : Image → Rule → ℕ → ℕ → List ℕ
 around_lines image rule at number =
     beside_line image rule number (at_offset at 8) ++ beside_line image rule number (at_offset at 16) ++ before_lines image rule number at
 
+-- a null pointer is everywhere
+abbrev pub pointer_lines : Image → Rule → ℕ → ℕ → List ℕ
+pointer_lines image rule at number = if number == 0 then [] else around_lines image rule at number
+
 abbrev pub beside_lines : Image → Violation → List ℕ
-beside_lines image v = if is_of_pointer v.rule then option_map_or (around_lines image v.rule v.at) v.expected [] else []
+beside_lines image v = if is_of_pointer v.rule then option_map_or (pointer_lines image v.rule v.at) v.expected [] else []
 
 -- all that these words show
 abbrev pub shown_signs : Image → Violation → List ℕ
-shown_signs image v = beside_lines image v ++ sign_lines (ring_sign image v)
+shown_signs image v = beside_lines image v ++ sign_lines (found_sign image v)

@@ -3,7 +3,7 @@ ghost use Rattle.std.specs.Prelude.{◌≡◌, ◌++◌, ◌==◌, codes, false,
 ghost use Rattle.std.specs.Option.{option_map_or};
 ghost use Rattle.kc_text.specs.Text.{hex};
 ghost use Rattle.kc_repair.specs.Suspect.Answers.{OnlyReads};
-ghost use Rattle.kc_cause.specs.Signs.{around_lines, before_lines, beside_line, beside_lines, is_copied, is_deleted, is_of_list, is_of_parent, is_of_pointer, is_some_of, is_twice, led_sign, list_sign, number_at, pointer_of, prev_sign, ring_sign, same_at, shown_signs, sign_by, sign_line, sign_lines, sign_of};
+ghost use Rattle.kc_cause.specs.Signs.{before_lines, beside_line, beside_lines, is_copied, is_deleted, found_sign, is_of_links, is_of_list, is_of_parent, is_of_pointer, is_shared, is_some_of, is_twice, led_sign, list_sign, number_at, pointer_lines, pointer_of, prev_sign, same_at, shown_signs, sign_by, sign_line, sign_lines, sign_of};
 
 use kc_found::{Found, ReadFailed, Rule, Space};
 use kc_repair::Suspect;
@@ -122,7 +122,13 @@ fn is_some_of(value: u64, found: Option<u64>) -> bool
     }
 }
 
-// Whether two virtual addresses hold the same number.
+fn is_shared(found: Option<u64>, number: u64) -> bool
+    ensures { result ≡ is_shared found number }
+{
+    number != 0 && is_some_of(number, found)
+}
+
+// Whether two virtual addresses hold the same number, which isn't 0.
 fn same_at<M: Space, L: Ledger>(
     memory: &mut M,
     one: u64,
@@ -133,12 +139,12 @@ fn same_at<M: Space, L: Ledger>(
     ensures reads { OnlyReads M.image M.files M.through M.most M.faults result memory.old memory.new }
 {
     match read_number(memory, other, steps)? {
-        Some(number) => Ok(is_some_of(number, read_number(memory, one, steps)?)),
+        Some(number) => Ok(is_shared(read_number(memory, one, steps)?, number)),
         None => Ok(false),
     }
 }
 
-// Whether a ring's node has the pointers of another node, which leads back to this one's `prev`.
+// Whether a node has the pointers of another node, which leads back to this one's `prev`.
 fn is_copied<M: Space, L: Ledger>(
     memory: &mut M,
     node: u64,
@@ -149,6 +155,9 @@ fn is_copied<M: Space, L: Ledger>(
     ensures copied { IfOk result (λ is. IfSome (M.image memory.old) (λ image. is ≡ is_copied image node prev other)) }
     ensures reads { OnlyReads M.image M.files M.through M.most M.faults result memory.old memory.new }
 {
+    if other == node {
+        return Ok(false);
+    }
     let back = read_number(memory, other.wrapping_add(8), steps)?;
     if !is_some_of(prev, back) {
         return Ok(false);
@@ -156,7 +165,7 @@ fn is_copied<M: Space, L: Ledger>(
     same_at(memory, node, other, steps)
 }
 
-// What the node shows that a ring's `prev` leads to, which leads on to another one.
+// What a node shows whose `prev` leads to a pointer that leads on to another one.
 fn led_sign<M: Space, L: Ledger>(
     memory: &mut M,
     node: u64,
@@ -167,9 +176,6 @@ fn led_sign<M: Space, L: Ledger>(
     ensures sign { IfOk result (λ sign. IfSome (M.image memory.old) (λ image. sign ≡ led_sign image node prev other)) }
     ensures reads { OnlyReads M.image M.files M.through M.most M.faults result memory.old memory.new }
 {
-    if other == node {
-        return Ok(Some(Sign::Twice(node)));
-    }
     if is_copied(memory, node, prev, other, steps)? {
         return Ok(Some(Sign::Copied(other)));
     }
@@ -191,22 +197,29 @@ fn prev_sign<M: Space, L: Ledger>(
     }
 }
 
-// Whether a rule is about the `prev` of a list's node.
+// Whether a rule is about the pointer of a ring's or a hash chain's node that leads back.
+fn is_of_links(rule: Rule) -> bool
+    ensures { result ≡ is_of_links rule }
+{
+    matches!(rule, Rule::L1 | Rule::H1)
+}
+
+// Whether it is about the `prev` of a list's node.
 fn is_of_list(rule: Rule) -> bool
     ensures { result ≡ is_of_list rule }
 {
     matches!(rule, Rule::L1)
 }
 
-fn ring_sign<M: Space, L: Ledger>(
+fn found_sign<M: Space, L: Ledger>(
     memory: &mut M,
     found: &Found,
     steps: &mut Steps<L>,
 ) -> Result<Option<Sign>, ReadFailed>
-    ensures sign { IfOk result (λ sign. IfSome (M.image memory.old) (λ image. sign ≡ ring_sign image found.now)) }
+    ensures sign { IfOk result (λ sign. IfSome (M.image memory.old) (λ image. sign ≡ found_sign image found.now)) }
     ensures reads { OnlyReads M.image M.files M.through M.most M.faults result memory.old memory.new }
 {
-    if !is_of_list(found.rule) {
+    if !is_of_links(found.rule) {
         return Ok(None);
     }
     match read_number(memory, found.at, steps)? {
@@ -285,7 +298,7 @@ fn push_before<M: Space, L: Ledger>(
     push_beside(text, memory, rule, number, at.wrapping_sub(16), steps)
 }
 
-fn push_around<M: Space, L: Ledger>(
+fn push_pointer<M: Space, L: Ledger>(
     text: &mut Vec<u8>,
     memory: &mut M,
     rule: Rule,
@@ -293,9 +306,12 @@ fn push_around<M: Space, L: Ledger>(
     number: u64,
     steps: &mut Steps<L>,
 ) -> Result<(), ReadFailed>
-    ensures added { OnOk result (IfSome (M.image memory.old) (λ image. text.new.items ≡ text.old.items ++ around_lines image rule at number)) }
+    ensures added { OnOk result (IfSome (M.image memory.old) (λ image. text.new.items ≡ text.old.items ++ pointer_lines image rule at number)) }
     ensures reads { OnlyReads M.image M.files M.through M.most M.faults result memory.old memory.new }
 {
+    if number == 0 {
+        return Ok(());
+    }
     push_beside(text, memory, rule, number, at.wrapping_add(8), steps)?;
     push_beside(text, memory, rule, number, at.wrapping_add(16), steps)?;
     push_before(text, memory, rule, number, at, steps)
@@ -314,7 +330,7 @@ fn push_besides<M: Space, L: Ledger>(
         return Ok(());
     }
     match found.expected {
-        Some(number) => push_around(text, memory, found.rule, found.at, number, steps),
+        Some(number) => push_pointer(text, memory, found.rule, found.at, number, steps),
         None => Ok(()),
     }
 }
@@ -334,6 +350,6 @@ pub(crate) fn push_signs<M: Space, L: Ledger>(
     ensures reads { OnlyReads M.image M.files M.through M.most M.faults result memory.old memory.new }
 {
     push_besides(text, memory, found, steps)?;
-    let sign = ring_sign(memory, found, steps)?;
+    let sign = found_sign(memory, found, steps)?;
     Ok(push_sign(text, sign)?)
 }
