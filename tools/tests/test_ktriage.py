@@ -311,6 +311,19 @@ class Pages(Folder):
         self.assertEqual([root["verdict"] for root in told["roots"]], ["broken", "sound"])
         self.assertTrue(told["roots"][0]["repair"].endswith("ffff888000002000"))
 
+    def test_words_that_repair_together(self):
+        self.program("kaudit", BAD, 1)
+        columns = CAUSE.split("repair ")[1]
+        self.program("kwhy", CAUSE.split("repair ")[0] + f"repair none of 65 tried\nchain 2\nword {columns}\nword {columns}\ntwice ffff888000003000\n")
+        _, out, _ = self.triage()
+        self.assertIn("  the node at ffff888000003000 was added to its list a second time\n", out)
+        root = json.loads(self.triage("--json", "-")[1])["roots"][0]
+        self.assertEqual(root["chain"], [columns.split()] * 2)
+        self.assertEqual(root["signs"], ["the node at ffff888000003000 was added to its list a second time"])
+        self.triage("--html", self.path("page.html"))
+        with open(self.path("page.html")) as file:
+            self.assertIn("these 2 do together", file.read())
+
     def test_html_needs_no_network(self):
         self.program("kaudit", BAD.replace("tasks", "<b>&tasks"), 1)
         status, _, _ = self.triage("--html", self.path("page.html"))
