@@ -5,8 +5,8 @@ usage: several PROGRAMS FOLDER [COUNT [SEED [SHOWN]]]
 FOLDER has a dump with its plans (README.md). The words that each audit reads are found by the second reader (some minutes), and kept in files
 `.places` beside the plans. Of each way COUNT damages (14, seed 1) are made in a copy of the dump, one at a time and put back; one that `check`
 doesn't notice is passed over. Counts by way: `true` one word repairs, and it is an old one, `other` and `fits` another number, `chain` several words
-repair together and each is an old one, `mixed` some of them aren't, `none`. With the numbers that are printed the plan has to be clean, by `check`;
-ends with 1 where it isn't. With SHOWN (a way, or one of these words) prints each such damage.
+repair together and each is an old one, `mixed` some of them aren't, `none`; and how many have each sign of damage. With the numbers that are printed
+the root that they stand under has to be clean, by `check`; ends with 1 where it isn't. With SHOWN (a way, or one of these words) prints each such damage.
 """
 import collections
 import json
@@ -22,6 +22,8 @@ from hostile.oldwords import PASSED, Trials, reader_of
 from plans.reader import Broken
 from second.suspects import Causes
 
+SIGN = re.compile(r"^(twice|deleted|beside|copy of) \w{16}$", re.M)
+SIGNS = "twice", "deleted", "beside", "copy of"
 LINE = re.compile(r"^(repair|fits|word) \w{16} \w{16} (\w{16}) (\w{16}) (\w{16})$", re.M)
 POISONS = 0xDEAD000000000100, 0xDEAD000000000122
 TEXT = b"GET /index.html HTTP/1.1\r\nHost: kernel.example\r\nUser-Agent: x/1\r\n"
@@ -171,13 +173,24 @@ def tried(trials, plan, new, old):
         put(trials.dump, old)
 
 
+def is_clean(trials, plan, root):
+    """Whether a root of a plan is clean: by the plan, or by its roots one by one."""
+    if trials.checked(plan)[0] == 0:
+        return True
+    each = os.path.join(os.path.dirname(trials.report), "each.toml")
+    with open(each, "w") as file:
+        file.write(files.read(files.plan_path(trials.folder, plan)).decode().replace("version = 1", "version = 2", 1))
+    report = timer.run([trials.kaudit, "check", trials.dump, *trials.beside, each])[1].decode()
+    return f"root {root} clean\n" in report
+
+
 def judged(trials, plan, text, old):
     """What kwhy says, and whether the plan is clean with it. The words are put back by the damage's own bytes."""
     words = [(line[1], *(int(line[k], 16) for k in (2, 3, 4))) for line in LINE.finditer(text)]
     if not words:
         return "none", True
     put(trials.dump, {at: new.to_bytes(8, "little") for _, at, _, new in words})
-    holds = trials.checked(plan)[0] == 0
+    holds = is_clean(trials, plan, re.search(r"^root (\S+)", text, re.M)[1])
     before = {at: now.to_bytes(8, "little") for _, at, now, _ in reversed(words)}
     put(trials.dump, before)
     with open(os.path.join(trials.folder, "vmcore"), "rb") as file:
@@ -205,12 +218,13 @@ def main(words):
                     continue
                 rule, kind, holds, seconds, text = found
                 seen[name][kind] += 1
+                seen[name].update(set(SIGN.findall(text)))
                 bad, slowest = bad + (not holds), max(slowest, seconds)
                 if shown in (kind, name) or not holds:
                     print(f"{name} {kind} {plan} {' '.join(f'{at:x}' for at in new)} {seconds:.1f} s\n{text}", flush=True)
                 if sum(seen[name].values()) == count:
                     break
     for name in NAMES:
-        print(f"{name:12} " + " ".join(f"{kind} {seen[name][kind]:3}" for kind in ("true", "other", "fits", "chain", "mixed", "none")))
+        print(f"{name:12} " + " ".join(f"{kind} {seen[name][kind]:3}" for kind in ("true", "other", "fits", "chain", "mixed", "none", *SIGNS)))
     print(f"bad {bad}, slowest {slowest:.1f} s")
     return bad != 0
