@@ -24,6 +24,7 @@ from second.suspects import Causes
 
 SIGN = re.compile(r"^(twice|deleted|beside|copy of) \w{16}$", re.M)
 SIGNS = "twice", "deleted", "beside", "copy of"
+KINDS = "true", "other", "fits", "chain", "mixed", "none"
 LINE = re.compile(r"^(repair|fits|word) \w{16} \w{16} (\w{16}) (\w{16}) (\w{16})$", re.M)
 POISONS = 0xDEAD000000000100, 0xDEAD000000000122
 TEXT = b"GET /index.html HTTP/1.1\r\nHost: kernel.example\r\nUser-Agent: x/1\r\n"
@@ -222,9 +223,9 @@ def main(words):
                 bad, slowest = bad + (not holds), max(slowest, seconds)
                 if shown in (kind, name) or not holds:
                     print(f"{name} {kind} {plan} {' '.join(f'{at:x}' for at in new)} {seconds:.1f} s\n{text}", flush=True)
-                if sum(seen[name].values()) == count:
+                if sum(seen[name][it] for it in KINDS) == count:
                     break
     for name in NAMES:
-        print(f"{name:12} " + " ".join(f"{kind} {seen[name][kind]:3}" for kind in ("true", "other", "fits", "chain", "mixed", "none", *SIGNS)))
+        print(f"{name:12} " + " ".join(f"{kind} {seen[name][kind]:3}" for kind in (*KINDS, *SIGNS)))
     print(f"bad {bad}, slowest {slowest:.1f} s")
     return bad != 0
