@@ -1,11 +1,10 @@
 -- What words show of how they came to be wrong. Source: the kernel's include/linux/types.h, `struct list_head`, whose `prev` comes 8 bytes after its `next`;
 -- include/linux/list.h, `__list_add`, which writes the node's own pointers and those of its new neighbours, and `list_del`, which leaves LIST_POISON1 in `next`
 -- and LIST_POISON2 in `prev` (include/linux/poison.h; x86 adds CONFIG_ILLEGAL_POINTER_VALUE, dead000000000000).
-use Rattle.std.specs.Prelude.{ℕ, ◌*◌, ◌/◌, ◌==◌, ◌&&◌, ◌||◌, not, Bool, true, false, if◌then◌else◌, List, [], ◌∷◌, ◌++◌, codes, length, slice_get, Option, Some, None, option_map, option_and_then}
+use Rattle.std.specs.Prelude.{ℕ, ◌*◌, ◌/◌, ◌==◌, ◌&&◌, not, Bool, true, false, if◌then◌else◌, List, [], ◌++◌, codes, length, slice_get, Option, Some, None, option_map, option_and_then}
 use Rattle.std.specs.Option.{option_map_or}
 use Rattle.kc_memory.specs.declared.rule.Rule.{Rule}
 use Rattle.kc_memory.specs.declared.rule.Rule.TheVariants.{L1, H1, R1, X3, X4}
-use Rattle.kc_memory.specs.declared.words.Place.{Place}
 use Rattle.kc_memory.specs.declared.words.VWord.{VWord}
 use Rattle.kc_memory.specs.Image.{Image}
 use Rattle.kc_memory.specs.Translation.{vword}
@@ -100,7 +99,7 @@ abbrev pub pointer_of : Rule → ℕ → ℕ
 pointer_of rule value = if is_of_parent rule then value / 4 * 4 else value
 
 -- the number that is expected stands beside its place, as in an object that was moved, or where a pointer to it is off
-abbrev pub beside_line : Image → Rule → ℕ → ℕ → List ℕ
+unfoldable pub beside_line : Image → Rule → ℕ → ℕ → List ℕ
 beside_line image rule number at =
     if option_map_or (λ (n : ℕ). pointer_of rule n == number) (number_at image at) false then codes "beside " ++ hex at ++ codes "\n" else []
 
@@ -109,8 +108,11 @@ abbrev pub is_of_list : Rule → Bool
 is_of_list L1 = true
 is_of_list _ = false
 
+abbrev pub behind_lines : Image → Rule → ℕ → ℕ → List ℕ
+behind_lines image rule number at = beside_line image rule number (node_of at 8) ++ beside_line image rule number (node_of at 16)
+
 abbrev pub before_lines : Image → Rule → ℕ → ℕ → List ℕ
-before_lines image rule number at = if is_of_list rule then [] else beside_line image rule number (node_of at 8) ++ beside_line image rule number (node_of at 16)
+before_lines image rule number at = if is_of_list rule then [] else behind_lines image rule number at
 
 abbrev pub around_lines : Image → Rule → ℕ → ℕ → List ℕ
 around_lines image rule at number =

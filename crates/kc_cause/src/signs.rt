@@ -3,7 +3,7 @@ ghost use Rattle.std.specs.Prelude.{◌≡◌, ◌++◌, ◌==◌, codes, false,
 ghost use Rattle.std.specs.Option.{option_map_or};
 ghost use Rattle.kc_text.specs.Text.{hex};
 ghost use Rattle.kc_repair.specs.Suspect.Answers.{OnlyReads};
-ghost use Rattle.kc_cause.specs.Signs.{before_lines, beside_line, beside_lines, is_copied, is_deleted, found_sign, is_of_links, is_of_list, is_of_parent, is_of_pointer, is_shared, is_some_of, is_twice, led_sign, list_sign, number_at, pointer_lines, pointer_of, prev_sign, same_at, shown_signs, sign_by, sign_line, sign_lines, sign_of};
+ghost use Rattle.kc_cause.specs.Signs.{around_lines, before_lines, behind_lines, beside_line, beside_lines, is_copied, is_deleted, found_sign, is_of_links, is_of_list, is_of_parent, is_of_pointer, is_shared, is_some_of, is_twice, led_sign, list_sign, number_at, pointer_lines, pointer_of, prev_sign, same_at, shown_signs, sign_by, sign_line, sign_lines, sign_of};
 
 use kc_found::{Found, ReadFailed, Rule, Space};
 use kc_repair::Suspect;
@@ -262,6 +262,7 @@ fn is_pointer(rule: Rule, number: u64, value: Option<u64>) -> bool
 }
 
 // Adds an address beside the word that a violation is about, where it holds what is expected there.
+#[tactic(auto, unfolding(crate::specs::Signs::beside_line))]
 fn push_beside<M: Space, L: Ledger>(
     text: &mut Vec<u8>,
     memory: &mut M,
@@ -280,6 +281,21 @@ fn push_beside<M: Space, L: Ledger>(
     Ok(())
 }
 
+fn push_behind<M: Space, L: Ledger>(
+    text: &mut Vec<u8>,
+    memory: &mut M,
+    rule: Rule,
+    number: u64,
+    at: u64,
+    steps: &mut Steps<L>,
+) -> Result<(), ReadFailed>
+    ensures added { OnOk result (IfSome (M.image memory.old) (λ image. text.new.items ≡ text.old.items ++ behind_lines image rule number at)) }
+    ensures reads { OnlyReads M.image M.files M.through M.most M.faults result memory.old memory.new }
+{
+    push_beside(text, memory, rule, number, at.wrapping_sub(8), steps)?;
+    push_beside(text, memory, rule, number, at.wrapping_sub(16), steps)
+}
+
 fn push_before<M: Space, L: Ledger>(
     text: &mut Vec<u8>,
     memory: &mut M,
@@ -292,10 +308,26 @@ fn push_before<M: Space, L: Ledger>(
     ensures reads { OnlyReads M.image M.files M.through M.most M.faults result memory.old memory.new }
 {
     if is_of_list(rule) {
-        return Ok(());
+        Ok(())
+    } else {
+        push_behind(text, memory, rule, number, at, steps)
     }
-    push_beside(text, memory, rule, number, at.wrapping_sub(8), steps)?;
-    push_beside(text, memory, rule, number, at.wrapping_sub(16), steps)
+}
+
+fn push_around<M: Space, L: Ledger>(
+    text: &mut Vec<u8>,
+    memory: &mut M,
+    rule: Rule,
+    at: u64,
+    number: u64,
+    steps: &mut Steps<L>,
+) -> Result<(), ReadFailed>
+    ensures added { OnOk result (IfSome (M.image memory.old) (λ image. text.new.items ≡ text.old.items ++ around_lines image rule at number)) }
+    ensures reads { OnlyReads M.image M.files M.through M.most M.faults result memory.old memory.new }
+{
+    push_beside(text, memory, rule, number, at.wrapping_add(8), steps)?;
+    push_beside(text, memory, rule, number, at.wrapping_add(16), steps)?;
+    push_before(text, memory, rule, number, at, steps)
 }
 
 fn push_pointer<M: Space, L: Ledger>(
@@ -310,11 +342,10 @@ fn push_pointer<M: Space, L: Ledger>(
     ensures reads { OnlyReads M.image M.files M.through M.most M.faults result memory.old memory.new }
 {
     if number == 0 {
-        return Ok(());
+        Ok(())
+    } else {
+        push_around(text, memory, rule, at, number, steps)
     }
-    push_beside(text, memory, rule, number, at.wrapping_add(8), steps)?;
-    push_beside(text, memory, rule, number, at.wrapping_add(16), steps)?;
-    push_before(text, memory, rule, number, at, steps)
 }
 
 fn push_besides<M: Space, L: Ledger>(
