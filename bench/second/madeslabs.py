@@ -79,7 +79,9 @@ def btf(extra=(), without=()):
 
 
 class Slabs:
-    """The memory."""
+    """The memory, and the physical address of a page without a descriptor."""
+
+    far = FAR
 
     def __init__(self):
         self.memory = bytearray(SIZE)
@@ -155,7 +157,7 @@ class Slabs:
         struct.pack_into("<HHH", head, 54, 56, 3, 0)
         note = struct.pack("<III", 11, len(text), 0) + b"VMCOREINFO\0\0" + text + b"\0" * (-len(text) % 4)
         head[0x200 : 0x200 + len(note)] = note
-        for k, (kind, at, pa, size) in enumerate(((4, 0x200, 0, len(note)), (1, 0x400, 0, SIZE), (1, 0x400 + SIZE, FAR, 4096))):
+        for k, (kind, at, pa, size) in enumerate(((4, 0x200, 0, len(note)), (1, 0x400, 0, SIZE), (1, 0x400 + SIZE, self.far, 4096))):
             struct.pack_into("<IIQQQQQQ", head, 64 + 56 * k, kind, 0, at, 0, pa, size, size, 0)
         return bytes(head) + bytes(self.memory) + bytes(4096)
 

@@ -36,6 +36,8 @@ use Rattle.kc_guard.specs.Laws.{GuardsHold, Shown, SpoiledStand}
 use Rattle.kc_guard.specs.Objects.{objects_checked}
 use Rattle.kc_slab_page.specs.declared.guarding.SlabState.{SlabState}
 use Rattle.kc_slab_page.specs.declared.guarding.SlabState.TheVariants.{Whole, Untold}
+use Rattle.kc_slab_page.specs.declared.page.PageSeen.{PageSeen}
+use Rattle.kc_slab_page.specs.declared.page.PageSeen.TheVariants.{Fenced}
 use Rattle.kc_slab_page.specs.declared.shape.PageShape.{PageShape}
 use Rattle.kc_slab_page.specs.declared.slab.SlabCounted.{SlabCounted}
 use Rattle.kc_slab_page.specs.declared.slab.SlabFree.{SlabFree}
@@ -43,7 +45,7 @@ use Rattle.kc_slab_page.specs.Caches.{Caches}
 use Rattle.kc_slab_page.specs.Guarding.{guarded_by, guards_checked, is_guarded}
 use Rattle.kc_slab_page.specs.Laws.{AreKept, GuardsAreKept, IsWhole, SlabsStand, WholeSlabs, page_places, state_places}
 use Rattle.kc_slab_page.specs.Marks.{marked}
-use Rattle.kc_slab_page.specs.Pages.{by_cache, by_mark, by_read, by_seen, page_seen, state_by, state_of, state_with, stray, unnamed, with_mark}
+use Rattle.kc_slab_page.specs.Pages.{by_cache, by_mark, by_number, by_read, by_seen, is_fenced, page_seen, state_by, state_of, state_with, stray, unnamed, with_mark}
 use Rattle.kc_slab_page.specs.Slabs.{counted, free_of, is_laid, own_list, slab_free}
 
 -- what is known of the fields and free lists of a dump
@@ -171,11 +173,17 @@ read_stands known image shape caches page (Some cache) is =
     (number_stands known.values image (looked_at page) page shape.objects.slub.slab_cache cache
     (was_read (looked_at page) (field_of image page shape.objects.slub.slab_cache) cache is))
 
+-- and one of KFENCE's pool, or another
+fenced_stands : (image : Image) (b : Bool) (seen : PageSeen) → AllStandIn image (page_places seen) → AllStandIn image (page_places (if b then Fenced else seen))
+fenced_stands image true seen here = tt
+fenced_stands image false seen here = here
+
 pub slabs_stand : Known → SlabsStand
 unfolding page_seen
 slabs_stand known image shape caches number =
     let page = descriptor_of shape.objects.slub caches.bases number in
-    read_stands known image shape caches page (readable (field_of image page shape.objects.slub.slab_cache)) refl
+    fenced_stands image (is_fenced image shape caches number) (by_number image shape caches number)
+    (read_stands known image shape caches page (readable (field_of image page shape.objects.slub.slab_cache)) refl)
 
 -- a field that was read holds its number
 read_is : (asked : Asked) (r : Result FieldNumber Stopped) (n : FieldNumber) → or_missed asked r ≡ Ok n → option_map value_of (readable r) ≡ Some (value_of n)
