@@ -14,14 +14,14 @@ import tempfile
 import files
 from second import madeslabs, slabs
 from second.made import DIRECT, IMAGE, VMEMMAP
-from second.madeslabs import BITS, BYTES, CACHE, CACHES, CPUS, FRAMES, MADE, MAP, NOTE, OBJECTS, OFFSET, TOP, Slabs, btf
+from second.madeslabs import BITS, BYTES, CACHE, CACHES, CPUS, FRAMES, MADE, MAP, METADATA, NOTE, OBJECTS, OFFSET, POOL, TOP, Slabs, btf
 from second.objects import Objects
 
 REFUSED = object()
 PLAIN = NOTE.replace(b"NUMBER(PG_slab)=9\n", b"")
 PAGE_TYPE = ("page", 64, (("flags", 1, 0), ("compound_head", 1, 64), ("page_type", 2, 384)))
-FENCE = ("kfence_metadata", 64, (("list", 4, 0), ("state", 2, 128), ("addr", 1, 192), ("size", 1, 256)))
-FENCE_MAP, METADATA = b"ffffffff8000b0f8 D __kfence_pool\nffffffff80017000 D kfence_metadata\n", 0x17000
+# The word that leads to KFENCE's metadata.
+POINTER = 0xB0F0
 ZONES, PADDED = 3, 4
 
 
@@ -68,34 +68,33 @@ def with_type(value, made=None, frame=0x14):
     return made
 
 
-def with_structs(structs, without=()):
-    """The types with these structs, the first of which is that of pages."""
+def with_page(extra=(), without=()):
+    """The types with `page_type`."""
     kept = madeslabs.MORE
-    madeslabs.MORE = kept[:-1] + structs
+    madeslabs.MORE = kept[:-1] + (PAGE_TYPE,)
     try:
-        return btf((), without)
+        return btf(extra, without)
     finally:
         madeslabs.MORE = kept
 
 
-def with_page():
-    """The types with `page_type`."""
-    return with_structs((PAGE_TYPE,))
+def without_struct(name):
+    """The types without this struct."""
+    kept = madeslabs.MORE
+    madeslabs.MORE = tuple(struct for struct in kept if struct[0] != name)
+    try:
+        return btf()
+    finally:
+        madeslabs.MORE = kept
 
 
-def with_fence(without=(), page=madeslabs.MORE[-1]):
-    """The types with KFENCE's metadata."""
-    return with_structs((page, FENCE), without)
-
-
-def fenced(named=DIRECT + 0x12000, pool=DIRECT + 0x10000, flags=1 << 9, cache=0, counts=0, freelist=0, metadata=IMAGE + METADATA, at=METADATA):
+def fenced(named=DIRECT + 0x12000, pool=DIRECT + 0x10000, metadata=IMAGE + METADATA, at=METADATA, **words):
     """The same, with KFENCE's pool at an address, a marked page of it, and an object's metadata that name an address."""
     made = whole()
-    made.put(0xB0F8, pool)
-    made.put(0xB0F0, metadata)
-    made.put(at + 24, named)
-    for byte, word in ((0, flags), (8, cache), (32, freelist), (40, counts)):
-        made.put(FRAMES + 64 * 0x12 + byte, word)
+    made.fence(0x10, 0x12, **dict(cache=0, counts=0) | words)
+    made.put(METADATA + 24, 0)
+    for pa, word in ((POOL, pool), (POINTER, metadata), (at + 24, named)):
+        made.put(pa, word)
     return made
 
 
@@ -178,7 +177,7 @@ def cases():
     yield "another page type", with_type(0xFFFFFF5E), typed, "unmarked 1 kfence 0\nslabs 0"
     yield "a page type of 6.12", with_type(0xF5000000), typed | dict(note=PLAIN + b"NUMBER(PAGE_SLAB_MAPCOUNT_VALUE)=-184549376\n"), " broken Z2 at "
     yield "a flag first", wrong(0, 250), typed | dict(note=NOTE + b"NUMBER(PAGE_SLAB_MAPCOUNT_VALUE)=-161\n"), " broken Z2 at "
-    yield "no page_type", with_type(0xFFFFFF5F), typed | dict(types=btf()), "absent 26 unmarked 0 kfence 0\nslabs 0"
+    yield "no page_type", with_type(0xFFFFFF5F), typed | dict(types=btf()), "absent 29 unmarked 0 kfence 0\nslabs 0"
     # the ring of all caches
     nodes = [CACHES] + [cache + 32 for cache in CACHE]
     for k, node in enumerate(nodes):
@@ -201,10 +200,9 @@ def cases():
         made.put(FRAMES + 64 * 0x14 + 8, value)
         yield f"no slab and no cache {value:x}", made, same, "slabs 0 frozen 0 untold 0 guarded 0 broken 0"
     # pages of KFENCE's pool: never given out, given out, and with words of what they were before; its metadata are an array, or from 6.6 on behind a pointer
-    fence = same | dict(types=with_fence(), rows=MAP + FENCE_MAP)
-    kept = fence | dict(rows=fence["rows"].replace(b"80017000 D", b"8000b0f0 D") + b"ffffffff8000b0e8 d kfence_metadata_init\n")
+    kept = same | dict(rows=MAP.replace(b"8000b900 D", b"8000b0f0 D") + b"ffffffff8000b0e8 d kfence_metadata_init\n")
     none, one = f"slab {VMEMMAP + 64 * 0x12:016x} cache {0:016x} - broken U1 at ", "unmarked 0 kfence 1\nslabs 1 "
-    for form, kernel in (("", fence), (", a pointer", kept)):
+    for form, kernel in (("", same), (", a pointer", kept)):
         yield "never given out" + form, fenced(), kernel, one
         for cache in (IMAGE + CACHE[0], IMAGE + CACHE[ZONES], VMEMMAP + 64 * 0x12 + 8):
             yield f"given out {cache:x}{form}", fenced(cache=cache, counts=1 << 16), kernel, one
@@ -230,13 +228,13 @@ def cases():
             yield f"no {name.decode()}{form}", fenced(), kernel | dict(rows=kernel["rows"].replace(row + b"\n", b"")), none
             yield f"two of {name.decode()}{form}", fenced(), kernel | dict(rows=kernel["rows"] + b"ffffffff8000b0d8 D " + name + b"\n"), none
             yield f"{name.decode()} isn't there{form}", fenced(), kernel | dict(rows=kernel["rows"].replace(row, b"ffffffff87000000" + row[16:])), none
-        yield "no metadata in the types" + form, fenced(), kernel | dict(types=btf()), none
-        yield "no address in the metadata" + form, fenced(), kernel | dict(types=with_fence({("kfence_metadata", "addr")})), none
+        yield "no metadata in the types" + form, fenced(), kernel | dict(types=without_struct("kfence_metadata")), none
+        yield "no address in the metadata" + form, fenced(), kernel | dict(types=btf(without={("kfence_metadata", "addr")})), none
     for metadata in (0, IMAGE + METADATA + 64, IMAGE + METADATA + 8, TOP - 64):
         yield f"a pointer to {metadata:x}", fenced(metadata=metadata), kept, none
     yield "the last object of the greatest pool", fenced_far(131070), kept, one
     yield "the first page after that", fenced_far(131072), kept, f"slab {VMEMMAP + 64 * 0x20010:016x} cache {0:016x} - broken U1 at "
-    yield "a page type of 6.12, of the pool", with_type(0xF5000000, fenced(flags=0), 0x12), fence | dict(types=with_fence(page=PAGE_TYPE), note=PLAIN + b"NUMBER(PAGE_SLAB_MAPCOUNT_VALUE)=-184549376\n"), "kfence 1\nslabs 0 "
+    yield "a page type of 6.12, of the pool", with_type(0xF5000000, fenced(flags=0), 0x12), same | dict(types=with_page(), note=PLAIN + b"NUMBER(PAGE_SLAB_MAPCOUNT_VALUE)=-184549376\n"), "kfence 1\nslabs 0 "
     # slabs of the other rules
     yield "all of them", madeslabs.damaged(), same, "guarded 2 broken 5"
 
