@@ -1,6 +1,6 @@
 -- The slab caches of a kernel. Source: the kernel's mm/slab_common.c, the ring `slab_caches`; include/linux/slub_def.h, `struct kmem_cache`
 -- (from 6.8 on in mm/slab.h).
-use Rattle.std.specs.Prelude.{ℕ, Bool, true, ◌&&◌, is_none, if◌then◌else◌, List, [], ◌∷◌, Option, Some, None, Result, Ok, Err}
+use Rattle.std.specs.Prelude.{ℕ, Bool, true, ◌&&◌, is_none, if◌then◌else◌, List, [], ◌∷◌, Option, Some, None, Result, Ok}
 use Rattle.std.specs.BTreeMap.{insert_entry}
 use Rattle.std.specs.Ordering.{nat_cmp}
 use Rattle.std.specs.Str.{bytes_eq}

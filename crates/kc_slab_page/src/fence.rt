@@ -1,9 +1,9 @@
 // The pages of KFENCE's pool.
-ghost use Rattle.std.specs.Prelude.{◌≡◌, Ok};
+ghost use Rattle.std.specs.Prelude.{◌≡◌, ◌≤◌, length, Ok};
 ghost use Rattle.kc_memory.specs.Stays.{SpaceStays};
 ghost use Rattle.kc_found.specs.Walks.{CountsWalkFaults, OnBroken, WalksAs};
 ghost use Rattle.kc_kinds.specs.Kernels.{kernel};
-ghost use Rattle.kc_slab_page.specs.Fences.{fence_shape, in_pool, is_named, is_named_by, metadata_at, metadata_of, page_at, pool_at, pool_by, pool_with};
+ghost use Rattle.kc_slab_page.specs.Fences.{fence_by, fence_shape, in_pool, is_named, is_named_by, metadata_at, metadata_of, page_at, pool_at, pool_by, pool_with};
 
 use kc_btf::Btf;
 use kc_found::{Space, WalkStop};
@@ -44,6 +44,20 @@ pub struct FencePool {
     pub metadata: u64,
 }
 
+// Where these words stand, by the symbols and the type of the metadata.
+fn fence_by(known: &Known<'_>, pool: u64, metadata: u64, ty: u32, size: u64) -> FenceShape
+    requires { ty ≤ length known.now.btf.now.records }
+    ensures { result ≡ fence_by (kernel known.now) pool metadata ty size }
+{
+    FenceShape {
+        pool,
+        metadata,
+        pointed: single(known, b"kfence_metadata_init").is_some(),
+        size,
+        addr: scalar_in(known.btf, Some(ty), b"addr"),
+    }
+}
+
 /// Where a kernel has the words that tell which pages are of KFENCE's pool, or `None` where its map or its types lack them.
 pub(crate) fn fence_shape(known: &Known<'_>) -> Option<FenceShape>
     ensures { result ≡ fence_shape (kernel known.now) }
@@ -52,13 +66,7 @@ pub(crate) fn fence_shape(known: &Known<'_>) -> Option<FenceShape>
     let metadata = single(known, b"kfence_metadata")?;
     let ty = struct_named(known, b"kfence_metadata")?;
     let size = size_of(known.btf, ty)?;
-    Some(FenceShape {
-        pool,
-        metadata,
-        pointed: single(known, b"kfence_metadata_init").is_some(),
-        size,
-        addr: scalar_in(known.btf, Some(ty), b"addr"),
-    })
+    Some(fence_by(known, pool, metadata, ty, size))
 }
 
 // The number of the page at an address where physical memory is mapped.
