@@ -1,5 +1,5 @@
 -- What shows what slabs break stands in the dump, and each frame is counted.
-use Rattle.std.proofs.Common.{◌≡◌, ℕ, suc, ◌+◌, ◌-◌, ◌^◌, ◌≤◌, ◌∷◌, ◌++◌, [], List, length, refl, arith}
+use Rattle.std.proofs.Common.{◌≡◌, ℕ, ◌+◌, ◌-◌, ◌^◌, ◌≤◌, ◌∷◌, ◌++◌, [], List, length, refl, arith}
 use Rattle.std.specs.Prelude.{min}
 use Rattle.std.specs.List.{AllByRecursion}
 use Rattle.kc_memory.specs.Image.{Image}
@@ -15,9 +15,8 @@ use Rattle.kc_slab_page.specs.Laws.{SlabsStand, page_places, state_places}
 use Rattle.kc_slab_page.specs.Pages.{page_seen}
 use Rattle.kc_slab_scan.specs.declared.totals.BrokenSlab.{BrokenSlab}
 use Rattle.kc_slab_scan.specs.declared.totals.Scan.{Scan}
-use Rattle.kc_slab_scan.specs.declared.totals.Totals.{Totals}
 use Rattle.kc_slab_scan.specs.Laws.{BrokenStand, FramesAreCounted, IsSound, IsSoundState, SoundIsOfAll, Stands}
-use Rattle.kc_slab_scan.specs.Scans.{added, none_seen, scan_from, with_broken, with_page, with_state}
+use Rattle.kc_slab_scan.specs.Scans.{added, none_seen, scan_from, with_broken, with_page}
 
 stand_more : (image : Image) (bs : List BrokenSlab) (b : BrokenSlab) → AllByRecursion (Stands image) bs → Stands image b → AllByRecursion (Stands image) (bs ++ b ∷ [])
 stand_more image [] b all here = (here, tt)

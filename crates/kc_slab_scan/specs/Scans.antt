@@ -1,7 +1,6 @@
 -- What is seen of page frames, one after the other.
 use Rattle.std.specs.Prelude.{ℕ, ◌+◌, ◌-◌, ◌^◌, min, if◌then◌else◌, List, [], ◌∷◌, ◌++◌}
 use Rattle.kc_memory.specs.Image.{Image}
-use Rattle.kc_found.specs.Violations.{Violation}
 use Rattle.kc_slab_page.specs.declared.page.PageSeen.{PageSeen}
 use Rattle.kc_slab_page.specs.declared.page.PageSeen.TheVariants.{Absent, Fenced, Other, Unmarked, Slab}
 use Rattle.kc_slab_page.specs.declared.page.SlabSeen.{SlabSeen}
@@ -11,7 +10,6 @@ use Rattle.kc_slab_page.specs.declared.shape.PageShape.{PageShape}
 use Rattle.kc_slab_page.specs.declared.slab.SlabFree.{SlabFree}
 use Rattle.kc_slab_page.specs.Caches.{Caches}
 use Rattle.kc_slab_page.specs.Pages.{page_seen}
-use Rattle.kc_slab_scan.specs.declared.totals.BrokenSlab.{BrokenSlab}
 use Rattle.kc_slab_scan.specs.declared.totals.Scan.{Scan}
 use Rattle.kc_slab_scan.specs.declared.totals.Totals.{Totals}
 
