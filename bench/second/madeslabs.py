@@ -1,5 +1,5 @@
 """Makes the dump on which kslab is tried in crates/kslab: slabs of five caches, whole and damaged ones, two of them with slub_debug, a page that
-only claims a cache, two processors, and a frame without a descriptor; and the dumps of slabcases.py.
+only claims a cache, a page of KFENCE's pool, two processors, and a frame without a descriptor; and the dumps of slabcases.py.
 
 usage: madeslabs FOLDER
 
@@ -18,7 +18,9 @@ NOTE = (
 MAP = b"""ffffffff8000b000 D nr_cpu_ids
 ffffffff8000b008 D __cpu_possible_mask
 ffffffff8000b010 D __per_cpu_offset
+ffffffff8000b0f8 D __kfence_pool
 ffffffff8000b100 D slab_caches
+ffffffff8000b900 D kfence_metadata
 """
 WORD, NUMBER, POINTER, LIST, ARRAY = 1, 2, 3, 4, 6
 # The structs: name, bytes, and the members by name, type, bit, and width where it is a bit-field's.
@@ -33,10 +35,12 @@ MORE = (
                         ("red_left_pad", NUMBER, 544), ("ctor", POINTER, 576))),
     ("slab", 64, (("__page_flags", WORD, 0), ("slab_cache", POINTER, 64), ("slab_list", LIST, 128), ("freelist", POINTER, 256),
                   ("inuse", NUMBER, 320, 16), ("objects", NUMBER, 336, 15), ("frozen", NUMBER, 351, 1))),
+    ("kfence_metadata", 64, (("list", LIST, 0), ("state", NUMBER, 128), ("addr", WORD, 192), ("size", WORD, 256))),
     ("page", 64, (("flags", WORD, 0), ("compound_head", WORD, 64))),
 )
 CACHES, CACHE, NAMES, CPUS = 0xB100, (0xB200, 0xB300, 0xB400, 0xB500, 0xB600), 0xB800, (0xC000, 0xC400)
-FRAMES, SIZE, FAR, RANDOM = 0x8000, 0x19000, 0x40000, 0x1122334455667788
+FRAMES, SIZE, FAR, RANDOM = 0x8000, 0x1C000, 0x40000, 0x1122334455667788
+POOL, METADATA = 0xB0F8, 0xB900
 OBJECTS, BYTES, OFFSET = 8, 512, 256
 # SLAB_RED_ZONE and SLAB_POISON, by constants and by the bits of an enumeration.
 ZONES, POISON, BITS = 0x400, 0x800, {0x400: 1 << 1, 0x800: 1 << 2, 0x80000: 1 << 9}
@@ -79,7 +83,9 @@ def btf(extra=(), without=()):
 
 
 class Slabs:
-    """The memory."""
+    """The memory, and the physical address of a page without a descriptor."""
+
+    far = FAR
 
     def __init__(self):
         self.memory = bytearray(SIZE)
@@ -140,6 +146,13 @@ class Slabs:
         self.guard(frame, cache, free)
         self.slab(frame, cache, free, OBJECTS - len(free))
 
+    def fence(self, first, frame, cache, counts, flags=1 << 9, freelist=0):
+        """KFENCE's pool from one page on, and another page of it, with its object's metadata."""
+        self.put(POOL, DIRECT + 4096 * first)
+        self.put(METADATA + 64 * ((frame - first) // 2 - 1) + 24, DIRECT + 4096 * frame + 16)
+        for at, word in ((0, flags), (8, cache), (32, freelist), (40, counts)):
+            self.put(FRAMES + 64 * frame + at, word)
+
     def processor(self, number, cache, frame, first):
         """A processor's slab of a cache, and the first object of its list."""
         at = CPUS[number] + 64 * cache
@@ -155,7 +168,7 @@ class Slabs:
         struct.pack_into("<HHH", head, 54, 56, 3, 0)
         note = struct.pack("<III", 11, len(text), 0) + b"VMCOREINFO\0\0" + text + b"\0" * (-len(text) % 4)
         head[0x200 : 0x200 + len(note)] = note
-        for k, (kind, at, pa, size) in enumerate(((4, 0x200, 0, len(note)), (1, 0x400, 0, SIZE), (1, 0x400 + SIZE, FAR, 4096))):
+        for k, (kind, at, pa, size) in enumerate(((4, 0x200, 0, len(note)), (1, 0x400, 0, SIZE), (1, 0x400 + SIZE, self.far, 4096))):
             struct.pack_into("<IIQQQQQQ", head, 64 + 56 * k, kind, 0, at, 0, pa, size, size, 0)
         return bytes(head) + bytes(self.memory) + bytes(4096)
 
@@ -183,6 +196,7 @@ def damaged():
         made.guarded(frame, cache, free)
         if harmed is not None:
             made.memory[4096 * frame + harmed] ^= 1
+    made.fence(0x19, 0x1B, IMAGE + CACHE[0], 1 << 16)
     return made
 
 

@@ -14,12 +14,14 @@ import tempfile
 import files
 from second import madeslabs, slabs
 from second.made import DIRECT, IMAGE, VMEMMAP
-from second.madeslabs import BITS, BYTES, CACHE, CACHES, CPUS, FRAMES, MADE, MAP, NOTE, OBJECTS, OFFSET, TOP, Slabs, btf
+from second.madeslabs import BITS, BYTES, CACHE, CACHES, CPUS, FRAMES, MADE, MAP, METADATA, NOTE, OBJECTS, OFFSET, POOL, TOP, Slabs, btf
 from second.objects import Objects
 
 REFUSED = object()
 PLAIN = NOTE.replace(b"NUMBER(PG_slab)=9\n", b"")
 PAGE_TYPE = ("page", 64, (("flags", 1, 0), ("compound_head", 1, 64), ("page_type", 2, 384)))
+# The word that leads to KFENCE's metadata.
+POINTER = 0xB0F0
 ZONES, PADDED = 3, 4
 
 
@@ -57,11 +59,12 @@ def enumerated(made):
     return made
 
 
-def with_type(value, made=None):
+def with_type(value, made=None, frame=0x14):
     """The same, where the slab's page has a page type in place of a flag."""
     made = made or wrong(0, 250)
-    struct.pack_into("<Q", made.memory, FRAMES + 64 * 0x14, 0)
-    struct.pack_into("<I", made.memory, FRAMES + 64 * 0x14 + 48, value)
+    for at in (0x14, frame):
+        struct.pack_into("<Q", made.memory, FRAMES + 64 * at, 0)
+    struct.pack_into("<I", made.memory, FRAMES + 64 * frame + 48, value)
     return made
 
 
@@ -73,6 +76,36 @@ def with_page(extra=(), without=()):
         return btf(extra, without)
     finally:
         madeslabs.MORE = kept
+
+
+def without_struct(name):
+    """The types without this struct."""
+    kept = madeslabs.MORE
+    madeslabs.MORE = tuple(struct for struct in kept if struct[0] != name)
+    try:
+        return btf()
+    finally:
+        madeslabs.MORE = kept
+
+
+def fenced(named=DIRECT + 0x12000, pool=DIRECT + 0x10000, metadata=IMAGE + METADATA, at=METADATA, **words):
+    """The same, with KFENCE's pool at an address, a marked page of it, and an object's metadata that name an address."""
+    made = whole()
+    made.fence(0x10, 0x12, **dict(cache=0, counts=0) | words)
+    made.put(METADATA + 24, 0)
+    for pa, word in ((POOL, pool), (POINTER, metadata), (at + 24, named)):
+        made.put(pa, word)
+    return made
+
+
+def fenced_far(far):
+    """The same, where a page so many pages after the pool's first is marked, and the metadata behind a pointer name it."""
+    number = 0x10 + far
+    made = fenced(DIRECT + 4096 * number, flags=0, metadata=IMAGE + METADATA - 64 * (far // 2 - 1))
+    made.far = 4096 * number
+    for pa, word in ((0x6000 + 8 * (number >> 15), 0x15003), (0x15000 + 8 * (number >> 6 & 511), 0x16003), (0x16000 + 64 * (number & 63), 1 << 9)):
+        made.put(pa, word)
+    return made
 
 
 def ring(at, value):
@@ -136,15 +169,15 @@ def cases():
     yield "no slab_caches", whole(), same | dict(rows=rows), REFUSED
     # the mark of a slab
     yield "no mark", whole(), same | dict(note=PLAIN), REFUSED
-    yield "another flag", whole(), same | dict(note=PLAIN + b"NUMBER(PG_slab)=8\n"), "unmarked 1\nslabs 0"
+    yield "another flag", whole(), same | dict(note=PLAIN + b"NUMBER(PG_slab)=8\n"), "unmarked 1 kfence 0\nslabs 0"
     yield "a flag too far", whole(), same | dict(note=PLAIN + b"NUMBER(PG_slab)=64\n"), REFUSED
     yield "a flag below 0", whole(), same | dict(note=PLAIN + b"NUMBER(PG_slab)=-1\n"), REFUSED
     typed = same | dict(types=with_page(), note=PLAIN + b"NUMBER(PAGE_SLAB_MAPCOUNT_VALUE)=-161\n")
     yield "a page type", with_type(0xFFFFFF5F), typed, " broken Z2 at "
-    yield "another page type", with_type(0xFFFFFF5E), typed, "unmarked 1\nslabs 0"
+    yield "another page type", with_type(0xFFFFFF5E), typed, "unmarked 1 kfence 0\nslabs 0"
     yield "a page type of 6.12", with_type(0xF5000000), typed | dict(note=PLAIN + b"NUMBER(PAGE_SLAB_MAPCOUNT_VALUE)=-184549376\n"), " broken Z2 at "
     yield "a flag first", wrong(0, 250), typed | dict(note=NOTE + b"NUMBER(PAGE_SLAB_MAPCOUNT_VALUE)=-161\n"), " broken Z2 at "
-    yield "no page_type", with_type(0xFFFFFF5F), typed | dict(types=btf()), "absent 26 unmarked 0\nslabs 0"
+    yield "no page_type", with_type(0xFFFFFF5F), typed | dict(types=btf()), "absent 29 unmarked 0 kfence 0\nslabs 0"
     # the ring of all caches
     nodes = [CACHES] + [cache + 32 for cache in CACHE]
     for k, node in enumerate(nodes):
@@ -166,6 +199,42 @@ def cases():
         made.put(FRAMES + 64 * 0x14, 0)
         made.put(FRAMES + 64 * 0x14 + 8, value)
         yield f"no slab and no cache {value:x}", made, same, "slabs 0 frozen 0 untold 0 guarded 0 broken 0"
+    # pages of KFENCE's pool: never given out, given out, and with words of what they were before; its metadata are an array, or from 6.6 on behind a pointer
+    kept = same | dict(rows=MAP.replace(b"8000b900 D", b"8000b0f0 D") + b"ffffffff8000b0e8 d kfence_metadata_init\n")
+    none, one = f"slab {VMEMMAP + 64 * 0x12:016x} cache {0:016x} - broken U1 at ", "unmarked 0 kfence 1\nslabs 1 "
+    for form, kernel in (("", same), (", a pointer", kept)):
+        yield "never given out" + form, fenced(), kernel, one
+        for cache in (IMAGE + CACHE[0], IMAGE + CACHE[ZONES], VMEMMAP + 64 * 0x12 + 8):
+            yield f"given out {cache:x}{form}", fenced(cache=cache, counts=1 << 16), kernel, one
+        yield "words of before" + form, fenced(cache=IMAGE + CACHE[0], counts=3 | 1 << 16, freelist=DIRECT + 0x12010), kernel, one
+        yield "a frozen slab of before" + form, fenced(counts=1 << 31 | 8 << 16 | 8, freelist=0x1234), kernel, one
+        for named in (DIRECT + 0x12FFF, DIRECT + 0x12010):
+            yield f"an object at {named:x}{form}", fenced(named), kernel, one
+        for named in (0, 0x12000, DIRECT + 0x11FFF, DIRECT + 0x13000, DIRECT + 0x14000, IMAGE + 0x12000, TOP - 1):
+            yield f"metadata that name {named:x}{form}", fenced(named), kernel, none
+        for pool in (0, DIRECT + 0x12000, DIRECT + 0x11000, DIRECT + 0x13000, DIRECT + 0xE000, DIRECT + 0x14000, DIRECT + 0x12000 - 4096 * 131072, DIRECT + 0xFFFF):
+            yield f"a pool at {pool:x}{form}", fenced(pool=pool), kernel, none
+        yield "a pool within a page" + form, fenced(pool=DIRECT + 0x10FFF), kernel, one
+        yield "the second object" + form, fenced(pool=DIRECT + 0xE000, at=METADATA + 64), kernel, one
+        yield "the third object" + form, fenced(pool=DIRECT + 0xC000, at=METADATA + 128), kernel, one
+        yield "the third object's metadata for the second" + form, fenced(pool=DIRECT + 0xE000, at=METADATA + 128), kernel, none
+        made = fenced()
+        made.put(METADATA + 64 + 24, DIRECT + 0x14000)
+        yield "two pages" + form, made, kernel, "unmarked 0 kfence 2\nslabs 0 "
+        yield "a page without the mark" + form, fenced(flags=0), kernel, "unmarked 0 kfence 0\nslabs 1 "
+        yield "a page without the mark that names a cache" + form, fenced(flags=0, cache=IMAGE + CACHE[0]), kernel, "unmarked 1 kfence 0\nslabs 1 "
+        for name in (b"__kfence_pool", b"kfence_metadata"):
+            row = next(row for row in kernel["rows"].splitlines() if row.endswith(b" " + name))
+            yield f"no {name.decode()}{form}", fenced(), kernel | dict(rows=kernel["rows"].replace(row + b"\n", b"")), none
+            yield f"two of {name.decode()}{form}", fenced(), kernel | dict(rows=kernel["rows"] + b"ffffffff8000b0d8 D " + name + b"\n"), none
+            yield f"{name.decode()} isn't there{form}", fenced(), kernel | dict(rows=kernel["rows"].replace(row, b"ffffffff87000000" + row[16:])), none
+        yield "no metadata in the types" + form, fenced(), kernel | dict(types=without_struct("kfence_metadata")), none
+        yield "no address in the metadata" + form, fenced(), kernel | dict(types=btf(without={("kfence_metadata", "addr")})), none
+    for metadata in (0, IMAGE + METADATA + 64, IMAGE + METADATA + 8, TOP - 64):
+        yield f"a pointer to {metadata:x}", fenced(metadata=metadata), kept, none
+    yield "the last object of the greatest pool", fenced_far(131070), kept, one
+    yield "the first page after that", fenced_far(131072), kept, f"slab {VMEMMAP + 64 * 0x20010:016x} cache {0:016x} - broken U1 at "
+    yield "a page type of 6.12, of the pool", with_type(0xF5000000, fenced(flags=0), 0x12), same | dict(types=with_page(), note=PLAIN + b"NUMBER(PAGE_SLAB_MAPCOUNT_VALUE)=-184549376\n"), "kfence 1\nslabs 0 "
     # slabs of the other rules
     yield "all of them", madeslabs.damaged(), same, "guarded 2 broken 5"
 

@@ -111,13 +111,46 @@ class Slabs:
         self.caches = {}
         self.nodes, self.ring = reached(kernel, address(kernel.rows, "slab_caches", info.kaslr))
         self.all_caches = wanted is None and self.ring is None
-        self.named = {}
+        self.named, self.pool = {}, self.pool_of()
         for node in self.nodes:
             cache = (node - kernel.byte("kmem_cache", "list")) % TOP
             name = self.text(self.value(cache, "kmem_cache", "name"))
             if wanted is None or name == wanted:
                 laid = self.laid(cache)
                 self.caches[cache] = name, laid, self.runs(cache, laid)
+
+    def pool_of(self):
+        """KFENCE's pool: its first page, the address of its metadata and the size of those of one object; or none."""
+        kernel, found = self.kernel, []
+        for name in ("__kfence_pool", "kfence_metadata", "kfence_metadata_init"):
+            try:
+                found.append(address(kernel.rows, name, kernel.info.kaslr))
+            except Refused:
+                found.append(None)
+        pool, metadata, pointed = found
+        try:
+            size = kernel.types.size(kernel.struct("kfence_metadata"))
+        except Refused:
+            return None
+        if pool is None or metadata is None:
+            return None
+        first, metadata = self.word(pool), metadata if pointed is None else self.word(metadata)
+        return (self.frame_at(first), metadata, size) if first and metadata is not None else None
+
+    def frame_at(self, at):
+        """The number of the page at an address of the direct map."""
+        return (at - self.bases[1]) % TOP // 4096
+
+    def fenced(self, slab, number):
+        """Whether a page frame is one of that pool (mm/kfence/core.c, kfence_init_pool): an even one from the second on, marked, in which its object's metadata say that it lies."""
+        if self.pool is None:
+            return False
+        first, metadata, size = self.pool
+        if number % 2 != first % 2 or not 0 < number - first <= 2 * 65535:
+            return False
+        at = self.value((metadata + ((number - first) // 2 - 1) * size) % TOP, "kfence_metadata", "addr")
+        mark = self.value(slab, "page", self.field)
+        return at is not None and self.frame_at(at) == number and mark is not None and self.marked(mark)
 
     def word(self, at):
         """The 64 bits at an address, or none where they can't be read."""
@@ -275,6 +308,9 @@ class Slabs:
         seen["frames"] += 1
         slab = (self.bases[0] + self.page * number) % TOP
         cache = self.named[number] = self.word(slab + self.kernel.byte("slab", "slab_cache"))
+        if self.fenced(slab, number):
+            seen["kfence"] += 1
+            return
         known = cache in self.caches
         if cache is None or not known and not self.all_caches:
             seen["absent"] += cache is None
@@ -332,7 +368,7 @@ class Slabs:
         if self.ring:
             lines.append("caches broken %s\n" % self.told(self.ring))
             lines += [place_line(place) for place in self.ring.places]
-        lines.append("caches %d\nframes %d absent %d unmarked %d\n" % (len(self.caches), *(seen[k] for k in ("frames", "absent", "unmarked"))))
+        lines.append("caches %d\nframes %d absent %d unmarked %d kfence %d\n" % (len(self.caches), *(seen[k] for k in ("frames", "absent", "unmarked", "kfence"))))
         lines.append("slabs %d frozen %d untold %d guarded %d broken %d\n" % tuple(seen[k] for k in ("slabs", "frozen", "untold", "guarded", "broken")))
         lines.append("objects %d free %d\n" % (seen["objects"], seen["free"]))
         sound = self.caches and not seen["broken"] and not seen["untold"] and not owned and not self.ring

@@ -67,7 +67,7 @@ slab ffffea0000151980 cache ffff888000101000 dentry broken M6 at ffff88800000700
 stop 0 0000000000007000
 processors 2 slabs 170 unread 0 broken 1 free 5578
 caches 157
-frames 49013 absent 0 unmarked 0
+frames 49013 absent 0 unmarked 0 kfence 0
 slabs 3946 frozen 262 untold 0 broken 2
 objects 104397 free 2762"""
 

@@ -1,5 +1,5 @@
 -- What is looked up, once it is there.
-use Rattle.std.proofs.Common.{◌≡◌, ℕ, Option, Some, None, option_map, option_and_then, refl, sym, ap, ◌∙◌, subst}
+use Rattle.std.proofs.Common.{◌≡◌, ℕ, Option, Some, None, option_map, option_and_then, ap, ◌∙◌, subst}
 use Rattle.std.specs.Prelude.{Result, Ok}
 use Rattle.std.specs.BTreeMap.{is_at}
 use Rattle.std.specs.Map.{lookup}
@@ -11,6 +11,7 @@ use Rattle.kc_found.specs.declared.found.WalkStop.{WalkStop}
 use Rattle.kc_found.specs.Walks.{IsWalk, WalksAs}
 use Rattle.kc_owner.specs.declared.object.shape.ObjectShape.{ObjectShape}
 use Rattle.kc_slab_page.specs.declared.caches.CacheSeen.{CacheSeen}
+use Rattle.kc_slab_page.specs.declared.fence.FenceShape.{FenceShape}
 use Rattle.kc_slab_page.specs.declared.guards.GuardShape.{GuardShape}
 use Rattle.kc_slab_page.specs.declared.mark.Mark.{Mark}
 use Rattle.kc_slab_page.specs.declared.page.PageSeen.{PageSeen}
@@ -39,9 +40,11 @@ by_none (Some i) shape caches page cache value r same is walks =
     (is ∙ ap (λ (v : ℕ). lookup (is_at (nat_cmp v)) caches.entries) same) walks
 
 -- a shape whose parts are there
-pub shape_is : (o : Option ObjectShape) (m : Option Mark) (g : Option GuardShape) (objects : ObjectShape) (mark : Mark) (guards : Option GuardShape) → Some objects ≡ o → Some mark ≡ m → guards ≡ g
-    → ◌≡◌ {A = Option PageShape} (Some (record { objects = objects; mark = mark; guards = guards })) (option_and_then (λ (os : ObjectShape). option_map (λ (k : Mark). record { objects = os; mark = k; guards = g }) m) o)
-shape_is o m g objects mark guards one two three =
-    ap (λ (h : Option GuardShape). Some (record { objects = objects; mark = mark; guards = h })) three
-    ∙ ap (λ (k : Option Mark). option_map (λ (k : Mark). record { objects = objects; mark = k; guards = g }) k) two
-    ∙ ap (λ (p : Option ObjectShape). option_and_then (λ (os : ObjectShape). option_map (λ (k : Mark). record { objects = os; mark = k; guards = g }) m) p) one
+pub shape_is : (o : Option ObjectShape) (m : Option Mark) (g : Option GuardShape) (objects : ObjectShape) (mark : Mark) (guards : Option GuardShape) (fence f : Option FenceShape) → Some objects ≡ o → Some mark ≡ m → guards ≡ g → fence ≡ f
+    → ◌≡◌ {A = Option PageShape} (Some (record { objects = objects; mark = mark; guards = guards; fence = fence }))
+    (option_and_then (λ (os : ObjectShape). option_map (λ (k : Mark). record { objects = os; mark = k; guards = g; fence = f }) m) o)
+shape_is o m g objects mark guards fence f one two three four =
+    ap (λ (h : Option GuardShape). Some (record { objects = objects; mark = mark; guards = h; fence = fence })) three
+    ∙ ap (λ (h : Option FenceShape). Some (record { objects = objects; mark = mark; guards = g; fence = h })) four
+    ∙ ap (λ (k : Option Mark). option_map (λ (k : Mark). record { objects = objects; mark = k; guards = g; fence = f }) k) two
+    ∙ ap (λ (p : Option ObjectShape). option_and_then (λ (os : ObjectShape). option_map (λ (k : Mark). record { objects = os; mark = k; guards = g; fence = f }) m) p) one

@@ -1,12 +1,11 @@
 -- What shows what a slab breaks stands in the dump, and a slab that is whole has a finite free list.
-use Rattle.std.proofs.Common.{◌≡◌, ℕ, ◌+◌, ◌-◌, Bool, true, false, not, nat_eq, nat_le, nat_lt, ◌&&◌, ◌||◌, IsTrue, List, length, Option, Some, None, option_map, refl, sym, ap, ◌∙◌, subst, true≢false}
+use Rattle.std.proofs.Common.{◌≡◌, ℕ, ◌+◌, ◌-◌, Bool, true, false, not, nat_eq, nat_le, nat_lt, ◌||◌, IsTrue, List, length, Option, Some, None, option_map, refl, sym, ap, ◌∙◌, subst, true≢false}
 use Rattle.std.specs.Prelude.{Result, Ok, Err, if◌then◌else◌}
 use Rattle.std.specs.BTreeMap.{is_at}
 use Rattle.std.specs.Map.{lookup}
 use Rattle.std.specs.Ordering.{nat_cmp}
 use Rattle.std.proofs.lemmas.Bool.{and_parts, eqb-true, leb-true}
 use Rattle.kc_memory.specs.declared.rule.Rule.TheVariants.{U3, U4, U6}
-use Rattle.kc_memory.specs.Bits.{Number}
 use Rattle.kc_memory.specs.Image.{Image}
 use Rattle.kc_memory.specs.Places.{AllStandIn}
 use Rattle.kc_memory.specs.Stopped.{Stopped}
@@ -16,13 +15,13 @@ use Rattle.kc_view.specs.declared.slub.SlabObjects.{SlabObjects}
 use Rattle.kc_view.specs.declared.slub.SlubBases.{SlubBases}
 use Rattle.kc_view.specs.declared.slub.SlubShape.{SlubShape}
 use Rattle.kc_view.specs.Caches.{grid_of, is_descriptor}
-use Rattle.kc_view.specs.Fields.{FieldIs, breaks_at, field_of, or_missed, read_field, unless, value_of}
+use Rattle.kc_view.specs.Fields.{FieldIs, breaks_at, field_of, or_missed, read_field, value_of}
 use Rattle.kc_view.specs.Laws.{ValuesStand}
 use Rattle.kc_view.specs.Steps.{Shows, field_shows, missed_ok, number_stands, shows_all, then_shows, unless_ok, unless_shows}
 use Rattle.kc_found.specs.declared.asked.Asked.{Asked}
 use Rattle.kc_found.specs.declared.free.Grid.{Grid}
 use Rattle.kc_found.specs.FiniteLists.{FreeChain}
-use Rattle.kc_found.specs.FreeLists.{IsGrid, free_list, low_word, number_in}
+use Rattle.kc_found.specs.FreeLists.{IsGrid, free_list, number_in}
 use Rattle.kc_found.specs.Nodes.{readable}
 use Rattle.kc_found.specs.Trials.{and_then, ok_after}
 use Rattle.kc_found.specs.Violations.{Violation, breaks_field}
@@ -36,15 +35,17 @@ use Rattle.kc_guard.specs.Laws.{GuardsHold, Shown, SpoiledStand}
 use Rattle.kc_guard.specs.Objects.{objects_checked}
 use Rattle.kc_slab_page.specs.declared.guarding.SlabState.{SlabState}
 use Rattle.kc_slab_page.specs.declared.guarding.SlabState.TheVariants.{Whole, Untold}
+use Rattle.kc_slab_page.specs.declared.page.PageSeen.{PageSeen}
+use Rattle.kc_slab_page.specs.declared.page.PageSeen.TheVariants.{Fenced}
 use Rattle.kc_slab_page.specs.declared.shape.PageShape.{PageShape}
 use Rattle.kc_slab_page.specs.declared.slab.SlabCounted.{SlabCounted}
 use Rattle.kc_slab_page.specs.declared.slab.SlabFree.{SlabFree}
 use Rattle.kc_slab_page.specs.Caches.{Caches}
 use Rattle.kc_slab_page.specs.Guarding.{guarded_by, guards_checked, is_guarded}
-use Rattle.kc_slab_page.specs.Laws.{AreKept, GuardsAreKept, IsWhole, SlabsStand, WholeSlabs, page_places, state_places}
+use Rattle.kc_slab_page.specs.Laws.{AreKept, GuardsAreKept, SlabsStand, WholeSlabs, page_places, state_places}
 use Rattle.kc_slab_page.specs.Marks.{marked}
-use Rattle.kc_slab_page.specs.Pages.{by_cache, by_mark, by_read, by_seen, page_seen, state_by, state_of, state_with, stray, unnamed, with_mark}
-use Rattle.kc_slab_page.specs.Slabs.{counted, free_of, is_laid, own_list, slab_free}
+use Rattle.kc_slab_page.specs.Pages.{by_number, by_read, by_seen, is_fenced, page_seen, state_by, state_of, stray, unnamed, with_mark}
+use Rattle.kc_slab_page.specs.Slabs.{counted, is_laid, own_list, slab_free}
 
 -- what is known of the fields and free lists of a dump
 pub record Known : Type 0 where
@@ -171,11 +172,17 @@ read_stands known image shape caches page (Some cache) is =
     (number_stands known.values image (looked_at page) page shape.objects.slub.slab_cache cache
     (was_read (looked_at page) (field_of image page shape.objects.slub.slab_cache) cache is))
 
+-- and one of KFENCE's pool, or another
+fenced_stands : (image : Image) (b : Bool) (seen : PageSeen) → AllStandIn image (page_places seen) → AllStandIn image (page_places (if b then Fenced else seen))
+fenced_stands image true seen here = tt
+fenced_stands image false seen here = here
+
 pub slabs_stand : Known → SlabsStand
 unfolding page_seen
 slabs_stand known image shape caches number =
     let page = descriptor_of shape.objects.slub caches.bases number in
-    read_stands known image shape caches page (readable (field_of image page shape.objects.slub.slab_cache)) refl
+    fenced_stands image (is_fenced image shape caches number) (by_number image shape caches number)
+    (read_stands known image shape caches page (readable (field_of image page shape.objects.slub.slab_cache)) refl)
 
 -- a field that was read holds its number
 read_is : (asked : Asked) (r : Result FieldNumber Stopped) (n : FieldNumber) → or_missed asked r ≡ Ok n → option_map value_of (readable r) ≡ Some (value_of n)

@@ -1,6 +1,6 @@
 -- The slab caches of a kernel. Source: the kernel's mm/slab_common.c, the ring `slab_caches`; include/linux/slub_def.h, `struct kmem_cache`
 -- (from 6.8 on in mm/slab.h).
-use Rattle.std.specs.Prelude.{ℕ, Bool, true, ◌&&◌, is_none, if◌then◌else◌, List, [], ◌∷◌, Option, Some, None, Result, Ok, Err}
+use Rattle.std.specs.Prelude.{ℕ, Bool, true, ◌&&◌, is_none, if◌then◌else◌, List, [], ◌∷◌, Option, Some, None, Result, Ok}
 use Rattle.std.specs.BTreeMap.{insert_entry}
 use Rattle.std.specs.Ordering.{nat_cmp}
 use Rattle.std.specs.Str.{bytes_eq}
@@ -17,7 +17,9 @@ use Rattle.kc_owner.specs.Object.Keys.{cache_by}
 use Rattle.kc_owner.specs.Object.Pages.{bases_at}
 use Rattle.kc_slab_page.specs.declared.caches.CacheSeen.{CacheSeen}
 use Rattle.kc_slab_page.specs.declared.caches.SlabCaches.{SlabCaches}
+use Rattle.kc_slab_page.specs.declared.fence.FencePool.{FencePool}
 use Rattle.kc_slab_page.specs.declared.shape.PageShape.{PageShape}
+use Rattle.kc_slab_page.specs.Fences.{pool_at}
 use Rattle.kc_slab_page.specs.Guards.{runs_of}
 use Rattle.kc_owner.specs.Rings.{RingParts, ring_nodes}
 
@@ -54,17 +56,18 @@ unfoldable pub caches_from : Image → PageShape → Option (List ℕ) → Entri
 caches_from image shape wanted caches [] = caches
 caches_from image shape wanted caches (n ∷ ns) = caches_from image shape wanted (with_cache image shape wanted caches n) ns
 
--- where page descriptors and physical memory begin, the nodes of the ring of all caches, the rule that it breaks, where it does, the caches, and
--- whether they are all of the kernel's
+-- where page descriptors and physical memory begin, the nodes of the ring of all caches, the rule that it breaks, where it does, the caches,
+-- whether they are all of the kernel's, and KFENCE's pool
 pub record Caches : Type 0 where
   pub bases : SlubBases
   pub nodes : List ℕ
   pub broken : Option Violation
   pub entries : Entries
   pub all : Bool
+  pub pool : Option FencePool
 
 abbrev pub caches_view : SlabCaches → Caches
-caches_view c = record { bases = c.bases; nodes = c.nodes; broken = c.broken; entries = c.caches.entries; all = c.all }
+caches_view c = record { bases = c.bases; nodes = c.nodes; broken = c.broken; entries = c.caches.entries; all = c.all; pool = c.pool }
 
 abbrev pub caches_by : Image → PageShape → Option (List ℕ) → SlubBases → RingParts → Caches
 caches_by image shape wanted b ring = record {
@@ -73,6 +76,7 @@ caches_by image shape wanted b ring = record {
   broken = ring.broken;
   entries = caches_from image shape wanted [] ring.nodes;
   all = is_none wanted && is_none ring.broken;
+  pool = pool_at image b shape.fence;
 }
 
 -- those of the ring of all caches that are wanted, also where it is broken

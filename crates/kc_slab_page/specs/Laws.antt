@@ -16,7 +16,7 @@ use Rattle.kc_guard.specs.declared.guards.GuardRun.{GuardRun}
 use Rattle.kc_guard.specs.Laws.{RunHolds}
 use Rattle.kc_guard.specs.Objects.{is_free, object_at}
 use Rattle.kc_slab_page.specs.declared.page.PageSeen.{PageSeen}
-use Rattle.kc_slab_page.specs.declared.page.PageSeen.TheVariants.{Absent, Other, Unmarked, Slab}
+use Rattle.kc_slab_page.specs.declared.page.PageSeen.TheVariants.{Absent, Fenced, Other, Unmarked, Slab}
 use Rattle.kc_slab_page.specs.declared.guarding.SlabFault.{SlabFault}
 use Rattle.kc_slab_page.specs.declared.guarding.SlabFault.TheVariants.{Words, Bytes}
 use Rattle.kc_slab_page.specs.declared.guarding.SlabState.{SlabState}
@@ -72,6 +72,7 @@ abbrev pub page_places : PageSeen → List Place
 page_places Absent = []
 page_places Other = []
 page_places Unmarked = []
+page_places Fenced = []
 page_places (Slab s) = state_places s.state
 
 -- each of them stands in the dump, at the place that is shown

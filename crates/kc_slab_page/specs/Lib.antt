@@ -6,4 +6,5 @@ pub mod Marks
 pub mod Pages
 pub mod Shapes
 pub mod Slabs
+pub mod Fences
 pub mod Frames

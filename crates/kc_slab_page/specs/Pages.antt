@@ -1,9 +1,10 @@
 -- What a page of a dump is, by its descriptor. Source: the kernel's mm/slab.h, `struct slab` (`slab_folio`, `folio_slab`), whose `slab_cache` names
 -- its cache.
-use Rattle.std.specs.Prelude.{◌≡◌, ℕ, Bool, true, false, if◌then◌else◌, List, Option, Some, None, Result, Ok, Err}
+use Rattle.std.specs.Prelude.{◌≡◌, ℕ, Bool, true, false, ◌&&◌, if◌then◌else◌, List, Option, Some, None, Result, Ok, Err}
 use Rattle.std.specs.BTreeMap.{is_at}
 use Rattle.std.specs.Ordering.{nat_cmp}
 use Rattle.std.specs.Map.{lookup}
+use Rattle.std.specs.Option.{unwrap_or}
 use Rattle.kc_memory.specs.declared.rule.Rule.TheVariants.{U1}
 use Rattle.kc_memory.specs.declared.space.Stop.{Stop}
 use Rattle.kc_memory.specs.declared.space.Stop.TheVariants as stops
@@ -22,13 +23,14 @@ use Rattle.kc_owner.specs.Object.Pages.{descriptor_of}
 use Rattle.kc_guard.specs.declared.guards.GuardRun.{GuardRun}
 use Rattle.kc_slab_page.specs.declared.caches.CacheSeen.{CacheSeen}
 use Rattle.kc_slab_page.specs.declared.page.PageSeen.{PageSeen}
-use Rattle.kc_slab_page.specs.declared.page.PageSeen.TheVariants.{Absent, Other, Unmarked, Slab}
+use Rattle.kc_slab_page.specs.declared.page.PageSeen.TheVariants.{Absent, Fenced, Other, Unmarked, Slab}
 use Rattle.kc_slab_page.specs.declared.guarding.SlabFault.TheVariants.{Words}
 use Rattle.kc_slab_page.specs.declared.guarding.SlabState.{SlabState}
 use Rattle.kc_slab_page.specs.declared.guarding.SlabState.TheVariants.{Broken, Untold}
 use Rattle.kc_slab_page.specs.declared.shape.PageShape.{PageShape}
 use Rattle.kc_slab_page.specs.declared.slab.SlabFree.{SlabFree}
 use Rattle.kc_slab_page.specs.Caches.{Caches}
+use Rattle.kc_slab_page.specs.Fences.{is_named}
 use Rattle.kc_slab_page.specs.Guarding.{with_guards}
 use Rattle.kc_slab_page.specs.Marks.{marked}
 use Rattle.kc_slab_page.specs.Slabs.{is_laid, slab_free}
@@ -80,11 +82,21 @@ abbrev pub by_read : Image → PageShape → Caches → ℕ → Option FieldNumb
 by_read image shape caches page None = Absent
 by_read image shape caches page (Some cache) = by_cache image shape caches page cache
 
--- what the page with a number is
-unfoldable pub page_seen : Image → PageShape → Caches → ℕ → PageSeen
-page_seen image shape caches number =
+-- a page with the mark of a slab that KFENCE's metadata name: one of its pool, and no slab
+abbrev pub is_fenced : Image → PageShape → Caches → ℕ → Bool
+is_fenced image shape caches number =
+    is_named image caches.bases caches.pool number
+    && unwrap_or (marked image shape.mark (descriptor_of shape.objects.slub caches.bases number)) false
+
+-- any other
+abbrev pub by_number : Image → PageShape → Caches → ℕ → PageSeen
+by_number image shape caches number =
     let page = descriptor_of shape.objects.slub caches.bases number in
     by_read image shape caches page (readable (field_of image page shape.objects.slub.slab_cache))
+
+-- what the page with a number is
+unfoldable pub page_seen : Image → PageShape → Caches → ℕ → PageSeen
+page_seen image shape caches number = if is_fenced image shape caches number then Fenced else by_number image shape caches number
 
 -- the answer at a stop
 abbrev pub IsAbsent : Stop → Result PageSeen WalkStop → Type 0

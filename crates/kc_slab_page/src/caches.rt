@@ -12,6 +12,7 @@ ghost use Rattle.kc_owner.specs.Object.Keys.{cache_by};
 ghost use Rattle.kc_owner.specs.Object.Pages.{bases_at};
 ghost use Rattle.kc_slab_page.specs.Caches.{cache_seen, caches_from, caches_in, caches_view, is_wanted, with_cache};
 
+use crate::fence::{FencePool, read_pool};
 use crate::guards::read_runs;
 use crate::shape::PageShape;
 use kc_btf::Btf;
@@ -52,6 +53,8 @@ pub struct SlabCaches {
     pub caches: BTreeMap<u64, CacheSeen>,
     /// Whether they are all of the kernel's: no name was asked for, and the ring is whole.
     pub all: bool,
+    /// KFENCE's pool, where there is one.
+    pub pool: Option<FencePool>,
 }
 
 // The address of the cache that has a node of the ring of all caches.
@@ -247,11 +250,13 @@ pub fn read_caches<S: Space, L: Ledger>(
     let asks = CachesAsked { btf, shape, wanted };
     let caches = read_nodes(alloc, space, &asks, &ring.nodes, steps)?;
     let all = wanted.is_none() && ring.broken.is_none();
+    let pool = read_pool(space, &bases, &shape.fence, steps)?;
     Ok(SlabCaches {
         bases,
         nodes: ring.nodes,
         broken: ring.broken,
         caches,
         all,
+        pool,
     })
 }

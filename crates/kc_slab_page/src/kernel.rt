@@ -3,6 +3,7 @@ ghost use Rattle.std.specs.Prelude.{◌≡◌};
 ghost use Rattle.kc_kinds.specs.Kernels.{kernel};
 ghost use Rattle.kc_slab_page.specs.Shapes.{page_shape};
 
+use crate::fence::fence_shape;
 use crate::guards::guard_shape;
 use crate::mark::slab_mark;
 use crate::shape::PageShape;
@@ -19,5 +20,6 @@ pub fn page_shape(known: &Known<'_>, note: &[u8]) -> Option<PageShape>
         objects,
         mark,
         guards: guard_shape(known),
+        fence: fence_shape(known),
     })
 }

@@ -3,6 +3,7 @@
 #![tactic(auto)]
 
 mod caches;
+mod fence;
 mod frames;
 mod guarding;
 mod guards;
@@ -14,6 +15,7 @@ mod shape;
 mod slab;
 
 pub use caches::{CacheSeen, SlabCaches, read_caches};
+pub use fence::{FencePool, FenceShape};
 pub use frames::{FrameRun, frame_runs};
 pub use guarding::{SlabFault, SlabState};
 pub use guards::{FlagBits, GuardShape};

@@ -4,9 +4,10 @@ ghost use Rattle.kc_memory.specs.Stays.{SpaceStays};
 ghost use Rattle.kc_found.specs.Walks.{CountsWalkFaults, IsWalk, OnBroken, OnWalkFault, WalksAs};
 ghost use Rattle.kc_owner.specs.Object.Pages.{descriptor_of};
 ghost use Rattle.kc_slab_page.specs.Caches.{caches_view};
-ghost use Rattle.kc_slab_page.specs.Pages.{IsAbsent, by_cache, by_mark, page_seen, state_by, state_with, stray, unnamed};
+ghost use Rattle.kc_slab_page.specs.Pages.{IsAbsent, by_cache, by_mark, is_fenced, page_seen, state_by, state_with, stray, unnamed};
 
 use crate::caches::{CacheSeen, SlabCaches};
+use crate::fence::is_named;
 use crate::guarding::{Guards, Laid, SlabFault, SlabState, with_guards};
 use crate::mark::read_mark;
 use crate::shape::PageShape;
@@ -39,6 +40,8 @@ pub enum PageSeen {
     Other,
     /// Its descriptor names one of the caches, and hasn't the mark of a slab's first page.
     Unmarked,
+    /// It is one of KFENCE's pool: it has the mark of a slab's first page, and no slab's words.
+    Fenced,
     /// It is a slab's first page.
     Slab(SlabSeen),
 }
@@ -227,6 +230,37 @@ fn unread(stop: Stop) -> Result<PageSeen, WalkStop>
     }
 }
 
+// A page with the mark of a slab's first page that KFENCE's metadata name.
+fn is_fenced<S: Space, L: Ledger>(
+    alloc: Global,
+    space: &mut S,
+    btf: &Btf,
+    shape: &PageShape,
+    caches: &SlabCaches,
+    number: u64,
+    steps: &mut Steps<L>,
+) -> Result<bool, WalkStop>
+    ensures exact { WalksAs (λ b. b) (λ i. Ok (is_fenced i shape.now (caches_view caches.now) number)) (S.image space.old) result }
+    ensures broken { OnBroken result ⊥ }
+    ensures stays { SpaceStays S.image S.files S.through S.most space.old space.new }
+    ensures cause { CountsWalkFaults result (S.faults space.old) (S.faults space.new) }
+{
+    if !is_named(
+        alloc,
+        space,
+        btf,
+        &caches.bases,
+        &caches.pool,
+        number,
+        steps,
+    )? {
+        return Ok(false);
+    }
+    let page = view_at(btf, descriptor_of(shape, &caches.bases, number));
+    let mark = read_mark(alloc, space, &page, &shape.mark, steps)?;
+    Ok(mark == Some(true))
+}
+
 /// What the page with a number is, which is its physical address, in pages of 4096 bytes: by its descriptor, among these caches.
 ///
 /// # Errors
@@ -247,6 +281,9 @@ pub fn look_at_page<S: Space, L: Ledger>(
     ensures stays { SpaceStays S.image S.files S.through S.most space.old space.new }
     ensures cause { CountsWalkFaults result (S.faults space.old) (S.faults space.new) }
 {
+    if is_fenced(alloc, space, btf, shape, caches, number, steps)? {
+        return Ok(PageSeen::Fenced);
+    }
     let page = view_at(btf, descriptor_of(shape, &caches.bases, number));
     match field_of(space, &page, &shape.objects.slub.slab_cache, steps) {
         Ok(cache) => by_cache(alloc, space, shape, caches, &page, &cache, steps),

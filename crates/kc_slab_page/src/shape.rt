@@ -1,4 +1,5 @@
 // Where the words stand that tell what a page is.
+use crate::fence::FenceShape;
 use crate::guards::GuardShape;
 use crate::mark::Mark;
 use kc_owner::ObjectShape;
@@ -12,4 +13,6 @@ pub struct PageShape {
     pub mark: Mark,
     /// Which bytes slub_debug keeps at objects, where that can be told.
     pub guards: Option<GuardShape>,
+    /// Which pages are of KFENCE's pool, in a kernel with KFENCE.
+    pub fence: Option<FenceShape>,
 }

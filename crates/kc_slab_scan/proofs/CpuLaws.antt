@@ -1,11 +1,11 @@
 -- What shows what processors' slabs break stands in the dump.
-use Rattle.std.proofs.Common.{◌≡◌, ℕ, zero, suc, ◌+◌, ◌*◌, ◌/◌, Bool, true, false, not, nat_eq, nat_lt, ◌||◌, List, [], ◌∷◌, ◌++◌, length, Option, Some, None, refl, sym, ap, ◌∙◌}
+use Rattle.std.proofs.Common.{◌≡◌, ℕ, zero, suc, ◌*◌, ◌/◌, Bool, true, false, not, nat_eq, nat_lt, ◌||◌, List, [], ◌∷◌, ◌++◌, length, Option, Some, None, refl, ap}
 use Rattle.std.specs.Prelude.{Result, Ok, Err, if◌then◌else◌}
 use Rattle.std.specs.List.{AllByRecursion}
 use Rattle.std.specs.BTreeMap.{is_at}
 use Rattle.std.specs.Map.{lookup}
 use Rattle.std.specs.Ordering.{nat_cmp}
-use Rattle.kc_memory.specs.declared.rule.Rule.TheVariants.{A, U1, U3, U4}
+use Rattle.kc_memory.specs.declared.rule.Rule.TheVariants.{U1, U3, U4}
 use Rattle.kc_memory.specs.Bits.{Number, bits, number_places}
 use Rattle.kc_memory.specs.Image.{Image}
 use Rattle.kc_memory.specs.Laws.{NumbersStand, PlacesStand}
@@ -18,14 +18,13 @@ use Rattle.kc_view.specs.declared.slub.SlabObjects.{SlabObjects}
 use Rattle.kc_view.specs.declared.slub.SlubBases.{SlubBases}
 use Rattle.kc_view.specs.declared.slub.SlubShape.{SlubShape}
 use Rattle.kc_view.specs.Caches.{grid_of, is_descriptor}
-use Rattle.kc_view.specs.Fields.{breaks_at, field_of, holds, or_missed, read_field, unless, value_of}
+use Rattle.kc_view.specs.Fields.{breaks_at, field_of, holds, or_missed, read_field, value_of}
 use Rattle.kc_view.specs.Laws.{ValuesStand}
 use Rattle.kc_view.specs.Steps.{Shows, field_shows, holds_shows, number_stands, shows_all, then_shows, unless_shows, word_shows}
 use Rattle.kc_found.specs.declared.asked.Asked.{Asked}
 use Rattle.kc_found.specs.declared.free.Grid.{Grid}
 use Rattle.kc_found.specs.FreeLists.{free_list}
 use Rattle.kc_found.specs.Nodes.{at_offset, readable}
-use Rattle.kc_found.specs.Trials.{and_then}
 use Rattle.kc_found.specs.Violations.{Violation, breaks_field}
 use Rattle.kc_owner.specs.Looked.{looked_at}
 use Rattle.kc_owner.specs.declared.object.shape.ObjectShape.{ObjectShape}
@@ -42,9 +41,9 @@ use Rattle.kc_slab_scan.specs.declared.cpu_scan.BrokenCpu.{BrokenCpu}
 use Rattle.kc_slab_scan.specs.declared.cpu_scan.CpuScan.{CpuScan}
 use Rattle.kc_slab_scan.specs.declared.cpu_words.CpuShape.{CpuShape}
 use Rattle.kc_slab_scan.specs.CpuLaws.{CpusStand, NumbersShow, Stands, seen_places}
-use Rattle.kc_slab_scan.specs.CpuLists.{again, apart, apart_or, cpu_list, cpu_seen, lists_apart, own_or_none, seen_at, seen_by, seen_first, seen_of, seen_slab, seen_with, taken_all}
+use Rattle.kc_slab_scan.specs.CpuLists.{again, apart, apart_or, cpu_list, cpu_seen, own_or_none, seen_at, seen_by, seen_first, seen_slab, seen_with, taken_all}
 use Rattle.kc_slab_scan.specs.Cpus.{count_of, cpu_at, cpus_from, is_possible, with_cpu, word_in}
-use Rattle.kc_slab_scan.specs.CpuScans.{cache_from, cpus_scanned, nodes_from, none_seen, with_cache, with_laid, with_node, with_seen}
+use Rattle.kc_slab_scan.specs.CpuScans.{cache_from, nodes_from, none_seen, with_cache, with_laid, with_node, with_seen}
 
 -- what is known of the words, fields and free lists of a dump
 pub record Known : Type 0 where

@@ -18,7 +18,7 @@ use Rattle.kc_slab_scan.specs.declared.cpu_scan.CpuScan.{CpuScan}
 use Rattle.kc_slab_scan.specs.declared.cpu_words.CpuShape.{CpuShape}
 use Rattle.kc_slab_scan.specs.Cpus.{cpus_from, with_cpu}
 use Rattle.kc_slab_scan.specs.CpuLists.{again, cpu_seen, taken_all, taken_with}
-use Rattle.kc_slab_scan.specs.CpuScans.{cache_from, nodes_from, none_seen, with_node, with_seen}
+use Rattle.kc_slab_scan.specs.CpuScans.{cache_from, nodes_from, with_node, with_seen}
 
 pub drop_next : {X : Type 0} (xs : List X) (n : ℕ) (x : X) → slice_get xs n ≡ Some x → drop n xs ≡ x ∷ drop (suc n) xs
 drop_next [] n x is = absurd (let none : ⊥ = cc in none)

@@ -1,11 +1,11 @@
 -- What shows what slabs break stands in the dump, and each frame is counted.
-use Rattle.std.proofs.Common.{◌≡◌, ℕ, suc, ◌+◌, ◌-◌, ◌^◌, ◌≤◌, ◌∷◌, ◌++◌, [], List, length, refl, arith}
+use Rattle.std.proofs.Common.{◌≡◌, ℕ, ◌+◌, ◌-◌, ◌^◌, ◌≤◌, ◌∷◌, ◌++◌, [], List, length, refl, arith}
 use Rattle.std.specs.Prelude.{min}
 use Rattle.std.specs.List.{AllByRecursion}
 use Rattle.kc_memory.specs.Image.{Image}
 use Rattle.kc_memory.specs.Places.{AllStandIn}
 use Rattle.kc_slab_page.specs.declared.page.PageSeen.{PageSeen}
-use Rattle.kc_slab_page.specs.declared.page.PageSeen.TheVariants.{Absent, Other, Unmarked, Slab}
+use Rattle.kc_slab_page.specs.declared.page.PageSeen.TheVariants.{Absent, Fenced, Other, Unmarked, Slab}
 use Rattle.kc_slab_page.specs.declared.page.SlabSeen.{SlabSeen}
 use Rattle.kc_slab_page.specs.declared.guarding.SlabState.{SlabState}
 use Rattle.kc_slab_page.specs.declared.guarding.SlabState.TheVariants.{Whole, Broken, Untold}
@@ -15,9 +15,8 @@ use Rattle.kc_slab_page.specs.Laws.{SlabsStand, page_places, state_places}
 use Rattle.kc_slab_page.specs.Pages.{page_seen}
 use Rattle.kc_slab_scan.specs.declared.totals.BrokenSlab.{BrokenSlab}
 use Rattle.kc_slab_scan.specs.declared.totals.Scan.{Scan}
-use Rattle.kc_slab_scan.specs.declared.totals.Totals.{Totals}
 use Rattle.kc_slab_scan.specs.Laws.{BrokenStand, FramesAreCounted, IsSound, IsSoundState, SoundIsOfAll, Stands}
-use Rattle.kc_slab_scan.specs.Scans.{added, none_seen, scan_from, with_broken, with_page, with_state}
+use Rattle.kc_slab_scan.specs.Scans.{added, none_seen, scan_from, with_broken, with_page}
 
 stand_more : (image : Image) (bs : List BrokenSlab) (b : BrokenSlab) → AllByRecursion (Stands image) bs → Stands image b → AllByRecursion (Stands image) (bs ++ b ∷ [])
 stand_more image [] b all here = (here, tt)
@@ -34,6 +33,7 @@ page_stands : (image : Image) (s : Scan) (page : PageSeen) → AllByRecursion (S
 page_stands image s Absent all here = all
 page_stands image s Other all here = all
 page_stands image s Unmarked all here = all
+page_stands image s Fenced all here = all
 page_stands image s (Slab seen) all here = state_stands image s seen seen.state all here
 
 from_stands : SlabsStand → (image : Image) (shape : PageShape) (caches : Caches) (s : Scan) (ns : List ℕ) → AllByRecursion (Stands image) s.broken
@@ -56,6 +56,7 @@ counts_page : (s : Scan) (page : PageSeen) → (with_page s page).totals.frames 
 counts_page s Absent = refl
 counts_page s Other = refl
 counts_page s Unmarked = refl
+counts_page s Fenced = refl
 counts_page s (Slab seen) = counts_state s seen seen.state
 
 from_counts : (image : Image) (shape : PageShape) (caches : Caches) (s : Scan) (ns : List ℕ) → (start : ℕ) → s.totals.frames ≡ min start (2 ^ 64 - 1)
@@ -86,6 +87,7 @@ broken_page : (s : Scan) (page : PageSeen) → 1 ≤ length s.broken → 1 ≤ l
 broken_page s Absent some = some
 broken_page s Other some = some
 broken_page s Unmarked some = some
+broken_page s Fenced some = some
 broken_page s (Slab seen) some = broken_state s seen seen.state some
 
 from_broken : (image : Image) (shape : PageShape) (caches : Caches) (s : Scan) (ns : List ℕ) → 1 ≤ length s.broken → 1 ≤ length (scan_from image shape caches s ns).broken
@@ -106,6 +108,7 @@ untold_page : (s : Scan) (page : PageSeen) → 1 ≤ s.totals.untold → 1 ≤ (
 untold_page s Absent some = some
 untold_page s Other some = some
 untold_page s Unmarked some = some
+untold_page s Fenced some = some
 untold_page s (Slab seen) some = untold_state s seen seen.state some
 
 from_untold : (image : Image) (shape : PageShape) (caches : Caches) (s : Scan) (ns : List ℕ) → 1 ≤ s.totals.untold → 1 ≤ (scan_from image shape caches s ns).totals.untold
@@ -133,6 +136,7 @@ page_sound : (image : Image) (shape : PageShape) (caches : Caches) (s : Scan) (p
 page_sound image shape caches s Absent ns none all = tt
 page_sound image shape caches s Other ns none all = tt
 page_sound image shape caches s Unmarked ns none all = tt
+page_sound image shape caches s Fenced ns none all = tt
 page_sound image shape caches s (Slab seen) ns none all = state_sound image shape caches s seen seen.state ns none all
 
 from_sound : (image : Image) (shape : PageShape) (caches : Caches) (s : Scan) (ns : List ℕ)

@@ -1,6 +1,6 @@
 -- The free list that a processor keeps of its slab of a cache. Source: the kernel's mm/slub.c, `struct kmem_cache_cpu`: of the slab that a processor
 -- owns, objects that it frees go to its own list, `freelist`, and those that others free to the slab's; none is in both. The order is this project's.
-use Rattle.std.specs.Prelude.{◌≡◌, ℕ, ◌+◌, ◌%◌, ◌^◌, nat_eq, not, if◌then◌else◌, List, [], ◌∷◌, length, Option, Some, None, Result, Ok, Err}
+use Rattle.std.specs.Prelude.{◌≡◌, ℕ, nat_eq, not, if◌then◌else◌, List, [], ◌∷◌, length, Option, Some, None, Result, Ok, Err}
 use Rattle.kc_memory.specs.declared.rule.Rule.TheVariants.{A, U1, U4}
 use Rattle.kc_memory.specs.declared.space.Stop.{Stop}
 use Rattle.kc_memory.specs.declared.space.Stop.TheVariants as stops

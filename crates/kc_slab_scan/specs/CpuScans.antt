@@ -16,7 +16,6 @@ use Rattle.kc_slab_page.specs.Slabs.{is_laid}
 use Rattle.kc_slab_scan.specs.declared.cpus.Cpu.{Cpu}
 use Rattle.kc_slab_scan.specs.declared.cpu_list.CpuSeen.{CpuSeen}
 use Rattle.kc_slab_scan.specs.declared.cpu_list.CpuSeen.TheVariants.{Unread, Empty, Whole, Broken}
-use Rattle.kc_slab_scan.specs.declared.cpu_scan.BrokenCpu.{BrokenCpu}
 use Rattle.kc_slab_scan.specs.declared.cpu_scan.CpuScan.{CpuScan}
 use Rattle.kc_slab_scan.specs.declared.cpu_words.CpuShape.{CpuShape}
 use Rattle.kc_slab_scan.specs.CpuLists.{cpu_seen}

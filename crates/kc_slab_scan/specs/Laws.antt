@@ -4,7 +4,7 @@ use Rattle.std.specs.List.{AllByRecursion}
 use Rattle.kc_memory.specs.Image.{Image}
 use Rattle.kc_memory.specs.Places.{AllStandIn}
 use Rattle.kc_slab_page.specs.declared.page.PageSeen.{PageSeen}
-use Rattle.kc_slab_page.specs.declared.page.PageSeen.TheVariants.{Absent, Other, Unmarked, Slab}
+use Rattle.kc_slab_page.specs.declared.page.PageSeen.TheVariants.{Absent, Fenced, Other, Unmarked, Slab}
 use Rattle.kc_slab_page.specs.declared.guarding.SlabState.{SlabState}
 use Rattle.kc_slab_page.specs.declared.guarding.SlabState.TheVariants.{Whole, Broken, Untold}
 use Rattle.kc_slab_page.specs.declared.shape.PageShape.{PageShape}
@@ -38,6 +38,7 @@ abbrev pub IsSound : PageSeen → Type 0
 IsSound Absent = ⊤
 IsSound Other = ⊤
 IsSound Unmarked = ⊤
+IsSound Fenced = ⊤
 IsSound (Slab s) = IsSoundState s.state
 
 -- where no slab is told that breaks a rule, and none that can't be told, so is each page

@@ -1,9 +1,8 @@
 -- What is seen of page frames, one after the other.
 use Rattle.std.specs.Prelude.{ℕ, ◌+◌, ◌-◌, ◌^◌, min, if◌then◌else◌, List, [], ◌∷◌, ◌++◌}
 use Rattle.kc_memory.specs.Image.{Image}
-use Rattle.kc_found.specs.Violations.{Violation}
 use Rattle.kc_slab_page.specs.declared.page.PageSeen.{PageSeen}
-use Rattle.kc_slab_page.specs.declared.page.PageSeen.TheVariants.{Absent, Other, Unmarked, Slab}
+use Rattle.kc_slab_page.specs.declared.page.PageSeen.TheVariants.{Absent, Fenced, Other, Unmarked, Slab}
 use Rattle.kc_slab_page.specs.declared.page.SlabSeen.{SlabSeen}
 use Rattle.kc_slab_page.specs.declared.guarding.SlabState.{SlabState}
 use Rattle.kc_slab_page.specs.declared.guarding.SlabState.TheVariants.{Whole, Broken, Untold}
@@ -11,7 +10,6 @@ use Rattle.kc_slab_page.specs.declared.shape.PageShape.{PageShape}
 use Rattle.kc_slab_page.specs.declared.slab.SlabFree.{SlabFree}
 use Rattle.kc_slab_page.specs.Caches.{Caches}
 use Rattle.kc_slab_page.specs.Pages.{page_seen}
-use Rattle.kc_slab_scan.specs.declared.totals.BrokenSlab.{BrokenSlab}
 use Rattle.kc_slab_scan.specs.declared.totals.Scan.{Scan}
 use Rattle.kc_slab_scan.specs.declared.totals.Totals.{Totals}
 
@@ -20,7 +18,7 @@ abbrev pub added : ℕ → ℕ → ℕ
 added count more = min (count + more) (2 ^ 64 - 1)
 
 abbrev pub none_seen : Totals
-none_seen = record { frames = 0; absent = 0; unmarked = 0; slabs = 0; frozen = 0; objects = 0; free = 0; untold = 0; guarded = 0 }
+none_seen = record { frames = 0; absent = 0; unmarked = 0; fenced = 0; slabs = 0; frozen = 0; objects = 0; free = 0; untold = 0; guarded = 0 }
 
 -- the counts with one page more
 abbrev pub with_absent : Totals → Totals
@@ -31,6 +29,9 @@ with_other t = record t { frames = added t.frames 1 }
 
 abbrev pub with_unmarked : Totals → Totals
 with_unmarked t = record t { frames = added t.frames 1; unmarked = added t.unmarked 1 }
+
+abbrev pub with_fenced : Totals → Totals
+with_fenced t = record t { frames = added t.frames 1; fenced = added t.fenced 1 }
 
 abbrev pub with_slab : Totals → Totals
 with_slab t = record t { frames = added t.frames 1; slabs = added t.slabs 1 }
@@ -60,6 +61,7 @@ abbrev pub with_page : Scan → PageSeen → Scan
 with_page s Absent = record { totals = with_absent s.totals; broken = s.broken }
 with_page s Other = record { totals = with_other s.totals; broken = s.broken }
 with_page s Unmarked = record { totals = with_unmarked s.totals; broken = s.broken }
+with_page s Fenced = record { totals = with_fenced s.totals; broken = s.broken }
 with_page s (Slab seen) = with_state s seen
 
 -- and with those of these numbers, each looked at once, in their order

@@ -1,7 +1,7 @@
 // What was seen so far.
 ghost use Rattle.std.specs.Prelude.{◌≡◌, ◌∷◌, ◌++◌, [], OnOk};
 ghost use Rattle.kc_found.specs.Walks.{OnBroken, OnWalkFault};
-ghost use Rattle.kc_slab_scan.specs.Scans.{added, none_seen, with_absent, with_other, with_page, with_slab, with_state, with_unmarked, with_untold, with_whole};
+ghost use Rattle.kc_slab_scan.specs.Scans.{added, none_seen, with_absent, with_fenced, with_other, with_page, with_slab, with_state, with_unmarked, with_untold, with_whole};
 
 use kc_found::{Items, WalkStop};
 use kc_slab_page::{PageSeen, SlabFault, SlabFree, SlabSeen, SlabState};
@@ -17,6 +17,8 @@ pub struct Totals {
     pub absent: u64,
     /// Those whose descriptor names one of the caches, and hasn't the mark of a slab's first page.
     pub unmarked: u64,
+    /// Those of KFENCE's pool that have the mark of a slab's first page.
+    pub fenced: u64,
     /// Slabs.
     pub slabs: u64,
     /// Of those that break no rule, the ones that a processor owns.
@@ -60,6 +62,7 @@ impl Totals {
             frames: 0,
             absent: 0,
             unmarked: 0,
+            fenced: 0,
             slabs: 0,
             frozen: 0,
             objects: 0,
@@ -105,6 +108,17 @@ fn with_unmarked(totals: Totals) -> Totals
     Totals {
         frames: added(totals.frames, 1),
         unmarked: added(totals.unmarked, 1),
+        ..totals
+    }
+}
+
+// With one of KFENCE's pool.
+fn with_fenced(totals: Totals) -> Totals
+    ensures { result ≡ with_fenced totals }
+{
+    Totals {
+        frames: added(totals.frames, 1),
+        fenced: added(totals.fenced, 1),
         ..totals
     }
 }
@@ -207,6 +221,10 @@ impl Scan {
             }
             PageSeen::Unmarked => {
                 self.totals = with_unmarked(self.totals);
+                Ok(())
+            }
+            PageSeen::Fenced => {
+                self.totals = with_fenced(self.totals);
                 Ok(())
             }
             PageSeen::Slab(seen) => self.add_slab(seen),

@@ -140,3 +140,10 @@ four_texts old a b c d one two three four first second third fourth =
     let both : two ≡ old ++ (a ++ b) = second ∙ ap (λ (l : List ℕ). l ++ b) first ∙ append_assoc old a b in
     let more : three ≡ old ++ (a ++ b ++ c) = third ∙ ap (λ (l : List ℕ). l ++ c) both ∙ append_assoc old (a ++ b) c in
     fourth ∙ ap (λ (l : List ℕ). l ++ d) more ∙ append_assoc old (a ++ b ++ c) d
+
+-- four texts, of which the first is one of a list and the last one of a number, and the last of them by a call that may fail
+pub seen_after : {A E B : Type 0} (r : Result A E) (old : List ℕ) (a : List B → List ℕ) (xs ys : List B) (b c : List ℕ) (d : ℕ → List ℕ) (n m : ℕ) (one two three new : List ℕ)
+    → xs ≡ ys → n ≡ m → one ≡ old ++ a xs → two ≡ one ++ b → three ≡ two ++ c → OnOk r (new ≡ three ++ d n) → OnOk r (new ≡ old ++ (a ys ++ b ++ c ++ d m))
+seen_after (Err e) old a xs ys b c d n m one two three new same count first second third fourth = tt
+seen_after (Ok x) old a xs ys b c d n m one two three new same count first second third fourth =
+    four_texts old (a ys) b c (d m) one two three new (first ∙ ap (λ zs. old ++ a zs) same) second third (fourth ∙ ap (λ k. three ++ d k) count)

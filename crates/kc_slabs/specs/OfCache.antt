@@ -6,7 +6,6 @@ use Rattle.kc_kinds.specs.Kernels.{Kernel}
 use Rattle.kc_owner.specs.Known.{known}
 use Rattle.kc_owner.specs.Object.Caches.{text_by}
 use Rattle.kc_report.specs.Lines.{rule_code}
-use Rattle.kc_guard.specs.declared.object.Spoiled.{Spoiled}
 use Rattle.kc_slab_page.specs.declared.guarding.SlabFault.{SlabFault}
 use Rattle.kc_slab_page.specs.declared.guarding.SlabFault.TheVariants.{Words, Bytes}
 use Rattle.kc_slab_page.specs.Shapes.{page_shape}

@@ -89,7 +89,7 @@ own_sound (Some (Err v)) = false
 
 -- the counts, a line each of frames, slabs and objects
 abbrev pub frames_line : Totals → List ℕ
-frames_line t = codes "frames " ++ decimal t.frames ++ codes " absent " ++ decimal t.absent ++ codes " unmarked " ++ decimal t.unmarked ++ codes "\n"
+frames_line t = codes "frames " ++ decimal t.frames ++ codes " absent " ++ decimal t.absent ++ codes " unmarked " ++ decimal t.unmarked ++ codes " kfence " ++ decimal t.fenced ++ codes "\n"
 
 abbrev pub slabs_line : Totals → ℕ → List ℕ
 slabs_line t broken =

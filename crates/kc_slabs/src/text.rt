@@ -195,6 +195,7 @@ fn push_frames(text: &mut Vec<u8>, totals: &Totals) -> Result<(), NoMemory>
     push_numbered(text, b"frames ", totals.frames)?;
     push_numbered(text, b" absent ", totals.absent)?;
     push_numbered(text, b" unmarked ", totals.unmarked)?;
+    push_numbered(text, b" kfence ", totals.fenced)?;
     push(text, b"\n")
 }
 

@@ -1,4 +1,4 @@
-use Rattle.std.proofs.Common.{arith, rules}
+use Rattle.std.proofs.Common.{rules}
 use Rattle.kc_slab_scan.proofs.CpuLemmas.{seeking_done, seeking_found, seeking_next}
 use Rattle.kc_slab_scan.proofs.cpu_list.first_again.Goals as goal
 

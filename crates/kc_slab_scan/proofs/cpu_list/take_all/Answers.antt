@@ -1,4 +1,4 @@
-use Rattle.std.proofs.Common.{arith, rules}
+use Rattle.std.proofs.Common.{rules}
 use Rattle.kc_slab_scan.proofs.CpuLemmas.{taking_done, taking_next}
 use Rattle.kc_slab_scan.proofs.cpu_list.take_all.Goals as goal
 

@@ -1,4 +1,4 @@
-use Rattle.std.proofs.Common.{arith, rules, ◌∙◌}
+use Rattle.std.proofs.Common.{rules, ◌∙◌}
 use Rattle.kc_memory.specs.Stays.{stays_on}
 use Rattle.kc_slab_scan.proofs.CpuLemmas.{cpus_begin, cpus_done, cpus_next}
 use Rattle.kc_slab_scan.proofs.cpu_scan.scan_cache.Goals as goal

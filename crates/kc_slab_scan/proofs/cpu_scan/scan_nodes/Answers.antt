@@ -1,8 +1,8 @@
-use Rattle.std.proofs.Common.{arith, rules, ◌∙◌}
+use Rattle.std.proofs.Common.{rules, ◌∙◌}
 use Rattle.kc_memory.specs.Stays.{stays_on}
 use Rattle.kc_slab_page.specs.Caches.{caches_view}
 use Rattle.kc_slab_scan.specs.CpuScans.{none_seen}
-use Rattle.kc_slab_scan.proofs.CpuLemmas.{nodes_begin, nodes_done, nodes_next}
+use Rattle.kc_slab_scan.proofs.CpuLemmas.{nodes_done, nodes_next}
 use Rattle.kc_slab_scan.proofs.cpu_scan.scan_nodes.Goals as goal
 
 pub loop-i-preserved : goal.loop-i-preserved

@@ -1,4 +1,4 @@
-use Rattle.std.proofs.Common.{arith, rules, ◌∙◌}
+use Rattle.std.proofs.Common.{rules, ◌∙◌}
 use Rattle.kc_memory.specs.Stays.{stays_on}
 use Rattle.kc_slab_scan.proofs.CpuLemmas.{numbers_begin, numbers_done, numbers_next, numbers_stop}
 use Rattle.kc_slab_scan.proofs.cpus.read_numbers.Goals as goal

@@ -1,10 +1,10 @@
-use Rattle.std.proofs.Common.{arith, rules, ◌∙◌, []}
+use Rattle.std.proofs.Common.{rules, ◌∙◌, []}
 use Rattle.kc_memory.specs.Stays.{stays_on}
 use Rattle.kc_slab_page.specs.Frames.Frames.{frames_of}
 use Rattle.kc_slab_page.specs.Caches.{caches_view}
 use Rattle.kc_slab_scan.specs.declared.totals.Scan.{Scan}
 use Rattle.kc_slab_scan.specs.Scans.{none_seen}
-use Rattle.kc_slab_scan.proofs.ScanLemmas.{frames_begin, run_next, runs_done}
+use Rattle.kc_slab_scan.proofs.ScanLemmas.{run_next, runs_done}
 use Rattle.kc_slab_scan.proofs.scan.scan_frames.Goals as goal
 
 abbrev none : Scan

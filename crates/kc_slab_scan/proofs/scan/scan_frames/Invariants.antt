@@ -1,4 +1,4 @@
-use Rattle.std.proofs.Common.{◌≡◌, ◌-◌, ◌≤◌, [], drop, length}
+use Rattle.std.proofs.Common.{◌≡◌, ◌-◌, [], drop, length}
 use Rattle.kc_memory.specs.Stays.{SpaceStays}
 use Rattle.kc_slab_page.specs.Frames.Frames.{frames_of}
 use Rattle.kc_slab_page.specs.Caches.{caches_view}

@@ -1,4 +1,4 @@
-use Rattle.std.proofs.Common.{arith, rules, ◌∙◌}
+use Rattle.std.proofs.Common.{rules, ◌∙◌}
 use Rattle.kc_memory.specs.Stays.{stays_on}
 use Rattle.kc_slab_page.specs.Frames.Frames.{frames_in}
 use Rattle.kc_slab_page.specs.Caches.{caches_view}

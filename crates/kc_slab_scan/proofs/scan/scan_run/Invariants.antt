@@ -1,4 +1,4 @@
-use Rattle.std.proofs.Common.{◌≡◌, ◌-◌, ◌≤◌}
+use Rattle.std.proofs.Common.{◌≡◌, ◌-◌}
 use Rattle.kc_memory.specs.Stays.{SpaceStays}
 use Rattle.kc_slab_page.specs.Frames.Frames.{frames_in}
 use Rattle.kc_slab_page.specs.Caches.{caches_view}
