@@ -3,10 +3,12 @@
 usage: together CRATE [--only NAMES]     NAMES is a file that has the name of a wrong body on each line
 
 First the crate is checked as it stands, in its own folder, where `rt check` keeps its work. Each round is a check of a copy that begins with that work, so it
-costs what the changed functions cost. No function stands in a round with one that it may call, since a caller isn't tried while a call of it isn't
-proved. A wrong body is refused where its own function isn't proved: `goal` where a goal of the function is left over, `proof` where an answer in a proof
-file no longer fits, `name` where a proof file only names what the edit took away. It is `proved` where the function is proved with it, and `unread` where
-the prover can't read it; what isn't refused is tried once more alone. It prints a line for each, then the counts, and ends with 1 where one isn't refused.
+costs what the changed functions cost: 4 to 10 s, and 3 to 25 s for each of them, most of it the search for what can't be proved. No function stands in a
+round with one that it may call, since a caller isn't tried while a call of it isn't proved.
+
+A wrong body is refused where its own function isn't proved: `goal` where a goal of the function is left over, `proof` where an answer in a proof file no
+longer fits, `name` where a proof file only names what the edit took away. It is `proved` where the function is proved with it, and `unread` where the prover
+can't read it; what isn't refused is tried once more alone. It prints a line for each, then the counts, and ends with 1 where one isn't refused.
 """
 import collections
 import os
