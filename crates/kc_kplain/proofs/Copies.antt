@@ -1,16 +1,14 @@
 -- How `core` ends.
-use Rattle.std.proofs.Common.{◌≡◌, ◌⊎◌, ℕ, Bool, true, false, nat_eq, List, Option, Some, None, IfSome, IsSome, Result, Ok, Err, refl, sym, ap, ◌∙◌, subst, inl, inr}
+use Rattle.std.proofs.Common.{◌≡◌, ◌⊎◌, ℕ, Bool, true, false, nat_eq, List, Option, Some, None, IfSome, IsSome, Err, refl, sym, ap, ◌∙◌, inl, inr}
 use Rattle.std.specs.Prelude.{option_and_then}
 use Rattle.std.specs.Bool.{OnTrue}
 use Rattle.kc_outside.specs.declared.store.Slot.{Slot}
 use Rattle.kc_outside.specs.declared.store.Slot.TheVariants.{Dump}
-use Rattle.kc_outside.specs.Counts.{Rose}
 use Rattle.kc_outside.specs.Files.{Files, content, named}
 use Rattle.kc_outside.specs.Texts.{with_piece}
 use Rattle.kc_command.specs.declared.ends.status.Status.{Status}
 use Rattle.kc_command.specs.declared.ends.status.Status.TheVariants.{Done, Broken, Refused, StoreFailed, SinkFailed, OutOfMemory, NoCommand}
-use Rattle.kc_command.specs.Ends.Failures.{memory_refused, store_failed}
-use Rattle.kc_command.specs.Ends.Last.{FailedLast, StopsAtFailure}
+use Rattle.kc_command.specs.Ends.Failures.{memory_refused}
 use Rattle.kc_command.specs.Ends.Status.{At, is_sink_quiet, number}
 use Rattle.kc_plain_store.specs.Faults.{is_complete}
 use Rattle.kc_plain_store.specs.Seen.{seen_bytes}

@@ -1,16 +1,16 @@
 -- How the program ends by how kaudit did.
-use Rattle.std.proofs.Common.{◌≡◌, ◌⊎◌, ℕ, ◌<◌, ◌-◌, ◌^◌, Bool, true, false, ◌||◌, nat_eq, List, Option, Some, None, IfSome, refl, sym, ap, ◌∙◌, subst, inl, inr, arith}
+use Rattle.std.proofs.Common.{◌≡◌, ◌⊎◌, ℕ, ◌<◌, Bool, true, false, ◌||◌, nat_eq, List, Option, Some, None, IfSome, refl, ◌∙◌, subst, inl, inr, arith}
 use Rattle.std.specs.Prelude.{IsTrue}
 use Rattle.std.specs.Bool.{OnTrue, OnFalse}
 use Rattle.kc_outside.specs.declared.store.Slot.{Slot}
-use Rattle.kc_outside.specs.Counts.{Rose, next_count}
+use Rattle.kc_outside.specs.Counts.{Rose}
 use Rattle.kc_outside.specs.Files.{Files}
 use Rattle.kc_outside.specs.Texts.{with_piece}
 use Rattle.kc_command.specs.declared.ends.status.Status.{Status}
 use Rattle.kc_command.specs.declared.ends.status.Status.TheVariants.{Done, Broken, Refused, StoreFailed, SinkFailed, OutOfMemory, NoCommand}
 use Rattle.kc_command.specs.Inputs.{view_headers}
 use Rattle.kc_command.specs.Ends.Failures.{memory_refused, store_failed}
-use Rattle.kc_command.specs.Ends.Last.{FailedLast, StopsAtFailure}
+use Rattle.kc_command.specs.Ends.Last.{StopsAtFailure}
 use Rattle.kc_command.specs.Ends.Status.{At, is_answer, is_silent, is_sink_quiet, is_store_quiet, number}
 use Rattle.kc_command.specs.Ends.Unopened.{AskedStay}
 use Rattle.kc_any_dump.specs.declared.cause.Cause.{Cause}
