@@ -2,7 +2,7 @@
 # Tries the wrong bodies of planted/, which the gate leaves out: the prover has to refuse each of them.
 # usage: plant.sh [CRATE..]            without a crate: all that planted/ has
 #        plant.sh --count              prints how many wrong bodies each crate has, in the gate and in planted/
-#        plant.sh --check              prints those that no longer fit the code: no such file, or an old text that doesn't stand once in it
+#        plant.sh --check              prints those that no longer fit the code (no such file, or an old text that doesn't stand once in it), or make what another makes
 #        plant.sh add CRATE FOLDER     puts a folder of NAME.edit files into planted/CRATE.edits
 # It works on a copy of what git knows of the repository, as the files stand now, in which the edits of planted/CRATE.edits stand in
 # must-fail/'s place, and takes along what earlier checks kept in out/, so that crates below aren't proved again. It ends with 1 where one

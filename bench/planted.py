@@ -4,7 +4,7 @@ usage: planted cut CRATE FOLDER     writes each wrong body of the crate into FOL
        planted add CRATE FOLDER     puts each NAME.edit of FOLDER into planted/CRATE.edits
        planted count                prints how many each crate has in must-fail/ and in planted/, and the sums
        planted sort                 puts the wrong bodies of each file of planted/ into the order of their names
-       planted check                prints those of both that can't be applied to the code as it stands, and ends with 1 where there are some
+       planted check                prints those of both that can't be applied to the code as it stands, or make the same as another; then it ends with 1
 
 planted/CRATE.edits has the crate's wrong bodies in the order of their names. Each begins with a line `edit: NAME`, after which come the lines of
 NAME.edit as must-fail/ would have them; an empty line stands between two. `add` puts all in or, where one is refused, none. It refuses a name that
@@ -85,7 +85,7 @@ def changes(text):
 
 
 def check(crate, name, text):
-    """Refuses an edit that can't be applied."""
+    """The files that an edit makes. Refuses one that can't be applied."""
     files = {}
     for path, old, new in changes(text):
         whole = os.path.join(TOP, "crates", crate, path)
@@ -97,6 +97,7 @@ def check(crate, name, text):
         files[path] = now.replace(old, new)
     if not files:
         raise BadEdit(f"{name}: no lines `file:`, `old:` and `new:`")
+    return files
 
 
 def given(crate, folder, name, edits):
@@ -146,18 +147,23 @@ def counts():
 
 
 def faults():
-    """What is wrong with the edits of planted/ and of all crates' must-fail/: those that can't be applied, and names that stand in both."""
+    """What is wrong with the edits of planted/ and of all crates' must-fail/: those that can't be applied, or make the same, and names that stand in both."""
     for name in sorted(os.listdir(os.path.join(TOP, "planted"))):
         if not os.path.isdir(os.path.join(TOP, "crates", name.removesuffix(".edits"))):
             yield f"planted/{name}: there is no such crate"
     for crate, _, _ in counts():
         gate, planted = gated(crate), kept(crate)
         yield from (f"{crate}/{name}: must-fail/ has one of this name" for name in planted if name in gate)
+        made = {}
         for name, text in [*gate.items(), *planted.items()]:
             try:
-                check(crate, name, text)
+                files = check(crate, name, text)
             except BadEdit as bad:
                 yield f"{crate}/{bad}"
+            else:
+                first = made.setdefault(repr([(path, files[path].split()) for path in sorted(files)]), name)
+                if first != name:
+                    yield f"{crate}/{name}: makes what {first} makes"
 
 
 def check_all():
@@ -165,7 +171,7 @@ def check_all():
     wrong = list(faults())
     for row in wrong:
         print(row)
-    print(f"{sum(gate + planted for _, gate, planted in counts())} wrong bodies, of which {len(wrong)} can't be applied")
+    print(f"{sum(gate + planted for _, gate, planted in counts())} wrong bodies; {len(wrong)} can't be applied, or make what another makes")
     return bool(wrong)
 
 

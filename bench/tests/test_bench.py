@@ -31,7 +31,8 @@ class Together(unittest.TestCase):
 
     CODE = "const A: u8 = 1;\n\npub fn one(a: u8)\n    -> u8\n{\n    a\n}\n\nimpl B {\n    pub(crate) fn two(&self) {\n        c\n    }\n\n    const D: u8 = 2;\n}\n"
     SAID = ("./proofs/b/two/Answers.antt:3:5: error: `returns`: no\nfn kc_a::b::one: no proof: it calls `kc_a::b::B::two`, which is not proved\n"
-            "fn kc_a::b::B::two: not proved\nfn kc_a::c::two: proved\nfn <kc_a::b::B as T>::three: no proof: `search` did not prove `returns`\n")
+            "fn kc_a::b::B::two: not proved\nfn kc_a::c::two: proved\nfn <kc_a::b::B as T>::three: no proof: `search` did not prove `returns`\n"
+            "fn kc_a::b::four: not proved; it calls `kc_a::b::B::two`, which is not proved\n")
 
     def edit(self, path, name):
         edit = together.Edit.__new__(together.Edit)
@@ -44,16 +45,21 @@ class Together(unittest.TestCase):
             self.assertEqual(found and found[0], wanted, text)
 
     def test_what_is_said_of_a_function(self):
-        for path, name, wanted in (("src/b.rt", "one", "blocked"), ("src/b.rt", "two", "proof"), ("src/c.rt", "two", "proved"), ("src/b.rt", "three", "goal"), ("src/d.rt", "two", None)):
+        for path, name, wanted in (("src/b.rt", "one", "blocked"), ("src/b.rt", "two", "proof"), ("src/c.rt", "two", "proved"), ("src/b.rt", "three", "goal"), ("src/b.rt", "four", "blocked"), ("src/d.rt", "two", None)):
             self.assertEqual(together.verdict("kc_a", self.edit(path, name), self.SAID), wanted, (path, name))
         nowhere = self.edit("", "")
         nowhere.home = None
         for said, wanted in ((self.SAID, "goal"), ("fn kc_a::c::two: proved\n", "proved"), ("error\n", None)):
             self.assertEqual(together.verdict("kc_a", nowhere, said), wanted, said)
 
-    def test_each_round_has_a_function_once(self):
-        edits = [self.edit("src/b.rt", name) for name in "aabca"]
-        self.assertEqual([[edit.home[1] for edit in some] for some in together.rounds(edits)], [["a", "b", "c"], ["a"], ["a"]])
+    def test_what_a_function_may_call(self):
+        self.assertEqual(together.words_of(self.CODE), {"one": {"u8", "a"}, "two": {"c"}})
+        self.assertEqual(together.reached({"a": {"b", "x"}, "b": {"c"}, "c": set(), "d": {"d"}}), {"a": {"a", "b", "c"}, "b": {"b", "c"}, "c": {"c"}, "d": {"d"}})
+
+    def test_no_round_has_a_function_twice_or_with_one_that_it_calls(self):
+        edits = [self.edit("src/b.rt", name) for name in "aabcad"]
+        calls = {name: {name} for name in "abcd"} | {"d": {"d", "b"}}
+        self.assertEqual([[edit.home[1] for edit in some] for some in together.rounds(edits, calls)], [["a", "b", "c"], ["a", "d"], ["a"]])
 
 
 class Planted(unittest.TestCase):
@@ -95,6 +101,9 @@ class Planted(unittest.TestCase):
         with self.assertRaises(planted.BadEdit):
             planted.add("x", given)
         self.assertEqual(list(planted.faults()), [])
+        planted.write(planted.place("x"), planted.together({name: planted.kept("x")["b"] for name in "bc"}))
+        self.assertEqual(list(planted.faults()), ["x/c: makes what b makes"])
+        planted.write(planted.place("x"), planted.together({"b": planted.kept("x")["b"]}))
         os.makedirs(os.path.join(planted.TOP, "crates", "x", "must-fail"))
         planted.write(os.path.join(planted.TOP, "crates", "x", "must-fail", "b.edit"), "file: src/a.rt\nold: four\nnew: x\n")
         planted.write(os.path.join(planted.TOP, "planted", "y.edits"), "")

@@ -1,5 +1,5 @@
 -- How a program ends whose dump can't be read.
-use Rattle.std.specs.Prelude.{◌≡◌, ◌⊎◌, ⊤, ℕ, List, Bool, true, false, Option, Some, None, IfSome}
+use Rattle.std.specs.Prelude.{◌≡◌, ◌⊎◌, ⊤, ℕ, List, Bool, true, false, Option, Some, None, IfSome, option_and_then}
 use Rattle.kc_outside.specs.Texts.{with_piece}
 use Rattle.kc_command.specs.declared.ends.status.Status.{Status}
 use Rattle.kc_command.specs.declared.ends.status.Status.TheVariants.{Refused, StoreFailed, OutOfMemory}
@@ -7,6 +7,8 @@ use Rattle.kc_command.specs.Ends.Ends.{TookPrefix}
 use Rattle.kc_command.specs.Ends.Failures.{memory_refused}
 use Rattle.kc_flattened_store.specs.declared.stop.FlattenedFault.{FlattenedFault}
 use Rattle.kc_flattened_store.specs.declared.stop.FlattenedFault.TheVariants as flattened
+use Rattle.kc_flattened_store.specs.Faults.{refusal as flat_refusal}
+use Rattle.kc_flattened_store.specs.Seen.{seen_bytes as flat_bytes}
 use Rattle.kc_plain_store.specs.declared.stop.ViewFault.{ViewFault}
 use Rattle.kc_plain_store.specs.declared.stop.ViewFault.TheVariants as view
 use Rattle.kc_plain_store.specs.Faults.{page_fault, refusal}
@@ -14,16 +16,21 @@ use Rattle.kc_any_dump.specs.declared.cause.Cause.{Cause}
 use Rattle.kc_any_dump.specs.declared.cause.Cause.TheVariants.{Flattened, Compressed, Page, Memory}
 use Rattle.kc_any_dump.specs.Lines.{cause_line}
 
--- what bytes say of a cause: those of the dump's file, of a flattened one those that it means
-abbrev pub IsCauseIn : List ℕ → Cause → Type 0
-IsCauseIn bytes (Flattened fault) = ⊤
-IsCauseIn bytes (Compressed fault) = refusal bytes ≡ Some fault
-IsCauseIn bytes (Page bad) = page_fault bytes bad.number ≡ Some bad.fault
-IsCauseIn bytes Memory = ⊤
+-- what bytes say of a cause: of a flattened file that is refused those of the dump's file, and else those that this file means, which are its own
+-- where it isn't flattened. Both are None where they aren't known.
+abbrev pub IsCauseIn : Option (List ℕ) → Option (List ℕ) → Cause → Type 0
+IsCauseIn file held (Flattened fault) = IfSome file (λ bytes. flat_refusal bytes ≡ Some fault)
+IsCauseIn file held (Compressed fault) = IfSome held (λ bytes. refusal bytes ≡ Some fault)
+IsCauseIn file held (Page bad) = IfSome held (λ bytes. page_fault bytes bad.number ≡ Some bad.fault)
+IsCauseIn file held Memory = ⊤
 
--- a cause that is told is what the bytes say that are held, where these are known
-abbrev pub IsTrueOf : Option Cause → Option (List ℕ) → Type 0
-IsTrueOf told held = (cause : Cause) → told ≡ Some cause → IfSome held (λ bytes. IsCauseIn bytes cause)
+-- a cause that is told is what the bytes say
+abbrev pub IsTrueOf : Option Cause → Option (List ℕ) → Option (List ℕ) → Type 0
+IsTrueOf told file held = (cause : Cause) → told ≡ Some cause → IsCauseIn file held cause
+
+-- bytes that are held are what the file means: of a flattened one what its records write, of another its own
+abbrev pub IsMeant : Option (List ℕ) → Option (List ℕ) → Type 0
+IsMeant file held = IfSome held (λ bytes. option_and_then flat_bytes file ≡ Some bytes)
 
 -- the cause by the fault of a flattened file, and of a dump over it: none where only a call of the store failed
 abbrev pub flattened_cause : Option FlattenedFault → Option Cause

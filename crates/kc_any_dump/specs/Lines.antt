@@ -8,7 +8,6 @@ use Rattle.kc_kdump.specs.declared.fault.KdumpFault.{KdumpFault}
 use Rattle.kc_kdump.specs.declared.fault.KdumpFault.TheVariants.{K1, K2, K3, K4, K5, K6, K7, K8}
 use Rattle.kc_plain.specs.declared.unpacked.fault.PageFault.{PageFault}
 use Rattle.kc_plain.specs.declared.unpacked.fault.PageFault.TheVariants as of_page
-use Rattle.kc_plain_store.specs.declared.stop.BadPage.{BadPage}
 use Rattle.kc_any_dump.specs.declared.cause.Cause.{Cause}
 use Rattle.kc_any_dump.specs.declared.cause.Cause.TheVariants.{Flattened, Compressed, Page, Memory}
 

@@ -40,9 +40,12 @@ fn flattened_cause(fault: Option<FlattenedFault>) -> Option<Cause>
 /// A store that tells why a dump can't be read.
 pub trait TellsCause: Store {
     ghost use Rattle.kc_any_dump.specs.declared.cause.Cause.{Cause};
-    ghost use Rattle.kc_any_dump.specs.Causes.{IsTrueOf};
+    ghost use Rattle.kc_any_dump.specs.Causes.{IsMeant, IsTrueOf};
 
-    /// The bytes of the file in slot Dump as it is, of a flattened one those that it means; or `None` where they aren't told.
+    /// The bytes of the file in slot Dump as it is, or `None` where they aren't told.
+    ghost file: { Self → Option (List ℕ) };
+
+    /// Those of a file that isn't flattened, and of a flattened one those that it means; or `None` where they aren't told, or it is refused.
     ghost held: { Self → Option (List ℕ) };
 
     /// Why the last call failed that did since the dump was opened, where the dump's form has to do with it.
@@ -57,7 +60,10 @@ pub trait TellsCause: Store {
         ensures { (name : List ℕ) → Self.opened self.now Dump ≡ Some name → IfSome (held self.now) (λ bytes. result ≡ is_complete bytes) };
 
     /// The cause is what the bytes say.
-    ghost is_true: { (store : Self) → IsTrueOf (told store) (held store) };
+    ghost is_true: { (store : Self) → IsTrueOf (told store) (file store) (held store) };
+
+    /// What is held is what the file means.
+    ghost means: { (store : Self) → IsMeant (file store) (held store) };
 
     /// What is shown of a dump is the plain core file that stands for its bytes.
     ghost shown: { (store : Self) → IsSome (Self.opened store Dump)
@@ -66,13 +72,17 @@ pub trait TellsCause: Store {
 
 impl<S: Store + Drop> TellsCause for PlainView<Flattened<S>> {
     ghost use Rattle.kc_any_dump.specs.Causes.{dump_cause};
-    ghost use Rattle.kc_any_dump.specs.Laws.{cause_true, held_seen};
+    ghost use Rattle.kc_any_dump.specs.Laws.{cause_true, file_meant, held_seen};
+
+    ghost file = { λ v. content (S.files v.store.store) Dump (S.opened v.store.store Dump) };
 
     ghost held = { λ v. content (⟦<Flattened<S> as Store>⟧.files v.store) Dump (⟦<Flattened<S> as Store>⟧.opened v.store Dump) };
 
     ghost told = { λ v. dump_cause v.calls.last v.store.calls.last };
 
-    ghost is_true = { λ v. cause_true v.calls.last v.store.calls.last (content (⟦<Flattened<S> as Store>⟧.files v.store) Dump (⟦<Flattened<S> as Store>⟧.opened v.store Dump)) v.refused v.bad };
+    ghost is_true = { λ v. cause_true v.calls.last v.store.calls.last (content (S.files v.store.store) Dump (S.opened v.store.store Dump)) (content (⟦<Flattened<S> as Store>⟧.files v.store) Dump (⟦<Flattened<S> as Store>⟧.opened v.store Dump)) v.store.refused v.refused v.bad };
+
+    ghost means = { λ v. file_meant v.store.shape (S.files v.store.store) (S.opened v.store.store Dump) };
 
     ghost shown = { λ v there. held_seen v.shape (⟦<Flattened<S> as Store>⟧.files v.store) (⟦<Flattened<S> as Store>⟧.opened v.store Dump) there };
 

@@ -82,7 +82,7 @@ pub fn end_with_cause<D: TellsCause, E: Sink>(
 
     // The line is that of the cause that the store tells, and this is what the bytes say that it holds.
     ensures told { At status StoreFailed (OnTrue (is_sink_quiet result) (SaysAny (D.told dump.now) result (E.taken err.old) (E.taken err.new))) }
-    ensures is_true { IsTrueOf (D.told dump.now) (D.held dump.now) }
+    ensures is_true { IsTrueOf (D.told dump.now) (D.file dump.now) (D.held dump.now) }
     ensures unread { At status StoreFailed (OnTrue (is_sink_quiet result) (is_unread result ≡ true)) }
     ensures part { At status StoreFailed (TookAny (D.told dump.now) (E.taken err.old) (E.taken err.new)) }
     ensures sink_failed { At status StoreFailed (At result SinkFailed (Rose (E.faults err.old) (E.faults err.new))) }

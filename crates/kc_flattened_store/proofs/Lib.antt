@@ -1,1 +1,2 @@
+mod BrokenLemmas
 pub mod SeenLemmas

@@ -1,14 +1,22 @@
 -- What a read of slot Dump gives.
 use Rattle.std.specs.Prelude.{option_map}
-use Rattle.std.specs.Result.{result_ok}
-use Rattle.std.proofs.Common.{◌≡◌, ℕ, Bool, true, false, List, take, drop, Option, Some, None, Result, Ok, Err, IfSome, refl, sym, ap, ◌∙◌, subst}
+use Rattle.std.specs.Result.{result_err, result_ok}
+use Rattle.std.proofs.Common.{◌≡◌, ℕ, ◌<◌, ◌≤◌, true, false, List, take, drop, Option, Some, None, Result, Ok, Err, IfSome, refl, sym, ap, ◌∙◌, subst, arith}
 use Rattle.kc_outside.specs.declared.store.Slot.{Slot}
 use Rattle.kc_outside.specs.declared.store.Slot.TheVariants.{Dump, Btf, Map, Plan, Report, Module}
-use Rattle.kc_outside.specs.Files.{Files, HasLength, HasPart, content}
+use Rattle.kc_outside.specs.Files.{Files, HasLength, HasPart, IsOther, content}
+use Rattle.kc_word.specs.Answers.{Tells}
 use Rattle.kc_flattened.specs.declared.fault.FlatFault.{FlatFault}
+use Rattle.kc_flattened.specs.declared.fault.FlatStop.{FlatStop}
+use Rattle.kc_flattened.specs.declared.fault.FlatStop.TheVariants.{Fault, ReadFault, NoMemory}
+use Rattle.kc_flattened.specs.Answers.{told}
 use Rattle.kc_flattened.specs.declared.record.Record.{Record}
 use Rattle.kc_flattened.specs.Flat.{flat_of, meant_by, pasted, unflat}
 use Rattle.kc_flattened_store.specs.declared.shape.FlatShape.{FlatShape}
+use Rattle.kc_flattened_store.specs.declared.stop.FlattenedFault.{FlattenedFault}
+use Rattle.kc_flattened_store.specs.declared.stop.FlattenedFault.TheVariants as as_fault
+use Rattle.kc_flattened_store.specs.Counts.{fault_of}
+use Rattle.kc_flattened_store.specs.Faults.{IfRefused, refusal}
 use Rattle.kc_flattened_store.specs.Seen.{is_dump, opened_by, seen_by, seen_bytes, seen_files, seen_opened}
 use Rattle.kc_flattened_store.specs.Shapes.{file_size, shape_bytes, shape_size}
 use Rattle.kc_flattened_store.specs.StoreLaws.{content_seen, dump_length}
@@ -65,3 +73,31 @@ told_whole None size found long here is = tt
 told_whole (Some bytes) size found long here is =
     ap (λ (n : ℕ). result_ok (meant_by bytes (flat_of n bytes))) (sym long)
     ∙ ap (λ (r : Result (Option (List Record)) FlatFault). result_ok (meant_by bytes r)) (is ∙ ap (λ (f : Option (List Record)). Ok f) here)
+
+-- a fault that ends the reading of the records is the file's
+refused_by : (o : Option (List ℕ)) (size : ℕ) (stop : FlatStop) → HasLength o size → IfSome o (λ bytes. Tells (told stop) (flat_of size bytes))
+    → IfRefused {A = FlatShape} (Err (fault_of stop)) (λ fault. IfSome o (λ bytes. refusal bytes ≡ Some fault))
+unfolding unflat
+refused_by None size (Fault fault) long is = tt
+refused_by (Some bytes) size (Fault fault) long is =
+    ap (λ (n : ℕ). result_err (meant_by bytes (flat_of n bytes))) (sym long) ∙ ap (λ (r : Result (Option (List Record)) FlatFault). result_err (meant_by bytes r)) is
+refused_by o size ReadFault long is = tt
+refused_by o size NoMemory long is = tt
+
+pub told_refused : (o : Option (List ℕ)) (size : ℕ) (stop : FlatStop) (answer : FlattenedFault) → HasLength o size → answer ≡ fault_of stop
+    → IfSome o (λ bytes. Tells (told stop) (flat_of size bytes)) → IfRefused {A = FlatShape} (Err answer) (λ fault. IfSome o (λ bytes. refusal bytes ≡ Some fault))
+told_refused o size stop answer long is tells =
+    subst (λ (a : FlattenedFault). IfRefused {A = FlatShape} (Err a) (λ fault. IfSome o (λ bytes. refusal bytes ≡ Some fault))) (sym is) (refused_by o size stop long tells)
+
+-- a slot that isn't the dump's
+pub not_dump : (slot : Slot) → is_dump slot ≡ false → IsOther slot Dump
+not_dump Dump is = absurd (let none : ⊥ = cc in none)
+not_dump Btf is = refl
+not_dump Map is = refl
+not_dump Plan is = refl
+not_dump Report is = refl
+not_dump Module is = refl
+
+-- what was put down to the store below
+pub still_failed : (old new : Option FlattenedFault) (before after : ℕ) → new ≡ old → before ≤ after → (old ≡ Some as_fault.Store → 0 < before) → new ≡ Some as_fault.Store → 0 < after
+still_failed old new before after same more law is = omega (arith, law (sym same ∙ is), more)

@@ -1,7 +1,6 @@
 -- What is known of the file in slot Dump.
 use Rattle.std.specs.Prelude.{ℕ, List}
 use Rattle.kc_flattened.specs.Flat.{pasted}
-use Rattle.kc_flattened_store.specs.declared.flat_file.FlatFile.{FlatFile}
 use Rattle.kc_flattened_store.specs.declared.shape.FlatShape.{FlatShape}
 use Rattle.kc_flattened_store.specs.declared.shape.FlatShape.TheVariants.{Whole, Flat}
 

@@ -1,10 +1,10 @@
 -- What always holds of the files that are seen.
-use Rattle.std.specs.Prelude.{◌≡◌, ℕ, zero, suc, ◌+◌, ◌*◌, ◌<◌, ◌^◌, Bool, true, false, List, ◌++◌, length, Option, Some, None, IsSome, option_and_then, ⊤}
-use Rattle.std.proofs.Common.{arith, refl, sym, ap, ◌∙◌, subst}
+use Rattle.std.specs.Prelude.{◌≡◌, ℕ, zero, suc, ◌+◌, ◌<◌, ◌^◌, Bool, true, false, List, length, Option, Some, None, IsSome}
+use Rattle.std.proofs.Common.{refl, sym, ap, ◌∙◌, subst}
 use Rattle.kc_outside.specs.declared.store.Slot.{Slot}
 use Rattle.kc_outside.specs.declared.store.Slot.TheVariants.{Dump, Btf, Map, Plan, Report, Module}
 use Rattle.kc_outside.specs.Files.{Files, HasLength, content}
-use Rattle.kc_flattened.specs.Flat.{pasted, size_of, values, written}
+use Rattle.kc_flattened.specs.Flat.{size_of, values, written}
 use Rattle.kc_flattened_store.specs.declared.shape.FlatShape.{FlatShape}
 use Rattle.kc_flattened_store.specs.declared.shape.FlatShape.TheVariants.{Whole, Flat}
 use Rattle.kc_flattened_store.specs.Seen.{is_dump, learnt_size, opened_by, seen_by, seen_bytes, seen_files, seen_opened, seen_sizes}

@@ -5,7 +5,8 @@ ghost use Rattle.kc_outside.specs.Counts.{next_count};
 use crate::stop::FlattenedFault;
 use kc_outside::Failed;
 
-// How many calls there were, how many of them failed, and why the last of those did. At 2^64 - 1 a count stands still.
+// How many calls there were, how many of them failed, and why the last of those did that came since the dump was opened. At 2^64 - 1 a
+// count stands still.
 #[derive(Drop)]
 pub(crate) struct Calls {
     pub(crate) asked: u64,
@@ -31,6 +32,13 @@ impl Calls {
         ensures later { self.old.asked ≤ self.new.asked }
     {
         self.asked = self.asked.saturating_add(1);
+    }
+
+    // Forgets why the last failure came.
+    pub(crate) fn forget(&mut self)
+        ensures { self.new ≡ record self.old { last = None } }
+    {
+        self.last = None;
     }
 
     // Counts a failure, for the caller to answer.

@@ -3,6 +3,7 @@
 
 mod calls;
 mod flat_file;
+mod laws;
 mod opening;
 mod reading;
 mod shape;
@@ -10,6 +11,7 @@ mod stop;
 mod store;
 
 pub use flat_file::FlatFile;
+pub use laws::know_refusals;
 pub use shape::FlatShape;
 pub use stop::FlattenedFault;
 pub use store::Flattened;

@@ -5,6 +5,7 @@ ghost use Rattle.kc_outside.specs.declared.store.Slot.TheVariants.{Dump};
 ghost use Rattle.kc_outside.specs.Files.{content, named, OthersStay};
 ghost use Rattle.kc_flattened.specs.Stays.{StoreStays};
 ghost use Rattle.kc_flattened_store.specs.Counts.{CountsOpening, fault_of};
+ghost use Rattle.kc_flattened_store.specs.Faults.{IfRefused, refusal};
 ghost use Rattle.kc_flattened_store.specs.Seen.{seen_bytes};
 ghost use Rattle.kc_flattened_store.specs.Shapes.{file_size, shape_bytes, shape_size};
 
@@ -19,6 +20,7 @@ use std::alloc::Global;
 fn shape_of<S: Store>(alloc: Global, store: &mut S, size: u64) -> Result<FlatShape, FlattenedFault>
     requires learnt { S.sizes store.old Dump ≡ Some size }
     ensures told { IfOk result (λ shape. IfSome (content (S.files store.old) Dump (S.opened store.old Dump)) (λ bytes. seen_bytes bytes ≡ Some (shape_bytes shape bytes))) }
+    ensures refused { IfRefused result (λ fault. IfSome (content (S.files store.old) Dump (S.opened store.old Dump)) (λ bytes. refusal bytes ≡ Some fault)) }
     ensures size { IfOk result (λ shape. file_size shape ≡ size) }
     ensures fits { IfOk result (λ shape. shape_size shape < 2 ^ 64) }
     ensures stays { StoreStays S.opened S.sizes S.files S.may S.asked store.old store.new }
@@ -66,6 +68,7 @@ pub(crate) fn open_shape<S: Store>(
     ensures content { OnOk result (content (S.files store.new) Dump (S.opened store.new Dump) ≡ named (S.files store.old) Dump name.now) }
     ensures there { OnOk result (IfSome (S.files store.old) (λ files. IsSome (files Dump name.now))) }
     ensures told { IfOk result (λ shape. IfSome (content (S.files store.new) Dump (S.opened store.new Dump)) (λ bytes. seen_bytes bytes ≡ Some (shape_bytes shape bytes))) }
+    ensures refused { IfRefused result (λ fault. IfSome (content (S.files store.new) Dump (S.opened store.new Dump)) (λ bytes. refusal bytes ≡ Some fault)) }
     ensures others_opened { OthersStay Dump (S.opened store.old) (S.opened store.new) }
     ensures others_sizes { OthersStay Dump (S.sizes store.old) (S.sizes store.new) }
     ensures may { (s : Slot) (n : List ℕ) → S.may store.old s n → S.may store.new s n }

@@ -1,6 +1,7 @@
 // Reading what is seen in slot Dump.
-ghost use Rattle.std.specs.Prelude.{◌≡◌, ◌+◌, ◌≤◌, length, take, drop, Some, IsSome, IfSome, OnOk, option_map};
+ghost use Rattle.std.specs.Prelude.{◌≡◌, ◌+◌, ◌≤◌, length, take, drop, Some, IsSome, IfSome, OnOk, OnErr, option_map};
 ghost use Rattle.kc_outside.specs.declared.store.Slot.TheVariants.{Dump};
+ghost use Rattle.kc_outside.specs.Counts.{Rose};
 ghost use Rattle.kc_outside.specs.Files.{HasLength, content};
 ghost use Rattle.kc_flattened.specs.Flat.{pasted};
 ghost use Rattle.kc_flattened.specs.Stays.{StoreStays};
@@ -54,6 +55,8 @@ fn read_flat_file<S: Store>(
     requires within { off + length buf.old ≤ file.now.size }
     ensures part { OnOk result (IfSome (content (S.files store.old) Dump (S.opened store.old Dump)) (λ bytes. buf.new ≡ take (length buf.old) (drop off (pasted bytes file.now.records.items)))) }
     ensures stays { StoreStays S.opened S.sizes S.files S.may S.asked store.old store.new }
+    ensures later { S.faults store.old ≤ S.faults store.new }
+    ensures cause { OnErr result (Rose (S.faults store.old) (S.faults store.new)) }
 {
     match read_part(store, Slot::Dump, file.file_size, &file.records, off, buf) {
         Ok(()) => Ok(()),
@@ -72,6 +75,8 @@ fn read_shape<S: Store>(
     requires within { off + length buf.old ≤ shape_size shape.now }
     ensures part { OnOk result (IfSome (content (S.files store.old) Dump (S.opened store.old Dump)) (λ bytes. buf.new ≡ take (length buf.old) (drop off (shape_bytes shape.now bytes)))) }
     ensures stays { StoreStays S.opened S.sizes S.files S.may S.asked store.old store.new }
+    ensures later { S.faults store.old ≤ S.faults store.new }
+    ensures cause { OnErr result (Rose (S.faults store.old) (S.faults store.new)) }
 {
     match shape {
         FlatShape::Whole(_) => store.read_at(Slot::Dump, off, buf),
@@ -91,6 +96,8 @@ pub(crate) fn read_seen<S: Store>(
     requires within { (s : FlatShape) → shape.now ≡ Some s → off + length buf.old ≤ shape_size s }
     ensures part { OnOk result ((s : FlatShape) → shape.now ≡ Some s → IfSome (content (S.files store.old) Dump (S.opened store.old Dump)) (λ bytes. buf.new ≡ take (length buf.old) (drop off (shape_bytes s bytes)))) }
     ensures stays { StoreStays S.opened S.sizes S.files S.may S.asked store.old store.new }
+    ensures later { S.faults store.old ≤ S.faults store.new }
+    ensures cause { OnErr result (Rose (S.faults store.old) (S.faults store.new)) }
 {
     match shape {
         Some(shape) => match read_shape(store, shape, off, buf) {

@@ -1,9 +1,12 @@
 // A store that means flattened files.
-ghost use Rattle.std.specs.Prelude.{◌≡◌, ◌<◌, ◌^◌, ℕ, List, Some, IsSome};
+ghost use Rattle.std.specs.Prelude.{◌≡◌, ◌<◌, ◌^◌, ℕ, List, Some, None, IsSome, IfSome};
 ghost use Rattle.std.proofs.Props.{props};
 ghost use Rattle.kc_outside.specs.declared.store.Slot.TheVariants.{Dump};
 ghost use Rattle.kc_outside.specs.Files.{content};
+ghost use Rattle.kc_flattened.specs.declared.fault.FlatFault.{FlatFault};
 ghost use Rattle.kc_flattened_store.specs.declared.shape.FlatShape.{FlatShape};
+ghost use Rattle.kc_flattened_store.specs.declared.stop.FlattenedFault.TheVariants as as_fault;
+ghost use Rattle.kc_flattened_store.specs.Faults.{refusal};
 ghost use Rattle.kc_flattened_store.specs.Seen.{is_dump, seen_bytes};
 ghost use Rattle.kc_flattened_store.specs.Shapes.{file_size, shape_bytes, shape_size};
 
@@ -29,6 +32,11 @@ pub struct Flattened<S: Store + Drop> {
     ghost known: { (s : FlatShape) → shape ≡ Some s → S.sizes store Dump ≡ Some (file_size s) } by { Prim.hlevel props },
     ghost fits: { (s : FlatShape) → shape ≡ Some s → shape_size s < 2 ^ 64 } by { Prim.hlevel props },
     ghost told: { (s : FlatShape) (bytes : List ℕ) → shape ≡ Some s → content (S.files store) Dump (S.opened store Dump) ≡ Some bytes → seen_bytes bytes ≡ Some (shape_bytes s bytes) } by { Prim.hlevel props },
+    // A flattened file that is refused has the fault that is told; and nothing is put down to the store that didn't fail, or to want of memory
+    // where a file is seen.
+    ghost refused: { (fault : FlatFault) (bytes : List ℕ) → calls.last ≡ Some (as_fault.Refused fault) → content (S.files store) Dump (S.opened store Dump) ≡ Some bytes → refusal bytes ≡ Some fault } by { Prim.hlevel props },
+    ghost failed: { calls.last ≡ Some as_fault.Store → 0 < S.faults store } by { Prim.hlevel props },
+    ghost wanted: { (s : FlatShape) → calls.last ≡ Some as_fault.NoMemory → shape ≡ Some s → ⊥ } by { Prim.hlevel props },
     ghost held: { (s : FlatShape) → shape ≡ Some s → IsSome (S.opened store Dump) } by { Prim.hlevel props },
 }
 
@@ -52,9 +60,15 @@ impl<S: Store + Drop> Flattened<S> {
         }
     }
 
-    /// Why the last call that failed did, if one did.
+    /// Why the last call that failed did, if one did since the dump was opened.
     pub fn fault(&self) -> Option<FlattenedFault>
-        ensures { result ≡ self.now.calls.last }
+        ensures kept { result ≡ self.now.calls.last }
+        // A fault of the flattened file is what the bytes of the file in slot Dump say.
+        ensures refused { (fault : FlatFault) → result ≡ Some (as_fault.Refused fault)
+            → IfSome (content (S.files self.now.store) Dump (S.opened self.now.store Dump)) (λ bytes. refusal bytes ≡ Some fault) }
+        // The store below is named only where a call of it failed, and want of memory only where the dump wasn't opened.
+        ensures store { result ≡ Some as_fault.Store → 0 < S.faults self.now.store }
+        ensures memory { result ≡ Some as_fault.NoMemory → ⟦<Flattened<S> as Store>⟧.opened self.now Dump ≡ None }
     {
         self.calls.last
     }
@@ -105,6 +119,7 @@ impl<S: Store + Drop> Store for Flattened<S> {
             match open_shape(self.alloc, &mut self.store, name) {
                 Ok(shape) => {
                     self.shape = Some(shape);
+                    self.calls.forget();
                     Ok(())
                 }
                 Err(fault) => Err(self.calls.fail(fault)),

@@ -1,22 +1,20 @@
 -- How `core` ends.
-use Rattle.std.proofs.Common.{◌≡◌, ◌⊎◌, ℕ, Bool, true, false, nat_eq, List, Option, Some, None, IfSome, IsSome, Result, Ok, Err, refl, sym, ap, ◌∙◌, subst, inl, inr}
+use Rattle.std.proofs.Common.{◌≡◌, ◌⊎◌, ℕ, Bool, true, false, nat_eq, List, Option, Some, None, IfSome, IsSome, Err, refl, sym, ap, ◌∙◌, inl, inr}
 use Rattle.std.specs.Prelude.{option_and_then}
 use Rattle.std.specs.Bool.{OnTrue}
 use Rattle.kc_outside.specs.declared.store.Slot.{Slot}
 use Rattle.kc_outside.specs.declared.store.Slot.TheVariants.{Dump}
-use Rattle.kc_outside.specs.Counts.{Rose}
 use Rattle.kc_outside.specs.Files.{Files, content, named}
 use Rattle.kc_outside.specs.Texts.{with_piece}
 use Rattle.kc_command.specs.declared.ends.status.Status.{Status}
 use Rattle.kc_command.specs.declared.ends.status.Status.TheVariants.{Done, Broken, Refused, StoreFailed, SinkFailed, OutOfMemory, NoCommand}
-use Rattle.kc_command.specs.Ends.Failures.{memory_refused, store_failed}
-use Rattle.kc_command.specs.Ends.Last.{FailedLast, StopsAtFailure}
+use Rattle.kc_command.specs.Ends.Failures.{memory_refused}
 use Rattle.kc_command.specs.Ends.Status.{At, is_sink_quiet, number}
 use Rattle.kc_plain_store.specs.Faults.{is_complete}
 use Rattle.kc_plain_store.specs.Seen.{seen_bytes}
 use Rattle.kc_any_dump.specs.declared.cause.Cause.{Cause}
 use Rattle.kc_any_dump.specs.declared.cause.Cause.TheVariants.{Flattened, Compressed, Page, Memory}
-use Rattle.kc_any_dump.specs.Causes.{IsTrueOf, SaysCause, cause_status, is_unread}
+use Rattle.kc_any_dump.specs.Causes.{IsMeant, IsTrueOf, SaysCause, cause_status, is_unread}
 use Rattle.kc_any_dump.specs.Lines.{cause_line}
 use Rattle.kc_kplain.specs.declared.copy.CopyStop.{CopyStop}
 use Rattle.kc_kplain.specs.declared.copy.CopyStop.TheVariants.{Store, Sink}
@@ -287,15 +285,16 @@ pub shown_same : (one two : Option Files) (first then : Slot → Option (List �
 shown_same one two first then seen files opened shown = ap (λ (f : Option Files). content f Dump (first Dump)) (sym files) ∙ ap (λ (o : Slot → Option (List ℕ)). content two Dump (o Dump)) (sym opened) ∙ shown
 
 -- where the dump was opened
-pub opened_ends : (files : Option Files) (name : List ℕ) (held : Option (List ℕ)) (told : Option Cause) (ends : Status) (out_old out_new err_old err_new : Option (List ℕ)) → is_copy ends ≡ true
+pub opened_ends : (files : Option Files) (name : List ℕ) (file held : Option (List ℕ)) (told : Option Cause) (ends : Status) (out_old out_new err_old err_new : Option (List ℕ)) → is_copy ends ≡ true
     → At ends Done (IfSome (named files Dump name) (λ bytes. out_new ≡ with_piece out_old bytes)) → named files Dump name ≡ option_and_then seen_bytes held
-    → At ends Done (DoneSays held err_old err_new) → IsTrueOf told held → At ends StoreFailed (StoreSays told err_old err_new)
-    → CoreEnds files name held told ends out_old out_new err_old err_new
-opened_ends files name held told ends out_old out_new err_old err_new is whole shown said is_true store = record {
+    → At ends Done (DoneSays held err_old err_new) → IsTrueOf told file held → IsMeant file held → At ends StoreFailed (StoreSays told err_old err_new)
+    → CoreEnds files name file held told ends out_old out_new err_old err_new
+opened_ends files name file held told ends out_old out_new err_old err_new is whole shown said is_true means store = record {
   status = copy_core ends is;
   whole = whole;
   shown = always _ (nat_eq (number ends) 0) shown;
   said = said;
+  means = means;
   is_true = is_true;
   refused = copy_refused _ ends is;
   store = store;
@@ -322,14 +321,15 @@ unread_done P OutOfMemory is = tt
 unread_done P NoCommand is = tt
 
 -- where it wasn't
-pub unopened_ends : (files : Option Files) (name : List ℕ) (held : Option (List ℕ)) (told : Option Cause) (ends : Status) (out err_old err_new : Option (List ℕ)) → OnTrue (is_sink_quiet ends) (is_unread ends ≡ true) → IsTrueOf told held
+pub unopened_ends : (files : Option Files) (name : List ℕ) (file held : Option (List ℕ)) (told : Option Cause) (ends : Status) (out err_old err_new : Option (List ℕ)) → OnTrue (is_sink_quiet ends) (is_unread ends ≡ true) → IsTrueOf told file held → IsMeant file held
     → At ends Refused (CausedBy told ends err_old err_new) → At ends StoreFailed (StoreSays told err_old err_new) → At ends OutOfMemory (err_new ≡ with_piece err_old memory_refused)
-    → CoreEnds files name held told ends out out err_old err_new
-unopened_ends files name held told ends out err_old err_new is is_true refused store memory = record {
+    → CoreEnds files name file held told ends out out err_old err_new
+unopened_ends files name file held told ends out err_old err_new is is_true means refused store memory = record {
   status = unread_core ends is;
   whole = unread_done _ ends is;
   shown = unread_done _ ends is;
   said = unread_done _ ends is;
+  means = means;
   is_true = is_true;
   refused = refused;
   store = store;

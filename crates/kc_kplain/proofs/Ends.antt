@@ -1,16 +1,16 @@
 -- How the program ends by how kaudit did.
-use Rattle.std.proofs.Common.{◌≡◌, ◌⊎◌, ℕ, ◌<◌, ◌-◌, ◌^◌, Bool, true, false, ◌||◌, nat_eq, List, Option, Some, None, IfSome, refl, sym, ap, ◌∙◌, subst, inl, inr, arith}
+use Rattle.std.proofs.Common.{◌≡◌, ◌⊎◌, ℕ, ◌<◌, Bool, true, false, ◌||◌, nat_eq, List, Option, Some, None, IfSome, refl, ◌∙◌, subst, inl, inr, arith}
 use Rattle.std.specs.Prelude.{IsTrue}
 use Rattle.std.specs.Bool.{OnTrue, OnFalse}
 use Rattle.kc_outside.specs.declared.store.Slot.{Slot}
-use Rattle.kc_outside.specs.Counts.{Rose, next_count}
+use Rattle.kc_outside.specs.Counts.{Rose}
 use Rattle.kc_outside.specs.Files.{Files}
 use Rattle.kc_outside.specs.Texts.{with_piece}
 use Rattle.kc_command.specs.declared.ends.status.Status.{Status}
 use Rattle.kc_command.specs.declared.ends.status.Status.TheVariants.{Done, Broken, Refused, StoreFailed, SinkFailed, OutOfMemory, NoCommand}
 use Rattle.kc_command.specs.Inputs.{view_headers}
 use Rattle.kc_command.specs.Ends.Failures.{memory_refused, store_failed}
-use Rattle.kc_command.specs.Ends.Last.{FailedLast, StopsAtFailure}
+use Rattle.kc_command.specs.Ends.Last.{StopsAtFailure}
 use Rattle.kc_command.specs.Ends.Status.{At, is_answer, is_silent, is_sink_quiet, is_store_quiet, number}
 use Rattle.kc_command.specs.Ends.Unopened.{AskedStay}
 use Rattle.kc_any_dump.specs.declared.cause.Cause.{Cause}
@@ -64,10 +64,10 @@ never P true is = absurd (let none : ⊥ = cc in none)
 never P false is = tt
 
 -- where kaudit's end stays, it is the program's
-own_end : (words : List (List ℕ)) (files : Option Files) (held : Option (List ℕ)) (told : Option Cause) (opened_old opened_new : Slot → Option (List ℕ)) (ends : Status) (out_old out_new err_old err_new : Option (List ℕ))
-    → nat_eq (number ends) 3 ≡ false → IsTrueOf told held
-    → OwnEnds words files opened_old opened_new ends out_old out_new err_old err_new → AuditEnds words files held told opened_old opened_new ends out_old out_new err_old err_new
-own_end words files held told opened_old opened_new ends out_old out_new err_old err_new other is_true own = record {
+own_end : (words : List (List ℕ)) (files : Option Files) (file held : Option (List ℕ)) (told : Option Cause) (opened_old opened_new : Slot → Option (List ℕ)) (ends : Status) (out_old out_new err_old err_new : Option (List ℕ))
+    → nat_eq (number ends) 3 ≡ false → IsTrueOf told file held
+    → OwnEnds words files opened_old opened_new ends out_old out_new err_old err_new → AuditEnds words files file held told opened_old opened_new ends out_old out_new err_old err_new
+own_end words files file held told opened_old opened_new ends out_old out_new err_old err_new other is_true own = record {
   told = settled _ ends own.told;
   stands = settled _ ends own.stands;
   stands_with_module = settled _ ends own.stands_with_module;
@@ -140,11 +140,11 @@ always true p = p
 always false p = tt
 
 -- where the store failed in kaudit, the program ends by a cause or by none
-caused_end : (words : List (List ℕ)) (files : Option Files) (held : Option (List ℕ)) (told : Option Cause) (opened_old opened_new : Slot → Option (List ℕ)) (ends : Status) (out_old out_new err_old err_mid err_new : Option (List ℕ))
-    → err_mid ≡ with_piece err_old store_failed → out_new ≡ out_old → IsTrueOf told held
+caused_end : (words : List (List ℕ)) (files : Option Files) (file held : Option (List ℕ)) (told : Option Cause) (opened_old opened_new : Slot → Option (List ℕ)) (ends : Status) (out_old out_new err_old err_mid err_new : Option (List ℕ))
+    → err_mid ≡ with_piece err_old store_failed → out_new ≡ out_old → IsTrueOf told file held
     → OnTrue (is_sink_quiet ends) (SaysAny told ends err_mid err_new) → OnTrue (is_sink_quiet ends) (is_unread ends ≡ true)
-    → AuditEnds words files held told opened_old opened_new ends out_old out_new err_old err_new
-caused_end words files held told opened_old opened_new ends out_old out_new err_old err_mid err_new text silent is_true says unread =
+    → AuditEnds words files file held told opened_old opened_new ends out_old out_new err_old err_new
+caused_end words files file held told opened_old opened_new ends out_old out_new err_old err_mid err_new text silent is_true says unread =
     let said = under (is_sink_quiet ends) (after told ends err_old err_mid err_new text) says in
     record {
       told = unsettled _ ends unread;
@@ -163,25 +163,25 @@ caused_end words files held told opened_old opened_new ends out_old out_new err_
     }
 
 -- by both
-pub audit_ends : (words : List (List ℕ)) (files : Option Files) (held : Option (List ℕ)) (told : Option Cause) (opened_old opened_new : Slot → Option (List ℕ)) (own ends : Status) (out_old out_new err_old err_mid err_new : Option (List ℕ))
+pub audit_ends : (words : List (List ℕ)) (files : Option Files) (file held : Option (List ℕ)) (told : Option Cause) (opened_old opened_new : Slot → Option (List ℕ)) (own ends : Status) (out_old out_new err_old err_mid err_new : Option (List ℕ))
     → OwnEnds words files opened_old opened_new own out_old out_new err_old err_mid
     → OnFalse (nat_eq (number own) 3) (ends ≡ own) → OnFalse (nat_eq (number own) 3) (err_new ≡ err_mid)
-    → IsTrueOf told held → At own StoreFailed (OnTrue (is_sink_quiet ends) (SaysAny told ends err_mid err_new)) → At own StoreFailed (OnTrue (is_sink_quiet ends) (is_unread ends ≡ true))
-    → AuditEnds words files held told opened_old opened_new ends out_old out_new err_old err_new
-audit_ends words files held told opened_old opened_new StoreFailed ends out_old out_new err_old err_mid err_new k same err is_true says unread =
-    caused_end words files held told opened_old opened_new ends out_old out_new err_old err_mid err_new k.store_text k.silent is_true says unread
-audit_ends words files held told opened_old opened_new Done ends out_old out_new err_old err_mid err_new k same err is_true says unread =
-    rw (same, err) (own_end words files held told opened_old opened_new Done out_old out_new err_old err_mid refl is_true k)
-audit_ends words files held told opened_old opened_new Broken ends out_old out_new err_old err_mid err_new k same err is_true says unread =
-    rw (same, err) (own_end words files held told opened_old opened_new Broken out_old out_new err_old err_mid refl is_true k)
-audit_ends words files held told opened_old opened_new Refused ends out_old out_new err_old err_mid err_new k same err is_true says unread =
-    rw (same, err) (own_end words files held told opened_old opened_new Refused out_old out_new err_old err_mid refl is_true k)
-audit_ends words files held told opened_old opened_new SinkFailed ends out_old out_new err_old err_mid err_new k same err is_true says unread =
-    rw (same, err) (own_end words files held told opened_old opened_new SinkFailed out_old out_new err_old err_mid refl is_true k)
-audit_ends words files held told opened_old opened_new OutOfMemory ends out_old out_new err_old err_mid err_new k same err is_true says unread =
-    rw (same, err) (own_end words files held told opened_old opened_new OutOfMemory out_old out_new err_old err_mid refl is_true k)
-audit_ends words files held told opened_old opened_new NoCommand ends out_old out_new err_old err_mid err_new k same err is_true says unread =
-    rw (same, err) (own_end words files held told opened_old opened_new NoCommand out_old out_new err_old err_mid refl is_true k)
+    → IsTrueOf told file held → At own StoreFailed (OnTrue (is_sink_quiet ends) (SaysAny told ends err_mid err_new)) → At own StoreFailed (OnTrue (is_sink_quiet ends) (is_unread ends ≡ true))
+    → AuditEnds words files file held told opened_old opened_new ends out_old out_new err_old err_new
+audit_ends words files file held told opened_old opened_new StoreFailed ends out_old out_new err_old err_mid err_new k same err is_true says unread =
+    caused_end words files file held told opened_old opened_new ends out_old out_new err_old err_mid err_new k.store_text k.silent is_true says unread
+audit_ends words files file held told opened_old opened_new Done ends out_old out_new err_old err_mid err_new k same err is_true says unread =
+    rw (same, err) (own_end words files file held told opened_old opened_new Done out_old out_new err_old err_mid refl is_true k)
+audit_ends words files file held told opened_old opened_new Broken ends out_old out_new err_old err_mid err_new k same err is_true says unread =
+    rw (same, err) (own_end words files file held told opened_old opened_new Broken out_old out_new err_old err_mid refl is_true k)
+audit_ends words files file held told opened_old opened_new Refused ends out_old out_new err_old err_mid err_new k same err is_true says unread =
+    rw (same, err) (own_end words files file held told opened_old opened_new Refused out_old out_new err_old err_mid refl is_true k)
+audit_ends words files file held told opened_old opened_new SinkFailed ends out_old out_new err_old err_mid err_new k same err is_true says unread =
+    rw (same, err) (own_end words files file held told opened_old opened_new SinkFailed out_old out_new err_old err_mid refl is_true k)
+audit_ends words files file held told opened_old opened_new OutOfMemory ends out_old out_new err_old err_mid err_new k same err is_true says unread =
+    rw (same, err) (own_end words files file held told opened_old opened_new OutOfMemory out_old out_new err_old err_mid refl is_true k)
+audit_ends words files file held told opened_old opened_new NoCommand ends out_old out_new err_old err_mid err_new k same err is_true says unread =
+    rw (same, err) (own_end words files file held told opened_old opened_new NoCommand out_old out_new err_old err_mid refl is_true k)
 
 -- ---- counts and calls
 

@@ -1,5 +1,5 @@
 -- What the words of a command line ask for.
-use Rattle.std.specs.Prelude.{ℕ, nat_eq, Bool, false, ◌||◌, if◌then◌else◌, List, [], ◌∷◌, ◌++◌, codes, length}
+use Rattle.std.specs.Prelude.{ℕ, nat_eq, Bool, false, ◌||◌, if◌then◌else◌, List, [], ◌∷◌, codes, length}
 use Rattle.std.specs.Str.{bytes_eq}
 use Rattle.kc_kplain.specs.declared.form.PlainForm.{PlainForm}
 use Rattle.kc_kplain.specs.declared.form.PlainForm.TheVariants as code

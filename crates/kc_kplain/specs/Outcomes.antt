@@ -14,7 +14,7 @@ use Rattle.kc_command.specs.Ends.Unopened.{AskedStay}
 use Rattle.kc_plain_store.specs.Faults.{is_complete}
 use Rattle.kc_plain_store.specs.Seen.{seen_bytes}
 use Rattle.kc_any_dump.specs.declared.cause.Cause.{Cause}
-use Rattle.kc_any_dump.specs.Causes.{IsTrueOf, SaysCause, cause_status}
+use Rattle.kc_any_dump.specs.Causes.{IsMeant, IsTrueOf, SaysCause, cause_status}
 use Rattle.kc_any_dump.specs.Lines.{cause_line}
 use Rattle.kc_app.specs.CertHeadline.{CertifyEnds, RecheckEnds}
 use Rattle.kc_app.specs.Headline.{CheckEnds, CheckPrints}
@@ -66,14 +66,16 @@ DoneSays held old new =
     (IfSome held (λ bytes. is_complete bytes ≡ true) × (new ≡ old))
     ⊎ (IfSome held (λ bytes. is_complete bytes ≡ false) × (new ≡ with_piece old incomplete_line))
 
--- Where it ends with 0, standard output took the whole file that is shown for the dump, which stands for the bytes that the store holds.
+-- Where it ends with 0, standard output took the whole file that is shown for the dump, which stands for the bytes that the store holds: those that
+-- the dump's file means.
 -- Where the dump's form is refused, and where no memory was left to open it, standard output took nothing.
-pub record CoreEnds (files : Option Files) (name : List ℕ) (held : Option (List ℕ)) (told : Option Cause) (ends : Status) (out_old out_new err_old err_new : Option (List ℕ)) : Type 0 where
+pub record CoreEnds (files : Option Files) (name : List ℕ) (file held : Option (List ℕ)) (told : Option Cause) (ends : Status) (out_old out_new err_old err_new : Option (List ℕ)) : Type 0 where
   pub status : is_core ends ≡ true
   pub whole : At ends Done (IfSome (named files Dump name) (λ bytes. out_new ≡ with_piece out_old bytes))
   pub shown : At ends Done (named files Dump name ≡ option_and_then seen_bytes held)
+  pub means : IsMeant file held
   pub said : At ends Done (DoneSays held err_old err_new)
-  pub is_true : IsTrueOf told held
+  pub is_true : IsTrueOf told file held
   pub refused : At ends Refused (CausedBy told ends err_old err_new)
   pub store : At ends StoreFailed (StoreSays told err_old err_new)
   pub memory : At ends OutOfMemory (err_new ≡ with_piece err_old memory_refused)
@@ -93,8 +95,8 @@ abbrev pub SaysAfter : Option Cause → Status → Option (List ℕ) → Option 
 SaysAfter told ends old new = (cause : Cause) × (told ≡ Some cause) × SaysCause cause ends (with_piece old store_failed) new
 
 -- An answer is kaudit's over the files that are shown, and so is a refusal; but for the refusal of the dump's form, whose line follows the
--- one that the store failed. The cause of such a line is what the bytes say that the store holds.
-pub record AuditEnds (words : List (List ℕ)) (files : Option Files) (held : Option (List ℕ)) (blamed : Option Cause) (opened_old opened_new : Slot → Option (List ℕ)) (ends : Status) (out_old out_new err_old err_new : Option (List ℕ)) : Type 0 where
+-- one that the store failed. The cause of such a line is what the bytes say of the dump's file, and of what it means.
+pub record AuditEnds (words : List (List ℕ)) (files : Option Files) (file held : Option (List ℕ)) (blamed : Option Cause) (opened_old opened_new : Slot → Option (List ℕ)) (ends : Status) (out_old out_new err_old err_new : Option (List ℕ)) : Type 0 where
   pub told : OnTrue (is_settled ends) (IsToldBy view_headers words files ends out_old out_new err_old err_new)
   pub stands : OnTrue (is_settled ends) (IfSome files (λ f. CheckEnds view_headers words f ends))
   pub stands_with_module : OnTrue (is_settled ends) (IfSome files (λ f. ModuleCheckEnds view_headers words f ends))
@@ -106,5 +108,5 @@ pub record AuditEnds (words : List (List ℕ)) (files : Option Files) (held : Op
   pub refused : At ends Refused ((IsToldBy view_headers words files ends out_old out_new err_old err_new × AskedStay (program view_headers words) files opened_old opened_new) ⊎ SaysAfter blamed ends err_old err_new)
   pub store : At ends StoreFailed (((blamed ≡ None) × (err_new ≡ with_piece err_old store_failed)) ⊎ SaysAfter blamed ends err_old err_new)
   pub memory : At ends OutOfMemory ((err_new ≡ with_piece err_old memory_refused) ⊎ SaysAfter blamed ends err_old err_new)
-  pub is_true : IsTrueOf blamed held
+  pub is_true : IsTrueOf blamed file held
   pub silent : OnTrue (is_silent ends) (out_new ≡ out_old)

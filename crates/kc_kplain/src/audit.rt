@@ -31,7 +31,7 @@ pub fn audit<D: TellsCause, O: Sink, E: Sink>(
 ) -> Status
     requires { (slot : Slot) → ForSome (word_in (program view_headers (map string_bytes words.now)) slot) (D.may dump.old slot) }
 
-    ensures ends { AuditEnds (map string_bytes words.now) (D.files dump.old) (D.held dump.new) (D.told dump.new) (D.opened dump.old) (D.opened dump.new) result
+    ensures ends { AuditEnds (map string_bytes words.now) (D.files dump.old) (D.file dump.new) (D.held dump.new) (D.told dump.new) (D.opened dump.old) (D.opened dump.new) result
         (O.taken out.old) (O.taken out.new) (E.taken err.old) (E.taken err.new) }
 
     // Where nothing failed, there is an answer or want of memory.

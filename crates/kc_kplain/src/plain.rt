@@ -175,7 +175,7 @@ pub fn write_plain<D: TellsCause, O: Sink, E: Sink>(
 ) -> Status
     requires { D.may dump.old Dump name.now }
 
-    ensures ends { CoreEnds (D.files dump.old) name.now (D.held dump.new) (D.told dump.new) result (O.taken out.old) (O.taken out.new)
+    ensures ends { CoreEnds (D.files dump.old) name.now (D.file dump.new) (D.held dump.new) (D.told dump.new) result (O.taken out.old) (O.taken out.new)
         (E.taken err.old) (E.taken err.new) }
 
     // Each failure has its cause, and a dump that isn't opened puts nothing to standard output.

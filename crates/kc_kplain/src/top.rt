@@ -42,9 +42,9 @@ pub fn kplain<D: TellsCause, O: Sink, E: Sink>(
 
     // `core` writes the file that is shown for the dump; kaudit's commands end as kaudit does over the files that are shown.
     ensures core { (name : List ℕ) → form_of (map string_bytes words.now) ≡ Core name
-        → CoreEnds (D.files dump.old) name (D.held dump.new) (D.told dump.new) result (O.taken out.old) (O.taken out.new) (E.taken err.old) (E.taken err.new) }
+        → CoreEnds (D.files dump.old) name (D.file dump.new) (D.held dump.new) (D.told dump.new) result (O.taken out.old) (O.taken out.new) (E.taken err.old) (E.taken err.new) }
     ensures audit { form_of (map string_bytes words.now) ≡ Audit
-        → AuditEnds (map string_bytes words.now) (D.files dump.old) (D.held dump.new) (D.told dump.new) (D.opened dump.old)
+        → AuditEnds (map string_bytes words.now) (D.files dump.old) (D.file dump.new) (D.held dump.new) (D.told dump.new) (D.opened dump.old)
         (D.opened dump.new) result (O.taken out.old) (O.taken out.new) (E.taken err.old) (E.taken err.new) }
 
     // Other words are told the usage, and no call is made of the store.

@@ -10,7 +10,7 @@ returns-clause-ends g c =
     let end = c.end_with_cause.ensures in
     let own = c.kaudit_within-status.result in
     let dump = c.kaudit_within-status.new.store in
-    audit_ends (map string_bytes c.args.words.now) (g.D.Store.files c.args.dump.now) (g.D.TellsCause.held dump) (g.D.TellsCause.told dump) (g.D.Store.opened c.args.dump.now) (g.D.Store.opened c.kaudit_within-status.new.store) own c.end_with_cause.result
+    audit_ends (map string_bytes c.args.words.now) (g.D.Store.files c.args.dump.now) (g.D.TellsCause.file dump) (g.D.TellsCause.held dump) (g.D.TellsCause.told dump) (g.D.Store.opened c.args.dump.now) (g.D.Store.opened c.kaudit_within-status.new.store) own c.end_with_cause.result
     (g.O.Sink.taken c.args.out.now) (g.O.Sink.taken c.kaudit_within-status.new.out) (g.E.Sink.taken c.args.err.now) (g.E.Sink.taken c.kaudit_within-status.new.err) (g.E.Sink.taken c.end_with_cause.new.err)
     (record {
       told = k.told;

@@ -1,4 +1,4 @@
-use Rattle.std.proofs.Common.{inl, inr, refl, sym, subst, Bool, IfSome, ◌≡◌}
+use Rattle.std.proofs.Common.{inl, inr, refl, subst, Bool, IfSome, ◌≡◌}
 use Rattle.kc_outside.specs.declared.store.Slot.TheVariants.{Dump}
 use Rattle.kc_plain_store.specs.Faults.{is_complete}
 use Rattle.kc_kplain.proofs.Copies.{at_done, told_whole}

@@ -1,4 +1,3 @@
-use Rattle.std.proofs.Common.{refl}
 use Rattle.kc_kplain.proofs.Copies.{always, at_sink, done_copy, done_store, failed_copy, failed_done, out_stops, quiet_out, sink_rose, store_rose}
 use Rattle.kc_kplain.proofs.plain.write_opened.Goals as goal
 

@@ -1,6 +1,4 @@
 use Rattle.std.proofs.Common.{◌≡◌, ◌∙◌, ℕ, List, Option, IfSome, refl, sym, subst}
-use Rattle.std.specs.Bool.{OnTrue}
-use Rattle.kc_outside.specs.declared.store.Slot.TheVariants.{Dump}
 use Rattle.kc_outside.specs.Counts.{Rose}
 use Rattle.kc_outside.specs.Texts.{with_piece}
 use Rattle.kc_command.specs.declared.ends.status.Status.TheVariants.{Done, StoreFailed}
@@ -14,11 +12,11 @@ pub returns-in-Ok-clause-ends : goal.returns-in-Ok-clause-ends
 returns-in-Ok-clause-ends g c =
     let end = c.write_opened.ensures in
     let dump = c.write_opened.new.dump in
-    opened_ends (g.D.Store.files c.args.dump.now) c.args.name.now (g.D.TellsCause.held dump) (g.D.TellsCause.told dump) c.write_opened.result (g.O.Sink.taken c.args.out.now) (g.O.Sink.taken c.write_opened.new.out) (g.E.Sink.taken c.args.err.now) (g.E.Sink.taken c.write_opened.new.err)
+    opened_ends (g.D.Store.files c.args.dump.now) c.args.name.now (g.D.TellsCause.file dump) (g.D.TellsCause.held dump) (g.D.TellsCause.told dump) c.write_opened.result (g.O.Sink.taken c.args.out.now) (g.O.Sink.taken c.write_opened.new.out) (g.E.Sink.taken c.args.err.now) (g.E.Sink.taken c.write_opened.new.err)
     end.status
     (subst (λ (file : Option (List ℕ)). At c.write_opened.result Done (IfSome file (λ bytes. g.O.Sink.taken c.write_opened.new.out ≡ with_piece (g.O.Sink.taken c.args.out.now) bytes))) c.in-Ok.ensures.content end.whole)
     (sym c.in-Ok.ensures.content ∙ shown_same _ _ _ _ _ end.files end.opened (g.met.D.TellsCause.shown dump (rw end.opened c.in-Ok.ensures.opened)))
-    end.said (g.met.D.TellsCause.is_true dump) end.store
+    end.said (g.met.D.TellsCause.is_true dump) (g.met.D.TellsCause.means dump) end.store
 
 pub returns-in-Ok-clause-silent : goal.returns-in-Ok-clause-silent
 returns-in-Ok-clause-silent g c = copy_silent _ c.write_opened.result c.write_opened.ensures.status
@@ -32,8 +30,8 @@ pub returns-in-Err-clause-ends : goal.returns-in-Err-clause-ends
 returns-in-Err-clause-ends g c =
     let end = c.end_opening.ensures in
     let dump = c.open_file.new.self in
-    unopened_ends (g.D.Store.files c.args.dump.now) c.args.name.now (g.D.TellsCause.held dump) (g.D.TellsCause.told dump) c.end_opening.result (g.O.Sink.taken c.args.out.now) (g.E.Sink.taken c.args.err.now) (g.E.Sink.taken c.end_opening.new.err)
-    end.status (g.met.D.TellsCause.is_true dump) end.refused end.store end.memory
+    unopened_ends (g.D.Store.files c.args.dump.now) c.args.name.now (g.D.TellsCause.file dump) (g.D.TellsCause.held dump) (g.D.TellsCause.told dump) c.end_opening.result (g.O.Sink.taken c.args.out.now) (g.E.Sink.taken c.args.err.now) (g.E.Sink.taken c.end_opening.new.err)
+    end.status (g.met.D.TellsCause.is_true dump) (g.met.D.TellsCause.means dump) end.refused end.store end.memory
 
 pub returns-in-Err-clause-silent : goal.returns-in-Err-clause-silent
 returns-in-Err-clause-silent g c = always _ (is_unopened c.end_opening.result) refl
