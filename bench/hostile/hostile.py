@@ -13,8 +13,8 @@ ten seconds on the clock, or --seconds where the machine has other work, and has
   physical address, and the address led there by the page tables, each read by plans/reader.py, which shares no code with kaudit;
 - where the second reader (`verdict.py`) reads the files too, with the same status and the same texts.
 
-Of kwhy the places are those of the lines `place`, `entry`, `alias`, `near`, `repair` and `then`: each stands in the dump as it is printed, but for
-NEW, which is another number, and with which the second reader finds the root audit clean. Of an address and of `refs` the text is that of `why`,
+Of kwhy the places are those of the lines `place`, `entry`, `alias`, `near`, `repair`, `fits`, `word` and `then`: each stands in the dump as it is printed,
+but for NEW, which is another number, and with which, of a chain with all, the second reader finds the root audit clean. Of an address and of `refs` the text is that of `why`,
 where it can read the files. A report that `check` refuses to print is refused by the same line, and one that it printed isn't, but where it was
 damaged since.
 
@@ -60,7 +60,8 @@ WHY = {
     "address": HEX, "entry": f"[1-5] {HEX} {HEX} {HEX}", "page": "4096|2097152|1073741824", "place": f"(-|{HEX}) {HEX} ({HEX}|tail) {HEX}",
     "stopped": f"M[1-6] [0-5] {HEX}", "alias": HEX, "near": f"{HEX} ({HEX} .+|stopped M[1-6] [0-5] {HEX})", "span": f"{HEX} {HEX}",
     "words": r"0|[1-9]\d*", "repair": rf"{CHANGED}|none of (the first 4096|\d+) tried", "then": f"{CHANGED} [A-Z][1-9]? {HEX}", "clean": "",
-    "rule": "[A-Z][1-9]? .+", "expected": rf"{HEX} found {HEX} bits \d+",
+    "rule": "[A-Z][1-9]? .+", "expected": rf"{HEX} found {HEX} bits \d+", "fits": CHANGED, "chain": "[2-8]", "word": CHANGED, "says": ".+", "slabs": ".+",
+    "twice": HEX, "deleted": HEX, "beside": HEX, "copy": f"of {HEX}",
 }
 NAMED = ("symbol", "module", "percpu", "stack", "descriptor", "cache", "held", "slab", "object", "pad", "past", "before", "encoded", "unread", "root", "audit", "list", "element")
 FORMS = {"check": (CLEAN, BROKEN), "word": (FOUND, STOPPED), "show": (SHOWN, STOPPED), "layout": (LAYOUT, None), "kmatch": (MATCHED, MATCHED), "kwhy": (None, None), "selftest": (CLEAN, BROKEN)}
@@ -208,7 +209,7 @@ def placed_why(case, out):
             return "an alias leads elsewhere"
         if name == "entry":
             words = ["-", *words[1:]]
-        if name not in ("place", "entry", "repair", "then") or words[0] == "none":
+        if name not in ("place", "entry", "repair", "fits", "word", "then") or words[0] == "none":
             continue
         va, (pa, word), origin = words[0], (int(words[k], 16) for k in (1, 3)), "tail" if words[2] == "tail" else int(words[2], 16)
         if refs:
@@ -217,20 +218,24 @@ def placed_why(case, out):
                 return "a word of refs isn't in the dump"
         elif core.origin(pa) != origin or core.word(pa) != word:
             return "a place isn't in the dump"
-        if va != "-" and memory.place(int(va, 16)) != (int(va, 16), pa, origin, word):
+        if va != "-" and name != "word" and memory.place(int(va, 16)) != (int(va, 16), pa, origin, word):
             return "an address doesn't lead to its place"
-        if name in ("repair", "then") and int(words[4], 16) == word:
+        if name in ("repair", "fits", "word", "then") and int(words[4], 16) == word:
             return "a repair changes nothing"
     return repaired(case, out)
 
 
 def repaired(case, out):
-    """Whether each root audit stands with the word that is said to repair it."""
-    for found in re.finditer(rf"^root (\S+)\n(?:(?!root ).*\n)*?repair {HEX} {HEX} ({HEX}) ({HEX}) ({HEX})$", out, re.M):
+    """Whether each root audit stands with the words that are said to repair it."""
+    for part in re.split(r"^(?=root )", out, flags=re.M):
+        words = re.findall(rf"^(?:repair|fits|word) {HEX} {HEX} ({HEX}) {HEX} ({HEX})$", part, re.M)
+        if not words:
+            continue
         f = {name: bytes(data) for name, data in case.files.items()}
         causes = suspects.Causes(case.files["z.core"][:], f["z.btf"], f["z.map"], f["z.toml"])
-        causes.put(int(found[2], 16), int(found[4], 16))
-        if causes.judge(causes.numbers[found[1]]) is not None:
+        for offset, new in words:
+            causes.put(int(offset, 16), int(new, 16))
+        if causes.judge(causes.numbers[part.split()[1]]) is not None:
             return "a repair leaves the audit broken"
     return None
 
