@@ -316,10 +316,10 @@ class Pages(Folder):
         columns = CAUSE.split("repair ")[1]
         self.program("kwhy", CAUSE.split("repair ")[0] + f"repair none of 65 tried\nchain 2\nword {columns}\nword {columns}\ntwice ffff888000003000\n")
         _, out, _ = self.triage()
-        self.assertIn("  the node at ffff888000003000 was added to its list a second time\n", out)
+        self.assertIn("  two links lead to the node at ffff888000003000, as where it was added to its list a second time\n", out)
         root = json.loads(self.triage("--json", "-")[1])["roots"][0]
         self.assertEqual(root["chain"], [columns.split()] * 2)
-        self.assertEqual(root["signs"], ["the node at ffff888000003000 was added to its list a second time"])
+        self.assertEqual(root["signs"], ["two links lead to the node at ffff888000003000, as where it was added to its list a second time"])
         self.triage("--html", self.path("page.html"))
         with open(self.path("page.html")) as file:
             self.assertIn("these 2 do together", file.read())
