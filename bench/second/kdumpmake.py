@@ -26,7 +26,7 @@ import zlib
 from collections import Counter
 
 import files
-from second import kdump, lzo, snappy
+from second import kdump, lzo, snappy, zstd
 
 PAGE = 4096
 FLAGS = {'raw': 0, 'zlib': 1, 'lzo': 2, 'snappy': 4, 'zstd': 0x20}
@@ -240,10 +240,25 @@ def try_pages(programs, source, count, seed, options):
     return wrong != 0
 
 
+def why_apart(codec, stream, told, wanted):
+    """The rule by which a stream is refused that the library takes, where the second reader refuses it by this rule, and reads it as the library does without:
+    but for bits that it lacks, which the library takes from what lies before it."""
+    reader = {'zstd': zstd, 'lzo': lzo}.get(codec)
+    if reader is None or told is not None or wanted is None:
+        return None
+    fault, _ = reader.answer(PAGE, stream)
+    page = reader.as_library(PAGE, stream)
+    if fault == 'Ok':
+        return None
+    if page == wanted:
+        return fault
+    return f'{fault}, too few bits' if codec == 'zstd' and fault in ('BadLiterals', 'BadSequences') and zstd.LACKING[0] else None
+
+
 def try_damaged(programs, source, count, seed, options):
     """One page in each dump, whose stream is damaged: what the program says, and what the library says."""
     program, rnd, memory = files.program(programs, 'kplain'), random.Random(seed), memory_of(source)
-    codec, seen, apart = CODECS[options['codec']](), Counter(), 0
+    codec, seen, whys = CODECS[options['codec']](), Counter(), Counter()
     with tempfile.TemporaryDirectory() as folder:
         path = os.path.join(folder, 'dump')
         for number in range(count):
@@ -262,12 +277,15 @@ def try_damaged(programs, source, count, seed, options):
             said = ''.join(re.findall(r'[KWD]\d', run.stderr.decode())[:1]) or ('page' if told is not None else f'status {run.returncode}')
             seen[said, 'refused' if wanted is None else 'page'] += 1
             if told != wanted:
-                apart += 1
-                print(f'APART {number} of seed {seed}: kplain {said}, the library {"refuses" if wanted is None else "unpacks"}: {streams[0].hex()[:120]}')
+                why = why_apart(options['codec'], streams[0], told, wanted)
+                whys[why or 'NOT NAMED'] += 1
+                print(f'APART {number} of seed {seed}: kplain {said}, the library {"refuses" if wanted is None else "unpacks"}, {why or "NOT NAMED"}: {streams[0].hex()[:120]}')
     for (one, other), times in sorted(seen.items()):
         print(f'{times:6} kplain {one:8} library {other}')
-    print(f'{sum(seen.values())} damaged streams by {options["codec"]}, {apart} apart')
-    return apart != 0
+    for why, times in sorted(whys.items()):
+        print(f'{times:6} apart: {why}')
+    print(f'{sum(seen.values())} damaged streams by {options["codec"]}, {sum(whys.values())} apart, {whys["NOT NAMED"]} of them by no rule that the library passes over')
+    return whys['NOT NAMED'] != 0
 
 
 def try_forms(programs, source, options):
