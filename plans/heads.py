@@ -18,8 +18,8 @@ KIND is ring, hlist, rbtree, cached (a tree with a struct rb_root_cached) or xar
 by, and rbtree:KEY! a unique one. Of an xarray LINK is -. In a CHECK {0} stands for the number, from 0, that the head has in the outermost table,
 {1} for that in the next.
 
-OUT.map gets the rows, and OUT-1.toml, OUT-2.toml and so on the plans, of version 2 with up to 256 roots each. A root's name is OUT's with these
-numbers. Then:
+OUT.map gets the rows, and OUT-1.toml, OUT-2.toml and so on the plans, of version 2 with up to 256 roots each, none where all heads
+are empty. A root's name is OUT's with these numbers. Then:
 
     cat System.map OUT.map > OUT.full
     kaudit check DUMP BTF OUT.full OUT-1.toml
