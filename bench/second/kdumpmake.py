@@ -12,6 +12,7 @@ usage: kdumpmake make FROM OUT [OPTION..]              packs FROM, which is a co
     --cut               with it, the file ends after page N, and nothing says so
     --erased TEXT       makedumpfile erased something, as TEXT says, from version 5 on
     --split             the header says that it is one part of a split dump
+    --packed            only pages that aren't zeros and that the library makes smaller, to measure it by
 """
 import ctypes
 import ctypes.util
@@ -31,7 +32,7 @@ from second import kdump, lzo, snappy, zstd
 PAGE = 4096
 FLAGS = {'raw': 0, 'zlib': 1, 'lzo': 2, 'snappy': 4, 'zstd': 0x20}
 INCOMPLETE = 8
-DEFAULTS = {'codec': 'snappy', 'level': None, 'version': 6, 'keep': None, 'cut': False, 'split': False, 'erased': ''}
+DEFAULTS = {'codec': 'snappy', 'level': None, 'version': 6, 'keep': None, 'cut': False, 'split': False, 'packed': False, 'erased': ''}
 
 
 class Zlib:
@@ -108,6 +109,13 @@ class Memory:
 
     def __init__(self, kinds, page, notes):
         self.kinds, self.page, self.notes, self.count = kinds, page, notes, kinds.count(b'D')
+
+
+def packed_of(memory, options):
+    """Only the pages that aren't zeros and that the library makes smaller."""
+    codec = CODECS[options['codec']]()
+    kept = [number for number in range(memory.count) if memory.page(number).strip(b'\0') and len(codec.pack(memory.page(number), options['level'])) < PAGE]
+    return Memory(b'D' * len(kept), lambda number: memory.page(kept[number]), memory.notes)
 
 
 def of_core(data):
@@ -325,8 +333,9 @@ def options_of(words):
 def main(words):
     options = options_of(words)
     if words[0] == 'make' and len(words) == 3:
+        memory = packed_of(memory_of(words[1]), options) if options['packed'] else memory_of(words[1])
         with open(words[2], 'wb') as file:
-            write(file, memory_of(words[1]), options)
+            write(file, memory, options)
         return 0
     if words[0] in ('pages', 'damage') and len(words) in (3, 4, 5):
         call, count = (try_pages, 10000) if words[0] == 'pages' else (try_damaged, 1000)
