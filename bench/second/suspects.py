@@ -1,15 +1,14 @@
 """Is a second reader of what explains a report, and compares kwhy with it.
 
-It finds the words that a violation makes suspect, in their order, and the first of them with which the root audit that found it stands. It is
-written from the guide and from the definitions of kc_repair, kc_element and kc_cause, over `verdict.py`, and shares no code with kwhy.
+It finds the words that a violation makes suspect, in their order, and the first of them with which the walk that finds it stands, and the root audit
+that found it. It is written from the guide and from the definitions of kc_repair, kc_element and kc_cause, over `verdict.py`, and shares no code with kwhy.
 
 usage: suspects PROGRAMS FOLDER [NAME ..]
        suspects PROGRAMS --made COUNT [SEED]
 
 Of each changed word that FOLDER's damage.txt lists, kwhy has to print the second reader's text; prints whether the repair is the old value, the
 second reader's seconds, and its text. With `--made` the dumps are COUNT small kernels (`made.py`) with some words changed at random; prints how
-many runs came to each rule and how. With `none` for PROGRAMS nothing is run. Each trial walks the whole root audit again, in Python, so a plan of
-many elements takes a while. `cases` compares such texts with those of cases.
+many runs came to each rule and how. With `none` for PROGRAMS nothing is run. Trials walk in Python, so a plan of many elements takes a while. `cases` compares such texts with those of cases.
 """
 import collections
 import itertools
@@ -687,31 +686,48 @@ class Causes:
             return broken, self.audits[run.blamed]
         return None
 
-    def judge_with(self, root, place, number):
-        """The same with another number in a word."""
+    def with_word(self, place, number, act):
+        """What is found with another number in a word."""
         _, _, offset, old = place
         self.put(offset, number)
         try:
-            return self.judge(root)
+            return act()
         finally:
             self.put(offset, old)
 
     def put(self, offset, word):
         self.core.data[offset : offset + 8] = word.to_bytes(8, "little")
 
+    def own_walk(self, audit, broken, of):
+        """The walk that finds a violation, as what breaks it, where one finds the same; or nothing. None is made of what needs the kernel's types."""
+        walk = self.kernel.ring if of.kind != audit.kind else lambda at: audit.walk(self.kernel, at)
+
+        def breaks():
+            try:
+                walk(of.start)
+            except Broken as found:
+                return found.rule, found.at
+            return None
+        return breaks if of.kind not in ("slub", "tasks", "pids") and breaks() == (broken.rule, broken.at) else None
+
     def tried(self, root, broken, audit, changed):
         """How many words are tried, whether there are more, the one that repairs, and else the first that leads to another violation, and to which one. The
-        words that are changed so far aren't tried."""
-        tried, then = 0, None
-        suspects = (one for one in Suspects(self.kernel, audit, broken).all() if all(abs(one[0][2] - at) >= 8 for at in changed))
-        for place, number in itertools.islice(suspects, MOST):
-            tried += 1
-            found = self.judge_with(root, place, number)
-            if found is None:
-                return tried, False, (place, number), None
-            if not then and (found[0].rule, found[0].at) != (broken.rule, broken.at):
-                then = place, number, found
-        return tried, next(suspects, None) is not None, None, then
+        words that are changed so far aren't tried. One repairs where the walk that finds the violation stands, and the root audit does; one leads elsewhere
+        where that walk doesn't find the same again, and the root audit finds another."""
+        of, same = Suspects(self.kernel, audit, broken), (broken.rule, broken.at)
+        walk = self.own_walk(audit, broken, of) or (lambda: None)
+        suspects = (one for one in of.all() if all(abs(one[0][2] - at) >= 8 for at in changed))
+        some = list(itertools.islice(suspects, MOST))
+        for one in some:
+            if self.with_word(*one, lambda: not walk() and self.judge(root) is None):
+                return len(some), False, one, None
+        more, then = next(suspects, None) is not None, None
+        for one in some:
+            found = self.with_word(*one, lambda: None if walk() == same else self.judge(root))
+            if found and (found[0].rule, found[0].at) != same:
+                then = *one, found
+                break
+        return len(some), more, None, then
 
     def chain(self, root, then):
         """The words that repair together, after the first that leads to another violation; or nothing."""

@@ -17,7 +17,8 @@ use Rattle.kc_repair.specs.declared.suspect.suspect.Suspect.{Suspect}
 use Rattle.kc_repair.specs.declared.outcome.Repair.{Repair}
 use Rattle.kc_repair.specs.declared.outcome.Repair.TheVariants.{Stands, Nothing}
 use Rattle.kc_repair.specs.Laws.{IsLeft, LeftStand, LeftStandInFile, LeftWordsStand, OneMore, RepairWordsStand, RepairsStand, StandsInFile, told_suspects}
-use Rattle.kc_repair.specs.Repairs.{StandsAs, is_apart, repair_left, repair_of, with_suspect, with_words}
+use Rattle.kc_repair.specs.declared.first.FirstWalk.{FirstWalk}
+use Rattle.kc_repair.specs.Repairs.{StandsAs, is_apart, repair_left, repair_of, walk_of, with_suspect, with_words}
 use Rattle.kc_repair.specs.Suspect.Laws.{IsSuspect}
 use Rattle.kc_repair.specs.Suspect.Suspects.{suspects}
 use Rattle.kc_cause.specs.declared.suspected.AsRing.{AsRing}
@@ -137,18 +138,18 @@ Says image audits root words (Some (Stands s)) = IsLeft image words s × RootSta
 Says image audits root words (Some (Nothing tried beyond None)) = ⊤
 Says image audits root words (Some (Nothing tried beyond (Some next))) = IsLeft image words next.suspect
 
-said-by : (image : Image) (audits : List AuditAt) (root : Root) (words of : List Suspect) (r : Repair) → StandsAs (with_words image words) audits root of r
+said-by : (image : Image) (audits : List AuditAt) (root : Root) (walk : Option FirstWalk) (words of : List Suspect) (r : Repair) → StandsAs (with_words image words) audits root walk of r
     → AllByRecursion (IsLeft image words) (told_suspects r) → Says image audits root words (Some r)
-said-by image audits root words of (Stands s) stands all = (all.0, stands)
-said-by image audits root words of (Nothing tried beyond None) stands all = tt
-said-by image audits root words of (Nothing tried beyond (Some next)) stands all = all.0
+said-by image audits root walk words of (Stands s) stands all = (all.0, stands)
+said-by image audits root walk words of (Nothing tried beyond None) stands all = tt
+said-by image audits root walk words of (Nothing tried beyond (Some next)) stands all = all.0
 
 said-at : KnownLeft → (image : Image) (audits : List AuditAt) (root : Root) (words : List Suspect) (v : Violation) (a : Option AuditAt) → slice_get audits v.audit ≡ a
     → Says image audits root words (option_map (λ (a : AuditAt). left_as image audits root words (suspected (with_words image words) v a.kind)) a)
 said-at law image audits root words v None is = tt
 said-at law image audits root words v (Some a) is =
     let s : Suspected = suspected (with_words image words) v a.kind in
-    said-by image audits root words (filter (is_apart words) (suspects (with_words image words) s.kind s.violation)) (left_as image audits root words s)
+    said-by image audits root (walk_of (with_words image words) s.kind s.violation) words (filter (is_apart words) (suspects (with_words image words) s.kind s.violation)) (left_as image audits root words s)
     (law.stand image audits root words s.kind s.violation) (law.words image audits root words s.kind s.violation)
 
 said-left : KnownLeft → (image : Image) (audits : List AuditAt) (root : Root) (words : List Suspect) (verdict : Verdict) → Says image audits root words (left_by image audits root words verdict)
@@ -208,7 +209,7 @@ pub chained : KnownLeft → (image : Image) (audits : List AuditAt) (root : Root
 chained law image audits root kind v words is =
     let r : Repair = repair_of image audits root kind v in
     let end = ends law most_words image audits root [] words (Some r)
-    (said-by image audits root [] (suspects image kind v) r (law.first_stand image audits root kind v)
+    (said-by image audits root (walk_of image kind v) [] (suspects image kind v) r (law.first_stand image audits root kind v)
     (first-left image (told_suspects r) (law.first_words image audits root kind v))) is in
     let there : StandInTurn image [] words = subst (λ (l : List Suspect). StandInTurn image [] l) (sym end.is) end.there in
     record { there = there; in_file = all-in_file law.in_file image [] words there; stands = end.stands }

@@ -6,8 +6,6 @@ use Rattle.std.specs.List.{AllByRecursion, AllZip, concat}
 use Rattle.std.proofs.lemmas.List.{length-take}
 use Rattle.kc_memory.specs.Image.{Image}
 use Rattle.kc_found.specs.declared.verdict.RootVerdict.{RootVerdict}
-use Rattle.kc_found.specs.declared.verdict.Verdict.{Verdict}
-use Rattle.kc_found.specs.declared.verdict.Verdict.TheVariants.{Clean, Broken}
 use Rattle.kc_found.specs.Violations.{Violation}
 use Rattle.kc_kinds.specs.declared.kind.Kind.{Kind}
 use Rattle.kc_plan.specs.Planned.{AuditAt, StartAt}
@@ -17,12 +15,13 @@ use Rattle.kc_plan.specs.Seen.{root_of, roots}
 use Rattle.kc_plan.specs.Stands.{RootStands}
 use Rattle.kc_run.specs.Each.{root_at, root_from}
 use Rattle.kc_repair.specs.declared.suspect.suspect.Suspect.{Suspect}
-use Rattle.kc_repair.specs.declared.outcome.Breach.{Breach}
 use Rattle.kc_repair.specs.declared.outcome.Next.{Next}
 use Rattle.kc_repair.specs.declared.outcome.Repair.{Repair}
 use Rattle.kc_repair.specs.declared.outcome.Repair.TheVariants.{Stands, Nothing}
-use Rattle.kc_repair.specs.Laws.{LeftStand, LeftStandInFile, LeftWordsStand, OneMore, RepairWordsStand, RepairsAreExact, RepairsStand, told_suspects}
-use Rattle.kc_repair.specs.Repairs.{IsElsewhere, IsFirstNext, IsNext, IsRepair, StandsAs, breach_of, most, repair_of, verdict_with, with_suspect, with_words}
+use Rattle.kc_repair.specs.Laws.{ComesThen, LeftStand, LeftStandInFile, LeftWordsStand, NextsAreOfRoot, OneMore, RepairWordsStand, RepairsAreExact, RepairsStand, told_suspects}
+use Rattle.kc_repair.specs.declared.first.FirstWalk.{FirstWalk}
+use Rattle.kc_repair.specs.declared.first.Sought.{Sought}
+use Rattle.kc_repair.specs.Repairs.{IsRepairBy, StandsAs, most, repair_of, sought_of, walk_of, with_suspect, with_words}
 use Rattle.kc_repair.specs.Suspect.Laws.{IsSuspect, SuspectsStand}
 use Rattle.kc_repair.specs.Suspect.Suspects.{suspects}
 use Rattle.kc_report.specs.Lines.{rule_code}
@@ -30,7 +29,7 @@ use Rattle.kc_text.specs.Compose.{texts}
 use Rattle.kc_text.specs.Text.{hex}
 use Rattle.kc_cause.specs.Explained.{Explained, causes_text, cause_lines, explained_text, fault_lines, first_lines, found_named, found_number, is_broken, or_clean, repairs_by, repairs_found, root_line, shown_lines}
 use Rattle.kc_cause.specs.Lines.{after_lines, bytes_line, next_lines, only_fits, repair_label, repair_lines, suspect_part, word_line}
-use Rattle.kc_cause.specs.Printed.{IsChained, IsExplanation, IsPart, IsPartBy, IsPartOf, IsRepaired, IsThen, IsUnrepaired, IsWhole, columns, explained_roots}
+use Rattle.kc_cause.specs.Printed.{IsChained, IsExplanation, IsPart, IsPartBy, IsPartOf, IsRepaired, IsThen, IsUnrepaired, IsWhole, columns, explained_roots, walk_as}
 use Rattle.kc_cause.specs.Chained.{chain_of}
 use Rattle.kc_cause.specs.Signs.{sign_lines, sign_of}
 use Rattle.kc_cause.specs.Suspected.{Suspected, suspected}
@@ -38,8 +37,8 @@ use Rattle.kc_cause.proofs.ChainLemmas.{Together, chained}
 
 -- ---- the lines on a repair
 
-abbrev IsSaid : Explained → Root → List ℕ → Type 0
-IsSaid e root text = IsRepaired e root text ⊎ IsUnrepaired e root text
+abbrev IsSaid : Explained → Root → Option FirstWalk → List ℕ → Type 0
+IsSaid e root walk text = IsRepaired e root text ⊎ IsUnrepaired e root walk text
 
 label_one : (fits : Bool) → (repair_label fits ≡ codes "repair ") ⊎ (repair_label fits ≡ codes "fits ")
 label_one true = inr refl
@@ -51,28 +50,11 @@ all_taken P (suc n) [] all = tt
 all_taken P (suc n) (x ∷ xs) all = (all.0, all_taken P n xs all.1)
 
 -- where an answer tells what comes after a word, it comes
-record Breaks (judge : Suspect → Verdict) (n : Next) : Type 0 where
-  v : Violation
-  rule : n.rule ≡ v.rule
-  at : n.at ≡ v.at
-  comes : broken_in (judge n.suspect) ≡ Some v
-
-breaks_here : (judge : Suspect → Verdict) (s : Suspect) (verdict : Verdict) (next : Option Next) (n : Next) → judge s ≡ verdict → IsNext s verdict next → next ≡ Some n → Breaks judge n
-breaks_here judge s (Clean counts) next n is none some = absurd none
-breaks_here judge s (Broken v) next n is one some =
-    let same : n ≡ record { suspect = s; rule = v.rule; at = v.at } = cc in
-    rw same (record { v = v; rule = refl; at = refl; comes = ap broken_in is })
-
-breaks : (judge : Suspect → Verdict) (found : Breach) (xs : List Suspect) (next : Option Next) (n : Next) → IsFirstNext judge found xs next → next ≡ Some n → Breaks judge n
-breaks judge found [] next n is some = let none : ⊥ = cc in absurd none
-breaks judge found (s ∷ later) next n (inl here) some = breaks_here judge s (judge s) next n refl here.1 some
-breaks judge found (s ∷ later) next n (inr is) some = breaks judge found later next n is.1 some
-
 then_line : (rule_a at_a : List ℕ) (rule_b at_b word : List ℕ) → rule_a ≡ rule_b → at_a ≡ at_b
     → codes "then " ++ word ++ codes " " ++ rule_a ++ codes " " ++ at_a ++ codes "\n" ≡ codes "then " ++ word ++ codes " " ++ rule_b ++ codes " " ++ at_b ++ codes "\n"
 then_line rule_a at_a rule_b at_b word rule at = rw (rule, at) refl
 
-next_said : (e : Explained) (root : Root) (next : Option Next) → ((n : Next) → next ≡ Some n → Breaks (verdict_with e.image e.audits root) n × IsSuspect e.image n.suspect)
+next_said : (e : Explained) (root : Root) (next : Option Next) → ((n : Next) → next ≡ Some n → ComesThen e.image e.audits root n × IsSuspect e.image n.suspect)
     → (next_lines next ≡ []) ⊎ IsThen e root (next_lines next)
 next_said e root None holds = inl refl
 next_said e root (Some n) holds =
@@ -82,7 +64,7 @@ next_said e root (Some n) holds =
       v = both.0.v;
       line = then_line (rule_code n.rule) (hex n.at) (rule_code both.0.v.rule) (hex both.0.v.at) (suspect_part n.suspect) (ap rule_code both.0.rule) (ap hex both.0.at);
       there = both.1;
-      breaks = both.0.comes;
+      breaks = ap broken_in both.0.comes;
     })
 
 first_told : (image : Image) (next : Option Next) (tried : ℕ) (more : Bool) → AllByRecursion (IsSuspect image) (told_suspects (Nothing tried more next)) → (n : Next) → next ≡ Some n → IsSuspect image n.suspect
@@ -96,7 +78,7 @@ word-lines (s ∷ later) = ap (λ (l : List ℕ). word_line s ++ l) (word-lines 
 
 after_said : (e : Explained) (root : Root) (words : Option (List Suspect)) (next : Option Next)
     → ((all : List Suspect) → words ≡ Some all → Together e.image e.audits root all)
-    → ((n : Next) → next ≡ Some n → Breaks (verdict_with e.image e.audits root) n × IsSuspect e.image n.suspect)
+    → ((n : Next) → next ≡ Some n → ComesThen e.image e.audits root n × IsSuspect e.image n.suspect)
     → IsChained e root (after_lines words next) ⊎ ((after_lines words next ≡ []) ⊎ IsThen e root (after_lines words next))
 after_said e root None next chained holds = inr (next_said e root next holds)
 after_said e root (Some all) next chained holds =
@@ -110,16 +92,22 @@ after_said e root (Some all) next chained holds =
     })
 
 -- what an answer on a violation says
-record Answers (e : Explained) (root : Root) (found : Breach) (of : List Suspect) (words : Option (List Suspect)) (r : Repair) : Type 0 where
+record Answers (e : Explained) (root : Root) (sought : Sought) (of : List Suspect) (words : Option (List Suspect)) (r : Repair) : Type 0 where
   all : AllByRecursion (IsSuspect e.image) of
-  is : IsRepair (verdict_with e.image e.audits root) found of r
-  stands : StandsAs e.image e.audits root of r
+  is : IsRepairBy e.image e.audits root sought of r
+  stands : StandsAs e.image e.audits root sought.walk of r
   told : AllByRecursion (IsSuspect e.image) (told_suspects r)
+  comes : (tried : ℕ) (more : Bool) (n : Next) → r ≡ Nothing tried more (Some n) → ComesThen e.image e.audits root n
   chained : (all : List Suspect) → words ≡ Some all → Together e.image e.audits root all
 
-none_said : (e : Explained) (root : Root) (found : Breach) (of : List Suspect) (words : Option (List Suspect)) (tried : ℕ) (more : Bool) (next : Option Next) (v : Violation)
-    → Answers e root found of words (Nothing tried more next) → IsUnrepaired e root (repair_lines v words (Nothing tried more next))
-none_said e root found of words tried true next v by = record {
+none_next : (e : Explained) (root : Root) (sought : Sought) (of : List Suspect) (words : Option (List Suspect)) (tried : ℕ) (more : Bool) (next : Option Next) → Answers e root sought of words (Nothing tried more next)
+    → (n : Next) → next ≡ Some n → ComesThen e.image e.audits root n × IsSuspect e.image n.suspect
+none_next e root sought of words tried more next by n some =
+    (by.comes tried more n (ap (λ (o : Option Next). Nothing tried more o) some), first_told e.image next tried more by.told n some)
+
+none_said : (e : Explained) (root : Root) (sought : Sought) (of : List Suspect) (words : Option (List Suspect)) (tried : ℕ) (more : Bool) (next : Option Next) (v : Violation)
+    → Answers e root sought of words (Nothing tried more next) → IsUnrepaired e root sought.walk (repair_lines v words (Nothing tried more next))
+none_said e root sought of words tried true next v by = record {
   tried = take most of;
   label = codes "repair none of the first ";
   one = inr refl;
@@ -127,9 +115,9 @@ none_said e root found of words tried true next v by = record {
   line = ap (λ (n : ℕ). codes "repair none of the first " ++ decimal n ++ codes " tried\n" ++ after_lines words next) (by.is.number ∙ sym (length-take most of));
   there = all_taken (IsSuspect e.image) most of by.all;
   fails = by.stands;
-  goes_on = after_said e root words next by.chained (λ n some. (breaks (verdict_with e.image e.audits root) found (take most of) next n by.is.goes_on some, first_told e.image next tried true by.told n some));
+  goes_on = after_said e root words next by.chained (none_next e root sought of words tried true next by);
 }
-none_said e root found of words tried false next v by = record {
+none_said e root sought of words tried false next v by = record {
   tried = take most of;
   label = codes "repair none of ";
   one = inl refl;
@@ -137,18 +125,19 @@ none_said e root found of words tried false next v by = record {
   line = ap (λ (n : ℕ). codes "repair none of " ++ decimal n ++ codes " tried\n" ++ after_lines words next) (by.is.number ∙ sym (length-take most of));
   there = all_taken (IsSuspect e.image) most of by.all;
   fails = by.stands;
-  goes_on = after_said e root words next by.chained (λ n some. (breaks (verdict_with e.image e.audits root) found (take most of) next n by.is.goes_on some, first_told e.image next tried false by.told n some));
+  goes_on = after_said e root words next by.chained (none_next e root sought of words tried false next by);
 }
 
-repair_said : (e : Explained) (root : Root) (found : Breach) (of : List Suspect) (words : Option (List Suspect)) (r : Repair) (v : Violation)
-    → Answers e root found of words r → IsSaid e root (repair_lines v words r)
-repair_said e root found of words (Stands s) v by =
+repair_said : (e : Explained) (root : Root) (sought : Sought) (of : List Suspect) (words : Option (List Suspect)) (r : Repair) (v : Violation)
+    → Answers e root sought of words r → IsSaid e root sought.walk (repair_lines v words r)
+repair_said e root sought of words (Stands s) v by =
     inl (record { label = repair_label (only_fits v.rule v.at s); one = label_one (only_fits v.rule v.at s); word = s; line = refl; there = by.told.0; stands = by.stands })
-repair_said e root found of words (Nothing tried more next) v by = inr (none_said e root found of words tried more next v by)
+repair_said e root sought of words (Nothing tried more next) v by = inr (none_said e root sought of words tried more next v by)
 
 -- what is known of repairs
 pub record Known : Type 0 where
   pub exact : RepairsAreExact
+  pub nexts : NextsAreOfRoot
   pub stand : RepairsStand
   pub words : RepairWordsStand
   pub suspects : SuspectsStand
@@ -157,24 +146,25 @@ pub record Known : Type 0 where
   pub in_file : LeftStandInFile
   pub one_more : OneMore
 
-kind_said : Known → (e : Explained) (root : Root) (kind : Kind) (v : Violation) → IsSaid e root (repairs_by e.image e.audits root v (repair_of e.image e.audits root kind v))
+kind_said : Known → (e : Explained) (root : Root) (kind : Kind) (v : Violation) → IsSaid e root (walk_of e.image kind v) (repairs_by e.image e.audits root v (repair_of e.image e.audits root kind v))
 kind_said law e root kind v =
-    repair_said e root (breach_of v) (suspects e.image kind v) (chain_of e.image e.audits root (repair_of e.image e.audits root kind v)) (repair_of e.image e.audits root kind v) v
+    repair_said e root (sought_of e.image kind v) (suspects e.image kind v) (chain_of e.image e.audits root (repair_of e.image e.audits root kind v)) (repair_of e.image e.audits root kind v) v
     (record {
       all = law.suspects e.image kind v;
       is = law.exact e.image e.audits root kind v;
       stands = law.stand e.image e.audits root kind v;
       told = law.words e.image e.audits root kind v;
+      comes = law.nexts e.image e.audits root kind v;
       chained = λ all is.
           chained (record { first_stand = law.stand; first_words = law.words; stand = law.left; words = law.left_words; in_file = law.in_file; one_more = law.one_more }) e.image e.audits root kind v all is;
     })
 
 root_said : Known → (e : Explained) (number : ℕ) (at : Option Root) (root : Root) (s : Suspected) → at ≡ Some root
-    → IsSaid e root (option_map_or (λ (r : Root). repairs_by e.image e.audits r s.violation (repair_of e.image e.audits r s.kind s.violation)) at [])
+    → IsSaid e root (walk_as e.image s) (option_map_or (λ (r : Root). repairs_by e.image e.audits r s.violation (repair_of e.image e.audits r s.kind s.violation)) at [])
 root_said law e number at root s is = rw is (kind_said law e root s.kind s.violation)
 
 audit_said : Known → (e : Explained) (number : ℕ) (root : Root) (v : Violation) (audit : Option AuditAt) → root_at number e.audits ≡ Some root → slice_get e.audits v.audit ≡ audit
-    → IfSome audit (λ _. IsSaid e root (repairs_found e number v))
+    → IfSome audit (λ (a : AuditAt). IsSaid e root (walk_as e.image (suspected e.image v a.kind)) (repairs_found e number v))
 audit_said law e number root v None is same = tt
 audit_said law e number root v (Some a) is same = rw same (root_said law e number (root_at number e.audits) root (suspected e.image v a.kind) is)
 

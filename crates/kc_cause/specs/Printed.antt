@@ -10,12 +10,14 @@ use Rattle.kc_plan.specs.Roots.{Root, broken_in, root_verdict, root_verdicts}
 use Rattle.kc_plan.specs.Stands.{RootStands}
 use Rattle.kc_run.specs.Each.{root_at}
 use Rattle.kc_repair.specs.declared.suspect.suspect.Suspect.{Suspect}
-use Rattle.kc_repair.specs.Repairs.{with_suspect, with_words}
+use Rattle.kc_repair.specs.declared.first.FirstWalk.{FirstWalk}
+use Rattle.kc_repair.specs.Repairs.{WalkBreaks, walk_of, with_suspect, with_words}
 use Rattle.kc_repair.specs.Laws.{IsLeft, StandsInFile}
 use Rattle.kc_repair.specs.Suspect.Laws.{IsSuspect}
 use Rattle.kc_report.specs.Lines.{rule_code}
 use Rattle.kc_cause.specs.Explained.{Explained, is_broken}
 use Rattle.kc_cause.specs.Signs.{sign_lines, sign_of}
+use Rattle.kc_cause.specs.Suspected.{Suspected, suspected}
 
 -- the columns of a word: its virtual and its physical address, its file offset, the number that stands there, and another
 abbrev pub columns : Suspect → List ℕ
@@ -52,15 +54,20 @@ pub record IsChained (e : Explained) (root : Root) (text : List ℕ) : Type 0 wh
   pub in_file : AllByRecursion (StandsInFile e.image) words
   pub stands : RootStands (with_words e.image words) e.audits root
 
--- Under `repair none`: so many words stand in the dump so, and with the other number of none of them the root audit stands.
-pub record IsUnrepaired (e : Explained) (root : Root) (text : List ℕ) : Type 0 where
+-- the walk that finds a violation, as it is suspected
+abbrev pub walk_as : Image → Suspected → Option FirstWalk
+walk_as image s = walk_of image s.kind s.violation
+
+-- Under `repair none`: so many words stand in the dump so, and with the other number of none of them the root audit stands, unless the walk that found the
+-- violation breaks with it.
+pub record IsUnrepaired (e : Explained) (root : Root) (walk : Option FirstWalk) (text : List ℕ) : Type 0 where
   pub tried : List Suspect
   pub label : List ℕ
   pub one : (label ≡ codes "repair none of ") ⊎ (label ≡ codes "repair none of the first ")
   pub next : List ℕ
   pub line : text ≡ label ++ decimal (length tried) ++ codes " tried\n" ++ next
   pub there : AllByRecursion (IsSuspect e.image) tried
-  pub fails : All (λ s. RootStands (with_suspect e.image s) e.audits root → ⊥) tried
+  pub fails : All (λ s. RootStands (with_suspect e.image s) e.audits root → WalkBreaks (with_suspect e.image s) walk) tried
   pub goes_on : IsChained e root next ⊎ ((next ≡ []) ⊎ IsThen e root next)
 
 -- The part of a root audit that is broken begins with the audit's name, and ends with what repairs this root audit, where the violation names an audit
@@ -73,7 +80,7 @@ pub record IsPart (e : Explained) (number : ℕ) (v : Violation) (part : List �
   pub middle : List ℕ
   pub ending : List ℕ
   pub text : part ≡ codes "root " ++ audit.name ++ codes "\n" ++ middle ++ ending
-  pub said : IfSome (slice_get e.audits v.audit) (λ _. IsRepaired e root ending ⊎ IsUnrepaired e root ending)
+  pub said : IfSome (slice_get e.audits v.audit) (λ (a : AuditAt). IsRepaired e root ending ⊎ IsUnrepaired e root (walk_as e.image (suspected e.image v a.kind)) ending)
 
 -- that of one that is sound is empty
 abbrev pub IsPartBy : Explained → ℕ → Option Violation → List ℕ → Type 0

@@ -14,9 +14,11 @@ use Rattle.kc_found.specs.declared.verdict.Verdict.{Verdict}
 use Rattle.kc_found.specs.declared.verdict.Verdict.TheVariants.{Clean, Broken}
 use Rattle.kc_found.specs.declared.failed.ReadFailed.{ReadFailed}
 use Rattle.kc_plan.specs.Planned.{AuditAt}
-use Rattle.kc_plan.specs.Roots.{FitsAmong, Root, root_verdict}
+use Rattle.kc_plan.specs.Roots.{FitsAmong, Root}
 use Rattle.kc_repair.specs.declared.suspect.suspect.Suspect.{Suspect}
-use Rattle.kc_repair.specs.Repairs.{NamesAudit, change_of, verdict_with, with_suspect, with_words}
+use Rattle.kc_repair.specs.declared.first.FirstWalk.{FirstWalk}
+use Rattle.kc_repair.specs.declared.outcome.Breach.{Breach}
+use Rattle.kc_repair.specs.Repairs.{NamesAudit, change_of, judged, judged_with, with_suspect, with_words}
 
 -- one word more
 pub with-one_more : LastLiesOver → (image : Image) (words : List Suspect) (s : Suspect) → with_words image (words ++ s ∷ []) ≡ with_suspect (with_words image words) s
@@ -34,14 +36,14 @@ asked-changed None paging changes words (Ok a) Says same says = tt
 asked-changed (Some p) paging changes words (Ok a) Says same says = rw same at says
 asked-changed physical paging changes words (Err e) Says same says = tt
 
--- what a root audit comes to there
-pub tried : LastLiesOver → (image : Option Image) (r : Result Verdict ReadFailed) (audits : List AuditAt) (root : Root) (words all : List Suspect) (s : Suspect)
-    → all ≡ words ++ s ∷ [] → IfOk r (λ found. IfSome image (λ i. (root_verdict (with_words i all) audits root).verdict ≡ found))
-    → IfOk r (λ found. IfSome image (λ i. verdict_with (with_words i words) audits root s ≡ found))
-tried law None (Ok found) audits root words all s same exact = tt
-tried law (Some i) (Ok found) audits root words all s same exact =
-    ap (λ (m : Image). (root_verdict m audits root).verdict) (sym (ap (with_words i) same ∙ with-one_more law i words s)) ∙ exact
-tried law image (Err stop) audits root words all s same exact = tt
+-- what a suspect comes to there
+pub tried : LastLiesOver → (image : Option Image) (r : Result Verdict ReadFailed) (audits : List AuditAt) (root : Root) (walk : Option FirstWalk) (only : Option Breach) (words all : List Suspect) (s : Suspect)
+    → all ≡ words ++ s ∷ [] → IfOk r (λ found. IfSome image (λ i. judged (with_words i all) audits root walk only ≡ found))
+    → IfOk r (λ found. IfSome image (λ i. judged_with (with_words i words) audits root walk only s ≡ found))
+tried law None (Ok found) audits root walk only words all s same exact = tt
+tried law (Some i) (Ok found) audits root walk only words all s same exact =
+    ap (λ (m : Image). judged m audits root walk only) (sym (ap (with_words i) same ∙ with-one_more law i words s)) ∙ exact
+tried law image (Err stop) audits root walk only words all s same exact = tt
 
 -- a verdict on a root audit names one of the plan
 pub names : (count : ℕ) (numbers : List ℕ) (v : Verdict) → FitsAmong count numbers v → NamesAudit count v

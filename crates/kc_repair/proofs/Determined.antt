@@ -1,10 +1,16 @@
--- The answer on suspects is the one that the function gives.
+-- The function's answer on suspects is the one that is meant.
 use denote.Enum.Bare.{sameb, same_true, same_false}
-use Rattle.std.proofs.Common.{◌≡◌, ℕ, nat_eq, Bool, true, false, ◌&&◌, List, [], ◌∷◌, length, take, Option, Some, None, Result, Ok, Err, ◌⊎◌, inl, inr, refl, sym, ap, ◌∙◌}
-use Rattle.std.specs.Prelude.{find, min, nat_lt, IfOk, IfSome}
+use Rattle.std.proofs.Common.{◌≡◌, ℕ, nat_eq, Bool, true, false, ◌&&◌, List, [], ◌∷◌, take, Option, Some, None, Result, Ok, Err, ◌⊎◌, inl, inr, refl, sym, ap, ◌∙◌, subst, option_map}
+use Rattle.std.specs.Prelude.{find, IfOk, IfSome}
 use Rattle.std.specs.Result.{result_unwrap_or}
 use Rattle.std.proofs.lemmas.Bool.{eqb-true, eq-eqb}
 use Rattle.kc_word.specs.declared.memory.NoMemory.{NoMemory as NoRoom}
+use Rattle.kc_word.specs.declared.plain.PageCfg.{PageCfg}
+use Rattle.kc_word.specs.declared.plain.Segment.{Segment}
+use Rattle.kc_word.specs.declared.plain.Tail.{Tail}
+use Rattle.kc_phys.specs.Stored.{stored}
+use Rattle.kc_mem.specs.Paged.{with_paging}
+use Rattle.kc_question.specs.Memory.{image_of}
 use Rattle.kc_memory.specs.contracts.rule.Rule.{the_type}
 use Rattle.kc_memory.specs.Image.{Image}
 use Rattle.kc_found.specs.declared.verdict.Verdict.{Verdict}
@@ -17,11 +23,12 @@ use Rattle.kc_found.specs.declared.failed.ReadFailed.{ReadFailed}
 use Rattle.kc_found.specs.declared.failed.ReadFailed.TheVariants.{NoMemory}
 use Rattle.kc_repair.specs.declared.suspect.suspect.Suspect.{Suspect}
 use Rattle.kc_repair.specs.Suspect.Suspects.{suspects}
+use Rattle.kc_repair.specs.declared.first.Sought.{Sought}
+use Rattle.kc_repair.specs.declared.seeking.Suspected.{Suspected}
 use Rattle.kc_repair.specs.declared.outcome.Breach.{Breach}
 use Rattle.kc_repair.specs.declared.outcome.Next.{Next}
 use Rattle.kc_repair.specs.declared.outcome.Repair.{Repair}
-use Rattle.kc_repair.specs.declared.outcome.Repair.TheVariants.{Stands, Nothing}
-use Rattle.kc_repair.specs.Repairs.{IsElsewhere, IsFirstNext, IsNext, IsRepair, breach_of, first_next, is_same, most, next_by, next_of, or_later, repair, repair_by, repair_of, repairs, verdict_with}
+use Rattle.kc_repair.specs.Repairs.{IsElsewhere, IsFirstNext, IsNext, IsRepair, IsRepairBy, IsSuspected, first_next, is_same, judged_with, most, next_by, next_of, or_later, repair, repair_by, repair_of, repair_with, repairs}
 
 -- the test of a violation that is the same
 both : (a b : Bool) → a && b ≡ true → (a ≡ true) × (b ≡ true)
@@ -49,25 +56,6 @@ same_no found v e same = by_part (not_both (sameb the_type v.rule found.rule) (n
     by_part (inr at) = no_number v.at found.at at same.1
 
 -- what the first leads to that leads elsewhere
-next_here : (found : Breach) (s : Suspect) (v : Violation) (next rest : Option Next) (same : Bool) → is_same found v ≡ same
-    → (IsElsewhere found (Broken v) × IsNext s (Broken v) next) ⊎ ((IsElsewhere found (Broken v) → ⊥) × (next ≡ rest)) → next ≡ or_later (next_by same s v) rest
-next_here found s v next rest true e (inl here) = absurd (here.0 (same_yes found v e))
-next_here found s v next rest true e (inr later) = later.1
-next_here found s v next rest false e (inl here) = here.1
-next_here found s v next rest false e (inr later) = absurd (later.0 (same_no found v e))
-
-next_at : (found : Breach) (s : Suspect) (verdict : Verdict) (next rest : Option Next)
-    → (IsElsewhere found verdict × IsNext s verdict next) ⊎ ((IsElsewhere found verdict → ⊥) × (next ≡ rest)) → next ≡ or_later (next_of found s verdict) rest
-next_at found s (Clean counts) next rest (inl here) = absurd here.0
-next_at found s (Clean counts) next rest (inr later) = later.1
-next_at found s (Broken v) next rest is = next_here found s v next rest (is_same found v) refl is
-
-next_is : (judge : Suspect → Verdict) (found : Breach) (suspected : List Suspect) (next : Option Next) → IsFirstNext judge found suspected next → next ≡ first_next judge found suspected
-next_is judge found [] next is = is
-next_is judge found (s ∷ later) next (inl here) = next_at found s (judge s) next (first_next judge found later) (inl here)
-next_is judge found (s ∷ later) next (inr is) = next_at found s (judge s) next (first_next judge found later) (inr (is.0, next_is judge found later next is.1))
-
--- and the function gives that
 gives_here : (found : Breach) (s : Suspect) (v : Violation) (P : Option Next → Type 0) (rest : Option Next) (same : Bool) → is_same found v ≡ same → P rest
     → (IsElsewhere found (Broken v) × IsNext s (Broken v) (or_later (next_by same s v) rest)) ⊎ ((IsElsewhere found (Broken v) → ⊥) × P (or_later (next_by same s v) rest))
 gives_here found s v P rest true e holds = inr (λ other. other (same_yes found v e), holds)
@@ -82,21 +70,35 @@ gives_next : (judge : Suspect → Verdict) (found : Breach) (suspected : List Su
 gives_next judge found [] = refl
 gives_next judge found (s ∷ later) = gives_at found s (judge s) (IsFirstNext judge found later) (first_next judge found later) (gives_next judge found later)
 
--- so there is one answer
-pub determined : (judge : Suspect → Verdict) (found : Breach) (suspected : List Suspect) (r : Repair) → IsRepair judge found suspected r → r ≡ repair judge found suspected
-determined judge found suspected (Stands s) is = sym (ap (repair_by judge found suspected) is)
-determined judge found suspected (Nothing tried more next) is =
-    let front : List Suspect = take most suspected in
-    ap (λ (n : ℕ). Nothing n more next) is.number ∙ ap (λ (b : Bool). Nothing (min most (length suspected)) b next) is.beyond
-    ∙ ap (λ (o : Option Next). Nothing (min most (length suspected)) (nat_lt most (length suspected)) o) (next_is judge found front next is.goes_on)
-    ∙ sym (ap (repair_by judge found suspected) is.none)
+-- by the first that repairs
+gives_by : (judge lead : Suspect → Verdict) (found : Breach) (suspected : List Suspect) (first : Option Suspect) → find (repairs judge) (take most suspected) ≡ first
+    → IsRepair judge lead found suspected (repair_by lead found suspected first)
+gives_by judge lead found suspected (Some s) is = is
+gives_by judge lead found suspected None is = record { none = is; number = refl; beyond = refl; goes_on = gives_next lead found (take most suspected) }
 
-gives_by : (judge : Suspect → Verdict) (found : Breach) (suspected : List Suspect) (first : Option Suspect) → find (repairs judge) (take most suspected) ≡ first → IsRepair judge found suspected (repair_by judge found suspected first)
-gives_by judge found suspected (Some s) is = is
-gives_by judge found suspected None is = record { none = is; number = refl; beyond = refl; goes_on = gives_next judge found (take most suspected) }
+pub gives : (judge lead : Suspect → Verdict) (found : Breach) (suspected : List Suspect) → IsRepair judge lead found suspected (repair judge lead found suspected)
+gives judge lead found suspected = gives_by judge lead found suspected (find (repairs judge) (take most suspected)) refl
 
-pub gives : (judge : Suspect → Verdict) (found : Breach) (suspected : List Suspect) → IsRepair judge found suspected (repair judge found suspected)
-gives judge found suspected = gives_by judge found suspected (find (repairs judge) (take most suspected)) refl
+-- the memory of a dump with some bytes
+pub imaged : (segments segments' : List Segment) (tail tail' : Tail) (content content' : Option (List ℕ)) (paging : PageCfg) → segments ≡ segments' → tail ≡ tail' → content ≡ content'
+    → with_paging paging (stored segments tail content) ≡ option_map (λ bytes. image_of bytes segments' tail' paging) content'
+imaged segments segments' tail tail' content content' paging e f h =
+    ap (λ l. with_paging paging (stored l tail content)) e ∙ ap (λ t. with_paging paging (stored segments' t content)) f ∙ ap (λ b. with_paging paging (stored segments' tail' b)) h ∙ at content'
+  where
+    at : (bytes : Option (List ℕ)) → with_paging paging (stored segments' tail' bytes) ≡ option_map (λ b. image_of b segments' tail' paging) bytes
+    at None = refl
+    at (Some bytes) = refl
+
+-- so what the code answers is that
+pub given : (image : Option Image) (content : Option (List ℕ)) (of : List ℕ → Image) (audits : List AuditAt) (root : Root) (sought : Sought) (suspected : List Suspect) (r : Result Repair ReadFailed)
+    → image ≡ option_map of content → IfOk r (λ x. IfSome image (λ m. repair_with m audits root sought suspected ≡ x))
+    → IfOk r (λ x. IfSome content (λ bytes. IsRepairBy (of bytes) audits root sought suspected x))
+given image content of audits root sought suspected (Err stop) same exact = tt
+given image None of audits root sought suspected (Ok x) same exact = tt
+given image (Some bytes) of audits root sought suspected (Ok x) same exact =
+    let is : repair_with (of bytes) audits root sought suspected ≡ x = rw same at exact in
+    subst (λ y. IsRepairBy (of bytes) audits root sought suspected y) is
+    (gives (judged_with (of bytes) audits root sought.walk None) (judged_with (of bytes) audits root sought.walk (Some sought.found)) sought.found suspected)
 
 -- what was answered, where the question could be asked
 pub answered : {A : Type 0} (image : Option Image) (asked : Result (Result A ReadFailed) NoRoom) (a : A) (Says : Image → A → Type 0)
@@ -105,10 +107,11 @@ answered image (Ok r) a Says is says = let same : r ≡ Ok a = is in rw same at 
 answered image (Err none) a Says is says = absurd (let never : ⊥ = cc in never)
 
 -- that of what is suspected of a violation
-pub sought : (image image' : Option Image) (audits : List AuditAt) (root : Root) (kind : Kind) (v : Violation) (suspected : List Suspect) (r : Result Repair ReadFailed)
-    → image' ≡ image → IfSome image (λ i. suspected ≡ suspects i kind v) → IfOk r (λ x. IfSome image' (λ i. IsRepair (verdict_with i audits root) (breach_of v) suspected x))
+pub sought : (image image' : Option Image) (audits : List AuditAt) (root : Root) (kind : Kind) (v : Violation) (seen : Suspected) (r : Result Repair ReadFailed)
+    → image' ≡ image → IfSome image (λ i. IsSuspected i kind v seen) → IfOk r (λ x. IfSome image' (λ i. repair_with i audits root seen.sought seen.suspects ≡ x))
     → IfOk r (λ x. IfSome image (λ i. x ≡ repair_of i audits root kind v))
-sought image image' audits root kind v suspected (Err stop) same are exact = tt
-sought None image' audits root kind v suspected (Ok x) same are exact = tt
-sought (Some i) image' audits root kind v suspected (Ok x) same are exact =
-    determined (verdict_with i audits root) (breach_of v) suspected x (rw same at exact) ∙ ap (repair (verdict_with i audits root) (breach_of v)) are
+sought image image' audits root kind v seen (Err stop) same are exact = tt
+sought None image' audits root kind v seen (Ok x) same are exact = tt
+sought (Some i) image' audits root kind v seen (Ok x) same are exact =
+    sym (rw same at exact) ∙ ap (λ (l : List Suspect). repair_with i audits root seen.sought l) are.0
+    ∙ ap (λ (s : Sought). repair_with i audits root s (suspects i kind v)) are.1

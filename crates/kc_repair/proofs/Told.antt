@@ -43,10 +43,10 @@ first_all P judge found [] all = tt
 first_all P judge found (x ∷ xs) all =
     later_all P (next_of found x (judge x)) (first_next judge found xs) (next_all P found x (judge x) all.0) (first_all P judge found xs all.1)
 
-told_by : (P : Suspect → Type 0) (judge : Suspect → Verdict) (found : Breach) (xs : List Suspect) (first : Option Suspect) → IfSome first P → AllByRecursion P xs
-    → AllByRecursion P (told_suspects (repair_by judge found xs first))
-told_by P judge found xs (Some s) here all = (here, tt)
-told_by P judge found xs None here all = first_all P judge found (take most xs) (all_taken P most xs all)
+told_by : (P : Suspect → Type 0) (lead : Suspect → Verdict) (found : Breach) (xs : List Suspect) (first : Option Suspect) → IfSome first P → AllByRecursion P xs
+    → AllByRecursion P (told_suspects (repair_by lead found xs first))
+told_by P lead found xs (Some s) here all = (here, tt)
+told_by P lead found xs None here all = first_all P lead found (take most xs) (all_taken P most xs all)
 
-pub all_told : (P : Suspect → Type 0) (judge : Suspect → Verdict) (found : Breach) (xs : List Suspect) → AllByRecursion P xs → AllByRecursion P (told_suspects (repair judge found xs))
-all_told P judge found xs all = told_by P judge found xs (find (repairs judge) (take most xs)) (all_found P (repairs judge) (take most xs) (all_taken P most xs all)) all
+pub all_told : (P : Suspect → Type 0) (judge lead : Suspect → Verdict) (found : Breach) (xs : List Suspect) → AllByRecursion P xs → AllByRecursion P (told_suspects (repair judge lead found xs))
+all_told P judge lead found xs all = told_by P lead found xs (find (repairs judge) (take most xs)) (all_found P (repairs judge) (take most xs) (all_taken P most xs all)) all

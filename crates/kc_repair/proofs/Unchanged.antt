@@ -3,11 +3,10 @@ use Rattle.std.proofs.Common.{◌≡◌, ℕ, Bool, true, false, List, [], ◌�
 use Rattle.std.specs.Prelude.{◌||◌, not}
 use Rattle.std.specs.List.{list_any}
 use Rattle.kc_word.specs.declared.plain.Segment.{Segment}
-use Rattle.kc_memory.specs.declared.words.Origin.{Origin}
 use Rattle.kc_memory.specs.declared.words.Origin.TheVariants.{File}
 use Rattle.kc_memory.specs.declared.words.PWord.{PWord}
 use Rattle.kc_memory.specs.declared.words.VWord.{VWord}
-use Rattle.kc_memory.specs.Image.{Image, Physical, holder, offset_in, pword, word_at}
+use Rattle.kc_memory.specs.Image.{Physical, holder, offset_in, pword, word_at}
 use Rattle.kc_memory.specs.Laws.{PlacesStand}
 use Rattle.kc_memory.specs.Places.{AllStandIn, places_of}
 use Rattle.kc_memory.specs.Stopped.{Stopped}
@@ -15,7 +14,7 @@ use Rattle.kc_phys.specs.declared.patch.change.Change.{Change}
 use Rattle.kc_phys.specs.Patch.Changed.{changed_all, patched_all, share, share_any}
 use Rattle.kc_phys.proofs.PatchLemmas.Laying.{word-other_all}
 use Rattle.kc_repair.specs.declared.suspect.suspect.Suspect.{Suspect}
-use Rattle.kc_repair.specs.Laws.{IsLeft, LeftStandInFile, StandsInFile}
+use Rattle.kc_repair.specs.Laws.{LeftStandInFile}
 use Rattle.kc_repair.specs.Repairs.{change_of, with_words}
 
 -- the changes share a byte with a word where the words do

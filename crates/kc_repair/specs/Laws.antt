@@ -1,8 +1,9 @@
 -- What repairs say.
-use Rattle.std.specs.Prelude.{◌≡◌, true, filter, ◌++◌, List, [], ◌∷◌, Option, Some, option_map, option_to_list}
+use Rattle.std.specs.Prelude.{◌≡◌, ℕ, Bool, true, filter, ◌++◌, List, [], ◌∷◌, Option, Some, option_map, option_to_list}
 use Rattle.std.specs.List.{AllByRecursion}
 use Rattle.kc_memory.specs.declared.words.Origin.TheVariants.{File}
 use Rattle.kc_memory.specs.Image.{Image, pword}
+use Rattle.kc_found.specs.declared.verdict.Verdict.TheVariants.{Broken}
 use Rattle.kc_found.specs.Violations.{Violation}
 use Rattle.kc_kinds.specs.declared.kind.Kind.{Kind}
 use Rattle.kc_plan.specs.Planned.{AuditAt}
@@ -13,19 +14,32 @@ use Rattle.kc_repair.specs.Suspect.Suspects.{suspects}
 use Rattle.kc_repair.specs.declared.outcome.Next.{Next}
 use Rattle.kc_repair.specs.declared.outcome.Repair.{Repair}
 use Rattle.kc_repair.specs.declared.outcome.Repair.TheVariants.{Stands, Nothing}
-use Rattle.kc_repair.specs.Repairs.{IsRepair, StandsAs, breach_of, is_apart, repair_left, repair_of, verdict_with, with_suspect, with_words}
+use Rattle.kc_repair.specs.Repairs.{IsRepairBy, StandsAs, is_apart, repair_left, repair_of, sought_of, verdict_with, walk_of, with_suspect, with_words}
 
--- With a suspect that repairs a violation the root audit's structures stand, and where none does, they stand with none that is tried.
+-- With a suspect that repairs a violation the root audit's structures stand, and where none does, they stand with none that is tried, unless the violation's
+-- walk breaks with it.
 abbrev pub RepairsStand : Type 0
 RepairsStand =
     (image : Image) (audits : List AuditAt) (root : Root) (kind : Kind) (v : Violation)
-    → StandsAs image audits root (suspects image kind v) (repair_of image audits root kind v)
+    → StandsAs image audits root (walk_of image kind v) (suspects image kind v) (repair_of image audits root kind v)
 
 -- the answer is about these suspects
 abbrev pub RepairsAreExact : Type 0
 RepairsAreExact =
     (image : Image) (audits : List AuditAt) (root : Root) (kind : Kind) (v : Violation)
-    → IsRepair (verdict_with image audits root) (breach_of v) (suspects image kind v) (repair_of image audits root kind v)
+    → IsRepairBy image audits root (sought_of image kind v) (suspects image kind v) (repair_of image audits root kind v)
+
+-- the violation that a suspect leads to is what the root audit comes to with it
+pub record ComesThen (image : Image) (audits : List AuditAt) (root : Root) (n : Next) : Type 0 where
+  pub v : Violation
+  pub rule : n.rule ≡ v.rule
+  pub at : n.at ≡ v.at
+  pub comes : verdict_with image audits root n.suspect ≡ Broken v
+
+abbrev pub NextsAreOfRoot : Type 0
+NextsAreOfRoot =
+    (image : Image) (audits : List AuditAt) (root : Root) (kind : Kind) (v : Violation) (tried : ℕ) (more : Bool) (n : Next)
+    → repair_of image audits root kind v ≡ Nothing tried more (Some n) → ComesThen image audits root n
 
 -- the suspects that an answer tells
 abbrev pub next_suspects : Option Next → List Suspect
@@ -50,7 +64,7 @@ pub record IsLeft (image : Image) (earlier : List Suspect) (s : Suspect) : Type 
 abbrev pub LeftStand : Type 0
 LeftStand =
     (image : Image) (audits : List AuditAt) (root : Root) (earlier : List Suspect) (kind : Kind) (v : Violation)
-    → StandsAs (with_words image earlier) audits root (filter (is_apart earlier) (suspects (with_words image earlier) kind v)) (repair_left image audits root earlier kind v)
+    → StandsAs (with_words image earlier) audits root (walk_of (with_words image earlier) kind v) (filter (is_apart earlier) (suspects (with_words image earlier) kind v)) (repair_left image audits root earlier kind v)
 
 abbrev pub LeftWordsStand : Type 0
 LeftWordsStand =

@@ -1,6 +1,6 @@
--- Suspects that are tried one by one: what a root audit comes to where the word of one of them holds its value.
+-- Suspects that are tried one by one: what the walk that broke, and then the root audit, come to where the word of one of them holds its value.
 use denote.Enum.Bare.{sameb}
-use Rattle.std.specs.Prelude.{◌≡◌, ℕ, ◌<◌, ⊤, min, nat_eq, nat_lt, ◌⊎◌, Bool, ◌&&◌, if◌then◌else◌, is_none, not, List, [], ◌∷◌, filter, length, map, take, find, Option, Some, None, Result, Ok, Err}
+use Rattle.std.specs.Prelude.{◌≡◌, ℕ, ◌<◌, ⊤, min, nat_eq, nat_lt, ◌⊎◌, Bool, true, false, ◌&&◌, if◌then◌else◌, is_none, not, List, [], ◌∷◌, filter, length, map, take, find, Option, Some, None, Result, Ok, Err}
 use Rattle.std.specs.List.{All, list_any}
 use Rattle.kc_memory.specs.Image.{Image}
 use Rattle.kc_memory.specs.contracts.rule.Rule.{the_type}
@@ -8,15 +8,23 @@ use Rattle.kc_found.specs.declared.verdict.Verdict.{Verdict}
 use Rattle.kc_found.specs.declared.verdict.Verdict.TheVariants.{Clean, Broken}
 use Rattle.kc_found.specs.Violations.{Violation}
 use Rattle.kc_kinds.specs.declared.kind.Kind.{Kind}
+use Rattle.kc_kinds.specs.declared.kind.Kind.TheVariants.{Slub, Tasks, Pids}
+use Rattle.kc_kinds.specs.Structures.{nodes_of}
 use Rattle.kc_plan.specs.Planned.{AuditAt}
 use Rattle.kc_plan.specs.Roots.{Root, broken_in, root_verdict}
 use Rattle.kc_plan.specs.Stands.{RootStands}
 use Rattle.kc_found.specs.declared.failed.ReadFailed.{ReadFailed}
+use Rattle.kc_found.specs.declared.failed.ReadFailed.TheVariants.{Fault, NoMemory}
+use Rattle.kc_found.specs.declared.found.WalkStop.{WalkStop}
+use Rattle.kc_found.specs.declared.found.WalkStop.TheVariants as ends
 use Rattle.kc_repair.specs.declared.suspect.suspect.Suspect.{Suspect}
 use Rattle.kc_repair.specs.Suspect.Suspects.{suspects}
 use Rattle.kc_phys.specs.declared.patch.change.Change.{Change}
 use Rattle.kc_phys.specs.Patch.Changed.{patched, patched_all, share}
+use Rattle.kc_repair.specs.declared.first.FirstWalk.{FirstWalk}
+use Rattle.kc_repair.specs.declared.first.Sought.{Sought}
 use Rattle.kc_repair.specs.declared.outcome.Breach.{Breach}
+use Rattle.kc_repair.specs.declared.seeking.Suspected.{Suspected}
 use Rattle.kc_repair.specs.declared.outcome.Next.{Next}
 use Rattle.kc_repair.specs.declared.outcome.Repair.{Repair}
 use Rattle.kc_repair.specs.declared.outcome.Repair.TheVariants.{Stands, Nothing}
@@ -37,11 +45,80 @@ with_words image words = record { physical = patched_all (map change_of words) i
 abbrev pub verdict_with : Image → List AuditAt → Root → Suspect → Verdict
 verdict_with image audits root s = (root_verdict (with_suspect image s) audits root).verdict
 
+-- ---- the walk that broke comes first
+
+abbrev pub breach_of : Violation → Breach
+breach_of v = record { rule = v.rule; at = v.at }
+
+-- a violation of the same rule at the same address
+abbrev pub is_same : Breach → Violation → Bool
+is_same found v = sameb the_type v.rule found.rule && nat_eq v.at found.at
+
+-- of which kinds a walk is made by itself: those that need no types of the kernel
+abbrev pub is_made_first : Kind → Bool
+is_made_first (Slub shape) = false
+is_made_first (Tasks shape) = false
+is_made_first (Pids shape) = false
+is_made_first _ = true
+
+abbrev pub wrong_in : Result (List ℕ) Violation → Option Violation
+wrong_in (Ok nodes) = None
+wrong_in (Err v) = Some v
+
+-- what a walk finds broken
+abbrev pub found_by : Image → FirstWalk → Option Violation
+found_by image w = if is_made_first w.kind then wrong_in (nodes_of image w.kind w.asked.audit w.asked.start) else None
+
+-- short of a failure, what a walk found broken is this
+abbrev pub EndsAs : {A : Type 0} → Result A WalkStop → Result (Option Violation) ReadFailed → Type 0
+EndsAs (Ok x) r = r ≡ Ok None
+EndsAs (Err (ends.Broken v)) r = r ≡ Ok (Some v)
+EndsAs (Err ends.Fault) r = r ≡ Err Fault
+EndsAs (Err ends.NoMemory) r = r ≡ Err NoMemory
+
+-- a violation that counts: any, or only one of this rule at this address
+abbrev pub counted : Option Breach → Option Violation → Option Violation
+counted None found = found
+counted (Some only) None = None
+counted (Some only) (Some v) = if is_same only v then Some v else None
+
+-- The walk of a violation: that of its audit's kind from where it started, if that finds the same. No walk finds one of a path or of a check.
+abbrev pub walk_from : Kind → Violation → FirstWalk
+walk_from kind v = record { kind = kind; asked = record { audit = v.audit; start = v.start } }
+
+abbrev pub if_finds : FirstWalk → Option Violation → Option FirstWalk
+if_finds w None = None
+if_finds w (Some v) = Some w
+
+abbrev pub walk_of : Image → Kind → Violation → Option FirstWalk
+walk_of image kind v = if_finds (walk_from kind v) (counted (Some (breach_of v)) (found_by image (walk_from kind v)))
+
+abbrev pub sought_of : Image → Kind → Violation → Sought
+sought_of image kind v = record { found = breach_of v; walk = walk_of image kind v }
+
+-- what a walk finds broken, where there is one
+abbrev pub first_found : Image → Option FirstWalk → Option Violation
+first_found image None = None
+first_found image (Some w) = found_by image w
+
+-- What it comes to: what that walk finds broken, if it counts, and else what the root audit comes to.
+abbrev pub or_root : Option Violation → Verdict → Verdict
+or_root (Some v) root = Broken v
+or_root None root = root
+
+abbrev pub judged : Image → List AuditAt → Root → Option FirstWalk → Option Breach → Verdict
+judged image audits root walk only = or_root (counted only (first_found image walk)) (root_verdict image audits root).verdict
+
+abbrev pub judged_with : Image → List AuditAt → Root → Option FirstWalk → Option Breach → Suspect → Verdict
+judged_with image audits root walk only s = judged (with_suspect image s) audits root walk only
+
+-- ---- one suspect after the other
+
 -- how many suspects are tried at most
 abbrev pub most : ℕ
 most = 4096
 
--- a suspect repairs where the audit then comes to no violation
+-- a suspect repairs where it comes to no violation
 abbrev pub repairs : (Suspect → Verdict) → Suspect → Bool
 repairs judge s = is_none (broken_in (judge s))
 
@@ -62,42 +139,37 @@ IsFirstNext judge found (s ∷ later) next =
     (IsElsewhere found (judge s) × IsNext s (judge s) next)
     ⊎ ((IsElsewhere found (judge s) → ⊥) × IsFirstNext judge found later next)
 
--- what is told of some suspects, and then of them and one more, with which the audit comes to this violation
-abbrev pub GoesOn : Breach → Option Next → Suspect → Violation → Option Next → Type 0
-GoesOn found (Some first) s v next = next ≡ Some first
-GoesOn found None s v next =
-    (IsElsewhere found (Broken v) × IsNext s (Broken v) next) ⊎ ((IsElsewhere found (Broken v) → ⊥) × (next ≡ None))
-
--- After a trial that came to this: the answer where it ends here, or none, and what is told of the suspects so far.
-abbrev pub Judges : Breach → Suspect → Result Verdict ReadFailed → Option Next → Option Next → Option (Result Repair ReadFailed) → Type 0
-Judges found s (Ok (Clean counts)) before after answer = answer ≡ Some (Ok (Stands s))
-Judges found s (Ok (Broken v)) before after answer = (answer ≡ None) × GoesOn found before s v after
-Judges found s (Err stop) before after answer = answer ≡ Some (Err stop)
-
 -- what is answered where none repairs
-pub record IsNothing (judge : Suspect → Verdict) (found : Breach) (suspects : List Suspect) (tried : ℕ) (more : Bool) (next : Option Next) : Type 0 where
+pub record IsNothing (judge lead : Suspect → Verdict) (found : Breach) (suspects : List Suspect) (tried : ℕ) (more : Bool) (next : Option Next) : Type 0 where
   pub none : find (repairs judge) (take most suspects) ≡ None
   pub number : tried ≡ min most (length suspects)
   pub beyond : more ≡ nat_lt most (length suspects)
-  pub goes_on : IsFirstNext judge found (take most suspects) next
+  pub goes_on : IsFirstNext lead found (take most suspects) next
 
--- the first suspect that repairs, of those that are tried
-abbrev pub IsRepair : (Suspect → Verdict) → Breach → List Suspect → Repair → Type 0
-IsRepair judge found suspects (Stands s) = find (repairs judge) (take most suspects) ≡ Some s
-IsRepair judge found suspects (Nothing tried more next) = IsNothing judge found suspects tried more next
+-- the first suspect that repairs, of those that are tried, and else the first that leads elsewhere
+abbrev pub IsRepair : (judge lead : Suspect → Verdict) → Breach → List Suspect → Repair → Type 0
+IsRepair judge lead found suspects (Stands s) = find (repairs judge) (take most suspects) ≡ Some s
+IsRepair judge lead found suspects (Nothing tried more next) = IsNothing judge lead found suspects tried more next
 
--- What an answer says of the structures: with the suspect that is told the root audit's stand, and where none is told,
--- they stand with none of those that are tried.
-abbrev pub StandsAs : Image → List AuditAt → Root → List Suspect → Repair → Type 0
-StandsAs image audits root suspects (Stands s) = RootStands (with_suspect image s) audits root
-StandsAs image audits root suspects (Nothing tried more next) =
-    All (λ s. RootStands (with_suspect image s) audits root → ⊥) (take most suspects)
+-- Any violation of the walk that broke keeps a suspect from repairing. One leads elsewhere where that walk doesn't find the same again, and the root audit
+-- finds another.
+abbrev pub IsRepairBy : Image → List AuditAt → Root → Sought → List Suspect → Repair → Type 0
+IsRepairBy image audits root sought suspects r =
+    IsRepair (judged_with image audits root sought.walk None) (judged_with image audits root sought.walk (Some sought.found)) sought.found suspects r
 
--- The answer as a function. A violation of the same rule at the same address:
-abbrev pub is_same : Breach → Violation → Bool
-is_same found v = sameb the_type v.rule found.rule && nat_eq v.at found.at
+-- a walk finds something broken
+abbrev pub WalkBreaks : Image → Option FirstWalk → Type 0
+WalkBreaks image None = ⊥
+WalkBreaks image (Some w) = (v : Violation) × (nodes_of image w.kind w.asked.audit w.asked.start ≡ Err v)
 
--- what a suspect leads to, where that is elsewhere
+-- What an answer says of the structures: with the suspect that is told the root audit's stand, and where none is told, they stand with none of those that
+-- are tried, unless the walk that comes first breaks with it.
+abbrev pub StandsAs : Image → List AuditAt → Root → Option FirstWalk → List Suspect → Repair → Type 0
+StandsAs image audits root walk suspects (Stands s) = RootStands (with_suspect image s) audits root
+StandsAs image audits root walk suspects (Nothing tried more next) =
+    All (λ s. RootStands (with_suspect image s) audits root → WalkBreaks (with_suspect image s) walk) (take most suspects)
+
+-- The answer as a function. What a suspect leads to, where that is elsewhere:
 abbrev pub next_by : Bool → Suspect → Violation → Option Next
 next_by same s v = if same then None else Some (record { suspect = s; rule = v.rule; at = v.at })
 
@@ -111,24 +183,39 @@ or_later (Some next) later = Some next
 
 -- and that of the first that leads there
 abbrev pub first_next : (Suspect → Verdict) → Breach → List Suspect → Option Next
-first_next judge found [] = None
-first_next judge found (s ∷ later) = or_later (next_of found s (judge s)) (first_next judge found later)
+first_next lead found [] = None
+first_next lead found (s ∷ later) = or_later (next_of found s (lead s)) (first_next lead found later)
+
+-- the suspect, where it repairs
+abbrev pub stands_of : Suspect → Verdict → Option Suspect
+stands_of s (Clean counts) = Some s
+stands_of s (Broken v) = None
+
+-- after a trial that came to this the search for the first of which something is told ends with an answer, or goes on
+abbrev pub ends_with : {X : Type 0} → Option X → Option (Result (Option X) ReadFailed)
+ends_with None = None
+ends_with (Some x) = Some (Ok (Some x))
+
+abbrev pub if_told : {X : Type 0} → (Verdict → Option X) → Result Verdict ReadFailed → Option (Result (Option X) ReadFailed)
+if_told tell (Ok verdict) = ends_with (tell verdict)
+if_told tell (Err stop) = Some (Err stop)
 
 -- by the first that repairs
 abbrev pub repair_by : (Suspect → Verdict) → Breach → List Suspect → Option Suspect → Repair
-repair_by judge found suspected (Some s) = Stands s
-repair_by judge found suspected None =
-    Nothing (min most (length suspected)) (nat_lt most (length suspected)) (first_next judge found (take most suspected))
+repair_by lead found suspected (Some s) = Stands s
+repair_by lead found suspected None =
+    Nothing (min most (length suspected)) (nat_lt most (length suspected)) (first_next lead found (take most suspected))
 
-abbrev pub repair : (Suspect → Verdict) → Breach → List Suspect → Repair
-repair judge found suspected = repair_by judge found suspected (find (repairs judge) (take most suspected))
+abbrev pub repair : (judge lead : Suspect → Verdict) → Breach → List Suspect → Repair
+repair judge lead found suspected = repair_by lead found suspected (find (repairs judge) (take most suspected))
 
-abbrev pub breach_of : Violation → Breach
-breach_of v = record { rule = v.rule; at = v.at }
+abbrev pub repair_with : Image → List AuditAt → Root → Sought → List Suspect → Repair
+repair_with image audits root sought suspected =
+    repair (judged_with image audits root sought.walk None) (judged_with image audits root sought.walk (Some sought.found)) sought.found suspected
 
 -- what repairs a violation that an audit of this kind found under a root audit: the words that it suspects are tried
 abbrev pub repair_of : Image → List AuditAt → Root → Kind → Violation → Repair
-repair_of image audits root kind v = repair (verdict_with image audits root) (breach_of v) (suspects image kind v)
+repair_of image audits root kind v = repair_with image audits root (sought_of image kind v) (suspects image kind v)
 
 -- a suspect whose word shares no byte with those that are changed
 abbrev pub is_apart : List Suspect → Suspect → Bool
@@ -137,7 +224,15 @@ is_apart earlier s = not (list_any (λ (word : Suspect). share s.off word.off) e
 -- what repairs one that is left in the memory with some words changed: of the words that it suspects those that aren't changed are tried
 abbrev pub repair_left : Image → List AuditAt → Root → List Suspect → Kind → Violation → Repair
 repair_left image audits root earlier kind v =
-    repair (verdict_with (with_words image earlier) audits root) (breach_of v) (filter (is_apart earlier) (suspects (with_words image earlier) kind v))
+    repair_with (with_words image earlier) audits root (sought_of (with_words image earlier) kind v) (filter (is_apart earlier) (suspects (with_words image earlier) kind v))
+
+-- the code has these words, and tries them for this
+abbrev pub IsSuspected : Image → Kind → Violation → Suspected → Type 0
+IsSuspected image kind v seen = (seen.suspects ≡ suspects image kind v) × (seen.sought ≡ sought_of image kind v)
+
+abbrev pub IsSuspectedLeft : Image → List Suspect → Kind → Violation → Suspected → Type 0
+IsSuspectedLeft image earlier kind v left =
+    (left.suspects ≡ filter (is_apart earlier) (suspects (with_words image earlier) kind v)) × (left.sought ≡ sought_of (with_words image earlier) kind v)
 
 -- a verdict names an audit of a plan of so many
 abbrev pub NamesAudit : ℕ → Verdict → Type 0

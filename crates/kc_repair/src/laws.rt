@@ -1,5 +1,5 @@
 // What the definitions say.
-ghost use Rattle.kc_repair.specs.Laws.{LeftStand, LeftStandInFile, LeftWordsStand, OneMore, RepairWordsStand, RepairsAreExact, RepairsStand};
+ghost use Rattle.kc_repair.specs.Laws.{LeftStand, LeftStandInFile, LeftWordsStand, NextsAreOfRoot, OneMore, RepairWordsStand, RepairsAreExact, RepairsStand};
 
 use crate::know_suspects;
 use kc_found::know_places;
@@ -7,12 +7,14 @@ use kc_phys::know_changes;
 use kc_run::know_verdicts;
 
 /// Does nothing. With a suspect that repairs a violation the structures of the root audit stand, and where none does, they stand with
-/// none that is tried: the first 4,096. Each suspect that is told is a word of the dump, at its place in the file, with another number than
+/// none that is tried, the first 4,096, unless the walk that finds the violation breaks with it. The violation that a suspect leads to is
+/// what the root audit comes to with it. Each suspect that is told is a word of the dump, at its place in the file, with another number than
 /// stands there. The same holds of a violation that is left where some words are changed, over the memory with these; and the number of such a
 /// word stands at its physical address and offset in the dump as it is, too.
 pub fn know_repairs()
     ensures stand { RepairsStand }
     ensures exact { RepairsAreExact }
+    ensures nexts { NextsAreOfRoot }
     ensures words { RepairWordsStand }
     ensures left { LeftStand }
     ensures left_words { LeftWordsStand }

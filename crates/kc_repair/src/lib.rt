@@ -1,7 +1,8 @@
 //! What would repair a structure that an audit found broken: suspects are tried one by one, each in a memory of the dump in
-//! which its word holds its value, until the same root audit stands there. No file is written.
+//! which its word holds its value, until the walk that broke and then the same root audit stand there. No file is written.
 #![tactic(auto)]
 
+mod first;
 mod laws;
 mod outcome;
 mod seeking;
@@ -9,6 +10,7 @@ mod suspect;
 mod trial;
 mod tries;
 
+pub use first::FirstWalk;
 pub use laws::know_repairs;
 pub use outcome::{Breach, Next, Repair};
 pub use seeking::{repair_left, repair_over};

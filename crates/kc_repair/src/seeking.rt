@@ -1,5 +1,6 @@
 // The suspects of a violation, and which of them repairs.
-ghost use Rattle.std.specs.Prelude.{◌≡◌, ◌∷◌, [], ◌%◌, ◌^◌, ◌<◌, ⊤, ◌++◌, if◌then◌else◌, filter, length, IfOk, IfSome, OnOk};
+ghost use Rattle.std.specs.Prelude.{◌≡◌, ◌∷◌, [], ◌%◌, ◌^◌, ◌<◌, ⊤, ◌++◌, if◌then◌else◌, filter, length, IfErr, IfOk, IfSome, OnOk};
+ghost use Rattle.kc_found.specs.declared.failed.ReadFailed.TheVariants.{NoMemory as OutOfMemory};
 ghost use Rattle.kc_outside.specs.declared.store.Slot.TheVariants.{Dump};
 ghost use Rattle.kc_outside.specs.Files.{content};
 ghost use Rattle.kc_memory.specs.Stays.{FramesStay};
@@ -11,11 +12,10 @@ ghost use Rattle.kc_mem.specs.Paged.{with_paging};
 ghost use Rattle.kc_plan.specs.Inside.{AreInside as TypesAreInside};
 ghost use Rattle.kc_plan.specs.Views.{plan_seen};
 ghost use Rattle.kc_repair.specs.Suspect.Answers.{OnlyReadsFrames};
-ghost use Rattle.kc_repair.specs.Suspect.Suspects.{suspects};
-ghost use Rattle.kc_repair.specs.Repairs.{IsRepair, breach_of, is_apart, repair_left, repair_of, verdict_with, with_words};
+ghost use Rattle.kc_repair.specs.Repairs.{IsSuspected, IsSuspectedLeft, is_apart, repair_left, repair_of, with_words};
 ghost use Rattle.kc_found.specs.Failures.{CountsFailures};
 
-use crate::outcome::Breach;
+use crate::first::{Sought, sought_of};
 use crate::trial::{RootAudit, ask_changed};
 use crate::tries::{Repaired, try_all};
 use crate::{Suspect, Suspects, suspects};
@@ -28,6 +28,15 @@ use kc_word::{NoMemory, PageCfg, Steps};
 use std::alloc::Global;
 use std::sync::ledger::Ledger;
 
+// The words that a violation suspects, and for what they are tried.
+#[derive(Drop)]
+pub struct Suspected {
+    /// The words.
+    pub suspects: Suspects,
+    /// The violation, and the walk that finds it.
+    pub sought: Sought,
+}
+
 // The question which words a violation suspects, that an audit of this kind found.
 #[derive(Clone, Copy)]
 struct Suspecting<'q> {
@@ -37,11 +46,11 @@ struct Suspecting<'q> {
 }
 
 impl<'q> Question for Suspecting<'q> {
-    type Answer = Result<Suspects, ReadFailed>;
+    type Answer = Result<Suspected, ReadFailed>;
 
     ghost may = { λ _. ⊤ };
 
-    ghost says = { λ of image answer. IfOk answer (λ suspected. suspected ≡ suspects image of.kind.now of.found.now) };
+    ghost says = { λ of image answer. IfOk answer (IsSuspected image of.kind.now of.found.now) };
 
     ghost leaves = { λ _ answer before after. CountsFailures answer before after };
 
@@ -49,39 +58,15 @@ impl<'q> Question for Suspecting<'q> {
         &self,
         memory: &mut M,
         steps: &mut Steps<L>,
-    ) -> Result<Suspects, ReadFailed> {
-        suspects(self.alloc, self.kind, self.found, memory, steps)
+    ) -> Result<Suspected, ReadFailed> {
+        let suspects = suspects(self.alloc, self.kind, self.found, memory, steps)?;
+        let sought = sought_of(self.alloc, memory, self.kind, self.found, steps)?;
+        Ok(Suspected { suspects, sought })
     }
 }
 
-// Tries suspects of a violation, each after some words that are changed.
-fn try_found<'s, S: Store>(
-    alloc: Global,
-    memory: Phys<'s, S>,
-    paging: PageCfg,
-    audit: &RootAudit<'_>,
-    earlier: &[Suspect],
-    found: &Found,
-    suspects: &[Suspect],
-) -> Repaired<'s, S>
-    requires aligned { paging.table % 4096 ≡ 0 }
-    requires small { paging.table < 2 ^ 52 }
-    requires root { audit.now.root.audit < length audit.now.plan.now.audits }
-    requires types { TypesAreInside (length audit.now.types.now.records) audit.now.plan.now.audits }
-
-    ensures exact { IfOk result.repair (λ repair. IfSome (with_paging paging (stored memory.entry.segments.items memory.entry.tail (content (S.files memory.entry.store.now) Dump (S.opened memory.entry.store.now Dump))))
-        (λ image. IsRepair (verdict_with (with_words image earlier.now) (plan_seen audit.now.plan.now) (audit.now.root.audit, audit.now.root.start)) (breach_of found.now) suspects.now repair)) }
-    ensures reads { OnlyReadsFrames (λ p. stored p.segments.items p.tail (content (S.files p.store.now) Dump (S.opened p.store.now Dump))) (λ p. S.files p.store.now) (λ p. p.store.ghost_name ∷ []) (λ p. S.faults p.store.now) result.repair memory.entry result.memory }
-{
-    let breach = Breach {
-        rule: found.rule,
-        at: found.at,
-    };
-    try_all(alloc, memory, paging, audit, earlier, breach, suspects)
-}
-
 /// What repairs a violation that a root audit found over a memory, in an audit of this kind: the words that the violation suspects are
-/// tried in their order, each with the root audit alone.
+/// tried in their order, each with the walk that finds the violation, where one does, and with the root audit alone where that walk stands.
 ///
 /// The answer fails where the store did, whose count of faults then rose, or where no memory was left.
 pub fn repair_over<'s, S: Store>(
@@ -105,14 +90,14 @@ pub fn repair_over<'s, S: Store>(
     let question = Suspecting { alloc, kind, found };
     let Returned { memory, answer } = ask_over(alloc, memory, paging, &question);
     match answer.unwrap_or(Err(ReadFailed::NoMemory)) {
-        Ok(suspects) => try_found(
+        Ok(seen) => try_all(
             alloc,
             memory,
             paging,
             audit,
             &[],
-            found,
-            suspects.as_slice(),
+            &seen.sought,
+            seen.suspects.as_slice(),
         ),
         Err(stop) => Repaired {
             memory,
@@ -157,39 +142,42 @@ fn is_apart(earlier: &[Suspect], suspect: Suspect) -> bool
     !shares_any(earlier, suspect.off)
 }
 
-// Those of some suspects, as an answer.
-fn left_of(alloc: Global, suspects: &[Suspect], earlier: &[Suspect]) -> Result<Suspects, ReadFailed>
-    ensures exact { IfOk result (λ kept. kept ≡ filter (is_apart earlier.now) suspects.now) }
-    ensures cause { CountsFailures result 0 0 }
+// Those of them, for the same.
+fn left_of(alloc: Global, seen: Suspected, earlier: &[Suspect]) -> Result<Suspected, ReadFailed>
+    ensures exact { IfOk result (λ left. (left.suspects ≡ filter (is_apart earlier.now) seen.suspects) × (left.sought ≡ seen.sought)) }
+    ensures cause { IfErr result (λ stop. stop ≡ OutOfMemory) }
 {
-    match apart(alloc, suspects, earlier) {
-        Ok(kept) => Ok(kept),
+    match apart(alloc, seen.suspects.as_slice(), earlier) {
+        Ok(suspects) => Ok(Suspected {
+            suspects,
+            sought: seen.sought,
+        }),
         Err(NoMemory) => Err(ReadFailed::NoMemory),
     }
 }
 
 // The suspects of a violation that is left with some words changed, but for those words.
-fn suspects_left<'s, S: Store>(
+fn suspected_left<'s, S: Store>(
     alloc: Global,
     memory: Phys<'s, S>,
     paging: PageCfg,
     earlier: &[Suspect],
     kind: &Kind,
     found: &Found,
-) -> Returned<Phys<'s, S>, Result<Suspects, ReadFailed>>
+) -> Returned<Phys<'s, S>, Result<Suspected, ReadFailed>>
     requires aligned { paging.table % 4096 ≡ 0 }
     requires small { paging.table < 2 ^ 52 }
 
-    ensures exact { IfOk result.answer (λ kept. IfSome (with_paging paging (stored memory.entry.segments.items memory.entry.tail (content (S.files memory.entry.store.now) Dump (S.opened memory.entry.store.now Dump))))
-        (λ image. kept ≡ filter (is_apart earlier.now) (suspects (with_words image earlier.now) kind.now found.now))) }
+    ensures exact { IfOk result.answer (λ left. IfSome (with_paging paging (stored memory.entry.segments.items memory.entry.tail (content (S.files memory.entry.store.now) Dump (S.opened memory.entry.store.now Dump))))
+        (λ image. IsSuspectedLeft image earlier.now kind.now found.now left)) }
     ensures reads { OnlyReadsFrames (λ p. stored p.segments.items p.tail (content (S.files p.store.now) Dump (S.opened p.store.now Dump))) (λ p. S.files p.store.now) (λ p. p.store.ghost_name ∷ []) (λ p. S.faults p.store.now) result.answer memory.entry result.memory }
 {
     let question = Suspecting { alloc, kind, found };
     let Returned { memory, answer } = ask_changed(alloc, memory, paging, earlier, &question);
     match answer.unwrap_or(Err(ReadFailed::NoMemory)) {
-        Ok(suspects) => Returned {
+        Ok(seen) => Returned {
             memory,
-            answer: left_of(alloc, suspects.as_slice(), earlier),
+            answer: left_of(alloc, seen, earlier),
         },
         Err(stop) => Returned {
             memory,
@@ -219,16 +207,16 @@ pub fn repair_left<'s, S: Store>(
         (λ image. repair ≡ repair_left image (plan_seen audit.now.plan.now) (audit.now.root.audit, audit.now.root.start) earlier.now kind.now found.now)) }
     ensures reads { OnlyReadsFrames (λ p. stored p.segments.items p.tail (content (S.files p.store.now) Dump (S.opened p.store.now Dump))) (λ p. S.files p.store.now) (λ p. p.store.ghost_name ∷ []) (λ p. S.faults p.store.now) result.repair memory.entry result.memory }
 {
-    let Returned { memory, answer } = suspects_left(alloc, memory, paging, earlier, kind, found);
+    let Returned { memory, answer } = suspected_left(alloc, memory, paging, earlier, kind, found);
     match answer {
-        Ok(left) => try_found(
+        Ok(left) => try_all(
             alloc,
             memory,
             paging,
             audit,
             earlier,
-            found,
-            left.as_slice(),
+            &left.sought,
+            left.suspects.as_slice(),
         ),
         Err(failed) => Repaired {
             memory,

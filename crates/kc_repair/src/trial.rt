@@ -9,10 +9,12 @@ ghost use Rattle.kc_mem.specs.Paged.{with_paging};
 ghost use Rattle.kc_plan.specs.Inside.{AreInside as TypesAreInside};
 ghost use Rattle.kc_plan.specs.Roots.{root_verdict};
 ghost use Rattle.kc_plan.specs.Views.{plan_seen};
-ghost use Rattle.kc_repair.specs.Suspect.Answers.{OnlyReadsFrames};
-ghost use Rattle.kc_repair.specs.Repairs.{NamesAudit, change_of, verdict_with, with_words};
+ghost use Rattle.kc_repair.specs.Suspect.Answers.{OnlyReads, OnlyReadsFrames};
+ghost use Rattle.kc_repair.specs.Repairs.{NamesAudit, change_of, judged, judged_with, with_words};
 ghost use Rattle.kc_found.specs.Failures.{CountsFailures};
 
+use crate::first::{FirstWalk, counted, first_found};
+use crate::outcome::Breach;
 use crate::{Suspect, Suspects};
 use kc_btf::Btf;
 use kc_found::{Asked, Items, ReadFailed, Space, Verdict};
@@ -35,6 +37,37 @@ pub struct RootAudit<'p> {
     pub types: &'p Btf,
     /// The number of the root audit and its symbol's address, as [`root_at`](kc_run::root_at) tells them.
     pub root: Asked,
+}
+
+/// By what a suspect is judged.
+#[derive(Clone, Copy)]
+pub struct Judge<'j> {
+    /// A root audit.
+    pub audit: &'j RootAudit<'j>,
+    /// A walk that is made before it.
+    pub walk: &'j Option<FirstWalk>,
+    /// The violation of the walk that counts, where not each does.
+    pub only: Option<Breach>,
+}
+
+// What a root audit comes to.
+fn of_root<M: Space, L: Ledger>(
+    alloc: Global,
+    audit: &RootAudit<'_>,
+    memory: &mut M,
+    steps: &mut Steps<L>,
+) -> Result<Verdict, ReadFailed>
+    requires root { audit.now.root.audit < length audit.now.plan.now.audits }
+    requires types { TypesAreInside (length audit.now.types.now.records) audit.now.plan.now.audits }
+
+    ensures exact { IfOk result (λ found. IfSome (M.image memory.old) (λ image.
+        (root_verdict image (plan_seen audit.now.plan.now) (audit.now.root.audit, audit.now.root.start)).verdict ≡ found)) }
+    ensures fits { IfOk result (NamesAudit (length audit.now.plan.now.audits)) }
+    ensures reads { OnlyReads M.image M.files M.through M.most M.faults result memory.old memory.new }
+{
+    let RootAudit { plan, types, root } = audit;
+    let found = run_root(alloc, plan, types, root, memory, steps)?;
+    Ok(found.verdict)
 }
 
 // The question what a root audit comes to.
@@ -60,9 +93,38 @@ impl<'q> Question for OneRoot<'q> {
         memory: &mut M,
         steps: &mut Steps<L>,
     ) -> Result<Verdict, ReadFailed> {
-        let RootAudit { plan, types, root } = self.audit;
-        let found = run_root(self.alloc, plan, types, root, memory, steps)?;
-        Ok(found.verdict)
+        of_root(self.alloc, self.audit, memory, steps)
+    }
+}
+
+// The question what a suspect comes to, whose word is changed.
+#[derive(Clone, Copy)]
+struct OneTrial<'q> {
+    alloc: Global,
+    by: &'q Judge<'q>,
+}
+
+impl<'q> Question for OneTrial<'q> {
+    type Answer = Result<Verdict, ReadFailed>;
+
+    ghost may = { λ of. (of.by.now.audit.now.root.audit < length of.by.now.audit.now.plan.now.audits)
+        × TypesAreInside (length of.by.now.audit.now.types.now.records) of.by.now.audit.now.plan.now.audits };
+
+    ghost says = { λ of image answer. IfOk answer (λ found.
+        judged image (plan_seen of.by.now.audit.now.plan.now) (of.by.now.audit.now.root.audit, of.by.now.audit.now.root.start) of.by.now.walk.now of.by.now.only ≡ found) };
+
+    ghost leaves = { λ _ answer before after. CountsFailures answer before after };
+
+    fn ask<M: Space, L: Ledger>(
+        &self,
+        memory: &mut M,
+        steps: &mut Steps<L>,
+    ) -> Result<Verdict, ReadFailed> {
+        let found = first_found(self.alloc, memory, self.by.walk, steps)?;
+        match counted(self.by.only, found) {
+            Some(found) => Ok(Verdict::Broken(found)),
+            None => of_root(self.alloc, self.by.audit, memory, steps),
+        }
     }
 }
 
@@ -174,31 +236,56 @@ pub fn verdict_over<'s, S: Store>(
     }
 }
 
-/// The same with a suspect's word changed too, after these.
+/// What a suspect comes to, whose word is changed after these.
 pub fn try_suspect<'s, S: Store>(
     alloc: Global,
     memory: Phys<'s, S>,
     paging: PageCfg,
-    audit: &RootAudit<'_>,
+    by: &Judge<'_>,
     earlier: &[Suspect],
     suspect: Suspect,
 ) -> Returned<Phys<'s, S>, Result<Verdict, ReadFailed>>
     requires aligned { paging.table % 4096 ≡ 0 }
     requires small { paging.table < 2 ^ 52 }
-    requires inside { audit.now.root.audit < length audit.now.plan.now.audits }
-    requires types { TypesAreInside (length audit.now.types.now.records) audit.now.plan.now.audits }
+    requires inside { by.now.audit.now.root.audit < length by.now.audit.now.plan.now.audits }
+    requires types { TypesAreInside (length by.now.audit.now.types.now.records) by.now.audit.now.plan.now.audits }
 
     ensures exact { IfOk result.answer (λ found. IfSome (with_paging paging (stored memory.entry.segments.items memory.entry.tail (content (S.files memory.entry.store.now) Dump (S.opened memory.entry.store.now Dump))))
-        (λ image. verdict_with (with_words image earlier.now) (plan_seen audit.now.plan.now) (audit.now.root.audit, audit.now.root.start) suspect ≡ found)) }
+        (λ image. judged_with (with_words image earlier.now) (plan_seen by.now.audit.now.plan.now) (by.now.audit.now.root.audit, by.now.audit.now.root.start) by.now.walk.now by.now.only suspect ≡ found)) }
     ensures reads { OnlyReadsFrames (λ p. stored p.segments.items p.tail (content (S.files p.store.now) Dump (S.opened p.store.now Dump))) (λ p. S.files p.store.now) (λ p. p.store.ghost_name ∷ []) (λ p. S.faults p.store.now) result.answer memory.entry result.memory }
 {
     know_changes();
     match and_one(alloc, earlier, suspect) {
-        Ok(words) => verdict_over(alloc, memory, paging, audit, words.as_slice()),
+        Ok(words) => try_words(alloc, memory, paging, by, words.as_slice()),
         Err(NoMemory) => Returned {
             memory,
             answer: Err(ReadFailed::NoMemory),
         },
+    }
+}
+
+// What it comes to with some words changed.
+fn try_words<'s, S: Store>(
+    alloc: Global,
+    memory: Phys<'s, S>,
+    paging: PageCfg,
+    by: &Judge<'_>,
+    words: &[Suspect],
+) -> Returned<Phys<'s, S>, Result<Verdict, ReadFailed>>
+    requires aligned { paging.table % 4096 ≡ 0 }
+    requires small { paging.table < 2 ^ 52 }
+    requires inside { by.now.audit.now.root.audit < length by.now.audit.now.plan.now.audits }
+    requires types { TypesAreInside (length by.now.audit.now.types.now.records) by.now.audit.now.plan.now.audits }
+
+    ensures exact { IfOk result.answer (λ found. IfSome (with_paging paging (stored memory.entry.segments.items memory.entry.tail (content (S.files memory.entry.store.now) Dump (S.opened memory.entry.store.now Dump))))
+        (λ image. judged (with_words image words.now) (plan_seen by.now.audit.now.plan.now) (by.now.audit.now.root.audit, by.now.audit.now.root.start) by.now.walk.now by.now.only ≡ found)) }
+    ensures reads { OnlyReadsFrames (λ p. stored p.segments.items p.tail (content (S.files p.store.now) Dump (S.opened p.store.now Dump))) (λ p. S.files p.store.now) (λ p. p.store.ghost_name ∷ []) (λ p. S.faults p.store.now) result.answer memory.entry result.memory }
+{
+    let question = OneTrial { alloc, by };
+    let Returned { memory, answer } = ask_changed(alloc, memory, paging, words, &question);
+    Returned {
+        memory,
+        answer: answer.unwrap_or(Err(ReadFailed::NoMemory)),
     }
 }
 

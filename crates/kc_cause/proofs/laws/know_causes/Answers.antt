@@ -40,6 +40,7 @@ returns c = record {
   repair_words = c.know_repairs.ensures.words;
   text = explanations_hold (record {
     exact = c.know_repairs.ensures.exact;
+    nexts = c.know_repairs.ensures.nexts;
     stand = c.know_repairs.ensures.stand;
     words = c.know_repairs.ensures.words;
     suspects = c.know_suspects.ensures;

@@ -1,0 +1,14 @@
+use Rattle.kc_repair.proofs.FirstWalks.{array-as, hash-as, ring-as, tree-as}
+use Rattle.kc_repair.proofs.first.found_by.Goals as goal
+
+pub returns-in-Ring-clause-exact : goal.returns-in-Ring-clause-exact
+returns-in-Ring-clause-exact g c = ring-as _ c.args.walk.now c.in-Ring.shape c.ring.result c.wrong_in.result c.in-Ring.is c.ring.ensures.walk c.wrong_in.ensures
+
+pub returns-in-Hlist-clause-exact : goal.returns-in-Hlist-clause-exact
+returns-in-Hlist-clause-exact g c = hash-as _ c.args.walk.now c.in-Hlist.shape c.hchain.result c.wrong_in-in-Hlist.result c.in-Hlist.is c.hchain.ensures.walk c.wrong_in-in-Hlist.ensures
+
+pub returns-in-Rbtree-clause-exact : goal.returns-in-Rbtree-clause-exact
+returns-in-Rbtree-clause-exact g c = tree-as _ c.args.walk.now c.in-Rbtree.shape c.rb_walk.result c.wrong_in-in-Rbtree.result c.in-Rbtree.is c.rb_walk.ensures.walk c.wrong_in-in-Rbtree.ensures
+
+pub returns-in-Xarray-clause-exact : goal.returns-in-Xarray-clause-exact
+returns-in-Xarray-clause-exact g c = array-as _ c.args.walk.now c.in-Xarray.shape c.xa_walk.result c.wrong_in-in-Xarray.result c.in-Xarray.is c.xa_walk.ensures.walk c.wrong_in-in-Xarray.ensures

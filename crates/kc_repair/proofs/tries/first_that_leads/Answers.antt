@@ -1,0 +1,29 @@
+use Rattle.std.proofs.Common.{ap, arith, ◌∙◌}
+use Rattle.kc_mem.specs.Paged.{with_paging}
+use Rattle.kc_plan.specs.Views.{plan_seen}
+use Rattle.kc_repair.specs.Repairs.{first_next, judged_with, next_of, with_words}
+use Rattle.kc_repair.proofs.Trying.{at_end, ends, firsts_lead, goes_on, quiet}
+use Rattle.kc_repair.proofs.tries.first_that_leads.Goals as goal
+
+pub returns-in-Some-clause-exact : goal.returns-in-Some-clause-exact
+returns-in-Some-clause-exact g c =
+    ends _ _ (λ image. judged_with (with_words image c.args.earlier.now) (plan_seen c.args.by.now.audit.now.plan.now) (c.args.by.now.audit.now.root.audit, c.args.by.now.audit.now.root.start) c.args.by.now.walk.now c.args.by.now.only)
+    (next_of c.args.found) (λ judge xs. first_next judge c.args.found xs) c.args.suspects.now c.loop-i.i _ c.try_suspect-trial.result.answer c.in-Some.answer (λ judge. firsts_lead judge c.args.found)
+    (ap (with_paging c.args.paging) c.loop-i.invariant.1.same_image) (omega arith) c.try_suspect-trial.ensures.exact c.loop-i.invariant.0 c.in-Some.ensures
+
+pub loop-i-preserved : goal.loop-i-preserved
+loop-i-preserved g c = (
+  goes_on _ _ (λ image. judged_with (with_words image c.args.earlier.now) (plan_seen c.args.by.now.audit.now.plan.now) (c.args.by.now.audit.now.root.audit, c.args.by.now.audit.now.root.start) c.args.by.now.walk.now c.args.by.now.only)
+      (next_of c.args.found) (λ judge xs. first_next judge c.args.found xs) c.args.suspects.now c.loop-i.i _ c.try_suspect-trial.result.answer c.if_leads.result (λ judge. firsts_lead judge c.args.found)
+      (ap (with_paging c.args.paging) c.loop-i.invariant.1.same_image) (omega arith) c.try_suspect-trial.ensures.exact c.loop-i.invariant.0 c.if_leads.ensures c.in-None.is,
+  record {
+    same_image = c.try_suspect-trial.ensures.reads.stays.same_image ∙ c.loop-i.invariant.1.same_image;
+    same_files = c.try_suspect-trial.ensures.reads.stays.same_files ∙ c.loop-i.invariant.1.same_files;
+    same_through = c.try_suspect-trial.ensures.reads.stays.same_through ∙ c.loop-i.invariant.1.same_through;
+  },
+  quiet (next_of c.args.found _) c.try_suspect-trial.result.answer c.if_leads.result _ _ c.if_leads.ensures c.in-None.is c.try_suspect-trial.ensures.reads.cause ∙ c.loop-i.invariant.2,
+)
+
+pub returns-clause-exact : goal.returns-clause-exact
+returns-clause-exact g c =
+    at_end _ (λ image xs. first_next (judged_with (with_words image c.args.earlier.now) (plan_seen c.args.by.now.audit.now.plan.now) (c.args.by.now.audit.now.root.audit, c.args.by.now.audit.now.root.start) c.args.by.now.walk.now c.args.by.now.only) c.args.found xs) c.args.suspects.now c.loop-i.i (omega arith) c.loop-i.invariant.0
