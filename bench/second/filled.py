@@ -37,9 +37,9 @@ def tasks_and_caches(sights, rng, count):
     """Addresses in tasks, and in slab caches."""
     tasks, kernel = sights.areas.tasks()[0], sights.objects.kernel
     caches = [(node - kernel.byte("kmem_cache", "list")) % TOP for node in kernel.ring(sights.objects.caches)]
-    sizes = (sights.areas.kernel.types.size(kernel.struct(name)) for name in ("task_struct", "kmem_cache"))
-    for some, size in zip((tasks, caches), sizes):
-        yield from (at + rng.randrange(size) for at in rng.sample(some, min(count, len(some))))
+    for at in (at for some in (tasks, caches) for at in rng.sample(some, min(count, len(some)))):
+        one = object_of(sights.objects, sights.objects.lines(at))
+        yield at + rng.randrange(one.size if one else PAGE)
 
 
 def objects_in(sights, rng, count):
