@@ -15,6 +15,7 @@ import files
 import timer
 from plans.reader import IMAGE, TOP, Broken, Core, Info, Memory, Refused, Types, address, dec_of, symbols, vmcoreinfo
 from second.areas import NO_VARIABLE, Areas
+from second.inside import covers, named, object_of
 from second.objects import Objects, all_rows
 from second.rings import reached
 from second.verdict import POISON, Kernel
@@ -321,9 +322,15 @@ class Sights:
         slab = any(line.startswith("slab ") and " first " in line for line in lines)
         return self.areas.lines(at, slab), lines
 
+    def inside(self, at, lines):
+        """The lines of what the object that has an address says it is, and of how words that say the same lie in it."""
+        found, place = object_of(self.objects, lines), self.why.seen(at - at % 8)[0]
+        spans = place is not None and meaning(place[0], place[3]) in FILLS
+        return named(self.areas, found) + (covers(at, self.why.span(place[0], place[3]), found) if spans else [])
+
     def text(self, at):
         areas, lines = self.parts(at)
-        return self.why.text(at, areas) + "".join(line + "\n" for line in lines)
+        return self.why.text(at, areas) + "".join(line + "\n" for line in lines + self.inside(at, lines))
 
     def refs(self, value):
         """The text of the words that hold a value, with what stops the search for encoded ones."""
@@ -351,7 +358,7 @@ class Sights:
         """What stands after a word of a violation."""
         symbol, (areas, lines) = self.why.symbol(at), self.parts(at)
         first = [f"symbol {symbol}"] if symbol else []
-        return "".join(line + "\n" for line in first + (areas if self.why.is_outside(at) else []) + lines)
+        return "".join(line + "\n" for line in first + (areas if self.why.is_outside(at) else []) + lines + self.inside(at, lines))
 
 
 def compare(command, words, folder, wanted):

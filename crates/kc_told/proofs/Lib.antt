@@ -2,3 +2,4 @@ mod SaysLemmas
 pub mod NearLemmas
 pub mod ShapeLemmas
 pub mod TextLemmas
+pub mod ToldLemmas

@@ -1,9 +1,12 @@
 pub mod AreaText
+pub mod Inside
+pub mod Named
 pub mod Near
 pub mod NearText
 pub mod ObjectText
 pub mod Objects
 pub mod SaysText
 pub mod SeenText
+pub mod Spans
 pub mod Text
 pub mod Views

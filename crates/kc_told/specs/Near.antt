@@ -16,7 +16,8 @@ use Rattle.kc_sight.specs.Sights.{near, word_start}
 use Rattle.kc_told.specs.declared.told.PageWords.{PageWords}
 use Rattle.kc_told.specs.declared.near.Lead.{Lead}
 use Rattle.kc_told.specs.declared.near.NearWord.{NearWord}
-use Rattle.kc_told.specs.Objects.{Kept, Shapes, held_by, kept_by, sought}
+use Rattle.kc_told.specs.Inside.{Kept}
+use Rattle.kc_told.specs.Objects.{Shapes, held_by, kept_by, sought}
 
 -- the page whose descriptor has an address, by the address's word; none where that can't be read or told
 abbrev pub page_told : Result (Option Described) Violation → Option Described

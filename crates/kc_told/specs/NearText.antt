@@ -9,7 +9,7 @@ use Rattle.kc_owner.specs.declared.object.slab.Slab.{Slab}
 use Rattle.kc_owner.specs.declared.object.spot.Spot.{Spot}
 use Rattle.kc_owner.specs.declared.object.spot.Spot.TheVariants.{Object}
 use Rattle.kc_told.specs.declared.near.Lead.{Lead}
-use Rattle.kc_told.specs.Objects.{Kept}
+use Rattle.kc_told.specs.Inside.{Kept}
 
 -- a byte of an object: the name of the object's cache, the byte, and what is said of whether the object is free
 pub record InObject : Type 0 where

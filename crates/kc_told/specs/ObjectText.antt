@@ -13,7 +13,7 @@ use Rattle.kc_owner.specs.declared.object.slab.Slab.{Slab}
 use Rattle.kc_owner.specs.declared.object.spot.ObjectSpot.{ObjectSpot}
 use Rattle.kc_owner.specs.declared.object.spot.Spot.{Spot}
 use Rattle.kc_owner.specs.declared.object.spot.Spot.TheVariants.{Before, Pad, Object, Past}
-use Rattle.kc_told.specs.Objects.{Kept}
+use Rattle.kc_told.specs.Inside.{Kept}
 
 -- why something can't be told: the rule, and what it is about
 abbrev pub unknown_text : Violation → List ℕ

@@ -27,15 +27,20 @@ use Rattle.kc_owner.specs.Object.Slabs.{held}
 use Rattle.kc_slab_page.specs.declared.mark.Mark.{Mark}
 use Rattle.kc_slab_page.specs.Marks.{marked, slab_mark}
 use Rattle.kc_slab_page.specs.Slabs.{is_laid}
-use Rattle.kc_slab_scan.specs.declared.cpu_object.CpuSpot.{CpuSpot}
 use Rattle.kc_slab_scan.specs.declared.cpu_object.SlabObject.{SlabObject}
 use Rattle.kc_slab_scan.specs.declared.cpu_words.CpuShape.{CpuShape}
 use Rattle.kc_slab_scan.specs.CpuObjects.{object_spot}
 use Rattle.kc_slab_scan.specs.CpuShapes.{cpu_shape}
+use Rattle.kc_told.specs.declared.named.Named.{Named}
+use Rattle.kc_told.specs.declared.span.Bounds.{Bounds}
 use Rattle.kc_told.specs.declared.told.PageWords.{PageWords}
+use Rattle.kc_told.specs.Inside.{Kept, object_at}
+use Rattle.kc_told.specs.Named.{named_in}
+use Rattle.kc_told.specs.Spans.{span_at}
 use Rattle.kc_sight.specs.Holders.{holders}
+use Rattle.kc_sight.specs.Looks.{words}
 use Rattle.kc_sight.specs.Nearest.{SymbolAt, image_parts, in_image}
-use Rattle.kc_sight.specs.Sights.{word_start}
+use Rattle.kc_sight.specs.Sights.{page_start, word_start}
 
 -- where a kernel has what tells of an address: page descriptors and slab caches, the slabs that processors own, areas, where its image ends, and the
 -- symbols whose words hold a value in a memory
@@ -46,17 +51,15 @@ pub record Shapes : Type 0 where
   pub end : Option ℕ
   pub holding : Image → ℕ → List SymbolAt
 
--- where a processor's own free list has an object
-abbrev pub Kept : Type 0
-Kept = Option (Result (Option CpuSpot) Violation)
-
--- the areas in which an address lies, what holds it, where a processor's own free list has the object, where that is asked for, and the symbols
--- whose words hold the address of the object's cache
+-- the areas in which an address lies, what holds it, where a processor's own free list has the object, where that is asked for, the symbols
+-- whose words hold the address of the object's cache, what the object says it is, and how far words that say the same go on around it
 pub record Told : Type 0 where
   pub areas : Areas
   pub held : Option (Result Held Violation)
   pub kept : Kept
   pub holders : List SymbolAt
+  pub named : Option Named
+  pub span : Option Bounds
 
 -- a page that lacks the kernel's mark of a slab is none, whatever stands where a slab has its cache; one whose mark isn't known is taken by that alone
 abbrev pub as_marked : Option Bool → Held → Held
@@ -154,20 +157,27 @@ abbrev pub kept_by : Image → Option CpuShape → Option SlabObject → Kept
 kept_by image cpus None = None
 kept_by image cpus (Some o) = kept_of image o cpus
 
--- what is told of an address, by its word
-abbrev pub told_with : Image → Shapes → ℕ → Option (Result Held Violation) → Told
-told_with image shapes address held = record {
+-- what the object that holds an address says it is
+abbrev pub named_of : Image → Shapes → Kept → Option (Result Held Violation) → Option Named
+named_of image shapes kept held = named_in image shapes.objects shapes.areas.stacks kept (object_at held)
+
+-- what is told of an address, by what holds it, and how far words that say the same go on around it
+abbrev pub told_with : Image → Shapes → ℕ → Option (Result Held Violation) → Option Bounds → Told
+told_with image shapes address held span = record {
   areas = areas_by image shapes address held;
   held = held;
   kept = kept_by image shapes.cpus (sought held);
   holders = holders_by (shapes.holding image) (shared_in held);
+  named = named_of image shapes (kept_by image shapes.cpus (sought held)) held;
+  span = span;
 }
 
-abbrev pub told_by : Image → Shapes → ℕ → Result VWord Stopped → Told
-told_by image shapes address word = told_with image shapes address (held_by image shapes.objects address word)
+-- by its word, and the words of its 4096 bytes
+abbrev pub told_by : Image → Shapes → ℕ → Result VWord Stopped → List (Result VWord Stopped) → Told
+told_by image shapes address word page = told_with image shapes address (held_by image shapes.objects address word) (span_at word page)
 
 abbrev pub told_of : Image → Shapes → ℕ → Told
-told_of image shapes address = told_by image shapes address (vword image (word_start address))
+told_of image shapes address = told_by image shapes address (vword image (word_start address)) (words image (page_start address) 512)
 
 -- the kernel of these types and symbols, and of the rows of a map
 abbrev pub kernel_with : Types → (List ℕ → List ℕ) → Info → Kernel

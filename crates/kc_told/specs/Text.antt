@@ -1,5 +1,5 @@
 -- What is printed of an address.
-use Rattle.std.specs.Prelude.{ℕ, ◌==◌, ◌+◌, ◌-◌, ◌*◌, ◌/◌, ◌%◌, ◌^◌, if◌then◌else◌, Bool, true, false, List, [], ◌++◌, codes, decimal, length, map, slice_get, Option, Some, None, option_and_then, Result, Ok, Err}
+use Rattle.std.specs.Prelude.{ℕ, ◌==◌, ◌-◌, if◌then◌else◌, Bool, true, false, List, [], ◌++◌, codes, decimal, length, map, slice_get, Option, Some, None, option_and_then, Result, Ok, Err}
 use Rattle.std.specs.Int.{to_le_bytes, w64}
 use Rattle.kc_memory.specs.declared.rule.Rule.{Rule}
 use Rattle.kc_memory.specs.declared.rule.Rule.TheVariants.{M6}
@@ -12,15 +12,15 @@ use Rattle.kc_report.specs.Lines.{origin_text, place_line, rule_code}
 use Rattle.kc_sight.specs.declared.entries.TableEntry.{TableEntry}
 use Rattle.kc_sight.specs.declared.meaning.Meaning.{Meaning}
 use Rattle.kc_sight.specs.declared.meaning.Meaning.TheVariants.{Zero, Own, Unlisted, Pattern, Text, Small, Number}
-use Rattle.kc_sight.specs.declared.span.Span.{Span}
 use Rattle.kc_sight.specs.Entries.{page_bytes}
 use Rattle.kc_sight.specs.Meanings.{meaning}
 use Rattle.kc_sight.specs.Nearest.{SymbolAt}
 use Rattle.kc_sight.specs.Sights.{Sight}
-use Rattle.kc_sight.specs.Spans.{fills_on, span}
 use Rattle.kc_told.specs.declared.near.Lead.{Lead}
 use Rattle.kc_told.specs.declared.near.NearWord.{NearWord}
+use Rattle.kc_told.specs.declared.span.Bounds.{Bounds}
 use Rattle.kc_told.specs.NearText.{lead_text}
+use Rattle.kc_told.specs.Spans.{spanned}
 
 -- a symbol, and how many bytes an address is behind it
 abbrev pub symbol_text : SymbolAt → ℕ → List ℕ
@@ -102,13 +102,17 @@ seen_line symbols lead (Err s) = codes "near " ++ hex s.va ++ codes " " ++ stopp
 abbrev pub near_line : (ℕ → Option SymbolAt) → NearWord → List ℕ
 near_line symbols w = seen_line symbols w.lead w.seen
 
--- the first and the last byte of words that say the same, around one at an address
-abbrev pub bounds_text : ℕ → Span → List ℕ
-bounds_text va s = hex ((va + 2 ^ 64 - 8 * s.before % 2 ^ 64) % 2 ^ 64) ++ codes " " ++ hex ((va + 8 * s.after + 7) % 2 ^ 64)
+-- the first and the last byte of words that say the same
+abbrev pub bounds_line : Bounds → List ℕ
+bounds_line b = codes "span " ++ hex b.first ++ codes " " ++ hex b.last ++ codes "\n"
+
+abbrev pub span_text : Option Bounds → List ℕ
+span_text None = []
+span_text (Some b) = bounds_line b
 
 -- how far what a word says goes on in its 4096 bytes, where it is zeros, one of the kernel's bytes, or text
 abbrev pub span_line : ℕ → Meaning → List (Result VWord Stopped) → List ℕ
-span_line va m page = if fills_on m m then codes "span " ++ bounds_text va (span m page (va % 4096 / 8)) ++ codes "\n" else []
+span_line va m page = span_text (spanned va m page)
 
 -- the words beside a word, and how far what it says goes on
 abbrev pub around_lines : (ℕ → Option SymbolAt) → VWord → List NearWord → List (Result VWord Stopped) → List ℕ

@@ -5,16 +5,14 @@ ghost use Rattle.kc_sight.specs.Entries.{page_bytes};
 ghost use Rattle.kc_sight.specs.Meanings.{meaning};
 ghost use Rattle.kc_text.specs.Compose.{texts};
 ghost use Rattle.kc_sight.specs.Views.{image_symbols, sight_view, symbol_view};
-ghost use Rattle.kc_told.specs.Text.{alias_line, around_lines, beside_lines, bounds_text, entry_line, head_lines, is_absent, is_mapped, meaning_text, near_line, number_text, seen_line, page_line, pattern_text, size_line, span_line, stopped_text, sight_lines, symbol_line, symbol_text, word_line};
+ghost use Rattle.kc_told.specs.Text.{alias_line, around_lines, beside_lines, bounds_line, entry_line, head_lines, is_absent, is_mapped, meaning_text, near_line, number_text, seen_line, page_line, pattern_text, size_line, span_line, stopped_text, sight_lines, symbol_line, symbol_text, word_line};
 
 use crate::near::{Lead, NearWord};
 use crate::near_text::push_lead;
+use crate::span::{Bounds, spanned};
 use kc_memory::{Miss, Rule, VWord, place_of};
 use kc_report::{push_origin, push_place, rule_code};
-use kc_sight::{
-    ImageMap, Meaning, Seen, Sight, Span, Symbol, TableEntry, is_fill, meaning_of, page_bytes,
-    span_of,
-};
+use kc_sight::{ImageMap, Meaning, Seen, Sight, Symbol, TableEntry, meaning_of, page_bytes};
 use kc_text::{push, push_decimal, push_hex, push_name, push_numbered};
 use kc_word::NoMemory;
 
@@ -260,15 +258,15 @@ fn push_all_near(
     Ok(())
 }
 
-// The first and the last byte of words that say the same, around one at an address.
-fn push_bounds(text: &mut Vec<u8>, va: u64, span: Span) -> Result<(), NoMemory>
-    ensures { OnOk result (text.new.items ≡ text.old.items ++ bounds_text va span) }
+// The line of the first and the last byte of words that say the same.
+fn push_bounds(text: &mut Vec<u8>, bounds: Bounds) -> Result<(), NoMemory>
+    ensures { OnOk result (text.new.items ≡ text.old.items ++ bounds_line bounds) }
 {
-    let before = (span.before as u64).wrapping_mul(8);
-    let after = (span.after as u64).wrapping_mul(8);
-    push_hex(text, va.wrapping_sub(before))?;
+    push(text, b"span ")?;
+    push_hex(text, bounds.first)?;
     push(text, b" ")?;
-    push_hex(text, va.wrapping_add(after).wrapping_add(7))
+    push_hex(text, bounds.last)?;
+    push(text, b"\n")
 }
 
 // How far what the word at an address says goes on in its 4096 bytes.
@@ -280,13 +278,10 @@ pub(crate) fn push_span(
 ) -> Result<(), NoMemory>
     ensures { OnOk result (text.new.items ≡ text.old.items ++ span_line va meaning page.now) }
 {
-    if !is_fill(meaning) {
-        return Ok(());
+    match spanned(va, meaning, page) {
+        Some(bounds) => push_bounds(text, bounds),
+        None => Ok(()),
     }
-    let span = span_of(meaning, page, (va % 4096 / 8) as usize);
-    push(text, b"span ")?;
-    push_bounds(text, va, span)?;
-    push(text, b"\n")
 }
 
 // The words beside a word, and how far what it says goes on.

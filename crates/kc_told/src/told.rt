@@ -14,8 +14,10 @@ ghost use Rattle.kc_told.specs.Objects.{areas_by, as_marked, grid_in, held_by, h
 ghost use Rattle.kc_told.specs.Views.{shapes_view, told_view};
 ghost use Rattle.kc_found.specs.Failures.{CountsFailures};
 
+use crate::named::{Named, tell_named};
 use crate::near::{NearWord, near_words};
 use crate::object_text::NEGATIVE;
+use crate::span::{Bounds, span_at};
 use kc_btf::Btf;
 use kc_found::{Found, Grid, ReadFailed, WalkStop};
 use kc_memory::Space;
@@ -24,7 +26,7 @@ use kc_owner::{
 };
 use kc_sight::{
     ImageMap, Rules, Seen, Sight, Symbol, TableEntry, find_holders, read_sight, read_word,
-    word_start,
+    read_words, word_start,
 };
 use kc_slab_page::{Mark, is_laid, read_mark};
 use kc_slab_scan::{CpuShape, CpuSpot, SlabObject, find_spot};
@@ -85,6 +87,10 @@ pub struct Told<'m> {
     pub kept: Kept,
     /// The symbols whose words hold the address of the object's cache, where this has several users.
     pub holders: Vec<Symbol<'m>>,
+    /// What the object says it is, a task or a slab cache; one that is free, or whose words can't be read, says nothing.
+    pub named: Option<Named>,
+    /// Where words begin and end that say the same around it in its 4096 bytes: zeros, one of the kernel's bytes, or text.
+    pub span: Option<Bounds>,
 }
 
 /// What is seen of an address, and what is told of it.
@@ -360,7 +366,14 @@ fn tell_holders<'m, S: Space, L: Ledger>(
     }
 }
 
-// What is told of an address, by its word.
+// Where the 4096 bytes begin that have an address.
+fn page_start(address: u64) -> u64
+    ensures { result ≡ page_start address }
+{
+    address / 4096 * 4096
+}
+
+// What is told of an address, by its word and the words of its 4096 bytes.
 fn tell<'m, S: Space, L: Ledger>(
     alloc: Global,
     space: &mut S,
@@ -368,37 +381,27 @@ fn tell<'m, S: Space, L: Ledger>(
     shapes: &Shapes<'m>,
     address: u64,
     word: &Seen,
+    page: &[Seen],
     steps: &mut Steps<L>,
 ) -> Result<Told<'m>, ReadFailed>
     requires { IfSome shapes.now.words.areas.stacks (λ shape. IsInside shape.tasks types.now) }
-    ensures told { LooksAs told_view (λ image. told_by image (shapes_view shapes.now) address word.now) (S.image space.old) result }
+    ensures told { LooksAs told_view (λ image. told_by image (shapes_view shapes.now) address word.now page.now) (S.image space.old) result }
     ensures stays { SpaceStays S.image S.files S.through S.most space.old space.new }
     ensures cause { CountsFailures result (S.faults space.old) (S.faults space.new) }
 {
-    let held = tell_held(
-        alloc,
-        space,
-        types,
-        &shapes.words.objects,
-        address,
-        word,
-        steps,
-    )?;
+    let words = &shapes.words;
+    let held = tell_held(alloc, space, types, &words.objects, address, word, steps)?;
     let areas = tell_outside(alloc, space, types, shapes, address, &held, steps)?;
-    let kept = tell_kept(
-        alloc,
-        space,
-        types,
-        &shapes.words.cpus,
-        sought(&held),
-        steps,
-    )?;
+    let kept = tell_kept(alloc, space, types, &words.cpus, sought(&held), steps)?;
     let holders = tell_holders(alloc, space, &shapes.map, shared_in(&held), steps)?;
+    let named = tell_named(alloc, space, types, words, &held, &kept, steps)?;
     Ok(Told {
         areas,
         held,
         kept,
         holders,
+        named,
+        span: span_at(word, page),
     })
 }
 
@@ -421,7 +424,8 @@ pub fn read_told<'m, S: Space, L: Ledger>(
     ensures cause { CountsFailures result (S.faults space.old) (S.faults space.new) }
 {
     let word = read_word(space, word_start(address), steps)?;
-    tell(alloc, space, types, shapes, address, &word, steps)
+    let page = read_words(alloc, space, page_start(address), 512, steps)?;
+    tell(alloc, space, types, shapes, address, &word, &page, steps)
 }
 
 /// What is seen of an address, with the entries on the way to it, and what is told of it. Where the entries weren't read, it reads nothing.
@@ -453,6 +457,15 @@ pub fn read_sighted<'m, S: Space, L: Ledger>(
 {
     let sight = read_sight(alloc, space, address, rules, entries, steps)?;
     let near = near_words(alloc, space, types, &shapes.words, &sight.near, steps)?;
-    let told = tell(alloc, space, types, shapes, address, &sight.word, steps)?;
+    let told = tell(
+        alloc,
+        space,
+        types,
+        shapes,
+        address,
+        &sight.word,
+        &sight.page,
+        steps,
+    )?;
     Ok(Sighted { sight, near, told })
 }
