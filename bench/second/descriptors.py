@@ -31,19 +31,6 @@ class Descriptors:
         buddy, lists = (dec_of(values.get(key, b"")) for key in (b"NUMBER(PAGE_BUDDY_MAPCOUNT_VALUE)", b"LENGTH(zone.free_area)"))
         self.buddy = None if buddy is None else buddy % (1 << 32)
         self.orders = 0 if lists is None or lists > 64 else lists
-        self.bits = list(self.names())
-
-    def names(self):
-        """The bits of `flags` that the kernel's types name, in their order."""
-        types = self.kernel.types
-        for record in types.records:
-            if record and record[0] == 6 and types.name(record[1]) == b"pageflags":
-                for at in range(0, len(record[4]), 2):
-                    name, bit = types.name(record[4][at]), record[4][at + 1]
-                    if name == b"__NR_PAGEFLAGS":
-                        return
-                    yield name.decode(), bit
-                return
 
     def known(self, at, *paths):
         """The number of the first member that there is, where it can be read."""
@@ -55,6 +42,14 @@ class Descriptors:
             except Broken:
                 return None
         return None
+
+    def is_marked(self, head):
+        """Whether a head page has the mark of a slab."""
+        if self.objects.mark is None:
+            return False
+        field, is_marked = self.objects.mark
+        value = self.known(head, field)
+        return value is not None and is_marked(value)
 
     def at(self, number):
         """The descriptor of a page."""
@@ -78,21 +73,17 @@ class Descriptors:
         maps = None if slab else self.known(head, "_mapcount.counter")
         if maps is not None and (maps + 1) % TOP < 1 << 63:
             line += f" mapcount {(maps + 1) % TOP}"
-        names = "|".join(name for name, bit in self.bits if value >> bit & 1)
-        yield line + (" " + names if names else "")
+        yield line
 
     def mapping(self, head):
         value, index = self.known(head, "mapping"), self.known(head, "index", "__folio_index")
-        if not value:
-            return
-        kind, at = ("mapping", "anonymous", "movable", "ksm")[value & 3], value & ~3
-        if value & 2:
-            yield f"{kind} {at:016x}"
-        elif index is not None:
-            yield f"{kind} {at:016x} index {index}"
+        if value and index is not None:
+            kind = ("mapping", "anonymous", "movable", "ksm")[value & 3]
+            yield f"{kind} {value & ~3:016x}" + ("" if value & 2 else f" index {index}")
 
     def lines(self, number, head, slab):
-        """What is printed of a page, by its head page's descriptor; `slab` where it is a slab's."""
+        """What is printed of a page, by its head page's descriptor; `slab` where it is known to be a slab's."""
+        slab = slab or self.is_marked(head)
         found = list(self.flags(head, slab))
         if not slab:
             found += self.mapping(head)

@@ -12,6 +12,8 @@ use Rattle.kc_layout.specs.Size.{size}
 use Rattle.kc_notes.specs.Values.{value_of}
 use Rattle.kc_kinds.specs.Kernels.{Kernel}
 use Rattle.kc_kinds.specs.Members.{◌>>=◌, scalar_in, struct_named}
+use Rattle.kc_slab_page.specs.declared.mark.Mark.{Mark}
+use Rattle.kc_slab_page.specs.Marks.{slab_mark}
 use Rattle.kc_frame.specs.declared.shape.FrameShape.{FrameShape}
 
 -- a member by its name, or by the one that later kernels give it
@@ -39,9 +41,10 @@ abbrev pub orders_in : List ℕ → ℕ
 orders_in note = orders_of (number_in note (codes "LENGTH(zone.free_area)"))
 
 -- in a descriptor of this type and size
-abbrev pub shape_by : Types → ℕ → ℕ → List ℕ → FrameShape
-shape_by types page bytes note = record {
+abbrev pub shape_by : Types → ℕ → ℕ → Option Mark → List ℕ → FrameShape
+shape_by types page bytes slab note = record {
   size = bytes;
+  slab = slab;
   flags = scalar_of types page (codes "flags") (codes "flags.f");
   count = scalar_in types (Some page) (codes "_refcount.counter");
   maps = scalar_in types (Some page) (codes "_mapcount.counter");
@@ -57,4 +60,4 @@ abbrev pub frame_shape : Kernel → List ℕ → Option FrameShape
 frame_shape kernel note = do
   page ← struct_named kernel.types (codes "page")
   bytes ← size kernel.types page
-  Some (shape_by kernel.types page bytes note)
+  Some (shape_by kernel.types page bytes (slab_mark kernel note) note)

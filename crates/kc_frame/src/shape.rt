@@ -8,6 +8,7 @@ use kc_kinds::Known;
 use kc_layout::{Field, size_of};
 use kc_notes::value;
 use kc_owner::{scalar_in, struct_named};
+use kc_slab_page::{Mark, slab_mark};
 use kc_word::read_dec;
 
 /// Where the words of a page's descriptor stand (`struct page`). A kernel may lack each of them.
@@ -15,6 +16,8 @@ use kc_word::read_dec;
 pub struct FrameShape {
     /// The bytes of a descriptor.
     pub size: u64,
+    /// How the kernel marks a slab's first page, where its types and notes tell it.
+    pub slab: Option<Mark>,
     /// The field `flags`.
     pub flags: Option<Field>,
     /// The field `_refcount`.
@@ -85,12 +88,13 @@ fn orders_in(note: &[u8]) -> u64
 }
 
 // Where the words of a descriptor of this type and size stand.
-fn shape_by(types: &Btf, page: u32, size: u64, note: &[u8]) -> FrameShape
+fn shape_by(types: &Btf, page: u32, size: u64, slab: Option<Mark>, note: &[u8]) -> FrameShape
     requires { page ≤ length types.now.records }
-    ensures { result ≡ shape_by types.now page size note.now }
+    ensures { result ≡ shape_by types.now page size slab note.now }
 {
     FrameShape {
         size,
+        slab,
         flags: scalar_of(types, page, b"flags", b"flags.f"),
         count: scalar_in(types, Some(page), b"_refcount.counter"),
         maps: scalar_in(types, Some(page), b"_mapcount.counter"),
@@ -109,5 +113,5 @@ pub fn frame_shape(known: &Known<'_>, note: &[u8]) -> Option<FrameShape>
 {
     let page = struct_named(known, b"page")?;
     let size = size_of(known.btf, page)?;
-    Some(shape_by(known.btf, page, size, note))
+    Some(shape_by(known.btf, page, size, slab_mark(known, note), note))
 }
