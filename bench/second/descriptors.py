@@ -92,13 +92,16 @@ class Descriptors:
                 found.append(f"free order {block[0]} page {block[1]}")
         return found
 
-    def told(self, va):
-        """The lines of the page that has an address, by what the other second reader says of it."""
-        lines = self.objects.lines(va)
+    def said(self, lines):
+        """The lines of the page of which the other second reader prints these; one whose slab it can't tell is taken for a slab's."""
         first = lines[0].split() if lines else []
         if len(first) != 6:
             return []
         return self.lines(int(first[3], 16), int(first[5], 16), len(lines) > 1)
+
+    def told(self, va):
+        """The lines of the page that has an address."""
+        return self.said(self.objects.lines(va))
 
 
 def zones(kernel, symbol, length):
