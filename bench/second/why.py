@@ -15,6 +15,7 @@ import files
 import timer
 from plans.reader import IMAGE, TOP, Broken, Core, Info, Memory, Refused, Types, address, dec_of, symbols, vmcoreinfo
 from second.areas import NO_VARIABLE, Areas
+from second.descriptors import Descriptors
 from second.inside import covers, named, object_of
 from second.objects import Objects, all_rows
 from second.rings import reached
@@ -312,15 +313,15 @@ class Sights:
         self.areas = Areas(kernel, all_rows(map_, kernel.info.kaslr))
         try:
             self.objects = Objects(core, btf, map_)
-            self.why.lead = self.objects.lead
+            self.why.lead, self.descriptors = self.objects.lead, Descriptors(self.objects)
         except (Refused, TypeError):
             self.objects = None
 
     def parts(self, at):
-        """The lines of the areas of an address, and those of what holds it."""
+        """The lines of the areas of an address, and those of what holds it, with what its page's descriptor says."""
         lines = [] if self.objects is None else held(self.objects, at)
         slab = any(line.startswith("slab ") and " first " in line for line in lines)
-        return self.areas.lines(at, slab), lines
+        return self.areas.lines(at, slab), lines[:1] + (self.descriptors.said(lines) if lines else []) + lines[1:]
 
     def inside(self, at, lines):
         """The lines of what the object that has an address says it is, and of how words that say the same lie in it."""

@@ -1,4 +1,5 @@
 pub mod AreaText
+pub mod Framed
 pub mod Inside
 pub mod Named
 pub mod Near

@@ -13,6 +13,8 @@ use Rattle.kc_owner.specs.declared.object.slab.Slab.{Slab}
 use Rattle.kc_owner.specs.declared.object.spot.ObjectSpot.{ObjectSpot}
 use Rattle.kc_owner.specs.declared.object.spot.Spot.{Spot}
 use Rattle.kc_owner.specs.declared.object.spot.Spot.TheVariants.{Before, Pad, Object, Past}
+use Rattle.kc_frame.specs.declared.frame.FrameWords.{FrameWords}
+use Rattle.kc_told.specs.Framed.{framed_lines}
 use Rattle.kc_told.specs.Inside.{Kept}
 
 -- why something can't be told: the rule, and what it is about
@@ -86,11 +88,11 @@ slab_lines head holders kept (Ok None) = []
 slab_lines head holders kept (Ok (Some s)) = whole_slab head holders kept s
 slab_lines head holders kept (Err v) = codes "slab" ++ unknown_text v
 
--- what holds an address
-abbrev pub held_lines : List SymbolAt → Kept → Result Held Violation → List ℕ
-held_lines holders kept (Ok h) = page_line h.page ++ slab_lines h.page.head holders kept h.slab
-held_lines holders kept (Err v) = codes "descriptor" ++ unknown_text v
+-- what holds an address, with what its page's descriptor says
+abbrev pub held_lines : List SymbolAt → Kept → Option FrameWords → Result Held Violation → List ℕ
+held_lines holders kept frame (Ok h) = page_line h.page ++ framed_lines frame ++ slab_lines h.page.head holders kept h.slab
+held_lines holders kept frame (Err v) = codes "descriptor" ++ unknown_text v
 
-abbrev pub object_lines : List SymbolAt → Kept → Option (Result Held Violation) → List ℕ
-object_lines holders kept None = []
-object_lines holders kept (Some held) = held_lines holders kept held
+abbrev pub object_lines : List SymbolAt → Kept → Option FrameWords → Option (Result Held Violation) → List ℕ
+object_lines holders kept frame None = []
+object_lines holders kept frame (Some held) = held_lines holders kept frame held

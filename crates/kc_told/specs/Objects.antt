@@ -27,6 +27,8 @@ use Rattle.kc_owner.specs.Object.Slabs.{held}
 use Rattle.kc_slab_page.specs.declared.mark.Mark.{Mark}
 use Rattle.kc_slab_page.specs.Marks.{marked, slab_mark}
 use Rattle.kc_slab_page.specs.Slabs.{is_laid}
+use Rattle.kc_frame.specs.declared.frame.FrameWords.{FrameWords}
+use Rattle.kc_frame.specs.Shapes.{frame_shape}
 use Rattle.kc_slab_scan.specs.declared.cpu_object.SlabObject.{SlabObject}
 use Rattle.kc_slab_scan.specs.declared.cpu_words.CpuShape.{CpuShape}
 use Rattle.kc_slab_scan.specs.CpuObjects.{object_spot}
@@ -34,6 +36,7 @@ use Rattle.kc_slab_scan.specs.CpuShapes.{cpu_shape}
 use Rattle.kc_told.specs.declared.named.Named.{Named}
 use Rattle.kc_told.specs.declared.span.Bounds.{Bounds}
 use Rattle.kc_told.specs.declared.told.PageWords.{PageWords}
+use Rattle.kc_told.specs.Framed.{frame_in}
 use Rattle.kc_told.specs.Inside.{Kept, object_at}
 use Rattle.kc_told.specs.Named.{named_in}
 use Rattle.kc_told.specs.Spans.{span_at}
@@ -51,11 +54,12 @@ pub record Shapes : Type 0 where
   pub end : Option ℕ
   pub holding : Image → ℕ → List SymbolAt
 
--- the areas in which an address lies, what holds it, where a processor's own free list has the object, where that is asked for, the symbols
+-- the areas in which an address lies, what holds it, what its page's descriptor says, where a processor's own free list has the object, where that is asked for, the symbols
 -- whose words hold the address of the object's cache, what the object says it is, and how far words that say the same go on around it
 pub record Told : Type 0 where
   pub areas : Areas
   pub held : Option (Result Held Violation)
+  pub frame : Option FrameWords
   pub kept : Kept
   pub holders : List SymbolAt
   pub named : Option Named
@@ -166,6 +170,7 @@ abbrev pub told_with : Image → Shapes → ℕ → Option (Result Held Violatio
 told_with image shapes address held span = record {
   areas = areas_by image shapes address held;
   held = held;
+  frame = frame_in image shapes.objects held;
   kept = kept_by image shapes.cpus (sought held);
   holders = holders_by (shapes.holding image) (shared_in held);
   named = named_of image shapes (kept_by image shapes.cpus (sought held)) held;
@@ -188,7 +193,7 @@ kernel_by types rows told = kernel_with types (λ name. addresses name rows) tol
 
 -- where it has the words of page descriptors and slab caches, by the notes of its dump
 abbrev pub page_words : Kernel → List ℕ → Option PageWords
-page_words kernel note = option_map (λ objects. record { objects = objects; mark = slab_mark kernel note }) (object_shape kernel)
+page_words kernel note = option_map (λ objects. record { objects = objects; mark = slab_mark kernel note; frame = frame_shape kernel note }) (object_shape kernel)
 
 -- and what it has to tell of an address
 abbrev pub shapes_by : Types → List RowText → Info → List ℕ → Shapes

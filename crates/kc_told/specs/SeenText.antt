@@ -28,7 +28,7 @@ map_symbols m = record { image = image_symbols m; from = symbols_from m }
 
 -- what holds an address, what its object says it is, and how words that say the same lie in it
 abbrev pub holding_lines : ℕ → Told → List ℕ
-holding_lines address t = object_lines t.holders t.kept t.held ++ named_line t.named ++ cover_lines address t.span (object_at t.held)
+holding_lines address t = object_lines t.holders t.kept t.frame t.held ++ named_line t.named ++ cover_lines address t.span (object_at t.held)
 
 -- all lines
 abbrev pub seen_text : MapSymbols → Sight → Told → List NearWord → List ℕ

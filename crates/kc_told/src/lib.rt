@@ -1,8 +1,9 @@
-//! What the files of a kernel tell of an address of a dump: the areas in which it lies, the object that has it and
+//! What the files of a kernel tell of an address of a dump: the areas in which it lies, what its page's descriptor says, the object that has it and
 //! what that says it is, what the words beside it lead to, how far words that say the same go on, and the text of all that.
 #![tactic(auto)]
 
 mod area_text;
+mod framed;
 mod inside;
 mod named;
 mod near;

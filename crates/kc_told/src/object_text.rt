@@ -5,8 +5,10 @@ ghost use Rattle.kc_text.specs.Text.{hex};
 ghost use Rattle.kc_sight.specs.Views.{symbol_view};
 ghost use Rattle.kc_told.specs.ObjectText.{cache_line, free_text, held_lines, holder_line, holder_text, kept_text, object_lines, object_text, page_line, place_text, slab_line, slab_lines, spot_line, unknown_text, users_text, whole_slab};
 
+use crate::framed::push_framed;
 use crate::told::Kept;
 use kc_found::Found;
+use kc_frame::FrameWords;
 use kc_owner::{Cache, FreeSpot, Held, ObjectSpot, Page, Slab, Spot};
 use kc_report::rule_code;
 use kc_sight::Symbol;
@@ -235,13 +237,15 @@ fn push_held(
     text: &mut Vec<u8>,
     holders: &[Symbol<'_>],
     kept: &Kept,
+    frame: &Option<FrameWords>,
     held: &Result<Held, Found>,
 ) -> Result<(), NoMemory>
-    ensures { OnOk result (text.new.items ≡ text.old.items ++ held_lines (map symbol_view holders.now) kept.now held.now) }
+    ensures { OnOk result (text.new.items ≡ text.old.items ++ held_lines (map symbol_view holders.now) kept.now frame.now held.now) }
 {
     match held {
         Ok(held) => {
             push_page(text, &held.page)?;
+            push_framed(text, frame)?;
             push_slab_lines(text, held.page.head, holders, kept, &held.slab)
         }
         Err(found) => {
@@ -251,18 +255,19 @@ fn push_held(
     }
 }
 
-/// Adds the lines of what holds an address, where that is told, with the symbols whose words hold the cache's address, and where a processor's
-/// own free list has the object.
+/// Adds the lines of what holds an address, where that is told, with what its page's descriptor says, the symbols whose words hold the cache's
+/// address, and where a processor's own free list has the object.
 pub fn push_objects(
     text: &mut Vec<u8>,
     holders: &[Symbol<'_>],
     kept: &Kept,
+    frame: &Option<FrameWords>,
     held: &Option<Result<Held, Found>>,
 ) -> Result<(), NoMemory>
-    ensures { OnOk result (text.new.items ≡ text.old.items ++ object_lines (map symbol_view holders.now) kept.now held.now) }
+    ensures { OnOk result (text.new.items ≡ text.old.items ++ object_lines (map symbol_view holders.now) kept.now frame.now held.now) }
 {
     match held {
-        Some(held) => push_held(text, holders, kept, held),
+        Some(held) => push_held(text, holders, kept, frame, held),
         None => Ok(()),
     }
 }

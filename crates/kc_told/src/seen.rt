@@ -18,7 +18,7 @@ use std::alloc::Global;
 fn push_holding(text: &mut Vec<u8>, address: u64, told: &Told<'_>) -> Result<(), NoMemory>
     ensures { OnOk result (text.new.items ≡ text.old.items ++ holding_lines address (told_view told.now)) }
 {
-    push_objects(text, &told.holders, &told.kept, &told.held)?;
+    push_objects(text, &told.holders, &told.kept, &told.frame, &told.held)?;
     push_named(text, &told.named)?;
     push_covers(text, address, told.span, &told.held)
 }

@@ -14,6 +14,7 @@ ghost use Rattle.kc_told.specs.Views.{shapes_view};
 
 use crate::told::{PageWords, Shapes, Words};
 use kc_btf::Btf;
+use kc_frame::frame_shape;
 use kc_kinds::Known;
 use kc_layout::Names;
 use kc_notes::Info;
@@ -32,6 +33,7 @@ fn page_words(known: &Known<'_>, note: &[u8]) -> Option<PageWords>
     Some(PageWords {
         objects: object_shape(known)?,
         mark: slab_mark(known, note),
+        frame: frame_shape(known, note),
     })
 }
 

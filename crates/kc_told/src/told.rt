@@ -14,12 +14,14 @@ ghost use Rattle.kc_told.specs.Objects.{areas_by, as_marked, grid_in, held_by, h
 ghost use Rattle.kc_told.specs.Views.{shapes_view, told_view};
 ghost use Rattle.kc_found.specs.Failures.{CountsFailures};
 
+use crate::framed::tell_frame;
 use crate::named::{Named, tell_named};
 use crate::near::{NearWord, near_words};
 use crate::object_text::NEGATIVE;
 use crate::span::{Bounds, span_at};
 use kc_btf::Btf;
 use kc_found::{Found, Grid, ReadFailed, WalkStop};
+use kc_frame::{FrameShape, FrameWords};
 use kc_memory::Space;
 use kc_owner::{
     AreaShape, Areas, Cache, Held, ObjectShape, Slab, Spot, find_object, read_areas, view_at,
@@ -41,6 +43,8 @@ pub struct PageWords {
     pub objects: ObjectShape,
     /// How it marks a slab's first page, where its types and the notes of its dump tell it.
     pub mark: Option<Mark>,
+    /// The words of a page's descriptor, where it has `struct page`.
+    pub frame: Option<FrameShape>,
 }
 
 /// Where a kernel has the words that tell of an address.
@@ -82,6 +86,8 @@ pub struct Told<'m> {
     pub areas: Areas,
     /// What holds it, or why its page can't be told; `None` where its word can't be read, or the kernel lacks what that asks for.
     pub held: Option<Result<Held, Found>>,
+    /// What its page's descriptor says, where that page is told.
+    pub frame: Option<FrameWords>,
     /// Where a processor's own free list has the object. It is asked for where a processor owns the slab, whose own free list doesn't have it, and
     /// where the kernel has the words that tell it.
     pub kept: Kept,
@@ -391,6 +397,7 @@ fn tell<'m, S: Space, L: Ledger>(
 {
     let words = &shapes.words;
     let held = tell_held(alloc, space, types, &words.objects, address, word, steps)?;
+    let frame = tell_frame(alloc, space, types, &words.objects, &held, steps)?;
     let areas = tell_outside(alloc, space, types, shapes, address, &held, steps)?;
     let kept = tell_kept(alloc, space, types, &words.cpus, sought(&held), steps)?;
     let holders = tell_holders(alloc, space, &shapes.map, shared_in(&held), steps)?;
@@ -398,6 +405,7 @@ fn tell<'m, S: Space, L: Ledger>(
     Ok(Told {
         areas,
         held,
+        frame,
         kept,
         holders,
         named,
