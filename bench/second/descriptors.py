@@ -153,6 +153,8 @@ def listed(descriptors):
     kernel, found, base = descriptors.kernel, {}, descriptors.at(0)
     area, head = kernel.types.size(kernel.struct("free_area")), kernel.types.size(kernel.struct("list_head"))
     for zone in descriptors.zones():
+        if kernel.field(zone, "zone", "spanned_pages")[0] == 0:
+            continue
         counts, name = [], descriptors.text(kernel.field(zone, "zone", "name")[0])
         for order in range(descriptors.orders):
             at = zone + kernel.byte("zone", "free_area") + area * order

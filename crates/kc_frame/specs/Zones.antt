@@ -1,6 +1,6 @@
 -- The zone that has a page. Source: the kernel's include/linux/mmzone.h, `struct pglist_data`, `struct zone`, `zone_spans_pfn`;
 -- mm/numa.c (before 6.12 arch/x86/mm/numa.c), `node_data`; without NUMA mm/memblock.c, `contig_page_data`.
-use Rattle.std.specs.Prelude.{ℕ, zero, suc, ◌+◌, ◌-◌, ◌*◌, ◌/◌, ◌%◌, Bool, false, ◌&&◌, nat_eq, nat_le, nat_lt, if◌then◌else◌, List, codes, Option, Some, None, option_and_then, option_map}
+use Rattle.std.specs.Prelude.{ℕ, zero, suc, ◌-◌, ◌*◌, ◌/◌, ◌%◌, Bool, false, ◌&&◌, nat_eq, nat_le, nat_lt, if◌then◌else◌, List, codes, Option, Some, None, option_and_then, option_map}
 use Rattle.std.specs.Option.{option_or, unwrap_or}
 use Rattle.kc_memory.specs.Image.{Image}
 use Rattle.kc_found.specs.Nodes.{at_offset}
