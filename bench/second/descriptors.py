@@ -14,6 +14,7 @@ import re
 import files
 import timer
 from plans.reader import TOP, Broken, Refused, dec_of, vmcoreinfo
+from second.areas import shown
 from second.objects import Objects
 
 LINES = re.compile(r"^(flags|mapping|anonymous|movable|ksm|free) ")
@@ -32,11 +33,11 @@ class Descriptors:
         self.buddy = None if buddy is None else buddy % (1 << 32)
         self.orders = 0 if lists is None or lists > 64 else lists
 
-    def known(self, at, *paths):
+    def known(self, at, *paths, struct="page"):
         """The number of the first member that there is, where it can be read."""
         for path in paths:
             try:
-                return self.kernel.field(at, "page", path)[0]
+                return self.kernel.field(at, struct, path)[0]
             except Refused:
                 continue
             except Broken:
@@ -65,6 +66,51 @@ class Descriptors:
                 return order, number - first
         return None
 
+    def nodes(self):
+        """The nodes of memory, 64 at most."""
+        array, only = self.objects.one("node_data"), self.objects.one("contig_page_data")
+        for number in range(64):
+            try:
+                at = self.kernel.memory.place((array + 8 * number) % TOP)[3] if array is not None else 0 if number else only
+            except Broken:
+                continue
+            if at:
+                yield at
+
+    def zones(self):
+        """The zones of all nodes, 8 of each at most."""
+        types = self.kernel.types
+        _, byte, kind = types.located(self.kernel.struct("pglist_data"), "node_zones")
+        record = types.records[types.bare(kind)]
+        for node in self.nodes():
+            for number in range(min(record[4][2], 8) if record[4][2] <= 64 else 0):
+                yield (node + byte + types.size(record[4][0]) * number) % TOP
+
+    def text(self, at):
+        """A name: the bytes before a NUL, or before what can't be read, 64 at most."""
+        found = []
+        while len(found) < 64:
+            try:
+                byte = self.kernel.memory.number((at + len(found)) % TOP, 0, 8)[0]
+            except Broken:
+                break
+            if byte == 0:
+                break
+            found.append(byte)
+        return shown(found)
+
+    def zone(self, number):
+        """The name of the first zone that spans a page."""
+        try:
+            zones = self.zones()
+            for zone in zones:
+                start, spanned, name = (self.known(zone, field, struct="zone") for field in ("zone_start_pfn", "spanned_pages", "name"))
+                if None not in (start, spanned, name) and start <= number < start + spanned:
+                    return self.text(name)
+        except Refused:
+            pass
+        return None
+
     def flags(self, head, slab):
         value, count = self.known(head, "flags", "flags.f"), self.known(head, "_refcount.counter")
         if None in (value, count):
@@ -89,7 +135,8 @@ class Descriptors:
             found += self.mapping(head)
             block = self.block(number)
             if block:
-                found.append(f"free order {block[0]} page {block[1]}")
+                zone = self.zone(number)
+                found.append(f"free order {block[0]} page {block[1]}" + ("" if zone is None else f" zone {zone}"))
         return found
 
     def said(self, lines):
@@ -104,23 +151,14 @@ class Descriptors:
         return self.said(self.objects.lines(va))
 
 
-def zones(kernel, symbol, length):
-    """The zones of all nodes."""
-    for k in range(length):
-        node = kernel.memory.place(symbol + 8 * k)[3]
-        if node:
-            size = kernel.types.size(kernel.struct("zone"))
-            for z in range(kernel.field(node, "pglist_data", "nr_zones")[0]):
-                yield (node + kernel.byte("pglist_data", "node_zones") + size * z) % TOP
-
-
 def listed(descriptors):
-    """The blocks of the zones' free lists: the number of the first page, with the order."""
-    kernel, found = descriptors.kernel, {}
-    node_data, base = descriptors.objects.one("node_data"), descriptors.at(0)
+    """The blocks of the zones' free lists: the number of the first page, with the order and the zone's name."""
+    kernel, found, base = descriptors.kernel, {}, descriptors.at(0)
     area, head = kernel.types.size(kernel.struct("free_area")), kernel.types.size(kernel.struct("list_head"))
-    for zone in zones(kernel, node_data, 1024):
-        counts = []
+    for zone in descriptors.zones():
+        if kernel.field(zone, "zone", "spanned_pages")[0] == 0:
+            continue
+        counts, name = [], descriptors.text(kernel.field(zone, "zone", "name")[0])
         for order in range(descriptors.orders):
             at = zone + kernel.byte("zone", "free_area") + area * order
             blocks = []
@@ -131,22 +169,22 @@ def listed(descriptors):
                     blocks.append(number)
             assert len(blocks) == kernel.field(at, "free_area", "nr_free")[0], (zone, order)
             assert all(number % (1 << order) == 0 for number in blocks), (zone, order)
-            found.update((number, order) for number in blocks)
+            found.update((number, (order, name)) for number in blocks)
             counts.append(len(blocks))
-        name = descriptors.objects.kernel.field(zone, "zone", "name")[0]
-        print(f"{zone:016x} name {name:016x} free blocks by order", *counts)
+        print(f"zone {name} free blocks by order", *counts)
     return found
 
 
 def against_lists(descriptors):
     """Holds the answers for every page of the dump against the zones' lists."""
     blocks = listed(descriptors)
-    wanted = {first + k: (order, k) for first, order in blocks.items() for k in range(1 << order)}
-    assert len(wanted) == sum(1 << order for order in blocks.values())
+    wanted = {first + k: (order, k, zone) for first, (order, zone) in blocks.items() for k in range(1 << order)}
+    assert len(wanted) == sum(1 << order for order, _ in blocks.values())
     seen = collections.Counter()
     numbers = sorted({pa >> 12 for _, start, size in descriptors.objects.core.loads for pa in range(start, start + size, 4096)} | set(wanted))
     for number in numbers:
         block = descriptors.block(number)
+        block = block and (*block, descriptors.zone(number))
         seen[block and block[0]] += 1
         if block != wanted.get(number):
             print(f"page {number:x} told {block} listed {wanted.get(number)} {descriptors.lines(number, descriptors.at(number), False)}")

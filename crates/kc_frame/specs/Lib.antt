@@ -4,3 +4,4 @@ pub mod Laws
 pub mod Shapes
 pub mod Text
 pub mod Words
+pub mod Zones

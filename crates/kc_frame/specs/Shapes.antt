@@ -15,6 +15,8 @@ use Rattle.kc_kinds.specs.Members.{◌>>=◌, scalar_in, struct_named}
 use Rattle.kc_slab_page.specs.declared.mark.Mark.{Mark}
 use Rattle.kc_slab_page.specs.Marks.{slab_mark}
 use Rattle.kc_frame.specs.declared.shape.FrameShape.{FrameShape}
+use Rattle.kc_frame.specs.declared.zone.ZoneShape.{ZoneShape}
+use Rattle.kc_frame.specs.Zones.{zone_shape}
 
 -- a member by its name, or by the one that later kernels give it
 abbrev pub scalar_of : Types → ℕ → List ℕ → List ℕ → Option Field
@@ -41,8 +43,8 @@ abbrev pub orders_in : List ℕ → ℕ
 orders_in note = orders_of (number_in note (codes "LENGTH(zone.free_area)"))
 
 -- in a descriptor of this type and size
-abbrev pub shape_by : Types → ℕ → ℕ → Option Mark → List ℕ → FrameShape
-shape_by types page bytes slab note = record {
+abbrev pub shape_by : Types → ℕ → ℕ → Option Mark → Option ZoneShape → List ℕ → FrameShape
+shape_by types page bytes slab zones note = record {
   size = bytes;
   slab = slab;
   flags = scalar_of types page (codes "flags") (codes "flags.f");
@@ -53,6 +55,7 @@ shape_by types page bytes slab note = record {
   private = scalar_in types (Some page) (codes "private");
   mark = mark_in note;
   orders = orders_in note;
+  zones = zones;
 }
 
 -- that of a kernel, by the notes of its dump
@@ -60,4 +63,4 @@ abbrev pub frame_shape : Kernel → List ℕ → Option FrameShape
 frame_shape kernel note = do
   page ← struct_named kernel.types (codes "page")
   bytes ← size kernel.types page
-  Some (shape_by kernel.types page bytes (slab_mark kernel note) note)
+  Some (shape_by kernel.types page bytes (slab_mark kernel note) (zone_shape kernel) note)

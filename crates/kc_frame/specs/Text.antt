@@ -1,8 +1,9 @@
 -- What is printed of a page's descriptor.
-use Rattle.std.specs.Prelude.{ℕ, ◌-◌, ◌^◌, nat_lt, if◌then◌else◌, List, [], ◌++◌, codes, decimal, Option, Some, None}
-use Rattle.kc_text.specs.Text.{hex}
+use Rattle.std.specs.Prelude.{ℕ, ◌-◌, ◌^◌, nat_lt, if◌then◌else◌, List, [], ◌++◌, codes, decimal, map, Option, Some, None}
+use Rattle.kc_text.specs.Text.{hex, visible}
 use Rattle.kc_frame.specs.declared.block.FreeBlock.{FreeBlock}
 use Rattle.kc_frame.specs.declared.frame.FrameWords.{FrameWords}
+use Rattle.kc_frame.specs.declared.frame.FreePage.{FreePage}
 use Rattle.kc_frame.specs.declared.words.FrameFlags.{FrameFlags}
 use Rattle.kc_frame.specs.declared.words.FrameMapping.{FrameMapping}
 use Rattle.kc_frame.specs.declared.words.MappingKind.{MappingKind}
@@ -44,13 +45,20 @@ abbrev pub mapping_lines : Option FrameMapping → List ℕ
 mapping_lines None = []
 mapping_lines (Some m) = mapping_line m
 
--- the free block that has it, and which of its pages it is
-abbrev pub block_line : FreeBlock → List ℕ
-block_line b = codes "free order " ++ decimal b.order ++ codes " page " ++ decimal b.page ++ codes "\n"
+-- the free block that has it, which of its pages it is, and its zone
+abbrev pub block_text : FreeBlock → List ℕ
+block_text b = codes "free order " ++ decimal b.order ++ codes " page " ++ decimal b.page
 
-abbrev pub block_lines : Option FreeBlock → List ℕ
-block_lines None = []
-block_lines (Some b) = block_line b
+abbrev pub zone_text : Option (List ℕ) → List ℕ
+zone_text None = []
+zone_text (Some name) = codes " zone " ++ map visible name
+
+abbrev pub free_line : FreePage → List ℕ
+free_line f = block_text f.block ++ zone_text f.zone ++ codes "\n"
+
+abbrev pub free_lines : Option FreePage → List ℕ
+free_lines None = []
+free_lines (Some f) = free_line f
 
 abbrev pub frame_lines : FrameWords → List ℕ
-frame_lines f = flags_lines f.flags ++ mapping_lines f.mapping ++ block_lines f.block
+frame_lines f = flags_lines f.flags ++ mapping_lines f.mapping ++ free_lines f.free

@@ -2,13 +2,14 @@
 ghost use Rattle.std.specs.Prelude.{◌≡◌, Ok};
 ghost use Rattle.kc_memory.specs.Stays.{SpaceStays};
 ghost use Rattle.kc_found.specs.Walks.{CountsWalkFaults, OnBroken, WalksAs};
-ghost use Rattle.kc_frame.specs.Frames.{frame_by, frame_of, frame_with, is_marked};
+ghost use Rattle.kc_frame.specs.Frames.{frame_by, frame_of, frame_with, free_at, is_marked};
 
 use crate::block::{FreeBlock, read_block};
 use crate::shape::FrameShape;
 use crate::words::{FrameFlags, FrameMapping, read_flags, read_mapping};
+use crate::zone::read_zone_name;
 use kc_btf::Btf;
-use kc_found::{Space, WalkStop};
+use kc_found::{Name, Space, WalkStop};
 use kc_owner::{Page, view_at};
 use kc_slab_page::read_mark;
 use kc_view::View;
@@ -17,14 +18,44 @@ use std::alloc::Global;
 use std::sync::ledger::Ledger;
 
 /// What a page's descriptor says. What the kernel lacks, or what can't be read, is `None`.
-#[derive(Clone, Copy, Debug, PartialEq, Eq)]
+#[derive(Drop)]
 pub struct FrameWords {
     /// Its flags and its count.
     pub flags: Option<FrameFlags>,
     /// What it belongs to. A page that is a slab's belongs to nothing else.
     pub mapping: Option<FrameMapping>,
     /// The free block that has it.
-    pub block: Option<FreeBlock>,
+    pub free: Option<FreePage>,
+}
+
+/// A free page.
+#[derive(Drop)]
+pub struct FreePage {
+    /// The free block that has it.
+    pub block: FreeBlock,
+    /// The name of its zone, where that is told.
+    pub zone: Option<Name>,
+}
+
+// The free block that has a page, with the page's zone.
+fn read_free<S: Space, L: Ledger>(
+    alloc: Global,
+    space: &mut S,
+    btf: &Btf,
+    shape: &FrameShape,
+    page: &Page,
+    steps: &mut Steps<L>,
+) -> Result<Option<FreePage>, WalkStop>
+    ensures exact { WalksAs (λ f. f) (λ i. Ok (free_at i shape.now page.now)) (S.image space.old) result }
+    ensures broken { OnBroken result ⊥ }
+    ensures stays { SpaceStays S.image S.files S.through S.most space.old space.new }
+    ensures cause { CountsWalkFaults result (S.faults space.old) (S.faults space.new) }
+{
+    let Some(block) = read_block(alloc, space, btf, shape, page, steps)? else {
+        return Ok(None);
+    };
+    let zone = read_zone_name(alloc, space, btf, &shape.zones, page.number, steps)?;
+    Ok(Some(FreePage { block, zone }))
 }
 
 // What the words of a page say that isn't a slab's.
@@ -44,11 +75,11 @@ fn frame_with<S: Space, L: Ledger>(
 {
     let head = view_at(btf, page.head);
     let mapping = read_mapping(alloc, space, &head, shape, steps)?;
-    let block = read_block(alloc, space, btf, shape, page, steps)?;
+    let free = read_free(alloc, space, btf, shape, page, steps)?;
     Ok(FrameWords {
         flags,
         mapping,
-        block,
+        free,
     })
 }
 
@@ -73,7 +104,7 @@ fn frame_by<S: Space, L: Ledger>(
         Ok(FrameWords {
             flags,
             mapping: None,
-            block: None,
+            free: None,
         })
     } else {
         frame_with(alloc, space, btf, shape, page, flags, steps)

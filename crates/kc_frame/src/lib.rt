@@ -8,10 +8,12 @@ mod laws;
 mod shape;
 mod text;
 mod words;
+mod zone;
 
 pub use block::FreeBlock;
-pub use frame::{FrameWords, read_frame};
+pub use frame::{FrameWords, FreePage, read_frame};
 pub use laws::know_frames;
 pub use shape::{FrameShape, frame_shape};
 pub use text::push_frame;
 pub use words::{FrameFlags, FrameMapping, MappingKind};
+pub use zone::ZoneShape;

@@ -3,6 +3,7 @@ ghost use Rattle.std.specs.Prelude.{◌≡◌, ◌≤◌, length, option_and_the
 ghost use Rattle.kc_kinds.specs.Kernels.{kernel};
 ghost use Rattle.kc_frame.specs.Shapes.{frame_shape, low_half, mark_in, number_in, orders_in, orders_of, scalar_of, shape_by};
 
+use crate::zone::{ZoneShape, zone_shape};
 use kc_btf::Btf;
 use kc_kinds::Known;
 use kc_layout::{Field, size_of};
@@ -34,6 +35,8 @@ pub struct FrameShape {
     pub mark: Option<u64>,
     /// How many orders of free blocks there are, 64 at most.
     pub orders: u64,
+    /// Where the words of zones stand.
+    pub zones: Option<ZoneShape>,
 }
 
 // The number that the first of two members is, or else the other one.
@@ -88,9 +91,16 @@ fn orders_in(note: &[u8]) -> u64
 }
 
 // Where the words of a descriptor of this type and size stand.
-fn shape_by(types: &Btf, page: u32, size: u64, slab: Option<Mark>, note: &[u8]) -> FrameShape
+fn shape_by(
+    types: &Btf,
+    page: u32,
+    size: u64,
+    slab: Option<Mark>,
+    zones: Option<ZoneShape>,
+    note: &[u8],
+) -> FrameShape
     requires { page ≤ length types.now.records }
-    ensures { result ≡ shape_by types.now page size slab note.now }
+    ensures { result ≡ shape_by types.now page size slab zones note.now }
 {
     FrameShape {
         size,
@@ -103,6 +113,7 @@ fn shape_by(types: &Btf, page: u32, size: u64, slab: Option<Mark>, note: &[u8]) 
         private: scalar_in(types, Some(page), b"private"),
         mark: mark_in(note),
         orders: orders_in(note),
+        zones,
     }
 }
 
@@ -113,5 +124,7 @@ pub fn frame_shape(known: &Known<'_>, note: &[u8]) -> Option<FrameShape>
 {
     let page = struct_named(known, b"page")?;
     let size = size_of(known.btf, page)?;
-    Some(shape_by(known.btf, page, size, slab_mark(known, note), note))
+    let slab = slab_mark(known, note);
+    let zones = zone_shape(known);
+    Some(shape_by(known.btf, page, size, slab, zones, note))
 }

@@ -1,11 +1,12 @@
 // What is printed of a page's descriptor.
 ghost use Rattle.std.specs.Prelude.{◌≡◌, ◌++◌, OnOk};
-ghost use Rattle.kc_frame.specs.Text.{block_line, block_lines, count_text, flags_line, flags_lines, frame_lines, index_text, kind_text, mapping_line, mapping_lines, maps_text};
+ghost use Rattle.kc_frame.specs.Text.{block_text, count_text, flags_line, flags_lines, frame_lines, free_line, free_lines, index_text, kind_text, mapping_line, mapping_lines, maps_text, zone_text};
 
 use crate::block::FreeBlock;
-use crate::frame::FrameWords;
+use crate::frame::{FrameWords, FreePage};
 use crate::words::{FrameFlags, FrameMapping, MappingKind};
-use kc_text::{push, push_hex, push_numbered};
+use kc_found::Name;
+use kc_text::{push, push_hex, push_name, push_numbered};
 use kc_word::NoMemory;
 
 // How many hold a page, by a number modulo 2^64: one of 2^63 or more is negative.
@@ -90,19 +91,39 @@ fn push_mapping(text: &mut Vec<u8>, mapping: &Option<FrameMapping>) -> Result<()
     }
 }
 
-fn push_block_line(text: &mut Vec<u8>, block: &FreeBlock) -> Result<(), NoMemory>
-    ensures { OnOk result (text.new.items ≡ text.old.items ++ block_line block.now) }
+// The zone of a page.
+fn push_zone(text: &mut Vec<u8>, zone: &Option<Name>) -> Result<(), NoMemory>
+    ensures { OnOk result (text.new.items ≡ text.old.items ++ zone_text zone.now) }
+{
+    match zone {
+        Some(name) => {
+            push(text, b" zone ")?;
+            push_name(text, name.as_slice())
+        }
+        None => Ok(()),
+    }
+}
+
+fn push_block(text: &mut Vec<u8>, block: &FreeBlock) -> Result<(), NoMemory>
+    ensures { OnOk result (text.new.items ≡ text.old.items ++ block_text block.now) }
 {
     push_numbered(text, b"free order ", block.order)?;
-    push_numbered(text, b" page ", block.page)?;
+    push_numbered(text, b" page ", block.page)
+}
+
+fn push_free_line(text: &mut Vec<u8>, free: &FreePage) -> Result<(), NoMemory>
+    ensures { OnOk result (text.new.items ≡ text.old.items ++ free_line free.now) }
+{
+    push_block(text, &free.block)?;
+    push_zone(text, &free.zone)?;
     push(text, b"\n")
 }
 
-fn push_block(text: &mut Vec<u8>, block: &Option<FreeBlock>) -> Result<(), NoMemory>
-    ensures { OnOk result (text.new.items ≡ text.old.items ++ block_lines block.now) }
+fn push_free(text: &mut Vec<u8>, free: &Option<FreePage>) -> Result<(), NoMemory>
+    ensures { OnOk result (text.new.items ≡ text.old.items ++ free_lines free.now) }
 {
-    match block {
-        Some(block) => push_block_line(text, block),
+    match free {
+        Some(free) => push_free_line(text, free),
         None => Ok(()),
     }
 }
@@ -117,5 +138,5 @@ pub fn push_frame(text: &mut Vec<u8>, frame: &FrameWords) -> Result<(), NoMemory
 {
     push_flags(text, &frame.flags)?;
     push_mapping(text, &frame.mapping)?;
-    push_block(text, &frame.block)
+    push_free(text, &frame.free)
 }
