@@ -62,6 +62,8 @@ WHY = {
     "words": r"0|[1-9]\d*", "repair": rf"{CHANGED}|none of (the first 4096|\d+) tried", "then": f"{CHANGED} [A-Z][1-9]? {HEX}", "clean": "",
     "rule": "[A-Z][1-9]? .+", "expected": rf"{HEX} found {HEX} bits \d+", "fits": CHANGED, "chain": "[2-8]", "word": CHANGED, "says": ".+", "slabs": ".+",
     "twice": HEX, "deleted": HEX, "beside": HEX, "copy": f"of {HEX}",
+    "flags": rf"{HEX} count -?\d+( mapcount \d+)?", "mapping": rf"{HEX} index \d+", "anonymous": rf"{HEX} index \d+", "movable": HEX, "ksm": HEX,
+    "free": r"order \d+ page \d+( zone .*)?", "covers": r"page|(\d+ before and )?(object|byte \d+ to \d+ of \d+)( and \d+ after)?", "task": r"\d+ .*", "names": ".*",
 }
 NAMED = ("symbol", "module", "percpu", "stack", "descriptor", "cache", "held", "slab", "object", "pad", "past", "before", "encoded", "unread", "root", "audit", "list", "element")
 FORMS = {"check": (CLEAN, BROKEN), "word": (FOUND, STOPPED), "show": (SHOWN, STOPPED), "layout": (LAYOUT, None), "kmatch": (MATCHED, MATCHED), "kwhy": (None, None), "selftest": (CLEAN, BROKEN)}
