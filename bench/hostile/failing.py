@@ -4,12 +4,12 @@ usage: failing PROGRAMS NAME FOLDER WORDS..
 
 as `failing - kaudit crates/kaudit/data check z.core z.btf z.map z.toml`. With strace every call on a file of FOLDER, every write and every call
 after it fails, one at a time, by EIO and by EINTR. A failed call on a file has to end with status 3, `store failed` and nothing on standard output (but
-`kplain core` may have put a first part of the core);
+`kplain core` and `kwhy .. refs` may have put a first part of their text);
 a failed write to standard output with status 4 and `sink failed`; calls whose failure changes nothing may end as ever. Then a library cuts each
 read and each write to 1, 7 and 100 bytes: nothing may change. Then the address space is narrowed step by step: status 5 and `memory refused`, or as
 ever, until the program itself can't be loaded. At last the Nth request for memory of the whole process is refused, for each N in turn until none
-is: status 5, standard output empty and `memory refused` on standard error (or nothing, where the words themselves found no memory), and the last
-ones as without a refusal. It wants strace and a C compiler.
+is: status 5, standard output empty (but for such a first part) and `memory refused` on standard error (or nothing, where the words themselves found
+no memory), and the last ones as without a refusal. It wants strace and a C compiler.
 """
 import collections
 import os
@@ -78,6 +78,7 @@ ssize_t write(int fd, const void *p, size_t n) {
 """
 CALL = re.compile(r"^(?:\d+ +)?(\w+)\((.*)$")
 STORE = (3, "", "store failed\n")
+MEMORY = (5, "", "memory refused\n")
 
 
 def run(command, folder, env=None, limit=None):
@@ -89,9 +90,10 @@ def run(command, folder, env=None, limit=None):
     return done.returncode, done.stdout.decode("latin-1"), done.stderr.decode("latin-1")
 
 
-def is_part(command, told, whole):
-    """Whether `kplain core` ended at a failed call after a first part of the core, which its contract allows."""
-    return "core" in command and told[0] == 3 and whole[1].startswith(told[1]) and told[2] == "store failed\n"
+def is_part(command, told, whole, end):
+    """Whether a command that writes while it reads ended so after a first part of its text, which its contract allows."""
+    writes = "core" in command and end is STORE or "refs" in command
+    return writes and told[::2] == end[::2] and whole[1].startswith(told[1])
 
 
 def own_calls(command, folder, log):
@@ -123,7 +125,7 @@ def fail_each(command, folder, whole, log):
             elif on == "standard error":
                 fine = told[0] == 4 and not told[1] or error == "EINTR" and told == whole
             else:
-                fine = told == STORE or is_part(command, told, whole) or name == "close" and told == whole or error == "EINTR" and told == whole
+                fine = told == STORE or is_part(command, told, whole, STORE) or name == "close" and told == whole or error == "EINTR" and told == whole
             ends[name, error, told[0]] += 1
             if not fine:
                 wrong += 1
@@ -158,7 +160,8 @@ def narrow(command, folder, whole):
     wrong, ends, kib = 0, collections.Counter(), 24 << 10
     while kib > 1024:
         told = run(command, folder, limit=kib << 10)
-        if told[0] in (0, 1, 2, 6) and told != whole or told[0] == 5 and (told[1] or told[2] not in ("memory refused\n", "")) or told[0] in (3, 4):
+        wanted = not told[1] and told[2] in ("memory refused\n", "") or is_part(command, told, whole, MEMORY)
+        if told[0] in (0, 1, 2, 6) and told != whole or told[0] == 5 and not wanted or told[0] in (3, 4):
             wrong += 1
             print("WRONG", kib, "KiB", told)
         ends["as ever" if told == whole else told[0] if told[0] == 5 else "not loaded"] += 1
@@ -174,7 +177,7 @@ def refuse_each(command, folder, whole, work):
         number += 1
         told = run(command, folder, {"LD_PRELOAD": shim, "REFUSED": str(number)})
         same = same + 1 if told == whole else 0
-        fine = told == whole or told[:2] == (5, "") and told[2] in ("memory refused\n", "")
+        fine = told == whole or told[:2] == (5, "") and told[2] in ("memory refused\n", "") or is_part(command, told, whole, MEMORY)
         ends[told[0], told[2]] += 1
         if not fine:
             wrong += 1

@@ -1,4 +1,7 @@
+pub mod HuntLemmas
 pub mod ReportLemmas
+pub mod RestLemmas
+pub mod RunLemmas
 pub mod WhyLemmas
 pub mod WrittenLaws
 pub mod LookLemmas

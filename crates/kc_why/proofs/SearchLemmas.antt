@@ -16,6 +16,7 @@ use Rattle.kc_phys.specs.Stored.{AreInside, IsInside, stored}
 use Rattle.kc_mem.specs.Paged.{with_paging}
 use Rattle.kc_sight.specs.Refs.Stops.{Told}
 use Rattle.kc_question.specs.Memory.{bare_image}
+use Rattle.kc_why.specs.Searching.{IsThere}
 
 -- segments that reach no further lie inside
 reached : (n : ℕ) (segments : List Segment) → reach segments ≤ n → All (IsInside n) segments
@@ -53,14 +54,12 @@ same_end : (before after : List Segment) (tail rest : Tail) (bytes : List ℕ) (
 same_end before after tail rest bytes now end last test is first second tests =
     tests (second ∙ ap reach (same_segments before after tail rest bytes now is) ∙ sym first)
 
--- what is said of the dump's bytes after it was asked is said of those before
-pub found_before : (before after : List Segment) (tail rest : Tail) (content now : Option (List ℕ)) (end last : ℕ) (test : Bool) (P : List ℕ → Type 0)
-    → stored after rest now ≡ stored before tail content → end ≡ reach before → last ≡ reach after
-    → (last ≡ end → test ≡ true) → OnTrue test (Told now P) → Told content P
-found_before before after tail rest None now end last test P is first second tests found = tt
-found_before before after tail rest (Some bytes) now end last test P is first second tests found =
-    subst (λ (c : Option (List ℕ)). Told c P) (same_bytes before after tail rest (Some bytes) now is)
-    (OnTrue_at (same_end before after tail rest bytes now end last test is first second tests) found)
+-- a dump that is told is the same after it was asked, and its segments lie in it still
+pub is_there : (before after : List Segment) (tail rest : Tail) (content now : Option (List ℕ)) (end last : ℕ) (test : Bool)
+    → stored after rest now ≡ stored before tail content → end ≡ reach before → last ≡ reach after → (last ≡ end → test ≡ true) → IsThere test content now
+is_there before after tail rest None now end last test is first second tests = tt
+is_there before after tail rest (Some bytes) now end last test is first second tests =
+    (same_end before after tail rest bytes now end last test is first second tests, same_bytes before after tail rest (Some bytes) now is)
 
 -- what an answer says of the memory, where both are there
 pub of_each : {I A E : Type 0} (image : Option I) (r : Result A E) (P : I → A → Type 0) → IfOk r (λ a. IfSome image (λ i. P i a)) → IfSome image (λ i. IfOk r (P i))

@@ -24,21 +24,16 @@ use Rattle.kc_sight.specs.Sights.{Sight, sight}
 use Rattle.kc_sight.specs.Views.{sight_view}
 use Rattle.kc_told.specs.declared.near.NearWord.{NearWord}
 use Rattle.kc_told.specs.declared.told.Sighted.{Sighted}
-use Rattle.kc_why.specs.declared.files.Question.{Question}
 use Rattle.kc_why.specs.Looking.{LeadsAs, SightsAs, TellsAs}
 use Rattle.kc_told.specs.Near.{near_of}
 use Rattle.kc_owner.specs.declared.object.shape.ObjectShape.{ObjectShape}
 use Rattle.kc_owner.specs.Object.Shapes.{object_shape}
-use Rattle.kc_sight.specs.Refs.Holding.{in_segments}
-use Rattle.kc_sight.specs.Refs.Stops.{Told as IsTold}
 use Rattle.kc_told.specs.declared.told.PageWords.{PageWords}
 use Rattle.kc_told.specs.Objects.{Shapes, Told, kernel_by, shapes_by, told_of}
 use Rattle.kc_why.specs.Memory.{memory_of}
-use Rattle.kc_why.specs.Searching.{keys_of, sought_by}
-use Rattle.kc_why.specs.WordText.{words_text}
 use Rattle.kc_told.specs.SeenText.{MapSymbols, seen_text, symbols_by}
 use Rattle.kc_told.specs.Views.{told_view}
-use Rattle.kc_why.specs.Why.{Shown, found_in, note_text, rules_by, seen_in, shown_in, why_made, why_written}
+use Rattle.kc_why.specs.Why.{Question, Shown, note_text, rules_by, seen_in, shown_in, why_made, why_written}
 
 pub rows_checked : (r : Result (List RowText) ℕ) (listed : List RowText) → checked MapLine r ≡ Some (Ok listed) → r ≡ Ok listed
 rows_checked (Ok rows) listed e = cc
@@ -81,19 +76,6 @@ objects_alone (Some o) with_mark same = ap (λ (o : ObjectShape). Some o) (same 
 pub objects_read : (kernel : KernelAt) (read : List RowText) (note : List ℕ) (shape : Option ObjectShape) (shapes : Shapes) → shape ≡ option_map (λ (w : PageWords). w.objects) shapes.objects
     → shapes ≡ shapes_by kernel.types read kernel.told note → shape ≡ object_shape (kernel_by kernel.types read kernel.told)
 objects_read kernel read note shape shapes is shaped = is ∙ ap (λ (s : Shapes). option_map (λ (w : PageWords). w.objects) s.objects) shaped ∙ objects_alone (object_shape (kernel_by kernel.types read kernel.told)) _ (λ o. refl)
-
--- the text of the words that hold a value is what is made of the map and the dump
-pub prints_words : (content : Option (List ℕ)) (value : ℕ) (kernel : KernelAt) (read : List RowText) (shape : Option ObjectShape) (text : List ℕ) (answer : Answer)
-    → rows_in kernel.map ≡ Some (Ok read) → shape ≡ object_shape (kernel_by kernel.types read kernel.told)
-    → IsTold content (λ bytes. text ≡ words_text (keys_of (memory_of kernel bytes) shape) (in_segments (sought_by value (keys_of (memory_of kernel bytes) shape)) bytes kernel.segments))
-    → written_by answer ≡ record { out = text; err = []; status = Done }
-    → PrintsOfBytes why_written (λ bytes. found_in bytes value kernel) content (Ok answer)
-prints_words None value kernel read shape text answer is shaped told written = tt
-prints_words (Some bytes) value kernel read shape text answer is shaped told written =
-    let by : Option ObjectShape → Written = λ s. record { out = words_text (keys_of (memory_of kernel bytes) s) (in_segments (sought_by value (keys_of (memory_of kernel bytes) s)) bytes kernel.segments); err = []; status = Done } in
-    let all : written_by answer ≡ by (object_shape (kernel_by kernel.types read kernel.told)) =
-    written ∙ ap (λ (o : List ℕ). record { out = o; err = []; status = Done }) told ∙ ap by shaped in
-    rw is (ap (λ (w : Written). Some w) (sym all))
 
 -- what is shown of a kernel is what is made of its files
 made_of : (question : Question) (dump btf map : Option (List ℕ)) (kernel : KernelAt) (r : Result Answer Halt) → kernel_in view_headers dump btf map ≡ Some (Ok kernel)

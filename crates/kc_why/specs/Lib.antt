@@ -1,6 +1,8 @@
 pub mod Laws
 pub mod Looking
 pub mod Memory
+pub mod Ready
+pub mod Rest
 pub mod Searching
 pub mod Taken
 pub mod Why

@@ -1,5 +1,5 @@
 -- What is looked for in a dump.
-use Rattle.std.specs.Prelude.{ℕ, List, [], map, Option, Some, None, Result, Ok, Err}
+use Rattle.std.specs.Prelude.{◌≡◌, ⊤, ℕ, Bool, true, List, [], map, Option, Some, None, Result, Ok, Err}
 use Rattle.kc_memory.specs.Image.{Image}
 use Rattle.kc_found.specs.Violations.{Violation}
 use Rattle.kc_owner.specs.declared.object.keys.CacheKey.{CacheKey}
@@ -27,3 +27,8 @@ direct_in (Some (Err v)) = 0
 -- what is looked for: a value, as it is and as an encoded free pointer
 abbrev pub sought_by : ℕ → Option (Result FreeKeys Violation) → Sought
 sought_by value told = record { value = value; direct = direct_in told; randoms = map (λ (k : CacheKey). k.random) (keys_in told) }
+
+-- a dump that is told is the same after it was asked, and its segments lie in it still
+abbrev pub IsThere : Bool → Option (List ℕ) → Option (List ℕ) → Type 0
+IsThere same None new = ⊤
+IsThere same (Some bytes) new = (same ≡ true) × (new ≡ Some bytes)

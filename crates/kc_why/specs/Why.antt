@@ -1,5 +1,5 @@
 -- kwhy: what lies at an address of a dump, which words of the dump hold it, or what explains a report.
-use Rattle.std.specs.Prelude.{ℕ, if◌then◌else◌, List, [], ◌∷◌, ◌++◌, codes, Option, Some, None, option_map, Result, Ok, Err}
+use Rattle.std.specs.Prelude.{◌≡◌, ⊤, ℕ, Bool, true, false, if◌then◌else◌, List, [], ◌∷◌, ◌++◌, codes, Option, Some, None, option_map, Result, Ok, Err}
 use Rattle.std.specs.Str.{bytes_eq}
 use Rattle.kc_word.specs.Hex.{hex_number}
 use Rattle.kc_word.specs.declared.plain.Segment.{Segment}
@@ -29,9 +29,9 @@ use Rattle.kc_sight.specs.declared.aliases.Rules.{Rules}
 use Rattle.kc_sight.specs.Sights.{sight}
 use Rattle.kc_why.specs.declared.files.Asks.{Asks}
 use Rattle.kc_why.specs.declared.files.Form.{Form}
-use Rattle.kc_why.specs.declared.files.Form.TheVariants.{About, Explains}
-use Rattle.kc_why.specs.declared.files.Question.{Question}
-use Rattle.kc_why.specs.declared.files.Question.TheVariants.{Sight, Words}
+use Rattle.kc_why.specs.declared.files.Form.TheVariants as form
+use Rattle.kc_why.specs.declared.files.Whole.{Whole}
+use Rattle.kc_why.specs.declared.files.Whole.TheVariants as whole
 use Rattle.kc_why.specs.Memory.{memory_of}
 use Rattle.kc_why.specs.Searching.{keys_of, sought_by}
 use Rattle.kc_told.specs.Near.{near_of}
@@ -107,6 +107,11 @@ searched_by bytes value kernel rows = record {
 abbrev pub found_in : List ℕ → ℕ → KernelAt → Made Shown
 found_in bytes value kernel = rows_in kernel.map >>= (λ rows. gives (Finds (searched_by bytes value kernel rows)))
 
+-- what is asked of a dump: what lies at a virtual address, or which words hold a value
+pub data Question : Type 0 where
+  Sight : ℕ → Question
+  Words : ℕ → Question
+
 -- what is shown of a dump's bytes
 abbrev pub shown_in : Question → List ℕ → KernelAt → Made Shown
 shown_in (Sight address) bytes kernel = seen_in (memory_of kernel bytes) address kernel
@@ -167,13 +172,34 @@ usage_text = codes "usage: kwhy DUMP BTF MAP ADDRESS\nusage: kwhy DUMP BTF MAP r
 abbrev pub written_of : List (List ℕ) → Told → Option Written
 written_of words files = written_files usage_text why_written (why_asks words) files
 
--- as the code keeps it
-abbrev pub asks_view : Asks → Asking
-asks_view a = record { dump = a.files.dump.now; btf = a.files.btf.now; map = a.files.map.now; question = a.question }
+-- whether the words, and those after the map, look for those that hold a value
+abbrev pub is_search : List (List ℕ) → Bool
+is_search [] = false
+is_search (form ∷ words) = bytes_eq form (codes "refs")
 
-abbrev pub why_view : Asks → Asked Shown
-why_view a = why_asked (asks_view a)
+abbrev pub finds : List (List ℕ) → Bool
+finds (dump ∷ btf ∷ map ∷ words) = is_search words
+finds _ = false
+
+-- as the code keeps it
+abbrev pub asking : (ℕ → Question) → Asks → Asking
+asking question a = record { dump = a.files.dump.now; btf = a.files.btf.now; map = a.files.map.now; question = question a.number }
+
+abbrev pub sees_asked : Asks → Asked Shown
+sees_asked a = why_asked (asking Sight a)
+
+abbrev pub finds_asked : Asks → Asked Shown
+finds_asked a = why_asked (asking Words a)
+
+abbrev pub whole_view : Whole → Asked Shown
+whole_view (whole.Sees a) = sees_asked a
+whole_view (whole.Explains a) = told_asked (report_files a)
 
 abbrev pub form_view : Form → Asked Shown
-form_view (About a) = why_view a
-form_view (Explains a) = told_asked (report_files a)
+form_view (form.Finds a) = finds_asked a
+form_view (form.Shows w) = whole_view w
+
+-- a search is what such words ask for
+abbrev pub IsSearch : Option Form → Bool → Type 0
+IsSearch (Some (form.Finds a)) test = test ≡ true
+IsSearch _ test = ⊤

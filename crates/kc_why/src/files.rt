@@ -1,5 +1,6 @@
 // The files of kwhy, and what is shown of an address.
-ghost use Rattle.std.specs.Prelude.{◌≡◌, ◌++◌, ◌+◌, ◌≤◌, ◌^◌, ℕ, List, map, max, None, Some, option_map, Ok, IfOk, IfSome};
+ghost use Rattle.std.specs.Prelude.{◌≡◌, ◌++◌, ◌+◌, ◌≤◌, ◌^◌, ℕ, List, [], map, max, false, None, Some, Err, option_map, IfOk, IfSome, OnErr, OnOk};
+ghost use Rattle.std.specs.Bool.{OnTrue};
 ghost use Rattle.std.specs.List.{All};
 ghost use Rattle.std.specs.Option.{ForSome};
 ghost use Rattle.std.specs.String.{string_bytes};
@@ -9,79 +10,90 @@ ghost use Rattle.kc_outside.specs.Counts.{Rose};
 ghost use Rattle.kc_outside.specs.Files.{content};
 ghost use Rattle.kc_notes.specs.Notes.{text_in};
 ghost use Rattle.kc_phys.specs.Stored.{AreInside};
-ghost use Rattle.kc_command.specs.Halts.{OnStore, UnlessStore};
+ghost use Rattle.kc_command.specs.declared.halt.Halt.TheVariants.{Memory};
+ghost use Rattle.kc_command.specs.Halts.{NotRefused, OnStore, UnlessStore};
 ghost use Rattle.kc_command.specs.Kernels.{kernel_view};
 ghost use Rattle.kc_command.specs.Paging.{IsTable};
 ghost use Rattle.kc_command.specs.Slots.{RefusesIn};
-ghost use Rattle.kc_command.specs.Ends.Answers.{OnNone, OnStoreIn, PrintsOf, PrintsOfBytes, Runs, StayBehind, UnlessStoreIn};
+ghost use Rattle.kc_command.specs.declared.ends.status.Status.TheVariants.{Done};
+ghost use Rattle.kc_command.specs.Ends.Answers.{OnNone, OnStoreIn, PrintsOf, PrintsOfBytes, StayBehind, UnlessStoreIn, written_by};
 ghost use Rattle.kc_command.specs.Ends.Asked.{asked_files, word_in};
+ghost use Rattle.kc_command.specs.Ends.Ends.{TookPart, TookPrefix};
+ghost use Rattle.kc_command.specs.Ends.Last.{FailedLast};
+ghost use Rattle.kc_text.specs.Compose.{texts};
+ghost use Rattle.kc_sight.specs.Refs.Holding.{in_segments};
+ghost use Rattle.kc_sight.specs.Refs.Stops.{Told};
+ghost use Rattle.kc_refs.specs.Lines.{found_lines};
 ghost use Rattle.kc_why.specs.Memory.{memory_of};
-ghost use Rattle.kc_why.specs.Why.{asks_view, form_view, found_in, note_text, question_asked, question_of, seen_in, shown_in, why_asked, why_asks, why_made, why_written};
+ghost use Rattle.kc_why.specs.Rest.{Comes, LeavesOf, LeavesOfBytes, OnRefused, PartOf, PartOfBytes, Searches};
+ghost use Rattle.kc_why.specs.Ready.{IsReady};
+ghost use Rattle.kc_why.specs.Searching.{keys_in};
+ghost use Rattle.kc_why.specs.WordText.{rest_text};
+ghost use Rattle.kc_why.specs.Why.{IsSearch, Sight, Words, finds, finds_asked, form_view, found_in, is_search, note_text, question_asked, question_of, sees_asked, seen_in, whole_view, why_asks, why_made, why_written, written_of};
 
+use crate::failures::halted;
 use crate::looking::look_at;
-use crate::searching::find_written;
+use crate::searching::{Hunt, begin, put_found};
+use crate::written::rest_text;
 use kc_cause::{Asks as CauseAsks, explain};
 use kc_command::{Answer, Halt, Kernel, KernelFiles, VIEW_HEADERS, read_kernel, read_symbols};
 use kc_notes::vmcoreinfo;
-use kc_outside::Store;
+use kc_outside::{Failed, Sink, Store};
+use kc_refs::RefsStop;
 use kc_sight::Rules;
 use kc_told::{seen_text, shapes_in};
 use kc_word::read_hex;
 use std::alloc::Global;
 
-/// What is asked of a dump.
-#[derive(Clone, Copy, Debug, PartialEq, Eq)]
-pub enum Question {
-    /// What lies at a virtual address.
-    Sight(u64),
-    /// Which words hold a value.
-    Words(u64),
-}
-
-/// A question about a dump, with the files of its kernel.
+/// A question about a number, with the files of a dump's kernel.
 #[derive(Clone, Copy)]
 pub struct Asks<'w> {
     /// The files.
     pub files: KernelFiles<'w>,
-    /// What is asked.
-    pub question: Question,
+    /// The number.
+    pub number: u64,
 }
 
-// What the words after the map ask.
-fn question_of(words: &[String]) -> Option<Question>
-    ensures { result ≡ question_of (map string_bytes words.now) }
-{
-    match words {
-        [address] => Some(Question::Sight(read_hex(address.as_str().as_bytes())?)),
-        [form, address] if form.as_str() == "refs" => {
-            Some(Question::Words(read_hex(address.as_str().as_bytes())?))
-        }
-        _ => None,
-    }
+/// What is shown whole.
+#[derive(Clone, Copy)]
+pub enum Whole<'w> {
+    /// What lies at a virtual address.
+    Sees(Asks<'w>),
+    /// What explains a report.
+    Explains(CauseAsks<'w>),
 }
 
 /// What the words of a command line ask for.
 #[derive(Clone, Copy)]
 pub enum Form<'w> {
-    /// A question about a dump.
-    About(Asks<'w>),
-    /// What explains a report.
-    Explains(CauseAsks<'w>),
+    /// Which words hold a value: they are written as they are found.
+    Finds(Asks<'w>),
+    /// What is shown whole.
+    Shows(Whole<'w>),
 }
 
-// What a question after the names of three files asks for.
-fn about(files: KernelFiles<'_>, question: Option<Question>) -> Option<Form<'_>>
-    ensures asked { option_map form_view result ≡ question_asked files.entry.dump.now files.entry.btf.now files.entry.map.now question }
+// What the words after the names of three files ask for, where they ask for no report.
+fn about<'w>(files: KernelFiles<'w>, words: &[String]) -> Option<Form<'w>>
+    ensures asked { option_map form_view result ≡ question_asked files.entry.dump.now files.entry.btf.now files.entry.map.now (question_of (map string_bytes words.now)) }
+    ensures search { IsSearch result (is_search (map string_bytes words.now)) }
 {
-    Some(Form::About(Asks {
-        files,
-        question: question?,
-    }))
+    match words {
+        [address] => Some(Form::Shows(Whole::Sees(Asks {
+            files,
+            number: read_hex(address.as_str().as_bytes())?,
+        }))),
+        [form, address] if form.as_str() == "refs" => Some(Form::Finds(Asks {
+            files,
+            number: read_hex(address.as_str().as_bytes())?,
+        })),
+        _ => None,
+    }
 }
 
 // What the words ask.
 fn read(words: &[String]) -> Option<Form<'_>>
     ensures asked { option_map form_view result ≡ why_asks (map string_bytes words.now) }
+    ensures search { IsSearch result (finds (map string_bytes words.now)) }
 {
     let [dump, btf, map, words @ ..] = words else {
         return None;
@@ -92,59 +104,82 @@ fn read(words: &[String]) -> Option<Form<'_>>
         map: map.as_str(),
     };
     match words {
-        [plan, report] if plan.as_str() != "refs" => Some(Form::Explains(CauseAsks {
-            files,
-            plan: plan.as_str(),
-            report: report.as_str(),
-        })),
-        _ => about(files, question_of(words)),
+        [plan, report] if plan.as_str() != "refs" => {
+            Some(Form::Shows(Whole::Explains(CauseAsks {
+                files,
+                plan: plan.as_str(),
+                report: report.as_str(),
+            })))
+        }
+        _ => about(files, words),
     }
 }
 
-/// Runs kwhy on the words after its name: the first fault of the dump, the types or the map, else what is seen of the
-/// address, or the words that hold it; or also of the plan or the report, else what explains the report. `None` where these aren't its words; the store isn't asked then.
-pub fn run<S: Store>(alloc: Global, store: &mut S, words: &[String]) -> Option<Result<Answer, Halt>>
+/// Runs kwhy on the words after its name: the first fault of the dump, the types or the map, else what is seen of the address; or, where the
+/// words that hold a value are looked for, what follows their lines, which the sink took; or also the first fault of the plan or the report,
+/// else what explains the report. `None` where these aren't its words; the store isn't asked then.
+///
+/// # Errors
+///
+/// The sink failed: it took a first part of those lines.
+pub fn run<S: Store, O: Sink>(
+    alloc: Global,
+    store: &mut S,
+    words: &[String],
+    out: &mut O,
+) -> Result<Option<Result<Answer, Halt>>, Failed>
     requires { (slot : Slot) → ForSome (word_in (why_asks (map string_bytes words.now)) slot) (S.may store.old slot) }
 
-    ensures output { Runs why_written (why_asks (map string_bytes words.now)) (S.files store.old) result
-        (S.opened store.old) (S.opened store.new) }
-    ensures unasked { OnNone result (S.asked store.new ≡ S.asked store.old) }
+    ensures output { IfOk result (λ outcome. Comes why_written (why_asks (map string_bytes words.now)) (S.files store.old) outcome
+        (S.opened store.old) (S.opened store.new) (O.taken out.old) (O.taken out.new)) }
+    ensures asked { OnErr result (why_asks (map string_bytes words.now) ≡ None → ⊥) }
+    ensures part { OnErr result (TookPart (written_of (map string_bytes words.now)) (S.files store.old) (O.taken out.old) (O.taken out.new)) }
+    ensures whole { finds (map string_bytes words.now) ≡ false → out.new ≡ out.old }
+    ensures refused { IfOk result (λ outcome. OnRefused outcome (out.new ≡ out.old)) }
+    ensures unasked { IfOk result (λ outcome. OnNone outcome (S.asked store.new ≡ S.asked store.old)) }
+    ensures out_quiet { OnOk result (O.faults out.new ≡ O.faults out.old) }
+    ensures out_later { O.faults out.old ≤ O.faults out.new }
+    ensures out_last { OnErr result (FailedLast O.taken O.faults O.asked out.old out.new) }
     ensures files { S.files store.new ≡ S.files store.old }
     ensures later { S.faults store.old ≤ S.faults store.new }
-    ensures quiet { UnlessStoreIn result (S.faults store.new ≡ S.faults store.old) }
-    ensures cause { OnStoreIn result (Rose (S.faults store.old) (S.faults store.new)) }
+    ensures quiet { IfOk result (λ outcome. UnlessStoreIn outcome (S.faults store.new ≡ S.faults store.old)) }
+    ensures quiet_sink { OnErr result (S.faults store.new ≡ S.faults store.old) }
+    ensures cause { IfOk result (λ outcome. OnStoreIn outcome (Rose (S.faults store.old) (S.faults store.new))) }
 {
-    let form = read(words)?;
-    Some(reply(alloc, store, &form))
+    match read(words) {
+        None => Ok(None),
+        Some(Form::Finds(asks)) => Ok(Some(find(alloc, store, &asks, out)?)),
+        Some(Form::Shows(whole)) => Ok(Some(show(alloc, store, &whole))),
+    }
 }
 
-// The answer to what the words ask for.
-fn reply<S: Store>(alloc: Global, store: &mut S, form: &Form<'_>) -> Result<Answer, Halt>
-    requires { (slot : Slot) → ForSome (word_in (Some (form_view form.now)) slot) (S.may store.old slot) }
+// The answer to what is shown whole.
+fn show<S: Store>(alloc: Global, store: &mut S, whole: &Whole<'_>) -> Result<Answer, Halt>
+    requires { (slot : Slot) → ForSome (word_in (Some (whole_view whole.now)) slot) (S.may store.old slot) }
 
-    ensures output { PrintsOf why_written (λ files. (form_view form.now).made (asked_files (form_view form.now) files)) (S.files store.old) result }
-    ensures unopened { StayBehind (form_view form.now).named result (S.opened store.old) (S.opened store.new) }
+    ensures output { PrintsOf why_written (λ files. (whole_view whole.now).made (asked_files (whole_view whole.now) files)) (S.files store.old) result }
+    ensures unopened { StayBehind (whole_view whole.now).named result (S.opened store.old) (S.opened store.new) }
     ensures files { S.files store.new ≡ S.files store.old }
     ensures later { S.faults store.old ≤ S.faults store.new }
     ensures quiet { UnlessStore result (S.faults store.new ≡ S.faults store.old) }
     ensures cause { OnStore result (Rose (S.faults store.old) (S.faults store.new)) }
 {
-    match form {
-        Form::About(asks) => why(alloc, store, asks),
-        Form::Explains(asks) => explain(alloc, store, asks),
+    match whole {
+        Whole::Sees(asks) => why(alloc, store, asks),
+        Whole::Explains(asks) => explain(alloc, store, asks),
     }
 }
 
-// The answer to what is asked.
+// What is seen of an address.
 fn why<S: Store>(alloc: Global, store: &mut S, asks: &Asks<'_>) -> Result<Answer, Halt>
     requires dump { S.may store.old Dump asks.now.files.dump.now }
     requires btf { S.may store.old Slot.Btf asks.now.files.btf.now }
     requires map { S.may store.old Map asks.now.files.map.now }
 
     ensures output { PrintsOf why_written
-        (λ told. why_made asks.now.question (told Dump asks.now.files.dump.now) (told Slot.Btf asks.now.files.btf.now)
+        (λ told. why_made (Sight asks.now.number) (told Dump asks.now.files.dump.now) (told Slot.Btf asks.now.files.btf.now)
         (told Map asks.now.files.map.now)) (S.files store.old) result }
-    ensures unopened { StayBehind (why_asked (asks_view asks.now)).named result (S.opened store.old)
+    ensures unopened { StayBehind (sees_asked asks.now).named result (S.opened store.old)
         (S.opened store.new) }
     ensures files { S.files store.new ≡ S.files store.old }
     ensures later { S.faults store.old ≤ S.faults store.new }
@@ -152,31 +187,144 @@ fn why<S: Store>(alloc: Global, store: &mut S, asks: &Asks<'_>) -> Result<Answer
     ensures cause { OnStore result (Rose (S.faults store.old) (S.faults store.new)) }
 {
     let kernel = read_kernel(alloc, store, VIEW_HEADERS, &asks.files)?;
-    answer(alloc, store, &kernel, asks.question)
+    see(alloc, store, &kernel, asks.number)
 }
 
-// The answer to a question about a kernel whose files were read.
-fn answer<S: Store>(
+// The words that hold a value: they are written, and the answer is what follows them.
+fn find<S: Store, O: Sink>(
+    alloc: Global,
+    store: &mut S,
+    asks: &Asks<'_>,
+    out: &mut O,
+) -> Result<Result<Answer, Halt>, Failed>
+    requires dump { S.may store.old Dump asks.now.files.dump.now }
+    requires btf { S.may store.old Slot.Btf asks.now.files.btf.now }
+    requires map { S.may store.old Map asks.now.files.map.now }
+
+    ensures output { IfOk result (λ r. LeavesOf why_written
+        (λ told. why_made (Words asks.now.number) (told Dump asks.now.files.dump.now) (told Slot.Btf asks.now.files.btf.now)
+        (told Map asks.now.files.map.now)) (S.files store.old) r (O.taken out.old) (O.taken out.new)) }
+    ensures part { OnErr result (PartOf why_written
+        (λ told. why_made (Words asks.now.number) (told Dump asks.now.files.dump.now) (told Slot.Btf asks.now.files.btf.now)
+        (told Map asks.now.files.map.now)) (S.files store.old) (O.taken out.old) (O.taken out.new)) }
+    ensures unopened { IfOk result (λ r. StayBehind (finds_asked asks.now).named r (S.opened store.old) (S.opened store.new)) }
+    ensures refused { IfOk result (λ r. OnRefused (Some r) (out.new ≡ out.old)) }
+    ensures out_quiet { OnOk result (O.faults out.new ≡ O.faults out.old) }
+    ensures out_later { O.faults out.old ≤ O.faults out.new }
+    ensures out_last { OnErr result (FailedLast O.taken O.faults O.asked out.old out.new) }
+    ensures files { S.files store.new ≡ S.files store.old }
+    ensures later { S.faults store.old ≤ S.faults store.new }
+    ensures quiet { IfOk result (λ r. UnlessStore r (S.faults store.new ≡ S.faults store.old)) }
+    ensures quiet_sink { OnErr result (S.faults store.new ≡ S.faults store.old) }
+    ensures cause { IfOk result (λ r. OnStore r (Rose (S.faults store.old) (S.faults store.new))) }
+{
+    match read_kernel(alloc, store, VIEW_HEADERS, &asks.files) {
+        Ok(kernel) => find_in(alloc, store, &kernel, asks.number, out),
+        Err(halt) => Ok(Err(halt)),
+    }
+}
+
+// The same in the dump of a kernel whose files were read.
+fn find_in<S: Store, O: Sink>(
     alloc: Global,
     store: &mut S,
     kernel: &Kernel,
-    question: Question,
-) -> Result<Answer, Halt>
+    value: u64,
+    out: &mut O,
+) -> Result<Result<Answer, Halt>, Failed>
     requires table { IsTable kernel.now.info.table }
     requires inside { AreInside (S.sizes store.old Dump) kernel.now.core.segments }
     requires below { All (λ s. s.paddr + max s.filesz s.memsz ≤ 2 ^ 64) kernel.now.core.segments }
 
-    ensures output { PrintsOfBytes why_written (λ bytes. shown_in question bytes (kernel_view kernel.now))
-        (content (S.files store.old) Dump (S.opened store.old Dump)) result }
+    ensures output { IfOk result (λ r. LeavesOfBytes why_written (λ bytes. found_in bytes value (kernel_view kernel.now))
+        (content (S.files store.old) Dump (S.opened store.old Dump)) r (O.taken out.old) (O.taken out.new)) }
+    ensures part { OnErr result (PartOfBytes why_written (λ bytes. found_in bytes value (kernel_view kernel.now))
+        (content (S.files store.old) Dump (S.opened store.old Dump)) (O.taken out.old) (O.taken out.new)) }
+    ensures refused_map { IfOk result (λ r. RefusesIn Map r) }
+    ensures refused { IfOk result (λ r. OnRefused (Some r) (out.new ≡ out.old)) }
+    ensures out_quiet { OnOk result (O.faults out.new ≡ O.faults out.old) }
+    ensures out_later { O.faults out.old ≤ O.faults out.new }
+    ensures out_last { OnErr result (FailedLast O.taken O.faults O.asked out.old out.new) }
+    ensures files { S.files store.new ≡ S.files store.old }
+    ensures later { S.faults store.old ≤ S.faults store.new }
+    ensures quiet { IfOk result (λ r. UnlessStore r (S.faults store.new ≡ S.faults store.old)) }
+    ensures quiet_sink { OnErr result (S.faults store.new ≡ S.faults store.old) }
+    ensures cause { IfOk result (λ r. OnStore r (Rose (S.faults store.old) (S.faults store.new))) }
+{
+    match prepare(alloc, store, kernel, value) {
+        Ok(hunt) => put_hunted(alloc, store, kernel, &hunt, out),
+        Err(halt) => Ok(Err(halt)),
+    }
+}
+
+// What is asked of a dump's memory before the search.
+fn prepare<S: Store>(
+    alloc: Global,
+    store: &mut S,
+    kernel: &Kernel,
+    value: u64,
+) -> Result<Hunt, Halt>
+    requires table { IsTable kernel.now.info.table }
+    requires inside { AreInside (S.sizes store.old Dump) kernel.now.core.segments }
+
+    ensures ready { IsReady value (kernel_view kernel.now) (content (S.files store.old) Dump (S.opened store.old Dump))
+        (content (S.files store.new) Dump (S.opened store.new Dump)) result }
+    ensures inside { IfOk result (λ h. OnTrue h.same (AreInside (S.sizes store.new Dump) kernel.now.core.segments)) }
     ensures refused { RefusesIn Map result }
     ensures files { S.files store.new ≡ S.files store.old }
     ensures later { S.faults store.old ≤ S.faults store.new }
     ensures quiet { UnlessStore result (S.faults store.new ≡ S.faults store.old) }
     ensures cause { OnStore result (Rose (S.faults store.old) (S.faults store.new)) }
 {
-    match question {
-        Question::Sight(address) => see(alloc, store, kernel, address),
-        Question::Words(value) => find(alloc, store, kernel, value),
+    let map = kernel.map.as_slice();
+    let symbols = read_symbols(alloc, map)?;
+    let note = note_of(kernel);
+    let shapes = shapes_in(alloc, &kernel.types, &symbols, kernel.info, note, map)?;
+    let shape = shapes.words.object_shape();
+    match begin(alloc, store, kernel, &shape, value) {
+        Ok(hunt) => Ok(hunt),
+        Err(stop) => Err(halted(stop)),
+    }
+}
+
+// What follows the words, which are so many.
+fn rest(alloc: Global, hunt: &Hunt, count: u64) -> Result<Answer, Halt>
+    ensures text { IfOk result (λ answer. written_by answer ≡ record { out = rest_text hunt.now.told count; err = []; status = Done }) }
+    ensures err { OnErr result (result ≡ Err Memory) }
+{
+    Ok(Answer::Done(rest_text(alloc, &hunt.told, count)?))
+}
+
+// Writes the words that are looked for; the answer is what follows them.
+fn put_hunted<S: Store, O: Sink>(
+    alloc: Global,
+    store: &mut S,
+    kernel: &Kernel,
+    hunt: &Hunt,
+    out: &mut O,
+) -> Result<Result<Answer, Halt>, Failed>
+    requires inside { OnTrue hunt.now.same (AreInside (S.sizes store.old Dump) kernel.now.core.segments) }
+    requires below { All (λ s. s.paddr + max s.filesz s.memsz ≤ 2 ^ 64) kernel.now.core.segments }
+
+    ensures wrote { OnTrue hunt.now.same (IfOk result (λ r. Told (content (S.files store.old) Dump (S.opened store.old Dump)) (λ bytes.
+        Searches hunt.now.told (in_segments hunt.now.sought bytes kernel.now.core.segments) r (O.taken out.old) (O.taken out.new)))) }
+    ensures part { OnTrue hunt.now.same (OnErr result (Told (content (S.files store.old) Dump (S.opened store.old Dump)) (λ bytes.
+        TookPrefix (O.taken out.old) (O.taken out.new) (texts (found_lines (keys_in hunt.now.told)) (in_segments hunt.now.sought bytes kernel.now.core.segments))))) }
+    ensures not_refused { IfOk result (λ r. NotRefused r) }
+    ensures out_quiet { OnOk result (O.faults out.new ≡ O.faults out.old) }
+    ensures out_later { O.faults out.old ≤ O.faults out.new }
+    ensures out_last { OnErr result (FailedLast O.taken O.faults O.asked out.old out.new) }
+    ensures files { S.files store.new ≡ S.files store.old }
+    ensures later { S.faults store.old ≤ S.faults store.new }
+    ensures quiet { IfOk result (λ r. UnlessStore r (S.faults store.new ≡ S.faults store.old)) }
+    ensures quiet_sink { OnErr result (S.faults store.new ≡ S.faults store.old) }
+    ensures cause { IfOk result (λ r. OnStore r (Rose (S.faults store.old) (S.faults store.new))) }
+{
+    match put_found(alloc, store, kernel.core.segments(), hunt, out) {
+        Ok(count) => Ok(rest(alloc, hunt, count)),
+        Err(RefsStop::Store) => Ok(Err(Halt::Store)),
+        Err(RefsStop::Memory) => Ok(Err(Halt::Memory)),
+        Err(RefsStop::Sink) => Err(Failed),
     }
 }
 
@@ -217,27 +365,4 @@ fn see<S: Store>(
     let shapes = shapes_in(alloc, &kernel.types, &symbols, kernel.info, note, map)?;
     let seen = look_at(alloc, store, kernel, &rules, &shapes, address)?;
     Ok(Answer::Done(seen_text(alloc, &shapes.map, &seen)?))
-}
-
-// The words of a dump that hold a value.
-fn find<S: Store>(alloc: Global, store: &mut S, kernel: &Kernel, value: u64) -> Result<Answer, Halt>
-    requires table { IsTable kernel.now.info.table }
-    requires inside { AreInside (S.sizes store.old Dump) kernel.now.core.segments }
-    requires below { All (λ s. s.paddr + max s.filesz s.memsz ≤ 2 ^ 64) kernel.now.core.segments }
-
-    ensures output { PrintsOfBytes why_written (λ bytes. found_in bytes value (kernel_view kernel.now))
-        (content (S.files store.old) Dump (S.opened store.old Dump)) result }
-    ensures refused { RefusesIn Map result }
-    ensures files { S.files store.new ≡ S.files store.old }
-    ensures later { S.faults store.old ≤ S.faults store.new }
-    ensures quiet { UnlessStore result (S.faults store.new ≡ S.faults store.old) }
-    ensures cause { OnStore result (Rose (S.faults store.old) (S.faults store.new)) }
-{
-    let map = kernel.map.as_slice();
-    let symbols = read_symbols(alloc, map)?;
-    let note = note_of(kernel);
-    let shapes = shapes_in(alloc, &kernel.types, &symbols, kernel.info, note, map)?;
-    let shape = shapes.words.object_shape();
-    let text = find_written(alloc, store, kernel, &shape, value)?;
-    Ok(Answer::Done(text))
 }

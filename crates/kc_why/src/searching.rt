@@ -1,5 +1,5 @@
 // The search for a value in a dump.
-ghost use Rattle.std.specs.Prelude.{◌≡◌, ⊤, ◌+◌, ◌≤◌, ◌^◌, map, max, IfOk, IfSome};
+ghost use Rattle.std.specs.Prelude.{◌≡◌, ⊤, ◌+◌, ◌≤◌, ◌^◌, map, max, IfOk, IfSome, OnErr, OnOk};
 ghost use Rattle.std.specs.Bool.{OnTrue};
 ghost use Rattle.std.specs.List.{All};
 ghost use Rattle.kc_outside.specs.declared.store.Slot.TheVariants.{Dump};
@@ -7,27 +7,30 @@ ghost use Rattle.kc_outside.specs.Counts.{Rose};
 ghost use Rattle.kc_outside.specs.Files.{content};
 ghost use Rattle.kc_memory.specs.Stays.{SpaceStays};
 ghost use Rattle.kc_phys.specs.Stored.{AreInside};
-ghost use Rattle.kc_command.specs.Halts.{NotRefused, OnStore, UnlessStore};
+ghost use Rattle.kc_command.specs.Ends.Ends.{TookPrefix};
 ghost use Rattle.kc_command.specs.Kernels.{kernel_view};
 ghost use Rattle.kc_command.specs.Paging.{IsTable};
 ghost use Rattle.kc_owner.specs.declared.object.keys.CacheKey.{CacheKey as Key};
+ghost use Rattle.kc_text.specs.Compose.{texts};
 ghost use Rattle.kc_sight.specs.Refs.Holding.{in_segments};
 ghost use Rattle.kc_sight.specs.Refs.Stops.{Told};
+ghost use Rattle.kc_refs.specs.Lines.{found_lines};
+ghost use Rattle.kc_refs.specs.Put.{Wrote};
+ghost use Rattle.kc_refs.specs.Stops.{CountsSink, CountsStore};
 ghost use Rattle.kc_why.specs.Memory.{memory_of};
-ghost use Rattle.kc_why.specs.Searching.{direct_in, keys_of, sought_by};
-ghost use Rattle.kc_why.specs.WordText.{words_text};
+ghost use Rattle.kc_why.specs.Searching.{IsThere, direct_in, keys_in, keys_of, sought_by};
 ghost use Rattle.kc_found.specs.Failures.{CountsFailures};
 
-use crate::failures::halted;
-use crate::written::{keys_in, words_text};
+use crate::written::keys_in;
 use kc_btf::Btf;
-use kc_command::{Halt, Kernel, paging_by};
+use kc_command::{Kernel, paging_by};
 use kc_found::{Found, ReadFailed, Space, WalkStop};
-use kc_outside::Store;
+use kc_outside::{Sink, Store};
 use kc_owner::{CacheKey, FreeKeys, ObjectShape, free_keys};
 use kc_phys::{Phys, Room};
 use kc_question::{Question, Returned, ask_over};
-use kc_sight::{FoundWord, Sought, find_words};
+use kc_refs::{RefsStop, put_words};
+use kc_sight::Sought;
 use kc_word::{NoMemory, Segment, Steps, Tail};
 use std::alloc::Global;
 use std::sync::ledger::Ledger;
@@ -113,52 +116,38 @@ fn direct_in(told: &ToldKeys) -> u64
     }
 }
 
-// What free pointers are encoded with, and the words that hold a value.
+/// A search that can begin.
 #[derive(Drop)]
-struct Searched {
-    told: ToldKeys,
-    found: Vec<FoundWord>,
+pub(crate) struct Hunt {
+    /// What free pointers are encoded with.
+    pub told: ToldKeys,
+    /// What is looked for.
+    pub sought: Sought,
+    /// Whether the segments lie in the dump still after it was asked, as they do wherever it is told.
+    pub same: bool,
 }
 
-// The words that hold a value, where the segments lie in the dump still, as they do wherever it is told.
-fn find_if<S: Store>(
-    alloc: Global,
-    store: &mut S,
-    segments: &[Segment],
-    sought: &Sought,
-    same: bool,
-) -> Result<Vec<FoundWord>, ReadFailed>
-    requires inside { OnTrue same (AreInside (S.sizes store.old Dump) segments.now) }
-    requires below { All (λ s. s.paddr + max s.filesz s.memsz ≤ 2 ^ 64) segments.now }
-
-    ensures found { OnTrue same (IfOk result (λ found. Told (content (S.files store.old) Dump (S.opened store.old Dump)) (λ bytes.
-        found.items ≡ in_segments sought.now bytes segments.now))) }
-    ensures files { S.files store.new ≡ S.files store.old }
-    ensures cause { CountsFailures result (S.faults store.old) (S.faults store.new) }
-{
-    if same {
-        find_words(alloc, store, segments, sought)
-    } else {
-        Ok(Vec::new(alloc))
-    }
-}
-
-// The same of the dump in slot Dump, where the files of its kernel were read, with what free pointers are encoded with.
-fn search<S: Store>(
+/// Asks the dump in slot Dump what its free pointers are encoded with, where the files of its kernel were read; a value is then looked for.
+///
+/// # Errors
+///
+/// A failed call of the store; no memory was left.
+pub(crate) fn begin<S: Store>(
     alloc: Global,
     store: &mut S,
     kernel: &Kernel,
     shape: &Option<ObjectShape>,
     value: u64,
-) -> Result<Searched, ReadFailed>
+) -> Result<Hunt, ReadFailed>
     requires table { IsTable kernel.now.info.table }
     requires inside { AreInside (S.sizes store.old Dump) kernel.now.core.segments }
-    requires below { All (λ s. s.paddr + max s.filesz s.memsz ≤ 2 ^ 64) kernel.now.core.segments }
 
-    ensures told { IfOk result (λ r. Told (content (S.files store.old) Dump (S.opened store.old Dump)) (λ bytes.
-        r.told ≡ keys_of (memory_of (kernel_view kernel.now) bytes) shape.now)) }
-    ensures found { IfOk result (λ r. Told (content (S.files store.old) Dump (S.opened store.old Dump)) (λ bytes.
-        r.found.items ≡ in_segments (sought_by value r.told) bytes kernel.now.core.segments)) }
+    ensures told { IfOk result (λ h. Told (content (S.files store.old) Dump (S.opened store.old Dump)) (λ bytes.
+        h.told ≡ keys_of (memory_of (kernel_view kernel.now) bytes) shape.now)) }
+    ensures sought { IfOk result (λ h. h.sought ≡ sought_by value h.told) }
+    ensures inside { IfOk result (λ h. OnTrue h.same (AreInside (S.sizes store.new Dump) kernel.now.core.segments)) }
+    ensures there { IfOk result (λ h. IsThere h.same (content (S.files store.old) Dump (S.opened store.old Dump))
+        (content (S.files store.new) Dump (S.opened store.new Dump))) }
     ensures files { S.files store.new ≡ S.files store.old }
     ensures cause { CountsFailures result (S.faults store.old) (S.faults store.new) }
 {
@@ -173,42 +162,46 @@ fn search<S: Store>(
     };
     let Returned { memory, answer } = ask_over(alloc, frames, paging_by(kernel.info), &asks);
     let same = memory.end == end;
-    let store = memory.into_store();
+    let _store = memory.into_store();
     let asked = answer?;
     let told = asked?;
     let sought = sought_by(alloc, value, &told)?;
-    let found = find_if(alloc, store, segments, &sought, same)?;
-    Ok(Searched { told, found })
+    Ok(Hunt { told, sought, same })
 }
 
-/// The text of the words of the dump in slot Dump that hold a value, as it is and as an encoded free pointer; the files of its kernel
-/// were read.
+/// Writes the words that are looked for, where the segments lie in the dump still, and tells how many they are.
 ///
 /// # Errors
 ///
-/// A failed call of the store; no memory was left.
-pub(crate) fn find_written<S: Store>(
+/// A failed call of the store or of the sink; no memory was left.
+pub(crate) fn put_found<S: Store, O: Sink>(
     alloc: Global,
     store: &mut S,
-    kernel: &Kernel,
-    shape: &Option<ObjectShape>,
-    value: u64,
-) -> Result<Vec<u8>, Halt>
-    requires table { IsTable kernel.now.info.table }
-    requires inside { AreInside (S.sizes store.old Dump) kernel.now.core.segments }
-    requires below { All (λ s. s.paddr + max s.filesz s.memsz ≤ 2 ^ 64) kernel.now.core.segments }
+    segments: &[Segment],
+    hunt: &Hunt,
+    out: &mut O,
+) -> Result<u64, RefsStop>
+    requires inside { OnTrue hunt.now.same (AreInside (S.sizes store.old Dump) segments.now) }
+    requires below { All (λ s. s.paddr + max s.filesz s.memsz ≤ 2 ^ 64) segments.now }
 
-    ensures text { IfOk result (λ text. Told (content (S.files store.old) Dump (S.opened store.old Dump)) (λ bytes.
-        text.items ≡ words_text (keys_of (memory_of (kernel_view kernel.now) bytes) shape.now)
-        (in_segments (sought_by value (keys_of (memory_of (kernel_view kernel.now) bytes) shape.now)) bytes kernel.now.core.segments))) }
-    ensures not_refused { NotRefused result }
+    ensures wrote { OnTrue hunt.now.same (IfOk result (λ count. Told (content (S.files store.old) Dump (S.opened store.old Dump)) (λ bytes.
+        Wrote (keys_in hunt.now.told) (in_segments hunt.now.sought bytes segments.now) (O.taken out.old) (O.taken out.new) count))) }
+    ensures part { OnTrue hunt.now.same (OnErr result (Told (content (S.files store.old) Dump (S.opened store.old Dump)) (λ bytes.
+        TookPrefix (O.taken out.old) (O.taken out.new) (texts (found_lines (keys_in hunt.now.told)) (in_segments hunt.now.sought bytes segments.now))))) }
     ensures files { S.files store.new ≡ S.files store.old }
-    ensures later { S.faults store.old ≤ S.faults store.new }
-    ensures quiet { UnlessStore result (S.faults store.new ≡ S.faults store.old) }
-    ensures cause { OnStore result (Rose (S.faults store.old) (S.faults store.new)) }
+    ensures store_counts { CountsStore result (S.faults store.old) (S.faults store.new) }
+    ensures sink_counts { CountsSink O.taken O.faults O.asked result out.old out.new }
 {
-    match search(alloc, store, kernel, shape, value) {
-        Ok(searched) => Ok(words_text(alloc, &searched.told, searched.found.as_slice())?),
-        Err(stop) => Err(halted(stop)),
+    if hunt.same {
+        put_words(
+            alloc,
+            store,
+            segments,
+            &hunt.sought,
+            keys_in(&hunt.told),
+            out,
+        )
+    } else {
+        Ok(0)
     }
 }

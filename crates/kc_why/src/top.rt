@@ -1,5 +1,5 @@
 // The program: its words, its files, and where its text goes.
-ghost use Rattle.std.specs.Prelude.{◌≡◌, ◌-◌, ◌^◌, ◌<◌, ◌≤◌, ◌⊎◌, ◌||◌, nat_eq, map, None, IfSome, IsTrue};
+ghost use Rattle.std.specs.Prelude.{◌≡◌, ◌-◌, ◌^◌, ◌<◌, ◌≤◌, ◌⊎◌, ◌||◌, nat_eq, map, false, None, IfSome, IsTrue};
 ghost use Rattle.std.specs.Bool.{OnTrue};
 ghost use Rattle.std.specs.Option.{ForSome};
 ghost use Rattle.std.specs.String.{string_bytes};
@@ -13,21 +13,40 @@ ghost use Rattle.kc_command.specs.Ends.Failures.{store_failed, memory_refused, s
 ghost use Rattle.kc_command.specs.Ends.Last.{StopsAtFailure};
 ghost use Rattle.kc_command.specs.Ends.Status.{At, is_answer, is_silent, is_sink_quiet, is_store_quiet, number};
 ghost use Rattle.kc_command.specs.Ends.Unopened.{AskedStay};
+ghost use Rattle.kc_why.specs.Rest.{TookFront};
 ghost use Rattle.kc_why.specs.Taken.{TookTrue, out_of};
-ghost use Rattle.kc_why.specs.Why.{why_asks, usage_text, written_of};
+ghost use Rattle.kc_why.specs.Why.{finds, why_asks, usage_text, written_of};
 
 use crate::files::run;
 use crate::laws::know_why;
 use kc_command::{Status, finish};
-use kc_outside::{Sink, Store};
+use kc_outside::{Failed, Sink, Store};
+use kc_refs::put_all;
 use std::alloc::Global;
 
 /// The lines that say how the program is called.
 const USAGE: &[u8] =
     b"usage: kwhy DUMP BTF MAP ADDRESS\nusage: kwhy DUMP BTF MAP refs ADDRESS\nusage: kwhy DUMP BTF MAP PLAN REPORT\n";
 
+const SINK_FAILED: &[u8] = b"sink failed\n";
+
+// Says on standard error that standard output failed, as far as it takes it.
+fn tell_failure<E: Sink>(err: &mut E)
+    ensures part { TookPrefix (E.taken err.old) (E.taken err.new) sink_failed }
+    ensures whole { E.faults err.old < 2 ^ 64 - 1 → E.faults err.new ≡ E.faults err.old → E.taken err.new ≡ with_piece
+        (E.taken err.old) sink_failed }
+    ensures later { E.faults err.old ≤ E.faults err.new }
+    ensures last { StopsAtFailure E.taken E.faults E.asked err.old err.new }
+{
+    match put_all(err, SINK_FAILED) {
+        Ok(()) => (),
+        Err(Failed) => (),
+    }
+}
+
 /// The program. It answers the status that it ends with: done where what is seen of the address is shown, also where its word can't be
-/// read, or where the words that hold it are, also where there is none, or where a report is explained. Its text is made whole before a byte of it is put.
+/// read, or where the words that hold it are, also where there is none, or where a report is explained. The words that hold an address are
+/// put as they are found, after all that can be refused was read; another text is made whole before a byte of it is put.
 pub fn kwhy<S: Store, O: Sink, E: Sink>(
     alloc: Global,
     words: &[String],
@@ -65,10 +84,14 @@ pub fn kwhy<S: Store, O: Sink, E: Sink>(
     ensures sink_failed { At result SinkFailed
         (Rose (O.faults out.old) (O.faults out.new) ⊎ Rose (E.faults err.old) (E.faults err.new)) }
 
-    // Standard output stays empty on a refusal. The store failed only at status 3, or where that couldn't be
-    // told, and a sink only at status 4.
-    ensures silent { OnTrue (is_silent result) (O.asked out.new ≡ O.asked out.old) }
-    ensures silent_text { OnTrue (is_silent result) (O.taken out.new ≡ O.taken out.old) }
+    // Standard output stays empty on a refusal, and wherever there is no answer if no words are looked for. Else it took nothing or a first
+    // part of their text. The store failed only at status 3, or where that couldn't be told, and a sink only at status 4.
+    ensures refused_silent { At result Refused (O.asked out.new ≡ O.asked out.old) }
+    ensures refused_silent_text { At result Refused (O.taken out.new ≡ O.taken out.old) }
+    ensures silent { OnTrue (is_silent result) (finds (map string_bytes words.now) ≡ false → O.asked out.new ≡ O.asked out.old) }
+    ensures silent_text { OnTrue (is_silent result) (finds (map string_bytes words.now) ≡ false → O.taken out.new ≡ O.taken out.old) }
+    ensures silent_part { OnTrue (is_silent result) (IfSome (S.files store.old)
+        (λ files. TookFront (written_of (map string_bytes words.now) files) (O.taken out.old) (O.taken out.new))) }
     ensures quiet_store { OnTrue (is_store_quiet result) (S.faults store.new ≡ S.faults store.old) }
     ensures quiet_out { OnTrue (is_sink_quiet result) (O.faults out.new ≡ O.faults out.old) }
     ensures quiet_err { OnTrue (is_sink_quiet result) (E.faults err.new ≡ E.faults err.old) }
@@ -86,7 +109,9 @@ pub fn kwhy<S: Store, O: Sink, E: Sink>(
     ensures err_whole { At result SinkFailed (E.faults err.old < 2 ^ 64 - 1 → E.faults err.new ≡ E.faults err.old
         → E.taken err.new ≡ with_piece (E.taken err.old) sink_failed) }
     ensures out_nothing { At result SinkFailed (O.faults out.old < 2 ^ 64 - 1 → O.faults out.new ≡ O.faults out.old
-        → O.taken out.new ≡ O.taken out.old) }
+        → finds (map string_bytes words.now) ≡ false → O.taken out.new ≡ O.taken out.old) }
+    ensures out_front { At result SinkFailed (O.faults out.old < 2 ^ 64 - 1 → O.faults out.new ≡ O.faults out.old
+        → IfSome (S.files store.old) (λ files. TookFront (written_of (map string_bytes words.now) files) (O.taken out.old) (O.taken out.new))) }
     ensures err_failed { At result SinkFailed (O.faults out.old < 2 ^ 64 - 1 → O.faults out.new ≡ O.faults out.old
         → ErrFailed (written_of (map string_bytes words.now)) (S.files store.old)
         (Rose (S.faults store.old) (S.faults store.new)) (E.taken err.old) (E.taken err.new)) }
@@ -102,6 +127,11 @@ pub fn kwhy<S: Store, O: Sink, E: Sink>(
     ensures err_later { E.faults err.old ≤ E.faults err.new }
 {
     know_why();
-    let outcome = run(alloc, store, words);
-    finish(alloc, outcome, USAGE, out, err)
+    match run(alloc, store, words, out) {
+        Ok(outcome) => finish(alloc, outcome, USAGE, out, err),
+        Err(Failed) => {
+            tell_failure(err);
+            Status::SinkFailed
+        }
+    }
 }

@@ -1,18 +1,18 @@
-use Rattle.std.proofs.Common.{refl}
-use Rattle.kc_outside.specs.declared.store.Slot.TheVariants.{Dump}
-use Rattle.kc_outside.specs.Files.{content}
-use Rattle.kc_command.specs.Kernels.{kernel_view}
-use Rattle.kc_command.specs.declared.ends.answer.Answer.TheVariants as answer
-use Rattle.kc_told.specs.Views.{shapes_view}
-use Rattle.kc_why.proofs.WhyLemmas.{objects_read, prints_words, rows_checked}
+use Rattle.kc_why.specs.Why.{Words}
+use Rattle.kc_why.proofs.HuntLemmas.{leaves_unread}
+use Rattle.kc_why.proofs.RunLemmas.{leaves_made_as, part_made_as}
 use Rattle.kc_why.proofs.files.find.Goals as goal
 
-pub returns-clause-output : goal.returns-clause-output
-returns-clause-output g c =
-    let kernel = c.args.kernel.now in
-    let read = c.in_ok-symbols.ensures.made in
-    let listed = rows_checked _ read.0 read.1 in
-    prints_words (content (g.S.Store.files c.args.store.now) Dump (g.S.Store.opened c.args.store.now Dump)) c.args.value (kernel_view kernel) read.0 c.object_shape-shape.result c.in_ok-text.text.items
-    (answer.Done c.in_ok-text.text) (rw c.as_slice-map.ensures.value at read.1)
-    (objects_read (kernel_view kernel) read.0 c.note_of-note.result.now c.object_shape-shape.result (shapes_view c.in_ok-shapes.shapes) c.object_shape-shape.ensures (c.in_ok-shapes.ensures.exact read.0 listed read.2))
-    c.in_ok-text.ensures.text refl
+pub returns-in-Ok-clause-output : goal.returns-in-Ok-clause-output
+returns-in-Ok-clause-output g c =
+    leaves_made_as (Words c.args.asks.now.number) (g.S.Store.files c.args.store.now) c.args.asks.now.files.dump.now c.args.asks.now.files.btf.now c.args.asks.now.files.map.now c.in-Ok.kernel _ c.find_in.result
+    (g.O.Sink.taken c.args.out.now) (g.O.Sink.taken c.find_in.new.out) c.in-Ok.ensures.told c.in-Ok.ensures.content c.find_in.ensures.output
+
+pub returns-in-Ok-clause-part : goal.returns-in-Ok-clause-part
+returns-in-Ok-clause-part g c =
+    part_made_as (Words c.args.asks.now.number) (g.S.Store.files c.args.store.now) c.args.asks.now.files.dump.now c.args.asks.now.files.btf.now c.args.asks.now.files.map.now c.in-Ok.kernel _ c.find_in.result
+    (g.O.Sink.taken c.args.out.now) (g.O.Sink.taken c.find_in.new.out) c.in-Ok.ensures.told c.in-Ok.ensures.content c.find_in.ensures.part
+
+pub returns-in-Err-clause-output : goal.returns-in-Err-clause-output
+returns-in-Err-clause-output g c =
+    leaves_unread (Words c.args.asks.now.number) (g.S.Store.files c.args.store.now) c.args.asks.now.files.dump.now c.args.asks.now.files.btf.now c.args.asks.now.files.map.now c.in-Err.halt (g.O.Sink.taken c.args.out.now) c.in-Err.ensures.told

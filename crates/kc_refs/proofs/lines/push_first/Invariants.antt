@@ -1,7 +1,7 @@
 use Rattle.std.proofs.Common.{◌≡◌, drop, nat_eq}
 use Rattle.std.specs.List.{find}
 use Rattle.kc_owner.specs.declared.object.keys.CacheKey.{CacheKey}
-use Rattle.kc_why.proofs.written.push_first.Given as goal
+use Rattle.kc_refs.proofs.lines.push_first.Given as goal
 
 -- none of those so far has it, and nothing was added
 abbrev pub invariant-loop-key : goal.invariant-loop-key

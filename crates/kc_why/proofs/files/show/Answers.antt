@@ -2,7 +2,7 @@ use Rattle.kc_outside.specs.declared.store.Slot.TheVariants as slot
 use Rattle.kc_outside.specs.Files.{Files}
 use Rattle.kc_cause.specs.Explained.{cause_made}
 use Rattle.kc_why.proofs.ReportLemmas.{told_prints}
-use Rattle.kc_why.proofs.files.reply.Goals as goal
+use Rattle.kc_why.proofs.files.show.Goals as goal
 
 pub returns-in-Explains-clause-output : goal.returns-in-Explains-clause-output
 returns-in-Explains-clause-output g c =

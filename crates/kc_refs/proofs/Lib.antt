@@ -1,0 +1,4 @@
+pub mod PartLemmas
+pub mod Pieces
+pub mod PutLemmas
+pub mod StoreLemmas

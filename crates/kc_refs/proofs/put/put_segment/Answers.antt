@@ -1,0 +1,72 @@
+use Rattle.std.proofs.Common.{◌+◌, ◌-◌, ◌∙◌, arith}
+use Rattle.std.proofs.lemmas.Grind.{common_steps}
+use Rattle.kc_outside.specs.declared.store.Slot.TheVariants.{Dump}
+use Rattle.kc_outside.specs.Files.{content}
+use Rattle.kc_text.specs.Compose.{texts}
+use Rattle.kc_sight.specs.Refs.Holding.{in_segment, word_count}
+use Rattle.kc_command.specs.Ends.Ends.{TookPrefix}
+use Rattle.kc_refs.specs.Lines.{found_lines}
+use Rattle.kc_refs.specs.Parts.{words_from}
+use Rattle.kc_refs.specs.Put.{Wrote}
+use Rattle.kc_refs.proofs.PartLemmas.{segment_parts, words_more}
+use Rattle.kc_refs.proofs.PutLemmas.{on_err_of, told_more, told_part, told_whole}
+use Rattle.kc_refs.proofs.StoreLemmas.{stays_on, told_before}
+use Rattle.kc_refs.proofs.put.put_segment.Goals as goal
+
+pub returns-in_err-more-clause-part : goal.returns-in_err-more-clause-part
+returns-in_err-more-clause-part g c =
+    let segment = c.args.segment.now in
+    let sought = c.args.sought.now in
+    let keys = c.args.keys.now in
+    let first = c.loop-first.first in
+    let count = c.min-count.result in
+    let p = c.part-part.result in
+    let mid = g.O.Sink.taken c.loop-first.out in
+    let new = g.O.Sink.taken c.put_found.new.out in
+    on_err_of c.from_residual.result
+    (told_part (content (g.S.Store.files c.args.store.now) Dump (g.S.Store.opened c.args.store.now Dump)) keys (λ bytes. words_from sought bytes segment 0 first) (λ bytes. in_segment sought bytes p)
+    (λ bytes. words_from sought bytes segment (first + count) (word_count segment - (first + count))) (λ bytes. in_segment sought bytes segment) (g.O.Sink.taken c.args.out.now) mid new c.loop-first.found
+    (λ bytes. segment_parts sought bytes segment p first count c.part-part.ensures (grind (arith, common_steps))) c.loop-first.invariant.wrote
+    (told_before g.S.Store.opened g.S.Store.sizes g.S.Store.files g.S.Store.may g.S.Store.asked c.args.store.now c.loop-first.store
+    (λ bytes. TookPrefix mid new (texts (found_lines keys) (in_segment sought bytes p))) c.loop-first.invariant.stays c.in_err-more.ensures.part))
+
+pub returns-in_err-found-clause-part : goal.returns-in_err-found-clause-part
+returns-in_err-found-clause-part g c =
+    let segment = c.args.segment.now in
+    let sought = c.args.sought.now in
+    let keys = c.args.keys.now in
+    let first = c.loop-first.first in
+    let count = c.min-count.result in
+    let p = c.part-part.result in
+    let mid = g.O.Sink.taken c.loop-first.out in
+    let new = g.O.Sink.taken c.put_found.new.out in
+    let told = content (g.S.Store.files c.args.store.now) Dump (g.S.Store.opened c.args.store.now Dump) in
+    on_err_of c.from_residual-in_err-found.result
+    (told_part told keys (λ bytes. words_from sought bytes segment 0 first) (λ bytes. in_segment sought bytes p)
+    (λ bytes. words_from sought bytes segment (first + count) (word_count segment - (first + count))) (λ bytes. in_segment sought bytes segment) (g.O.Sink.taken c.args.out.now) mid new c.loop-first.found
+    (λ bytes. segment_parts sought bytes segment p first count c.part-part.ensures (grind (arith, common_steps))) c.loop-first.invariant.wrote
+    (told_whole told keys (λ bytes. in_segment sought bytes p) mid new c.in_ok-more.more
+    (told_before g.S.Store.opened g.S.Store.sizes g.S.Store.files g.S.Store.may g.S.Store.asked c.args.store.now c.loop-first.store
+    (λ bytes. Wrote keys (in_segment sought bytes p) mid new c.in_ok-more.more) c.loop-first.invariant.stays c.in_ok-more.ensures.wrote)))
+
+pub loop-first-preserved : goal.loop-first-preserved
+loop-first-preserved g c =
+    let segment = c.args.segment.now in
+    let sought = c.args.sought.now in
+    let keys = c.args.keys.now in
+    let first = c.loop-first.first in
+    let count = c.min-count.result in
+    let p = c.part-part.result in
+    let mid = g.O.Sink.taken c.loop-first.out in
+    let new = g.O.Sink.taken c.put_found.new.out in
+    record {
+      within = grind (arith, common_steps);
+      stays = stays_on g.S.Store.opened g.S.Store.sizes g.S.Store.files g.S.Store.may g.S.Store.asked c.args.store.now c.loop-first.store c.put_found.new.store c.loop-first.invariant.stays c.put_found.ensures.stays;
+      store_quiet = c.in_ok-more.ensures.store_counts ∙ c.loop-first.invariant.store_quiet;
+      sink_quiet = c.in_ok-more.ensures.sink_counts ∙ c.loop-first.invariant.sink_quiet;
+      wrote = told_more (content (g.S.Store.files c.args.store.now) Dump (g.S.Store.opened c.args.store.now Dump)) keys (λ bytes. words_from sought bytes segment 0 first) (λ bytes. in_segment sought bytes p)
+          (λ bytes. words_from sought bytes segment 0 (first + count)) (g.O.Sink.taken c.args.out.now) mid new c.loop-first.found c.in_ok-more.more c.in_ok-found.found
+          (λ bytes. words_more sought bytes segment p first count c.part-part.ensures) c.in_ok-found.ensures.ok c.loop-first.invariant.wrote
+          (told_before g.S.Store.opened g.S.Store.sizes g.S.Store.files g.S.Store.may g.S.Store.asked c.args.store.now c.loop-first.store
+          (λ bytes. Wrote keys (in_segment sought bytes p) mid new c.in_ok-more.more) c.loop-first.invariant.stays c.in_ok-more.ensures.wrote);
+    }

@@ -1,8 +1,0 @@
-use Rattle.std.proofs.Common.{◌≡◌, ◌++◌, drop}
-use Rattle.kc_text.specs.Compose.{texts}
-use Rattle.kc_why.specs.WordText.{found_lines}
-use Rattle.kc_why.proofs.written.push_found.Given as goal
-
--- what was added, and what is still to come, are the whole
-abbrev pub invariant-loop-word : goal.invariant-loop-word
-invariant-loop-word l = l.text.items ++ texts (found_lines l.keys) (drop l.word-index l.found) ≡ l.fn.text.items ++ texts (found_lines l.keys) l.found
