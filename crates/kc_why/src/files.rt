@@ -364,5 +364,8 @@ fn see<S: Store>(
     let note = note_of(kernel);
     let shapes = shapes_in(alloc, &kernel.types, &symbols, kernel.info, note, map)?;
     let seen = look_at(alloc, store, kernel, &rules, &shapes, address)?;
-    Ok(Answer::Done(seen_text(alloc, &shapes.map, &seen)?))
+    match seen_text(alloc, &shapes.map, &seen) {
+        Ok(text) => Ok(Answer::Done(text)),
+        Err(_) => Err(Halt::Memory),
+    }
 }
