@@ -1,5 +1,5 @@
 -- What standard output took before the rest of an answer, and with it.
-use Rattle.std.proofs.Common.{◌≡◌, ℕ, ◌+◌, ◌-◌, ◌^◌, ◌≤◌, ◌<◌, Bool, true, false, nat_eq, List, [], ◌++◌, length, take, Option, Some, None, option_map, IfSome, inl, inr, Result, Ok, Err, append-nil, refl, sym, ap, subst, ◌∙◌, arith}
+use Rattle.std.proofs.Common.{◌≡◌, ℕ, ◌+◌, ◌-◌, ◌^◌, ◌<◌, Bool, true, false, nat_eq, List, [], ◌++◌, length, take, Option, Some, None, option_map, IfSome, inl, inr, Result, Ok, Err, append-nil, refl, sym, ap, subst, ◌∙◌, arith}
 use Rattle.std.proofs.Math.Seq.{take-append-add, take-append_seam}
 use Rattle.std.proofs.lemmas.List.{append_assoc, length-append, take-append-le}
 use Rattle.std.specs.Bool.{OnTrue}
@@ -19,8 +19,8 @@ use Rattle.kc_command.specs.Ends.Asked.{Asked, asked_files}
 use Rattle.kc_command.specs.Ends.Ends.{ErrFailed, IsTold, IsWritten, TookErr, TookLine, TookOut, TookPart, TookPrefix}
 use Rattle.kc_command.specs.Ends.Output.{Ends, ended, written, written_files}
 use Rattle.kc_command.specs.Ends.Status.{At, is_answer, is_silent, number}
-use Rattle.kc_command.specs.Ends.Written.{Written, refused_with, usage_with}
-use Rattle.kc_why.specs.Rest.{Came, Comes, HasRest, Leaves, LeavesOf, OnRefused, PartOf, TookFront, after}
+use Rattle.kc_command.specs.Ends.Written.{Written}
+use Rattle.kc_why.specs.Rest.{Comes, HasRest, Leaves, LeavesOf, TookFront, after}
 
 -- ---- texts
 
