@@ -1,5 +1,5 @@
 -- What is found where a search began, and what is made of it.
-use Rattle.std.proofs.Common.{◌≡◌, ℕ, Bool, true, false, List, [], ◌++◌, length, Option, Some, None, option_map, inl, inr, Result, Ok, Err, IfOk, OnErr, refl, sym, ap, subst, ◌∙◌, arith}
+use Rattle.std.proofs.Common.{◌≡◌, ℕ, Bool, true, false, List, [], length, Option, Some, None, option_map, inl, inr, Result, Ok, Err, IfOk, OnErr, refl, sym, ap, subst, ◌∙◌, arith}
 use Rattle.std.proofs.Math.Seq.{take-length}
 use Rattle.std.specs.Bool.{OnTrue}
 use Rattle.std.proofs.lemmas.Bool.{OnTrue_at}
@@ -14,7 +14,7 @@ use Rattle.kc_command.specs.declared.halt.Halt.TheVariants.{Refused, Store, Memo
 use Rattle.kc_command.specs.declared.kernel.Kernel.{Kernel}
 use Rattle.kc_command.specs.Inputs.{rows_in, view_headers}
 use Rattle.kc_command.specs.Kernels.{KernelAt, kernel_in, kernel_view}
-use Rattle.kc_command.specs.Made.{Halts, IsOf, Made}
+use Rattle.kc_command.specs.Made.{IsOf, Made}
 use Rattle.kc_command.specs.declared.ends.answer.Answer.{Answer}
 use Rattle.kc_command.specs.declared.ends.status.Status.TheVariants.{Done}
 use Rattle.kc_command.specs.Ends.Answers.{written_by}
@@ -35,7 +35,7 @@ use Rattle.kc_told.specs.Objects.{kernel_by}
 use Rattle.kc_why.specs.declared.searching.Hunt.{Hunt}
 use Rattle.kc_why.specs.Memory.{memory_of}
 use Rattle.kc_why.specs.Ready.{Begins, IsReady}
-use Rattle.kc_why.specs.Rest.{Leaves, LeavesOf, LeavesOfBytes, PartOf, PartOfBytes, Searches, TookFront, after}
+use Rattle.kc_why.specs.Rest.{Leaves, LeavesOf, LeavesOfBytes, PartOf, PartOfBytes, Searches, after}
 use Rattle.kc_why.specs.Searching.{IsThere, keys_in, keys_of, sought_by}
 use Rattle.kc_why.specs.Why.{Finds, Question, Shown, found_in, shown_in, why_made, why_written}
 use Rattle.kc_why.specs.WordText.{rest_text, words_text}

@@ -1,5 +1,5 @@
 -- What standard output took before the rest of an answer, and with it.
-use Rattle.std.proofs.Common.{◌≡◌, ℕ, ◌+◌, ◌-◌, ◌^◌, ◌≤◌, ◌<◌, Bool, true, false, nat_eq, List, [], ◌++◌, length, take, Option, Some, None, option_map, IfSome, inl, inr, Result, Ok, Err, append-nil, refl, sym, ap, subst, ◌∙◌, arith}
+use Rattle.std.proofs.Common.{◌≡◌, ℕ, ◌+◌, ◌-◌, ◌^◌, ◌<◌, Bool, true, false, nat_eq, List, [], ◌++◌, length, take, Option, Some, None, option_map, IfSome, inl, inr, Result, Ok, Err, append-nil, refl, sym, ap, subst, ◌∙◌, arith}
 use Rattle.std.proofs.Math.Seq.{take-append-add, take-append_seam}
 use Rattle.std.proofs.lemmas.List.{append_assoc, length-append, take-append-le}
 use Rattle.std.specs.Bool.{OnTrue}
@@ -9,7 +9,6 @@ use Rattle.kc_outside.specs.Files.{Files}
 use Rattle.kc_outside.specs.Texts.{with_piece}
 use Rattle.kc_command.specs.declared.halt.Halt.{Halt}
 use Rattle.kc_command.specs.declared.halt.Halt.TheVariants.{Refused, Store, Memory}
-use Rattle.kc_command.specs.declared.refusal.Refusal.{Refusal}
 use Rattle.kc_command.specs.Made.{Halts, Made}
 use Rattle.kc_command.specs.declared.ends.answer.Answer.{Answer}
 use Rattle.kc_command.specs.declared.ends.answer.Answer.TheVariants.{Done, Broken}
@@ -20,9 +19,8 @@ use Rattle.kc_command.specs.Ends.Asked.{Asked, asked_files}
 use Rattle.kc_command.specs.Ends.Ends.{ErrFailed, IsTold, IsWritten, TookErr, TookLine, TookOut, TookPart, TookPrefix}
 use Rattle.kc_command.specs.Ends.Output.{Ends, ended, written, written_files}
 use Rattle.kc_command.specs.Ends.Status.{At, is_answer, is_silent, number}
-use Rattle.kc_command.specs.Ends.Unopened.{AskedStay, MadeStay}
-use Rattle.kc_command.specs.Ends.Written.{Written, refused_with, usage_with}
-use Rattle.kc_why.specs.Rest.{Came, Comes, HasRest, Leaves, LeavesOf, OnRefused, PartOf, TookFront, after}
+use Rattle.kc_command.specs.Ends.Written.{Written}
+use Rattle.kc_why.specs.Rest.{Comes, HasRest, Leaves, LeavesOf, TookFront, after}
 
 -- ---- texts
 
@@ -80,10 +78,6 @@ pub leaves_whole_of : {A : Type 0} (write : A → Written) (made : Files → Mad
 leaves_whole_of write made None r old prints = tt
 leaves_whole_of write made (Some f) r old prints = leaves_whole write (made f) r old prints
 
-pub leaves_halted_of : {A : Type 0} (write : A → Written) (made : Files → Made A) (files : Option Files) (halt : Halt) (old : Option (List ℕ)) → IfSome files (λ f. Halts (made f) halt) → LeavesOf write made files (Err halt) old old
-leaves_halted_of write made None halt old halts = tt
-leaves_halted_of write made (Some f) halt old halts = halted_after write (made f) halt old halts
-
 -- ---- the output of the words
 
 ends_written : {A : Type 0} (usage : List ℕ) (write : A → Written) (made : Made A) → option_map (written usage write) (option_map Ends made) ≡ option_map (ended write) made
@@ -139,12 +133,6 @@ pub comes_part_at : {A : Type 0} (usage : List ℕ) (write : A → Written) (ask
 comes_part_at usage write asks files outcome opened_old opened_new old mid new comes is =
     subst (λ (m : Option (List ℕ)). IfSome files (λ f. TookFront (written_files usage write asks f) old m)) (sym is)
     (comes_part usage write asks files outcome opened_old opened_new old mid comes)
-
--- where the sink failed before the rest
-pub part_of : {A : Type 0} (usage : List ℕ) (write : A → Written) (asks : Option (Asked A)) (asked : Asked A) (files : Option Files) (old new : Option (List ℕ)) → asks ≡ Some asked
-    → PartOf write (λ f. asked.made (asked_files asked f)) files old new → TookPart (written_files usage write asks) files old new
-part_of usage write asks asked None old new is took = tt
-part_of usage write asks asked (Some f) old new is took = subst (λ (o : Option Written). TookOut o old new) (sym (asked_written usage write asks asked f is)) took
 
 -- ---- how a program ends by what its words came to
 
@@ -202,71 +190,8 @@ rest_fails usage write asks files outcome opened_old opened_new s store_old stor
     (λ took few same. line_after (written_files usage write asks) files (ending usage outcome) old mid err_old err_new (comes_front usage write asks files outcome opened_old opened_new old mid comes) (rose_where_failed outcome cause)
     (took (subst (λ (n : ℕ). n < 2 ^ 64 - 1) (sym quiet) few) (same ∙ sym quiet))) failed
 
--- a refusal is what the words came to
-refused_outcome : (usage : List ℕ) (outcome : Option (Result Answer Halt)) (out_old out_new err_old err_new : Option (List ℕ)) (P : Type 0)
-    → IsWritten (ending usage outcome) status.Refused out_old out_new err_old err_new → OnRefused outcome P → P
-refused_outcome usage None out_old out_new err_old err_new P ends p = p
-refused_outcome usage (Some (Ok (Done text))) out_old out_new err_old err_new P ends p = absurd (let no : status.Refused ≡ status.Done = ends.ends in let none : ⊥ = cc in none)
-refused_outcome usage (Some (Ok (Broken text))) out_old out_new err_old err_new P ends p = absurd (let no : status.Refused ≡ status.Broken = ends.ends in let none : ⊥ = cc in none)
-refused_outcome usage (Some (Err (Refused refusal))) out_old out_new err_old err_new P ends p = p
-refused_outcome usage (Some (Err Store)) out_old out_new err_old err_new P ends p = absurd ends
-refused_outcome usage (Some (Err Memory)) out_old out_new err_old err_new P ends p = absurd ends
-
-pub at_refused : (usage : List ℕ) (outcome : Option (Result Answer Halt)) (s : Status) (out_old out_new err_old err_new : Option (List ℕ)) (P : Type 0)
-    → OnTrue (is_answer s) (IsWritten (ending usage outcome) s out_old out_new err_old err_new) → OnRefused outcome P → At s status.Refused P
-at_refused usage outcome status.Done out_old out_new err_old err_new P told p = tt
-at_refused usage outcome status.Broken out_old out_new err_old err_new P told p = tt
-at_refused usage outcome status.Refused out_old out_new err_old err_new P told p = refused_outcome usage outcome out_old out_new err_old err_new P told p
-at_refused usage outcome status.StoreFailed out_old out_new err_old err_new P told p = tt
-at_refused usage outcome status.SinkFailed out_old out_new err_old err_new P told p = tt
-at_refused usage outcome status.OutOfMemory out_old out_new err_old err_new P told p = tt
-at_refused usage outcome status.NoCommand out_old out_new err_old err_new P told p = tt
-
-on_both : {P Q R : Type 0} (b : Bool) → (P → Q → R) → OnTrue b P → OnTrue b Q → OnTrue b R
-on_both true both p q = both p q
-on_both false both p q = tt
-
--- of two facts at a status
-pub at_both : {P Q R : Type 0} (s one : Status) → (P → Q → R) → At s one P → At s one Q → At s one R
-at_both s one both p q = on_both (nat_eq (number s) (number one)) both p q
-
--- what holds on silence holds of a refusal
-pub silent_refused : (P : Type 0) (s : Status) → OnTrue (is_silent s) P → At s status.Refused P
-silent_refused P status.Done p = tt
-silent_refused P status.Broken p = tt
-silent_refused P status.Refused p = p
-silent_refused P status.StoreFailed p = tt
-silent_refused P status.SinkFailed p = tt
-silent_refused P status.OutOfMemory p = tt
-silent_refused P status.NoCommand p = tt
-
 pub on_silent : (P Q : Type 0) (s : Status) → (P → Q) → OnTrue (is_silent s) P → OnTrue (is_silent s) Q
 on_silent P Q s follows p = on_true (is_silent s) follows p
 
 pub at_sink : (P Q : Type 0) (s : Status) → (P → Q) → At s status.SinkFailed P → At s status.SinkFailed Q
 at_sink P Q s follows p = on_true (nat_eq (number s) 4) follows p
-
--- where a file is refused, the files after it aren't opened
-comes_stay : {A : Type 0} (usage : List ℕ) (write : A → Written) (asks : Option (Asked A)) (files : Option Files) (outcome : Option (Result Answer Halt)) (opened_old opened_new : Slot → Option (List ℕ)) (old mid out_old out_new err_old err_new : Option (List ℕ))
-    → Comes write asks files outcome opened_old opened_new old mid → IsWritten (ending usage outcome) status.Refused out_old out_new err_old err_new → AskedStay asks files opened_old opened_new
-comes_stay usage write asks None outcome opened_old opened_new old mid out_old out_new err_old err_new comes is = tt
-comes_stay usage write asks (Some f) None opened_old opened_new old mid out_old out_new err_old err_new comes is = absurd (let no : status.Refused ≡ status.NoCommand = is.ends in let none : ⊥ = cc in none)
-comes_stay usage write asks (Some f) (Some (Ok (Done text))) opened_old opened_new old mid out_old out_new err_old err_new comes is = absurd (let no : status.Refused ≡ status.Done = is.ends in let none : ⊥ = cc in none)
-comes_stay usage write asks (Some f) (Some (Ok (Broken text))) opened_old opened_new old mid out_old out_new err_old err_new comes is = absurd (let no : status.Refused ≡ status.Broken = is.ends in let none : ⊥ = cc in none)
-comes_stay usage write asks (Some f) (Some (Err (Refused refusal))) opened_old opened_new old mid out_old out_new err_old err_new comes is =
-    subst (λ (a : Option (Asked _)). AskedStay a (Some f) opened_old opened_new) (sym comes.is)
-    (subst (λ (m : Made _). MadeStay m comes.asked.named opened_old opened_new) (sym comes.leaves.0) comes.unopened)
-comes_stay usage write asks (Some f) (Some (Err Store)) opened_old opened_new old mid out_old out_new err_old err_new comes is = absurd is
-comes_stay usage write asks (Some f) (Some (Err Memory)) opened_old opened_new old mid out_old out_new err_old err_new comes is = absurd is
-
-pub rest_unopened : {A : Type 0} (usage : List ℕ) (write : A → Written) (asks : Option (Asked A)) (files : Option Files) (outcome : Option (Result Answer Halt)) (opened_old opened_new : Slot → Option (List ℕ)) (s : Status) (old mid out_old out_new err_old err_new : Option (List ℕ))
-    → Comes write asks files outcome opened_old opened_new old mid → OnTrue (is_answer s) (IsWritten (ending usage outcome) s out_old out_new err_old err_new)
-    → At s status.Refused (AskedStay asks files opened_old opened_new)
-rest_unopened usage write asks files outcome opened_old opened_new status.Done old mid out_old out_new err_old err_new comes is = tt
-rest_unopened usage write asks files outcome opened_old opened_new status.Broken old mid out_old out_new err_old err_new comes is = tt
-rest_unopened usage write asks files outcome opened_old opened_new status.Refused old mid out_old out_new err_old err_new comes is =
-    comes_stay usage write asks files outcome opened_old opened_new old mid out_old out_new err_old err_new comes is
-rest_unopened usage write asks files outcome opened_old opened_new status.StoreFailed old mid out_old out_new err_old err_new comes is = tt
-rest_unopened usage write asks files outcome opened_old opened_new status.SinkFailed old mid out_old out_new err_old err_new comes is = tt
-rest_unopened usage write asks files outcome opened_old opened_new status.OutOfMemory old mid out_old out_new err_old err_new comes is = tt
-rest_unopened usage write asks files outcome opened_old opened_new status.NoCommand old mid out_old out_new err_old err_new comes is = tt

@@ -1,5 +1,5 @@
 -- What standard output took is true of the dump.
-use Rattle.std.proofs.Common.{◌≡◌, Bool, true, false, List, ℕ, Option, Some, None, option_map, IfSome, Ok, Err}
+use Rattle.std.proofs.Common.{Bool, true, false, List, ℕ, Option, Some, None, option_map, IfSome, Ok, Err}
 use Rattle.std.specs.Bool.{OnTrue}
 use Rattle.kc_outside.specs.Files.{Files}
 use Rattle.kc_command.specs.declared.ends.status.Status.{Status}

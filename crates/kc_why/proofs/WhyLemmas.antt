@@ -1,5 +1,5 @@
 -- The answer on the rows of a map and on what is seen of an address.
-use Rattle.std.proofs.Common.{◌≡◌, ℕ, List, [], ◌++◌, Option, Some, None, Result, Ok, Err, codes, option_map, refl, subst, sym, ap, ◌∙◌}
+use Rattle.std.proofs.Common.{◌≡◌, ℕ, List, [], Option, Some, None, Result, Ok, Err, codes, option_map, refl, subst, sym, ap, ◌∙◌}
 use Rattle.kc_memory.specs.Image.{Image}
 use Rattle.kc_notes.specs.Notes.{text_in}
 use Rattle.kc_notes.specs.declared.info.Info.{Info}
@@ -30,7 +30,6 @@ use Rattle.kc_owner.specs.declared.object.shape.ObjectShape.{ObjectShape}
 use Rattle.kc_owner.specs.Object.Shapes.{object_shape}
 use Rattle.kc_told.specs.declared.told.PageWords.{PageWords}
 use Rattle.kc_told.specs.Objects.{Shapes, Told, kernel_by, shapes_by, told_of}
-use Rattle.kc_why.specs.Memory.{memory_of}
 use Rattle.kc_told.specs.SeenText.{MapSymbols, seen_text, symbols_by}
 use Rattle.kc_told.specs.Views.{told_view}
 use Rattle.kc_why.specs.Why.{Question, Shown, note_text, rules_by, seen_in, shown_in, why_made, why_written}

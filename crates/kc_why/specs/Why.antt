@@ -1,5 +1,5 @@
 -- kwhy: what lies at an address of a dump, which words of the dump hold it, or what explains a report.
-use Rattle.std.specs.Prelude.{◌≡◌, ⊤, ℕ, Bool, true, false, if◌then◌else◌, List, [], ◌∷◌, ◌++◌, codes, Option, Some, None, option_map, Result, Ok, Err}
+use Rattle.std.specs.Prelude.{◌≡◌, ⊤, ℕ, Bool, true, false, if◌then◌else◌, List, [], ◌∷◌, codes, Option, Some, None, option_map, Result, Ok, Err}
 use Rattle.std.specs.Str.{bytes_eq}
 use Rattle.kc_word.specs.Hex.{hex_number}
 use Rattle.kc_word.specs.declared.plain.Segment.{Segment}
