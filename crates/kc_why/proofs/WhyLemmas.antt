@@ -9,7 +9,6 @@ use Rattle.kc_syms.specs.declared.fault.SymFault.{SymFault}
 use Rattle.kc_syms.specs.Addresses.{common_of}
 use Rattle.kc_syms.specs.Rows.{RowText, addresses, rows}
 use Rattle.kc_command.specs.declared.halt.Halt.{Halt}
-use Rattle.kc_command.specs.declared.halt.Halt.TheVariants as halts
 use Rattle.kc_command.specs.declared.refusal.Refusal.TheVariants.{MapLine}
 use Rattle.kc_command.specs.declared.kernel.Kernel.{Kernel}
 use Rattle.kc_command.specs.Inputs.{rows_in, view_headers}
@@ -90,11 +89,3 @@ prints_made question None dump btf map kernel content r is same prints = tt
 prints_made question (Some files) dump btf map kernel content r is same prints =
     made_of question (files slot.Dump dump) (files slot.Btf btf) (files slot.Map map) (kernel_view kernel) r is
     (subst (λ (c : Option (List ℕ)). PrintsOfBytes why_written (λ bytes. shown_in question bytes (kernel_view kernel)) c r) same prints)
-
--- where no memory was left, nothing is printed
-none_printed : (made : List ℕ → Made Shown) (content : Option (List ℕ)) → PrintsOfBytes why_written made content (Err halts.Memory)
-none_printed made None = tt
-none_printed made (Some bytes) = tt
-
-pub none_left : (made : List ℕ → Made Shown) (content : Option (List ℕ)) (r : Result Answer Halt) → r ≡ Err halts.Memory → PrintsOfBytes why_written made content r
-none_left made content r is = subst (λ (r : Result Answer Halt). PrintsOfBytes why_written made content r) (sym is) (none_printed made content)
