@@ -3,7 +3,5 @@ mod AgreementLaws
 mod DigitLemmas
 mod HexBack
 mod IndexLemmas
-mod LaneLemmas
-mod LineLemmas
 mod ReadLemmas
 mod SpellingLaws

@@ -2,7 +2,6 @@ pub mod Addresses
 pub mod Agreement
 pub mod Answers
 pub mod Listed
-pub mod Reading
 pub mod Rows
 pub mod Spelling
 pub mod Symbols

@@ -3,7 +3,6 @@
 
 mod fault;
 mod index;
-mod lanes;
 mod part;
 mod row;
 mod symbols;
