@@ -1,12 +1,19 @@
 """Is a second reader of the areas in which an address of a dump lies, for `why`: the module whose memory has it, the processor whose area has it, and
 the task whose stack has it. It stands on `verdict.py`, and shares no code with the program.
 """
+import bisect
+
 from plans.reader import TOP, Broken, Refused, address
 from second.rings import first_of, reached
 from second.verdict import tasks
 
 PROCESSORS = 8192
 NO_VARIABLE = ("__per_cpu_start", "kexec_control_code_size")
+
+
+def kernel_byte(kernel, at):
+    """The byte at an address."""
+    return kernel.memory.number(at, 0, 8)[0]
 
 
 def shown(name):
@@ -70,11 +77,76 @@ class Areas:
         def in_part(module, path):
             base, size = (kernel.field(module, "module", f"{path}.{name}")[0] for name in ("base", "size"))
             if base and base <= at < base + size:
-                return f"{shown(self.text(module + kernel.byte('module', 'name'), most))}+{at - base}"
+                return module, base, shown(self.text(module + kernel.byte("module", "name"), most))
             return None
 
         nodes, broken = reached(kernel, head)
         return first_of(nodes, lambda node: first_of(paths, lambda path: in_part((node - link) % TOP, path)), broken)
+
+    def named(self, module):
+        """The symbols of a module but the first that are defined and have a name that isn't a mapping symbol's: values, places in the table and where
+        the names begin, in the order of the values; none where a symbol can't be read, or where it has more than 2^20.
+        """
+        kernel = self.kernel
+        table = kernel.field(module, "module", "kallsyms")[0]
+        first, count, names = (kernel.field(table, "mod_kallsyms", name)[0] for name in ("symtab", "num_symtab", "strtab"))
+        if count > 1 << 20:
+            return []
+        found = []
+        for place in range(1, count):
+            head, value = (kernel.memory.place((first + 24 * place + byte) % TOP)[3] for byte in (0, 8))
+            name, section = (names + (head & 0xFFFFFFFF)) % TOP, head >> 48
+            if section:
+                found.append((value, place, name))
+        return sorted(found)
+
+    def has_name(self, at):
+        """Whether a symbol's name is one of a symbol; one that can't be read may be."""
+        try:
+            first = kernel_byte(self.kernel, at)
+        except Broken:
+            return True
+        try:
+            start = bytes((first, kernel_byte(self.kernel, (at + 1) % TOP)))
+        except Broken:
+            start = bytes((first,))
+        return start[:1] not in (b"\0", b"$") and start not in (b".L", b"L0")
+
+    def symbol_in(self, at, module, base):
+        """The symbol of a module from a part's first byte on that stands nearest below one of its bytes, with the distance: what `find_kallsyms_symbol` of
+        the kernel's kernel/module/kallsyms.c takes.
+        """
+        if module not in self.kept:
+            try:
+                self.kept[module] = self.named(module)
+            except (Broken, Refused):
+                self.kept[module] = []
+        # those that stand nearest, of which the first with a name counts
+        below, symbols = None, self.kept[module]
+        for value, place, name in reversed(symbols[: bisect.bisect_right(symbols, (at, TOP))]):
+            if value < base or below is not None and value != below[0]:
+                break
+            if self.has_name(name):
+                below = value, name
+        if below is None:
+            return None
+        text = self.text(below[1], 255)
+        return f"{shown(text)}+{at - below[0]}" if text else None
+
+    def module_lines(self, at):
+        """The lines of the module that has an address, and of its symbol."""
+        owner = []
+
+        def found_in(address):
+            found = self.module(address)
+            owner.extend([found] if found else [])
+            return found and f"{found[2]}+{address - found[1]}"
+
+        lines = self.told("module", found_in, at)
+        for module, base, name in owner:
+            symbol = self.symbol_in(at, module, base)
+            lines += [f"symbol {symbol} [{name}]"] if symbol else []
+        return lines
 
     def variable(self, first, at):
         """The symbol nearest below an address, from the first one on, where it isn't the area's own."""
@@ -153,7 +225,7 @@ class Areas:
 
     def lines(self, at, slab):
         """The lines of an address outside the image, which may lie in a slab."""
-        lines = self.told("module", self.module, at) + self.told("percpu", self.processor, at)
+        lines = self.module_lines(at) + self.told("percpu", self.processor, at)
         return lines if slab else lines + self.told("stack", self.stack, at)
 
 

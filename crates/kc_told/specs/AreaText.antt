@@ -6,7 +6,9 @@ use Rattle.kc_owner.specs.declared.area.areas.Areas.{Areas}
 use Rattle.kc_owner.specs.declared.area.modules.InModule.{InModule}
 use Rattle.kc_owner.specs.declared.area.processors.InProcessor.{InProcessor}
 use Rattle.kc_owner.specs.declared.area.stacks.InStack.{InStack}
+use Rattle.kc_module_symbols.specs.declared.told.ModuleSymbol.{ModuleSymbol}
 use Rattle.kc_sight.specs.Nearest.{SymbolAt}
+use Rattle.kc_told.specs.ModuleSymbols.{module_symbol_lines}
 use Rattle.kc_told.specs.ObjectText.{unknown_text}
 use Rattle.kc_told.specs.Text.{symbol_text}
 
@@ -33,5 +35,7 @@ stack_line (Ok None) = []
 stack_line (Ok (Some s)) = codes "stack " ++ decimal s.pid ++ codes " " ++ map visible s.comm ++ codes "+" ++ decimal s.byte ++ codes "\n"
 stack_line (Err v) = codes "stack" ++ unknown_text v
 
-abbrev pub area_lines : (ℕ → ℕ → Option SymbolAt) → Areas → List ℕ
-area_lines from a = module_line a.module_found ++ processor_line from a.processor_found ++ stack_line a.stack_found
+-- all of them, with the symbol of the module
+abbrev pub area_lines : (ℕ → ℕ → Option SymbolAt) → Areas → Option ModuleSymbol → List ℕ
+area_lines from a symbol =
+    module_line a.module_found ++ module_symbol_lines a.module_found symbol ++ processor_line from a.processor_found ++ stack_line a.stack_found

@@ -29,6 +29,9 @@ use Rattle.kc_slab_page.specs.Marks.{marked, slab_mark}
 use Rattle.kc_slab_page.specs.Slabs.{is_laid}
 use Rattle.kc_frame.specs.declared.frame.FrameWords.{FrameWords}
 use Rattle.kc_frame.specs.Shapes.{frame_shape}
+use Rattle.kc_module_symbols.specs.declared.shape.SymbolShape.{SymbolShape}
+use Rattle.kc_module_symbols.specs.declared.told.ModuleSymbol.{ModuleSymbol}
+use Rattle.kc_module_symbols.specs.Shapes.{symbol_shape}
 use Rattle.kc_slab_scan.specs.declared.cpu_object.SlabObject.{SlabObject}
 use Rattle.kc_slab_scan.specs.declared.cpu_words.CpuShape.{CpuShape}
 use Rattle.kc_slab_scan.specs.CpuObjects.{object_spot}
@@ -38,6 +41,7 @@ use Rattle.kc_told.specs.declared.span.Bounds.{Bounds}
 use Rattle.kc_told.specs.declared.told.PageWords.{PageWords}
 use Rattle.kc_told.specs.Framed.{frame_in}
 use Rattle.kc_told.specs.Inside.{Kept, object_at}
+use Rattle.kc_told.specs.ModuleSymbols.{symbol_in}
 use Rattle.kc_told.specs.Named.{named_in}
 use Rattle.kc_told.specs.Spans.{span_at}
 use Rattle.kc_sight.specs.Holders.{holders}
@@ -51,13 +55,15 @@ pub record Shapes : Type 0 where
   pub objects : Option PageWords
   pub cpus : Option CpuShape
   pub areas : AreaShape
+  pub symbols : Option SymbolShape
   pub end : Option ℕ
   pub holding : Image → ℕ → List SymbolAt
 
--- the areas in which an address lies, what holds it, what its page's descriptor says, where a processor's own free list has the object, where that is asked for, the symbols
+-- the areas in which an address lies, the symbol of its module, what holds it, what its page's descriptor says, where a processor's own free list has the object, where that is asked for, the symbols
 -- whose words hold the address of the object's cache, what the object says it is, and how far words that say the same go on around it
 pub record Told : Type 0 where
   pub areas : Areas
+  pub symbol : Option ModuleSymbol
   pub held : Option (Result Held Violation)
   pub frame : Option FrameWords
   pub kept : Kept
@@ -169,6 +175,7 @@ named_of image shapes kept held = named_in image shapes.objects shapes.areas.sta
 abbrev pub told_with : Image → Shapes → ℕ → Option (Result Held Violation) → Option Bounds → Told
 told_with image shapes address held span = record {
   areas = areas_by image shapes address held;
+  symbol = symbol_in image shapes.symbols address (areas_by image shapes address held).module_found;
   held = held;
   frame = frame_in image shapes.objects held;
   kept = kept_by image shapes.cpus (sought held);
@@ -201,6 +208,7 @@ shapes_by types rows told note = record {
   objects = page_words (kernel_by types rows told) note;
   cpus = cpu_shape (kernel_by types rows told);
   areas = area_shape (kernel_by types rows told);
+  symbols = symbol_shape (kernel_by types rows told);
   end = (image_parts told.kaslr rows).end;
   holding = λ image value. holders image (image_parts told.kaslr rows) told.kaslr value rows;
 }

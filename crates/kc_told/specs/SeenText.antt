@@ -33,8 +33,8 @@ holding_lines address t = object_lines t.holders t.kept t.frame t.held ++ named_
 -- all lines
 abbrev pub seen_text : MapSymbols → Sight → Told → List NearWord → List ℕ
 seen_text m s t near =
-    head_lines m.image s.address ++ area_lines m.from t.areas ++ sight_lines m.image s near ++ holding_lines s.address t
+    head_lines m.image s.address ++ area_lines m.from t.areas t.symbol ++ sight_lines m.image s near ++ holding_lines s.address t
 
--- what is told of an address alone: its symbol, its areas, and what holds it
+-- what is told of an address alone: its symbol, its areas with that of its module, and what holds it
 abbrev pub told_lines : MapSymbols → ℕ → Told → List ℕ
-told_lines m address t = symbol_line (m.image address) address ++ area_lines m.from t.areas ++ holding_lines address t
+told_lines m address t = symbol_line (m.image address) address ++ area_lines m.from t.areas t.symbol ++ holding_lines address t

@@ -10,10 +10,10 @@ use Rattle.kc_told.specs.NearText.{InObject}
 use Rattle.kc_told.specs.Objects.{Shapes, Told}
 
 abbrev pub shapes_view : CodeShapes → Shapes
-shapes_view s = record { objects = s.words.objects; cpus = s.words.cpus; areas = s.words.areas; end = s.map.parts.end; holding = λ image value. symbols_holding image s.map value }
+shapes_view s = record { objects = s.words.objects; cpus = s.words.cpus; areas = s.words.areas; symbols = s.words.symbols; end = s.map.parts.end; holding = λ image value. symbols_holding image s.map value }
 
 abbrev pub told_view : CodeTold → Told
-told_view t = record { areas = t.areas; held = t.held; frame = t.frame; kept = t.kept; holders = map symbol_view t.holders.items; named = t.named; span = t.span }
+told_view t = record { areas = t.areas; symbol = t.symbol; held = t.held; frame = t.frame; kept = t.kept; holders = map symbol_view t.holders.items; named = t.named; span = t.span }
 
 abbrev pub in_object_view : CodeInObject → InObject
 in_object_view o = record { name = o.name.now; byte = o.byte; mark = o.mark.now }

@@ -3,9 +3,11 @@ ghost use Rattle.std.specs.Prelude.{◌≡◌, ◌++◌, option_map, OnOk};
 ghost use Rattle.kc_sight.specs.Views.{symbol_view, symbols_from};
 ghost use Rattle.kc_told.specs.AreaText.{area_lines, module_line, processor_line, stack_line, variable_text};
 
+use crate::module_symbol::push_module_symbol;
 use crate::object_text::push_unknown;
 use crate::text::push_symbol;
 use kc_found::Found;
+use kc_module_symbols::ModuleSymbol;
 use kc_owner::{Areas, InModule, InProcessor, InStack};
 use kc_sight::{ImageMap, Symbol};
 use kc_text::{push, push_name, push_numbered};
@@ -88,11 +90,17 @@ fn push_stack(text: &mut Vec<u8>, stack: &Result<Option<InStack>, Found>) -> Res
     }
 }
 
-/// Adds the lines of the areas in which an address lies.
-pub fn push_areas(text: &mut Vec<u8>, image: &ImageMap<'_>, areas: &Areas) -> Result<(), NoMemory>
-    ensures { OnOk result (text.new.items ≡ text.old.items ++ area_lines (symbols_from image.now) areas.now) }
+/// Adds the lines of the areas in which an address lies, with the symbol of its module.
+pub fn push_areas(
+    text: &mut Vec<u8>,
+    image: &ImageMap<'_>,
+    areas: &Areas,
+    symbol: &Option<ModuleSymbol>,
+) -> Result<(), NoMemory>
+    ensures { OnOk result (text.new.items ≡ text.old.items ++ area_lines (symbols_from image.now) areas.now symbol.now) }
 {
     push_module(text, &areas.module_found)?;
+    push_module_symbol(text, &areas.module_found, symbol)?;
     push_processor(text, image, &areas.processor_found)?;
     push_stack(text, &areas.stack_found)
 }

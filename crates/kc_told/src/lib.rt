@@ -5,6 +5,7 @@
 mod area_text;
 mod framed;
 mod inside;
+mod module_symbol;
 mod named;
 mod near;
 mod near_text;

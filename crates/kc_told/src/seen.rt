@@ -37,7 +37,7 @@ pub fn seen_text(
 {
     let mut text = Vec::new(alloc);
     push_head(&mut text, image, seen.sight.address)?;
-    push_areas(&mut text, image, &seen.told.areas)?;
+    push_areas(&mut text, image, &seen.told.areas, &seen.told.symbol)?;
     push_sight(&mut text, image, &seen.sight, &seen.near)?;
     push_holding(&mut text, seen.sight.address, &seen.told)?;
     Ok(text)
@@ -57,6 +57,6 @@ pub fn push_told(
     ensures { OnOk result (text.new.items ≡ text.old.items ++ told_lines (map_symbols image.now) address (told_view told.now)) }
 {
     push_symbol_line(text, image.symbol(address), address)?;
-    push_areas(text, image, &told.areas)?;
+    push_areas(text, image, &told.areas, &told.symbol)?;
     push_holding(text, address, told)
 }

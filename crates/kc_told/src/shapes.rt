@@ -6,6 +6,7 @@ ghost use Rattle.kc_syms.specs.Symbols.{symbol};
 ghost use Rattle.kc_view.specs.TaskLists.{IsInside};
 ghost use Rattle.kc_owner.specs.Area.Shapes.{area_shape};
 ghost use Rattle.kc_kinds.specs.Kernels.{kernel};
+ghost use Rattle.kc_module_symbols.specs.Shapes.{symbol_shape};
 ghost use Rattle.kc_sight.specs.Nearest.{parts_by};
 ghost use Rattle.kc_slab_scan.specs.CpuShapes.{cpu_shape};
 ghost use Rattle.kc_told.specs.Objects.{kernel_with, page_words, shapes_by};
@@ -17,6 +18,7 @@ use kc_btf::Btf;
 use kc_frame::frame_shape;
 use kc_kinds::Known;
 use kc_layout::Names;
+use kc_module_symbols::symbol_shape;
 use kc_notes::Info;
 use kc_owner::{area_shape, object_shape};
 use kc_sight::{ImageMap, ImageParts, know_sights};
@@ -48,6 +50,7 @@ fn words_in(
     ensures objects { IfOk result (λ words. words.objects ≡ page_words (kernel_with types.now (symbol symbols.now) info) note.now) }
     ensures cpus { IfOk result (λ words. words.cpus ≡ cpu_shape (kernel_with types.now (symbol symbols.now) info)) }
     ensures areas { IfOk result (λ words. words.areas ≡ area_shape (kernel_with types.now (symbol symbols.now) info)) }
+    ensures symbols { IfOk result (λ words. words.symbols ≡ symbol_shape (kernel_with types.now (symbol symbols.now) info)) }
     ensures tasks { IfOk result (λ words. IfSome words.areas.stacks (λ shape. IsInside shape.tasks types.now)) }
 {
     let names = Names::new(alloc, types)?;
@@ -62,6 +65,7 @@ fn words_in(
         objects: page_words(&known, note),
         cpus: cpu_shape(&known),
         areas: area_shape(&known),
+        symbols: symbol_shape(&known),
     })
 }
 

@@ -15,6 +15,7 @@ ghost use Rattle.kc_told.specs.Views.{shapes_view, told_view};
 ghost use Rattle.kc_found.specs.Failures.{CountsFailures};
 
 use crate::framed::tell_frame;
+use crate::module_symbol::tell_symbol;
 use crate::named::{Named, tell_named};
 use crate::near::{NearWord, near_words};
 use crate::object_text::NEGATIVE;
@@ -23,6 +24,7 @@ use kc_btf::Btf;
 use kc_found::{Found, Grid, ReadFailed, WalkStop};
 use kc_frame::{FrameShape, FrameWords};
 use kc_memory::Space;
+use kc_module_symbols::{ModuleSymbol, SymbolShape};
 use kc_owner::{
     AreaShape, Areas, Cache, Held, ObjectShape, Slab, Spot, find_object, read_areas, view_at,
 };
@@ -56,6 +58,8 @@ pub struct Words {
     pub cpus: Option<CpuShape>,
     /// Those of areas.
     pub areas: AreaShape,
+    /// Those of the symbols of modules, where it has them.
+    pub symbols: Option<SymbolShape>,
 }
 
 impl Words {
@@ -84,6 +88,8 @@ pub type Kept = Option<Result<Option<CpuSpot>, Found>>;
 pub struct Told<'m> {
     /// The areas in which it lies; of an address of the image none is asked for.
     pub areas: Areas,
+    /// The symbol of its module that stands nearest below it, where one is told.
+    pub symbol: Option<ModuleSymbol>,
     /// What holds it, or why its page can't be told; `None` where its word can't be read, or the kernel lacks what that asks for.
     pub held: Option<Result<Held, Found>>,
     /// What its page's descriptor says, where that page is told.
@@ -399,11 +405,14 @@ fn tell<'m, S: Space, L: Ledger>(
     let held = tell_held(alloc, space, types, &words.objects, address, word, steps)?;
     let frame = tell_frame(alloc, space, types, &words.objects, &held, steps)?;
     let areas = tell_outside(alloc, space, types, shapes, address, &held, steps)?;
+    let found = &areas.module_found;
+    let symbol = tell_symbol(alloc, space, types, &words.symbols, found, address, steps)?;
     let kept = tell_kept(alloc, space, types, &words.cpus, sought(&held), steps)?;
     let holders = tell_holders(alloc, space, &shapes.map, shared_in(&held), steps)?;
     let named = tell_named(alloc, space, types, words, &held, &kept, steps)?;
     Ok(Told {
         areas,
+        symbol,
         held,
         frame,
         kept,

@@ -1,0 +1,7 @@
+pub mod Laws
+pub mod Names
+pub mod Nearest
+pub mod Shapes
+pub mod Symbols
+pub mod Text
+pub mod Told
