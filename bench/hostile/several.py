@@ -5,8 +5,9 @@ usage: several PROGRAMS FOLDER [COUNT [SEED [SHOWN]]]
 FOLDER has a dump with its plans (README.md). The words that each audit reads are found by the second reader (some minutes), and kept in files
 `.places` beside the plans. Of each way COUNT damages (14, seed 1) are made in a copy of the dump, one at a time and put back; one that `check`
 doesn't notice is passed over. Counts by way: `true` one word repairs, and it is an old one, `other` and `fits` another number, `chain` several words
-repair together and each is an old one, `mixed` some of them aren't, `none`; and how many have each sign of damage. With the numbers that are printed
-the root that they stand under has to be clean, by `check`; ends with 1 where it isn't. With SHOWN (a way, or one of these words) prints each such damage.
+repair together and each is an old one, `mixed` some of them aren't, `none`; how many have each sign of damage; and how many are `named` as what they are:
+by the way's own sign, or by what a word that was written over says (zero, text, 6b), with how far that goes. With the numbers that are printed the root that
+they stand under has to be clean, by `check`; ends with 1 where it isn't. With SHOWN (a way, one of these words, or `unnamed`) prints each such damage.
 """
 import collections
 import json
@@ -25,6 +26,9 @@ from second.suspects import Causes
 SIGN = re.compile(r"^(twice|deleted|beside|copy of) \w{16}$", re.M)
 SIGNS = "twice", "deleted", "beside", "copy of"
 KINDS = "true", "other", "fits", "chain", "mixed", "none"
+# By what each way is named: its sign, or what its words say.
+SIGNED = {"poisons": "deleted", "added": "twice", "moved": "beside", "other": "copy of"}
+SAYS = {"zeros": "zero", "page_zeros": "zero", "text": "text", "page_text": "text", "freed": "pattern 6b", "poisons": "unlisted"}
 LINE = re.compile(r"^(repair|fits|word) \w{16} \w{16} (\w{16}) (\w{16}) (\w{16})$", re.M)
 POISONS = 0xDEAD000000000100, 0xDEAD000000000122
 TEXT = b"GET /index.html HTTP/1.1\r\nHost: kernel.example\r\nUser-Agent: x/1\r\n"
@@ -123,12 +127,13 @@ class Ways:
         return {found[0] + 8: self.data[found[0] : found[0] + found[1] - 8]} if found else None
 
     def added(self, plan):
-        """A node that is listed is added once more, after another one of its ring."""
+        """A node that is listed is added once more, after another one of its ring: earlier, or further on."""
         offset, va = self.rng.choice(self.nodes[plan])
-        before = self.word(offset + 8)
+        pointer = self.rng.choice((0, 8))
+        before = self.word(offset + pointer)
         try:
             for _ in range(self.rng.randrange(1, 4)):
-                before = self.word(self.offset(before) + 8)
+                before = self.word(self.offset(before) + pointer)
             after = self.word(self.offset(before))
             words = {self.offset(after) + 8: va, offset: after, offset + 8: before, self.offset(before): va}
         except Broken:
@@ -145,6 +150,14 @@ class Ways:
         """What another object of the same size holds."""
         one, two = self.object(self.any_word(plan)[1]), self.object(self.any_word(plan)[1])
         return {one[0]: self.data[two[0] : two[0] + one[1]]} if one and two and one[0] != two[0] and one[1] == two[1] else None
+
+
+def is_named(name, text, new):
+    """Whether what kwhy prints names a damage by this way: its sign, or what a word says that was written over."""
+    if name in SIGNED and re.search(f"^{SIGNED[name]} ", text, re.M):
+        return True
+    said = re.finditer(rf"^place \S+ \S+ (\w{{16}}) \w{{16}}\nsays {SAYS.get(name, '-')}", text, re.M)
+    return any(at <= int(found[1], 16) < at + len(part) for found in said for at, part in new.items())
 
 
 NAMES = "zeros", "poisons", "text", "freed", "moved", "added", "page_text", "page_zeros", "other"
@@ -220,12 +233,14 @@ def main(words):
                 rule, kind, holds, seconds, text = found
                 seen[name][kind] += 1
                 seen[name].update(set(SIGN.findall(text)))
+                named = is_named(name, text, new)
+                seen[name]["named"] += named
                 bad, slowest = bad + (not holds), max(slowest, seconds)
-                if shown in (kind, name) or not holds:
+                if shown in (kind, name, "named" if named else "unnamed") or not holds:
                     print(f"{name} {kind} {plan} {' '.join(f'{at:x}' for at in new)} {seconds:.1f} s\n{text}", flush=True)
                 if sum(seen[name][it] for it in KINDS) == count:
                     break
     for name in NAMES:
-        print(f"{name:12} " + " ".join(f"{kind} {seen[name][kind]:3}" for kind in (*KINDS, *SIGNS)))
+        print(f"{name:12} " + " ".join(f"{kind} {seen[name][kind]:3}" for kind in ("named", *KINDS, *SIGNS)))
     print(f"bad {bad}, slowest {slowest:.1f} s")
     return bad != 0

@@ -774,18 +774,56 @@ class Causes:
             return None
 
     def signs(self, broken):
-        """Where the pointer that is expected stands beside its place, and whether a node has another one's bytes."""
+        """Where the pointer that is expected stands beside its place, and whether a node has another one's bytes, or was added once more further on."""
         text = ""
         if broken.rule in ("L1", "H1", "R1", "X3", "X4") and broken.expected:
             for far in (8, 16) if broken.rule == "L1" else (8, 16, -8, -16):
                 value = self.value(broken.at + far)
                 if value is not None and (value & ~3 if broken.rule == "R1" else value) == broken.expected:
                     text += f"beside {(broken.at + far) % TOP:016x}\n"
-        back = self.value(broken.at) if broken.rule in ("L1", "H1") else None
-        other, node = None if back is None else self.value(back), (broken.at - 8) % TOP
-        if other not in (None, node) and self.value(other + 8) == back and self.value(other) and self.value(other) == self.value(node):
-            text += f"copy of {other:016x}\n"
-        return text
+        other, node = self.copied(broken), (broken.at - 8) % TOP
+        if other is None and broken.rule == "L1" and self.is_again(node, broken.expected):
+            return text + f"twice {node:016x}\n"
+        other = self.copied_head(broken.at) if other is None else other
+        return text + (f"copy of {other:016x}\n" if other is not None else "")
+
+    def is_again(self, node, above):
+        """Whether a ring's node, to which the one before leads, also stands further on: the way back from there comes to it again without the one before."""
+        here = self.value(node + 8)
+        if here in (None, node) or self.value(here) != node:
+            return False
+        for _ in range(LINKS):
+            here = self.value(here + 8)
+            if here in (None, node, above):
+                return here == node
+        return False
+
+    def copied(self, broken):
+        """The node whose bytes another one has, by the pointers of both: of a ring, a hash chain or a tree."""
+        word = self.value(broken.at)
+        if broken.rule in ("L1", "H1") and word is not None:
+            other, node = self.value(word), (broken.at - 8) % TOP
+            if other not in (None, node) and self.value(other + 8) == word and self.value(other) and self.value(other) == self.value(node):
+                return other
+        if broken.rule == "R1" and word is not None:
+            parent = word & ~3
+            pairs = [(broken.at, self.value(parent + far)) for far in (8, 16)] + [(broken.expected, parent)]
+            return next((other for node, other in pairs if None not in (node, other) and self.are_alike(node, other)), None)
+        return None
+
+    def are_alike(self, node, other):
+        """Whether two nodes of a tree have the same words, and another word that isn't 0 and shows it: a child, or both before them."""
+        one, two = ([self.value(at + far) for far in (0, 8, 16, -8, -16)] for at in (node, other))
+        same = [first == second is not None for first, second in zip(one, two)]
+        return node != other and all(same[:3]) and (one[1] != 0 or one[2] != 0 or all(same[3:]) and 0 not in one[3:])
+
+    def copied_head(self, near):
+        """The first head of a list near an address whose pointers lead to another one, which is empty."""
+        for at in range(near // 8 * 8 - 512, near // 8 * 8 + 512, 8):
+            head = self.value(at)
+            if head and head != at % TOP and self.value(at + 8) == head == self.value(head) == self.value(head + 8):
+                return head
+        return None
 
     def place_lines(self, place):
         """A word of a violation, and what lies at its address."""

@@ -20,10 +20,48 @@ import heads
 import planted
 import reader
 import together
-from hostile import tables
+from hostile import several, shown, tables
 from second import kallsyms
 
 MADE = [os.path.join(files.DATA, name) for name in ("z.core", "z.btf", "z.map")]
+
+
+class Shown(unittest.TestCase):
+    """Damages with what kwhy has to say of them."""
+
+    TEXT = ("About them.\n\n## one: a word\nplan a.toml, file offset 10, old 1, new 2f, status 1\n+ root a\n? (repair|fits) NEW OLD\n- repair .*\n@ 40\n+ stack 3 sh+0\n"
+            "\n## two: another\nplan b.toml, file offset 18, old 0, new 1, status 1\n- stack unknown\n")
+
+    def test_reading(self):
+        one, two = shown.cases_of(self.TEXT)
+        self.assertEqual((one.damage.name, one.damage.plan, one.damage.offset, one.damage.old, one.damage.new), ("one", "a.toml", 16, 1, 47))
+        self.assertEqual([part.address for part in one.parts], [None, "40"])
+        self.assertEqual(one.parts[0].one_of, ["(repair|fits) 000000000000002f 0000000000000001"])
+        self.assertEqual((two.damage.name, two.parts), ("two", [shown.Part(None, [], [], ["stack unknown"])]))
+
+    def test_faults(self):
+        part = next(shown.cases_of(self.TEXT)).parts[0]
+        good = "root a\nfits 000000000000002f 0000000000000001\n"
+        self.assertEqual(list(shown.faults(part, good)), [])
+        self.assertEqual(list(shown.faults(part, "root b\nrepair x\n")),
+                         ["lacks: root a", "none is: (repair|fits) 000000000000002f 0000000000000001", "has: repair x"])
+
+    def test_lines_are_whole(self):
+        part = shown.Part(None, ["root a"], [], ["a.c"])
+        self.assertEqual(list(shown.faults(part, "root ab\nxabc\n")), ["lacks: root a"])
+
+    def test_the_file(self):
+        cases = list(shown.cases_of(files.read(shown.HERE, "shown.txt").decode("ascii")))
+        self.assertEqual(len({case.damage.name for case in cases}), len(cases))
+        self.assertTrue(all(case.damage.old != case.damage.new and any(part.wanted or part.one_of for part in case.parts) for case in cases))
+
+    def test_named(self):
+        """By a way's sign, or by a word that was written over."""
+        place = "place 0000000000000040 0000000000000040 0000000000000048 0000000000000000\nsays zero\nspan 0000000000000040 0000000000000047\n"
+        self.assertTrue(several.is_named("zeros", place, {0x40: bytes(16)}))
+        self.assertFalse(several.is_named("zeros", place, {0x50: bytes(16)}))
+        self.assertFalse(several.is_named("text", place, {0x40: bytes(16)}))
+        self.assertTrue(several.is_named("other", "x\ncopy of 0000000000000040\n", {}))
 
 
 class Together(unittest.TestCase):

@@ -1,4 +1,5 @@
 mod ChainLemmas
+mod CopyLemmas
 mod FileLemmas
 mod Fits
 mod ItemLemmas

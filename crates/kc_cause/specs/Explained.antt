@@ -44,7 +44,7 @@ use Rattle.kc_slabs.specs.OfCache.{cache_line, of_cache, slab_shapes}
 use Rattle.kc_question.specs.Memory.{bytes_of, image_of}
 use Rattle.kc_audit.specs.Audits.{names_of, plan_over}
 use Rattle.kc_cause.specs.Rings.{ring_lines}
-use Rattle.kc_cause.specs.Signs.{shown_signs}
+use Rattle.kc_cause.specs.Copies.{shown_signs}
 use Rattle.kc_cause.specs.Suspected.{Suspected, suspected}
 use Rattle.kc_cause.specs.Lines.{bytes_line, named_lines, number_lines, repair_lines}
 

@@ -1,4 +1,5 @@
 pub mod Chained
+pub mod Copies
 pub mod Explained
 pub mod Files
 pub mod Judged

@@ -79,9 +79,6 @@ is_of_links L1 = true
 is_of_links H1 = true
 is_of_links _ = false
 
-abbrev pub found_sign : Image → Violation → Option Sign
-found_sign image v = if is_of_links v.rule then list_sign image v else None
-
 -- Which rules expect a pointer in a whole word: of a tree's node one that has the colour in its lowest bits (include/linux/rbtree_augmented.h, `rb_parent`).
 abbrev pub is_of_pointer : Rule → Bool
 is_of_pointer L1 = true
@@ -124,7 +121,3 @@ pointer_lines image rule at number = if number == 0 then [] else around_lines im
 
 abbrev pub beside_lines : Image → Violation → List ℕ
 beside_lines image v = if is_of_pointer v.rule then option_map_or (pointer_lines image v.rule v.at) v.expected [] else []
-
--- all that these words show
-abbrev pub shown_signs : Image → Violation → List ℕ
-shown_signs image v = beside_lines image v ++ sign_lines (found_sign image v)

@@ -2,6 +2,7 @@
 #![tactic(auto)]
 
 mod chain;
+mod copies;
 mod explained;
 mod files;
 mod judged;

@@ -3,8 +3,10 @@ ghost use Rattle.std.specs.Prelude.{◌≡◌, ◌++◌, ◌==◌, codes, false,
 ghost use Rattle.std.specs.Option.{option_map_or};
 ghost use Rattle.kc_text.specs.Text.{hex};
 ghost use Rattle.kc_repair.specs.Suspect.Answers.{OnlyReads};
-ghost use Rattle.kc_cause.specs.Signs.{around_lines, before_lines, behind_lines, beside_line, beside_lines, is_copied, is_deleted, found_sign, is_of_links, is_of_list, is_of_parent, is_of_pointer, is_shared, is_some_of, is_twice, led_sign, list_sign, number_at, pointer_lines, pointer_of, prev_sign, same_at, shown_signs, sign_by, sign_line, sign_lines, sign_of};
+ghost use Rattle.kc_cause.specs.Copies.{shown_signs};
+ghost use Rattle.kc_cause.specs.Signs.{around_lines, before_lines, behind_lines, beside_line, beside_lines, is_copied, is_deleted, is_of_links, is_of_list, is_of_parent, is_of_pointer, is_shared, is_some_of, is_twice, led_sign, list_sign, number_at, pointer_lines, pointer_of, prev_sign, same_at, sign_by, sign_line, sign_lines, sign_of};
 
+use crate::copies::found_sign;
 use kc_found::{Found, ReadFailed, Rule, Space};
 use kc_repair::Suspect;
 use kc_sight::read_word;
@@ -17,14 +19,14 @@ const POISON_NEXT: u64 = 0xdead_0000_0000_0100;
 
 const POISON_PREV: u64 = 0xdead_0000_0000_0122;
 
-// How a ring's node came to be wrong.
+// How a node or an object came to be wrong.
 #[derive(Clone, Copy, Debug, PartialEq, Eq)]
 pub(crate) enum Sign {
     // The node at this virtual address was added once more, and was left where it stood.
     Twice(u64),
     // The node at this virtual address was taken out, and others still lead to it.
     Deleted(u64),
-    // Its bytes are those of the node at this virtual address.
+    // Its bytes are those of the node, or of the list's head, at this virtual address.
     Copied(u64),
 }
 
@@ -99,7 +101,7 @@ pub(crate) fn sign_of(words: &[Suspect]) -> Option<Sign>
 }
 
 // The number at a virtual address, where it can be read.
-fn read_number<M: Space, L: Ledger>(
+pub(crate) fn read_number<M: Space, L: Ledger>(
     memory: &mut M,
     at: u64,
     steps: &mut Steps<L>,
@@ -113,7 +115,7 @@ fn read_number<M: Space, L: Ledger>(
     }
 }
 
-fn is_some_of(value: u64, found: Option<u64>) -> bool
+pub(crate) fn is_some_of(value: u64, found: Option<u64>) -> bool
     ensures { result ≡ is_some_of value found }
 {
     match found {
@@ -122,14 +124,14 @@ fn is_some_of(value: u64, found: Option<u64>) -> bool
     }
 }
 
-fn is_shared(found: Option<u64>, number: u64) -> bool
+pub(crate) fn is_shared(found: Option<u64>, number: u64) -> bool
     ensures { result ≡ is_shared found number }
 {
     number != 0 && is_some_of(number, found)
 }
 
 // Whether two virtual addresses hold the same number, which isn't 0.
-fn same_at<M: Space, L: Ledger>(
+pub(crate) fn same_at<M: Space, L: Ledger>(
     memory: &mut M,
     one: u64,
     other: u64,
@@ -197,35 +199,33 @@ fn prev_sign<M: Space, L: Ledger>(
     }
 }
 
+// What the words of a ring's or a hash chain's node show.
+pub(crate) fn list_sign<M: Space, L: Ledger>(
+    memory: &mut M,
+    found: &Found,
+    steps: &mut Steps<L>,
+) -> Result<Option<Sign>, ReadFailed>
+    ensures sign { IfOk result (λ sign. IfSome (M.image memory.old) (λ image. sign ≡ list_sign image found.now)) }
+    ensures reads { OnlyReads M.image M.files M.through M.most M.faults result memory.old memory.new }
+{
+    match read_number(memory, found.at, steps)? {
+        Some(prev) => prev_sign(memory, found.at.wrapping_sub(8), prev, steps),
+        None => Ok(None),
+    }
+}
+
 // Whether a rule is about the pointer of a ring's or a hash chain's node that leads back.
-fn is_of_links(rule: Rule) -> bool
+pub(crate) fn is_of_links(rule: Rule) -> bool
     ensures { result ≡ is_of_links rule }
 {
     matches!(rule, Rule::L1 | Rule::H1)
 }
 
 // Whether it is about the `prev` of a list's node.
-fn is_of_list(rule: Rule) -> bool
+pub(crate) fn is_of_list(rule: Rule) -> bool
     ensures { result ≡ is_of_list rule }
 {
     matches!(rule, Rule::L1)
-}
-
-fn found_sign<M: Space, L: Ledger>(
-    memory: &mut M,
-    found: &Found,
-    steps: &mut Steps<L>,
-) -> Result<Option<Sign>, ReadFailed>
-    ensures sign { IfOk result (λ sign. IfSome (M.image memory.old) (λ image. sign ≡ found_sign image found.now)) }
-    ensures reads { OnlyReads M.image M.files M.through M.most M.faults result memory.old memory.new }
-{
-    if !is_of_links(found.rule) {
-        return Ok(None);
-    }
-    match read_number(memory, found.at, steps)? {
-        Some(prev) => prev_sign(memory, found.at.wrapping_sub(8), prev, steps),
-        None => Ok(None),
-    }
 }
 
 // Whether a rule expects a pointer in a whole word.
@@ -236,7 +236,7 @@ fn is_of_pointer(rule: Rule) -> bool
 }
 
 // Whether it is about the parent of a tree's node.
-fn is_of_parent(rule: Rule) -> bool
+pub(crate) fn is_of_parent(rule: Rule) -> bool
     ensures { result ≡ is_of_parent rule }
 {
     matches!(rule, Rule::R1)
