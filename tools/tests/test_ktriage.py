@@ -265,8 +265,8 @@ class Pages(Folder):
         self.assertEqual((out.count("BROKEN  slab of dentry"), out.count("BROKEN  processor 1 slab of a name"), "2 slabs are broken" in out), (0, 1, True))
 
     def test_the_rules_of_slabs_are_said_as_kwhy_says_them(self):
-        with open(os.path.join(TOP, "crates", "kc_cause", "src", "sentences.rt")) as file:
-            said = dict(re.findall(r'Rule::(\w+) => b"([^"]*)"', file.read()))
+        with open(os.path.join(TOP, "crates", "kc_rules", "src", "table.rt")) as file:
+            said = dict(re.findall(r'Rule::(\w+) => row\(\s*b"\w+",\s*b"([^"]*)"', file.read()))
         rules = {rule: text for rule, text in ktriage.SLAB_RULES.items() if rule[0] != "Z"}
         self.assertEqual({rule: said[rule] for rule in rules}, rules)
 

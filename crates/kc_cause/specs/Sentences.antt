@@ -1,50 +1,8 @@
 -- What each rule says, in a sentence.
-use Rattle.std.specs.Prelude.{ℕ, List, codes}
+use Rattle.std.specs.Prelude.{ℕ, List}
 use Rattle.kc_memory.specs.declared.rule.Rule.{Rule}
-use Rattle.kc_memory.specs.declared.rule.Rule.TheVariants.{M1, M2, M3, M4, M5, M6, N, K, A, L1, H1, R1, R2, R3, R4, R5, R6, X1, X2, X3, X4, X5, X6, X7, X8, X9, U1, U2, U3, U4, U5, U6, U7, T1, T2, T3, T4, T5, T6, T7, G1, G2, C}
+use Rattle.kc_rules.specs.Rules.{row_of}
 
 -- what is wrong where it is broken
 abbrev pub sentence : Rule → List ℕ
-sentence M1 = codes "the address of a word isn't a multiple of 8"
-sentence M2 = codes "the address of a word isn't canonical"
-sentence M3 = codes "an entry of the page tables isn't in the dump"
-sentence M4 = codes "an entry of the page tables isn't present"
-sentence M5 = codes "an entry of the page tables has a reserved bit set"
-sentence M6 = codes "the word at the address isn't in the dump"
-sentence N = codes "a pointer is null where one must lead on"
-sentence K = codes "a list's pointer is the value of a node that was taken out"
-sentence A = codes "a word is met twice in one walk"
-sentence L1 = codes "prev isn't the node before"
-sentence H1 = codes "pprev isn't the address of the pointer that leads here"
-sentence R1 = codes "the parent isn't the node above"
-sentence R2 = codes "the node at the top is red"
-sentence R3 = codes "a red node is below a red one"
-sentence R4 = codes "the key is out of order against a node above"
-sentence R5 = codes "a way down passes another number of black nodes than the first"
-sentence R6 = codes "rb_leftmost isn't the first node"
-sentence X1 = codes "shift isn't that of the node's level"
-sentence X2 = codes "offset isn't the number of the node's slot"
-sentence X3 = codes "parent isn't the node above"
-sentence X4 = codes "array isn't the xarray"
-sentence X5 = codes "count isn't the number of slots in use"
-sentence X6 = codes "nr_values isn't the number of slots with values"
-sentence X7 = codes "an entry can't stand in its slot"
-sentence X8 = codes "a sibling entry names no entry that has siblings"
-sentence X9 = codes "a node hangs below the lowest level"
-sentence U1 = codes "the slab names another cache"
-sentence U2 = codes "the slab belongs to a processor"
-sentence U3 = codes "a size or a number of objects can't be"
-sentence U4 = codes "the slab isn't a page's descriptor"
-sentence U5 = codes "a free pointer leads to no object of the slab"
-sentence U6 = codes "the free list isn't as long as objects less inuse"
-sentence U7 = codes "the list of partial slabs isn't as long as nr_partial"
-sentence T1 = codes "group_leader isn't the leader of the thread"
-sentence T2 = codes "the leader's pid isn't its tgid"
-sentence T3 = codes "signal isn't the leader's"
-sentence T4 = codes "tgid isn't the leader's"
-sentence T5 = codes "real_parent isn't the task that lists the child"
-sentence T6 = codes "the magic number at the end of the stack is gone"
-sentence T7 = codes "the leader isn't among its threads"
-sentence G1 = codes "the number of the process id isn't its index in the table"
-sentence G2 = codes "thread_pid isn't the process id whose chain the task is on"
-sentence C = codes "a check of the plan isn't met"
+sentence rule = (row_of rule).says

@@ -11,4 +11,3 @@ pub mod NodeBytes
 pub mod Slots
 pub mod Suspects
 pub mod Trees
-pub mod Ways

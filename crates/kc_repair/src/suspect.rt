@@ -16,7 +16,6 @@ mod slots;
 mod suspect;
 mod suspecting;
 mod trees;
-mod way;
 mod words;
 
 pub use laws::know_suspects;

@@ -4,17 +4,18 @@ use Rattle.std.proofs.lemmas.List.Elements.{All-nil, All-cons, All-head, All-tai
 use Rattle.std.proofs.lemmas.Bool.{lt-ltb}
 use Rattle.std.proofs.lemmas.Bool.Decides.{nat_tests}
 use Rattle.kc_memory.specs.declared.rule.Rule.{Rule}
-use Rattle.kc_memory.specs.declared.rule.Rule.TheVariants.{M1, M2, M3, M4, M5, M6, N, K, A, L1, H1, R1, R2, R3, R4, R5, R6, X1, X2, X3, X4, X5, X6, X7, X8, X9, U1, U2, U3, U4, U5, U6, U7, T1, T2, T3, T4, T5, T6, T7, G1, G2, C}
+use Rattle.kc_memory.specs.declared.rule.Rule.TheVariants.{M1, M3, M4, M5, M6}
 use Rattle.kc_memory.specs.declared.words.Origin.{Origin}
 use Rattle.kc_memory.specs.declared.words.Origin.TheVariants.{File, Tail}
 use Rattle.kc_memory.specs.declared.words.Place.{Place}
 use Rattle.kc_word.specs.Hex.{hex_digits}
 use Rattle.kc_text.specs.Format.{Format, Anything, Nothing, NoMore, Stops, IsRead, IsFormat, IsWhole}
 use Rattle.kc_text.specs.Reading.{and_then}
-use Rattle.kc_text.specs.Readers.{literal, name_and, decimal_and, decimal_below, hex16, read_hex_digits, digit_from, IsAmong}
+use Rattle.kc_text.specs.Readers.{literal, name_and, decimal_and, decimal_below, hex16, read_hex_digits, digit_from}
 use Rattle.kc_text.specs.Compose.{EndsAt, both, mapped, either, ends, after, followed, texts, lines}
-use Rattle.kc_laws.specs.Formats.{both-law, joined-law, mapped-law, nothing-law, either-law, ok_is, err_is, ok_not_err, literal-law, name-law, below-law, decimal-law, hex-law, digit-law, after-law, followed-law, reread-law, one-law, ends-by-first, lines-law}
-use Rattle.kc_report.specs.declared.read.Coded.{Coded}
+use Rattle.kc_laws.specs.Formats.{both-law, joined-law, mapped-law, nothing-law, either-law, ok_is, err_is, ok_not_err, literal-law, name-law, below-law, decimal-law, hex-law, digit-law, after-law, followed-law, reread-law, ends-by-first, lines-law}
+use Rattle.kc_rules.specs.Codes.{rule_format}
+use Rattle.kc_rules.proofs.RuleLaws.{rule-law}
 use Rattle.kc_report.specs.declared.report.Report.{Report}
 use Rattle.kc_report.specs.declared.report.Report.TheVariants as report
 use Rattle.kc_report.specs.declared.report.RootResult.{RootResult}
@@ -24,7 +25,7 @@ use Rattle.kc_report.specs.Lines.{rule_code, address_text, origin_text, place_li
 use Rattle.kc_report.specs.Report.{AuditLine, BrokenLines, IsNumber, IsOrigin, IsStopNumber, IsLine, IsShown, IsBroken, stop_levels, is_stop_at}
 use Rattle.kc_report.specs.ReportText.{audit_line, expected_text, stop_lines, broken_lines, clean_text}
 use Rattle.kc_report.specs.Roots.{RootLines, KeepsResult, IsRoot, IsEach, result_text, root_text, each_text}
-use Rattle.kc_report.specs.Formats.{line_of, line_parts, line_format, number_or_none, address_format, expected_format, offset_text, offset_format, origin_of, origin_format, place_of, place_parts, place_format, coded, coded_rules, code_format, rule_format, stop_parts, stop_format, end_of, Parts, broken_of, broken_parts, broken_format, clean_format, result_of, result_format, root_of, root_format, read_end, read_roots, roots_format, each_format, report_from, report_format}
+use Rattle.kc_report.specs.Formats.{line_of, line_parts, line_format, number_or_none, address_format, expected_format, offset_text, offset_format, origin_of, origin_format, place_of, place_parts, place_format, stop_parts, stop_format, end_of, Parts, broken_of, broken_parts, broken_format, clean_format, result_of, result_format, root_of, root_format, read_end, read_roots, roots_format, each_format, report_from, report_format}
 
 small : 0 < 2 ^ 64
 small = lit< tt
@@ -157,61 +158,6 @@ place-law =
     mapped-law place_of IsShown place_line Anything place_parts place-parts-law
     (λ p good. (record { va = good.0; pa = good.1.0; off = good.1.1.0; value = good.1.1.1 }, place-text p))
     (λ p good. ((p.va, (p.pa, (p.off, p.value))), (good.va, (good.pa, (good.off, good.value))), refl))
-
--- a rule
-code-again : (rule : Rule) (rest : List ℕ) → code_format.read (rule_code rule ++ rest) ≡ Ok (coded rule, rest)
-code-again M1 rest = refl
-code-again M2 rest = refl
-code-again M3 rest = refl
-code-again M4 rest = refl
-code-again M5 rest = refl
-code-again M6 rest = refl
-code-again N rest = refl
-code-again K rest = refl
-code-again A rest = refl
-code-again L1 rest = refl
-code-again H1 rest = refl
-code-again R1 rest = refl
-code-again R2 rest = refl
-code-again R3 rest = refl
-code-again R4 rest = refl
-code-again R5 rest = refl
-code-again R6 rest = refl
-code-again X1 rest = refl
-code-again X2 rest = refl
-code-again X3 rest = refl
-code-again X4 rest = refl
-code-again X5 rest = refl
-code-again X6 rest = refl
-code-again X7 rest = refl
-code-again X8 rest = refl
-code-again X9 rest = refl
-code-again U1 rest = refl
-code-again U2 rest = refl
-code-again U3 rest = refl
-code-again U4 rest = refl
-code-again U5 rest = refl
-code-again U6 rest = refl
-code-again U7 rest = refl
-code-again T1 rest = refl
-code-again T2 rest = refl
-code-again T3 rest = refl
-code-again T4 rest = refl
-code-again T5 rest = refl
-code-again T6 rest = refl
-code-again T7 rest = refl
-code-again G1 rest = refl
-code-again G2 rest = refl
-code-again C rest = refl
-
-code-law : IsFormat code_format
-code-law = one-law (λ (c : Coded). rule_code c.0) (coded M1) (coded M2 ∷ coded M3 ∷ coded M4 ∷ coded M5 ∷ coded M6 ∷ coded N ∷ coded K ∷ coded A ∷ coded L1 ∷ coded H1 ∷ coded R1 ∷ coded R2 ∷ coded R3 ∷ coded R4 ∷ coded R5 ∷ coded R6 ∷ coded X1 ∷ coded X2 ∷ coded X3 ∷ coded X4 ∷ coded X5 ∷ coded X6 ∷ coded X7 ∷ coded X8 ∷ coded X9 ∷ coded U1 ∷ coded U2 ∷ coded U3 ∷ coded U4 ∷ coded U5 ∷ coded U6 ∷ coded U7 ∷ coded T1 ∷ coded T2 ∷ coded T3 ∷ coded T4 ∷ coded T5 ∷ coded T6 ∷ coded T7 ∷ coded G1 ∷ coded G2 ∷ coded C ∷ []) (λ c rest among. code-again c.0 rest)
-
-coded_among : (c : Coded) → IsAmong c coded_rules
-coded_among c = (code-law.takes (rule_code c.0 ++ []) [] c (code-again c.0 [])).0
-
-rule-law : IsFormat rule_format
-rule-law = mapped-law (λ c. c.0) (λ _. Unit {0}) rule_code Anything code_format code-law (λ c good. (tt, refl)) (λ rule good. (coded rule, coded_among (coded rule), refl))
 
 -- a stop
 IsLevels : Option (ℕ × ℕ) → Type 0

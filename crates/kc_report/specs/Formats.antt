@@ -2,11 +2,10 @@
 use Rattle.std.specs.Prelude.{◌≡◌, ℕ, zero, suc, ◌⊎◌, Bool, true, false, nat_lt, List, [], ◌∷◌, length, codes, All, Option, Some, None, Result, Ok, Err, IsTrue}
 use Rattle.std.proofs.Common.{inl, inr}
 use Rattle.kc_memory.specs.declared.rule.Rule.{Rule}
-use Rattle.kc_memory.specs.declared.rule.Rule.TheVariants.{M1, M2, M3, M4, M5, M6, N, K, A, L1, H1, R1, R2, R3, R4, R5, R6, X1, X2, X3, X4, X5, X6, X7, X8, X9, U1, U2, U3, U4, U5, U6, U7, T1, T2, T3, T4, T5, T6, T7, G1, G2, C}
 use Rattle.kc_memory.specs.declared.words.Origin.{Origin}
 use Rattle.kc_memory.specs.declared.words.Origin.TheVariants.{File, Tail}
 use Rattle.kc_memory.specs.declared.words.Place.{Place}
-use Rattle.kc_report.specs.declared.read.Coded.{Coded}
+use Rattle.kc_rules.specs.Codes.{rule_format}
 use Rattle.kc_report.specs.declared.report.Report.{Report}
 use Rattle.kc_report.specs.declared.report.Report.TheVariants as report
 use Rattle.kc_report.specs.declared.report.RootResult.{RootResult}
@@ -14,10 +13,10 @@ use Rattle.kc_report.specs.declared.report.RootResult.TheVariants as root
 use Rattle.kc_text.specs.Format.{Format}
 use Rattle.kc_text.specs.Text.{hex}
 use Rattle.kc_text.specs.Reading.{and_then}
-use Rattle.kc_text.specs.Readers.{literal, name_and, decimal_and, decimal_below, hex16, digit_from, one_of}
+use Rattle.kc_text.specs.Readers.{literal, name_and, decimal_and, decimal_below, hex16, digit_from}
 use Rattle.kc_text.specs.Compose.{both, mapped, nothing, either, after, followed, lines, texts}
 use Rattle.kc_report.specs.IsReport.{Keeps, report_text}
-use Rattle.kc_report.specs.Lines.{rule_code, address_text, origin_text, place_line}
+use Rattle.kc_report.specs.Lines.{address_text, origin_text, place_line}
 use Rattle.kc_report.specs.Report.{AuditLine, BrokenLines, IsNumber, IsOrigin, IsStopNumber, IsLine, IsShown, IsBroken, stop_levels, is_stop_at}
 use Rattle.kc_report.specs.ReportText.{audit_line, expected_text, stop_lines, broken_lines}
 use Rattle.kc_report.specs.Roots.{RootLines, KeepsResult, IsRoot, IsEach, result_text, root_text, each_text}
@@ -70,22 +69,6 @@ place_parts =
 
 abbrev pub place_format : Format Place
 place_format = mapped place_of IsShown place_line place_parts
-
--- the rules, in the order in which they are tried
-abbrev pub coded : Rule → Coded
-coded rule = record { 0 = rule }
-
-abbrev pub coded_rules : List Coded
-coded_rules =
-    coded M1 ∷ coded M2 ∷ coded M3 ∷ coded M4 ∷ coded M5 ∷ coded M6 ∷ coded N ∷ coded K ∷ coded A ∷ coded L1 ∷ coded H1 ∷ coded R1 ∷ coded R2 ∷ coded R3 ∷ coded R4 ∷ coded R5 ∷ coded R6
-    ∷ coded X1 ∷ coded X2 ∷ coded X3 ∷ coded X4 ∷ coded X5 ∷ coded X6 ∷ coded X7 ∷ coded X8 ∷ coded X9 ∷ coded U1 ∷ coded U2 ∷ coded U3 ∷ coded U4 ∷ coded U5 ∷ coded U6 ∷ coded U7
-    ∷ coded T1 ∷ coded T2 ∷ coded T3 ∷ coded T4 ∷ coded T5 ∷ coded T6 ∷ coded T7 ∷ coded G1 ∷ coded G2 ∷ coded C ∷ []
-
-abbrev pub code_format : Format Coded
-code_format = one_of (λ c. rule_code c.0) coded_rules
-
-abbrev pub rule_format : Format Rule
-rule_format = mapped (λ c. c.0) (λ _. Unit {0}) rule_code code_format
 
 abbrev pub stop_parts : ℕ × ℕ → Format (ℕ × ℕ)
 stop_parts levels = after (codes "stop ") (both (digit_from levels.0 levels.1) (λ _. after (codes " ") (followed hex16 (codes "\n"))))

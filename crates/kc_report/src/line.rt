@@ -4,6 +4,7 @@ ghost use Rattle.kc_memory.specs.Places.{entry_places};
 ghost use Rattle.kc_report.specs.Lines.{address_text, broken_text, origin_text, place_line, place_lines, rule_at, rule_code, rule_lines, stop_line, stop_text, tells_stop};
 
 use kc_memory::{Miss, Origin, PWord, Place, Rule};
+use kc_rules::row_of;
 use kc_text::{push, push_hex};
 use kc_word::NoMemory;
 use std::alloc::Global;
@@ -12,51 +13,7 @@ use std::alloc::Global;
 pub fn rule_code(rule: Rule) -> &'static [u8]
     ensures { result.now ≡ rule_code rule }
 {
-    match rule {
-        Rule::M1 => b"M1",
-        Rule::M2 => b"M2",
-        Rule::M3 => b"M3",
-        Rule::M4 => b"M4",
-        Rule::M5 => b"M5",
-        Rule::M6 => b"M6",
-        Rule::N => b"N",
-        Rule::K => b"K",
-        Rule::A => b"A",
-        Rule::L1 => b"L1",
-        Rule::H1 => b"H1",
-        Rule::R1 => b"R1",
-        Rule::R2 => b"R2",
-        Rule::R3 => b"R3",
-        Rule::R4 => b"R4",
-        Rule::R5 => b"R5",
-        Rule::R6 => b"R6",
-        Rule::X1 => b"X1",
-        Rule::X2 => b"X2",
-        Rule::X3 => b"X3",
-        Rule::X4 => b"X4",
-        Rule::X5 => b"X5",
-        Rule::X6 => b"X6",
-        Rule::X7 => b"X7",
-        Rule::X8 => b"X8",
-        Rule::X9 => b"X9",
-        Rule::U1 => b"U1",
-        Rule::U2 => b"U2",
-        Rule::U3 => b"U3",
-        Rule::U4 => b"U4",
-        Rule::U5 => b"U5",
-        Rule::U6 => b"U6",
-        Rule::U7 => b"U7",
-        Rule::T1 => b"T1",
-        Rule::T2 => b"T2",
-        Rule::T3 => b"T3",
-        Rule::T4 => b"T4",
-        Rule::T5 => b"T5",
-        Rule::T6 => b"T6",
-        Rule::T7 => b"T7",
-        Rule::G1 => b"G1",
-        Rule::G2 => b"G2",
-        Rule::C => b"C",
-    }
+    row_of(rule).code
 }
 
 // Whether a physical word stopped the reading.

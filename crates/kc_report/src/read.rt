@@ -3,15 +3,14 @@ ghost use Rattle.std.specs.Prelude.{◌≡◌, ◌≤◌, Bool, Some, None, code
 ghost use Rattle.kc_text.specs.Answers.{Gives};
 ghost use Rattle.kc_text.specs.Compose.{followed};
 ghost use Rattle.kc_text.specs.Readers.{hex16};
-ghost use Rattle.kc_report.specs.Formats.{line_format, origin_format, place_format, read_number, rule_format, stop_format};
+ghost use Rattle.kc_rules.specs.Codes.{rule_format};
+ghost use Rattle.kc_report.specs.Formats.{line_format, origin_format, place_format, read_number, stop_format};
 ghost use Rattle.kc_report.specs.Heads.{HeadGives};
 ghost use Rattle.kc_report.specs.Report.{stop_levels};
 
-use crate::line::rule_code;
 use kc_memory::{Origin, Place, Rule};
-use kc_text::{
-    Written, read_decimal, read_digit, read_hex16, read_literal, read_name, read_one_of, shorter,
-};
+use kc_rules::read_rule;
+use kc_text::{read_decimal, read_digit, read_hex16, read_literal, read_name, shorter};
 
 // The name of an audit that found nothing, and its counts of walks and of elements.
 type Line<'a> = (&'a [u8], u64, u64);
@@ -26,67 +25,6 @@ pub struct Head<'a> {
     pub expected: Option<u64>,
     pub stop: Option<(u8, u64)>,
 }
-
-// A rule as it is written: by its code.
-#[derive(Clone, Copy)]
-pub struct Coded(pub Rule);
-
-impl Written for Coded {
-    ghost use Rattle.kc_report.specs.Lines.{rule_code};
-
-    ghost text = { λ c. rule_code c.0 };
-
-    fn text(&self) -> &'static [u8] {
-        rule_code(self.0)
-    }
-}
-
-// The rules, in the order in which they are tried.
-const CODES: [Coded; 43] = [
-    Coded(Rule::M1),
-    Coded(Rule::M2),
-    Coded(Rule::M3),
-    Coded(Rule::M4),
-    Coded(Rule::M5),
-    Coded(Rule::M6),
-    Coded(Rule::N),
-    Coded(Rule::K),
-    Coded(Rule::A),
-    Coded(Rule::L1),
-    Coded(Rule::H1),
-    Coded(Rule::R1),
-    Coded(Rule::R2),
-    Coded(Rule::R3),
-    Coded(Rule::R4),
-    Coded(Rule::R5),
-    Coded(Rule::R6),
-    Coded(Rule::X1),
-    Coded(Rule::X2),
-    Coded(Rule::X3),
-    Coded(Rule::X4),
-    Coded(Rule::X5),
-    Coded(Rule::X6),
-    Coded(Rule::X7),
-    Coded(Rule::X8),
-    Coded(Rule::X9),
-    Coded(Rule::U1),
-    Coded(Rule::U2),
-    Coded(Rule::U3),
-    Coded(Rule::U4),
-    Coded(Rule::U5),
-    Coded(Rule::U6),
-    Coded(Rule::U7),
-    Coded(Rule::T1),
-    Coded(Rule::T2),
-    Coded(Rule::T3),
-    Coded(Rule::T4),
-    Coded(Rule::T5),
-    Coded(Rule::T6),
-    Coded(Rule::T7),
-    Coded(Rule::G1),
-    Coded(Rule::G2),
-    Coded(Rule::C),
-];
 
 // Reads the line of an audit that found nothing.
 pub fn read_line(bytes: &[u8]) -> Result<(Line<'_>, &[u8]), &[u8]>
@@ -175,12 +113,12 @@ fn read_stop(bytes: &[u8], rule: Rule) -> Result<(Option<(u8, u64)>, &[u8]), &[u
 }
 
 // Reads a rule that ends its line.
-fn read_rule(bytes: &[u8]) -> Result<(Rule, &[u8]), &[u8]>
+fn read_rule_line(bytes: &[u8]) -> Result<(Rule, &[u8]), &[u8]>
     ensures { Gives (λ r. (r.0, r.1.now)) result ((followed rule_format (codes "\n")).read bytes.now) }
 {
-    let (coded, after) = read_one_of(bytes, &CODES)?;
+    let (rule, after) = read_rule(bytes)?;
     let rest = read_literal(after, b"\n")?;
-    Ok((coded.0, rest))
+    Ok((rule, rest))
 }
 
 // Reads a report of a violation up to its places.
@@ -192,7 +130,7 @@ pub fn read_head(bytes: &[u8]) -> Result<(Head<'_>, &[u8]), &[u8]>
     let rest = read_literal(rest, b"start ")?;
     let (start, rest) = read_hex_line(rest)?;
     let rest = read_literal(rest, b"rule ")?;
-    let (rule, rest) = read_rule(rest)?;
+    let (rule, rest) = read_rule_line(rest)?;
     let rest = read_literal(rest, b"at ")?;
     let (at, rest) = read_hex_line(rest)?;
     let rest = read_literal(rest, b"expected ")?;

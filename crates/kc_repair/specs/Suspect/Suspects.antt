@@ -10,10 +10,11 @@ use Rattle.kc_found.specs.Nodes.{at_offset}
 use Rattle.kc_found.specs.Violations.{Violation}
 use Rattle.kc_kinds.specs.declared.kind.Kind.{Kind}
 use Rattle.kc_kinds.specs.declared.kind.Kind.TheVariants.{Ring, Hlist, Rbtree, Xarray, Slub, Pids}
+use Rattle.kc_rules.specs.declared.way.Way.{Way}
+use Rattle.kc_rules.specs.declared.way.Way.TheVariants.{Led, Met, Word, Byte, Bytes, Count, Member, Named, Own, Before, Pointed, Parent, Top, Colour, Balance, Entry, Free, Listed, Laid, Check, Process, Shown}
+use Rattle.kc_rules.specs.Rules.{row_of}
 use Rattle.kc_repair.specs.declared.suspect.change.Change.{Change}
 use Rattle.kc_repair.specs.declared.suspect.suspect.Suspect.{Suspect}
-use Rattle.kc_repair.specs.declared.suspect.way.Way.{Way}
-use Rattle.kc_repair.specs.declared.suspect.way.Way.TheVariants.{Led, Met, Word, Byte, Bytes, Count, Member, Named, Own, Before, Pointed, Parent, Top, Colour, Balance, Entry, Free, Listed, Laid, Check, Process, Shown}
 use Rattle.kc_repair.specs.Suspect.Backs.{back_changes, entry_backs, hash_backs, head_backs, tree_backs}
 use Rattle.kc_repair.specs.Suspect.Bases.{bases_of}
 use Rattle.kc_repair.specs.Suspect.Changes.{each, each_pointer, made, to, with_bits}
@@ -23,7 +24,6 @@ use Rattle.kc_repair.specs.Suspect.Links.{chain_link, leading_to, node_behind, n
 use Rattle.kc_repair.specs.Suspect.NodeBytes.{whole_words}
 use Rattle.kc_repair.specs.Suspect.Slots.{slots_of}
 use Rattle.kc_repair.specs.Suspect.Trees.{colours, parent_changes, top_bits}
-use Rattle.kc_repair.specs.Suspect.Ways.{way_of}
 
 -- the words that show a violation, each with any bit changed
 abbrev pub place_bits : Place → List Change
@@ -174,7 +174,7 @@ by_way image kind v Process = number_changes image kind v
 by_way image kind v Shown = shown v.places
 
 unfoldable pub changes : Image → Kind → Violation → List Change
-changes image kind v = by_way image kind v (way_of v.rule)
+changes image kind v = by_way image kind v (row_of v.rule).way
 
 unfoldable pub suspects : Image → Kind → Violation → List Suspect
 suspects image kind v = flat_map (made image) (changes image kind v)

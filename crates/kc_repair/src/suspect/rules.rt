@@ -19,10 +19,10 @@ use crate::suspect::links::{chain_link, node_behind, node_of, second_to, tree_li
 use crate::suspect::node_bytes::push_first_word;
 use crate::suspect::slots::push_slots;
 use crate::suspect::trees::{push_colours, push_parent, push_top};
-use crate::suspect::way::{Way, way_of};
 use crate::suspect::words::with_bits;
 use kc_found::{Found, ListShape, Place, ReadFailed, Space};
 use kc_kinds::Kind;
+use kc_rules::{Way, row_of};
 use kc_view::PidShape;
 use kc_word::{NoMemory, Steps};
 use std::alloc::Global;
@@ -541,7 +541,7 @@ pub(crate) fn changes_of<S: Space, L: Ledger>(
     push_by_way(
         alloc,
         &mut changes,
-        way_of(found.rule),
+        row_of(found.rule).way,
         kind,
         found,
         space,

@@ -1,0 +1,3 @@
+mod Apart
+mod Every
+pub mod RuleLaws
