@@ -699,7 +699,7 @@ class Causes:
         self.core.data[offset : offset + 8] = word.to_bytes(8, "little")
 
     def own_walk(self, audit, broken, of):
-        """The walk that finds a violation, as what breaks it, where one finds the same; or nothing. None is made of what needs the kernel's types."""
+        """The walk that finds a violation, as what breaks it, where one finds the same; or nothing."""
         walk = self.kernel.ring if of.kind != audit.kind else lambda at: audit.walk(self.kernel, at)
 
         def breaks():
@@ -708,7 +708,7 @@ class Causes:
             except Broken as found:
                 return found.rule, found.at
             return None
-        return breaks if of.kind not in ("slub", "tasks", "pids") and breaks() == (broken.rule, broken.at) else None
+        return breaks if breaks() == (broken.rule, broken.at) else None
 
     def tried(self, root, broken, audit, changed):
         """How many words are tried, whether there are more, the one that repairs, and else the first that leads to another violation, and to which one. The

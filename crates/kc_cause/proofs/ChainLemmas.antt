@@ -149,7 +149,7 @@ said-at : KnownLeft → (image : Image) (audits : List AuditAt) (root : Root) (w
 said-at law image audits root words v None is = tt
 said-at law image audits root words v (Some a) is =
     let s : Suspected = suspected (with_words image words) v a.kind in
-    said-by image audits root (walk_of (with_words image words) s.kind s.violation) words (filter (is_apart words) (suspects (with_words image words) s.kind s.violation)) (left_as image audits root words s)
+    said-by image audits root (walk_of (with_words image words) audits s.kind s.violation) words (filter (is_apart words) (suspects (with_words image words) s.kind s.violation)) (left_as image audits root words s)
     (law.stand image audits root words s.kind s.violation) (law.words image audits root words s.kind s.violation)
 
 said-left : KnownLeft → (image : Image) (audits : List AuditAt) (root : Root) (words : List Suspect) (verdict : Verdict) → Says image audits root words (left_by image audits root words verdict)
@@ -209,7 +209,7 @@ pub chained : KnownLeft → (image : Image) (audits : List AuditAt) (root : Root
 chained law image audits root kind v words is =
     let r : Repair = repair_of image audits root kind v in
     let end = ends law most_words image audits root [] words (Some r)
-    (said-by image audits root (walk_of image kind v) [] (suspects image kind v) r (law.first_stand image audits root kind v)
+    (said-by image audits root (walk_of image audits kind v) [] (suspects image kind v) r (law.first_stand image audits root kind v)
     (first-left image (told_suspects r) (law.first_words image audits root kind v))) is in
     let there : StandInTurn image [] words = subst (λ (l : List Suspect). StandInTurn image [] l) (sym end.is) end.there in
     record { there = there; in_file = all-in_file law.in_file image [] words there; stands = end.stands }

@@ -20,8 +20,8 @@ use Rattle.kc_repair.specs.declared.outcome.Repair.{Repair}
 use Rattle.kc_repair.specs.declared.outcome.Repair.TheVariants.{Stands, Nothing}
 use Rattle.kc_repair.specs.Laws.{ComesThen, LeftStand, LeftStandInFile, LeftWordsStand, NextsAreOfRoot, OneMore, RepairWordsStand, RepairsAreExact, RepairsStand, told_suspects}
 use Rattle.kc_repair.specs.declared.first.FirstWalk.{FirstWalk}
-use Rattle.kc_repair.specs.declared.first.Sought.{Sought}
-use Rattle.kc_repair.specs.Repairs.{IsRepairBy, StandsAs, most, repair_of, sought_of, walk_of, with_suspect, with_words}
+use Rattle.kc_repair.specs.declared.first.Breaking.{Breaking}
+use Rattle.kc_repair.specs.Repairs.{IsRepairBy, StandsAs, breaking_of, most, repair_of, walk_of, with_suspect, with_words}
 use Rattle.kc_repair.specs.Suspect.Laws.{IsSuspect, SuspectsStand}
 use Rattle.kc_repair.specs.Suspect.Suspects.{suspects}
 use Rattle.kc_report.specs.Lines.{rule_code}
@@ -92,22 +92,22 @@ after_said e root (Some all) next chained holds =
     })
 
 -- what an answer on a violation says
-record Answers (e : Explained) (root : Root) (sought : Sought) (of : List Suspect) (words : Option (List Suspect)) (r : Repair) : Type 0 where
+record Answers (e : Explained) (root : Root) (breaking : Breaking) (of : List Suspect) (words : Option (List Suspect)) (r : Repair) : Type 0 where
   all : AllByRecursion (IsSuspect e.image) of
-  is : IsRepairBy e.image e.audits root sought of r
-  stands : StandsAs e.image e.audits root sought.walk of r
+  is : IsRepairBy e.image e.audits root breaking of r
+  stands : StandsAs e.image e.audits root breaking.walk of r
   told : AllByRecursion (IsSuspect e.image) (told_suspects r)
   comes : (tried : ℕ) (more : Bool) (n : Next) → r ≡ Nothing tried more (Some n) → ComesThen e.image e.audits root n
   chained : (all : List Suspect) → words ≡ Some all → Together e.image e.audits root all
 
-none_next : (e : Explained) (root : Root) (sought : Sought) (of : List Suspect) (words : Option (List Suspect)) (tried : ℕ) (more : Bool) (next : Option Next) → Answers e root sought of words (Nothing tried more next)
+none_next : (e : Explained) (root : Root) (breaking : Breaking) (of : List Suspect) (words : Option (List Suspect)) (tried : ℕ) (more : Bool) (next : Option Next) → Answers e root breaking of words (Nothing tried more next)
     → (n : Next) → next ≡ Some n → ComesThen e.image e.audits root n × IsSuspect e.image n.suspect
-none_next e root sought of words tried more next by n some =
+none_next e root breaking of words tried more next by n some =
     (by.comes tried more n (ap (λ (o : Option Next). Nothing tried more o) some), first_told e.image next tried more by.told n some)
 
-none_said : (e : Explained) (root : Root) (sought : Sought) (of : List Suspect) (words : Option (List Suspect)) (tried : ℕ) (more : Bool) (next : Option Next) (v : Violation)
-    → Answers e root sought of words (Nothing tried more next) → IsUnrepaired e root sought.walk (repair_lines v words (Nothing tried more next))
-none_said e root sought of words tried true next v by = record {
+none_said : (e : Explained) (root : Root) (breaking : Breaking) (of : List Suspect) (words : Option (List Suspect)) (tried : ℕ) (more : Bool) (next : Option Next) (v : Violation)
+    → Answers e root breaking of words (Nothing tried more next) → IsUnrepaired e root breaking.walk (repair_lines v words (Nothing tried more next))
+none_said e root breaking of words tried true next v by = record {
   tried = take most of;
   label = codes "repair none of the first ";
   one = inr refl;
@@ -115,9 +115,9 @@ none_said e root sought of words tried true next v by = record {
   line = ap (λ (n : ℕ). codes "repair none of the first " ++ decimal n ++ codes " tried\n" ++ after_lines words next) (by.is.number ∙ sym (length-take most of));
   there = all_taken (IsSuspect e.image) most of by.all;
   fails = by.stands;
-  goes_on = after_said e root words next by.chained (none_next e root sought of words tried true next by);
+  goes_on = after_said e root words next by.chained (none_next e root breaking of words tried true next by);
 }
-none_said e root sought of words tried false next v by = record {
+none_said e root breaking of words tried false next v by = record {
   tried = take most of;
   label = codes "repair none of ";
   one = inl refl;
@@ -125,14 +125,14 @@ none_said e root sought of words tried false next v by = record {
   line = ap (λ (n : ℕ). codes "repair none of " ++ decimal n ++ codes " tried\n" ++ after_lines words next) (by.is.number ∙ sym (length-take most of));
   there = all_taken (IsSuspect e.image) most of by.all;
   fails = by.stands;
-  goes_on = after_said e root words next by.chained (none_next e root sought of words tried false next by);
+  goes_on = after_said e root words next by.chained (none_next e root breaking of words tried false next by);
 }
 
-repair_said : (e : Explained) (root : Root) (sought : Sought) (of : List Suspect) (words : Option (List Suspect)) (r : Repair) (v : Violation)
-    → Answers e root sought of words r → IsSaid e root sought.walk (repair_lines v words r)
-repair_said e root sought of words (Stands s) v by =
+repair_said : (e : Explained) (root : Root) (breaking : Breaking) (of : List Suspect) (words : Option (List Suspect)) (r : Repair) (v : Violation)
+    → Answers e root breaking of words r → IsSaid e root breaking.walk (repair_lines v words r)
+repair_said e root breaking of words (Stands s) v by =
     inl (record { label = repair_label (only_fits v.rule v.at s); one = label_one (only_fits v.rule v.at s); word = s; line = refl; there = by.told.0; stands = by.stands })
-repair_said e root sought of words (Nothing tried more next) v by = inr (none_said e root sought of words tried more next v by)
+repair_said e root breaking of words (Nothing tried more next) v by = inr (none_said e root breaking of words tried more next v by)
 
 -- what is known of repairs
 pub record Known : Type 0 where
@@ -146,9 +146,9 @@ pub record Known : Type 0 where
   pub in_file : LeftStandInFile
   pub one_more : OneMore
 
-kind_said : Known → (e : Explained) (root : Root) (kind : Kind) (v : Violation) → IsSaid e root (walk_of e.image kind v) (repairs_by e.image e.audits root v (repair_of e.image e.audits root kind v))
+kind_said : Known → (e : Explained) (root : Root) (kind : Kind) (v : Violation) → IsSaid e root (walk_of e.image e.audits kind v) (repairs_by e.image e.audits root v (repair_of e.image e.audits root kind v))
 kind_said law e root kind v =
-    repair_said e root (sought_of e.image kind v) (suspects e.image kind v) (chain_of e.image e.audits root (repair_of e.image e.audits root kind v)) (repair_of e.image e.audits root kind v) v
+    repair_said e root (breaking_of e.image e.audits kind v) (suspects e.image kind v) (chain_of e.image e.audits root (repair_of e.image e.audits root kind v)) (repair_of e.image e.audits root kind v) v
     (record {
       all = law.suspects e.image kind v;
       is = law.exact e.image e.audits root kind v;
@@ -160,11 +160,11 @@ kind_said law e root kind v =
     })
 
 root_said : Known → (e : Explained) (number : ℕ) (at : Option Root) (root : Root) (s : Suspected) → at ≡ Some root
-    → IsSaid e root (walk_as e.image s) (option_map_or (λ (r : Root). repairs_by e.image e.audits r s.violation (repair_of e.image e.audits r s.kind s.violation)) at [])
+    → IsSaid e root (walk_as e s) (option_map_or (λ (r : Root). repairs_by e.image e.audits r s.violation (repair_of e.image e.audits r s.kind s.violation)) at [])
 root_said law e number at root s is = rw is (kind_said law e root s.kind s.violation)
 
 audit_said : Known → (e : Explained) (number : ℕ) (root : Root) (v : Violation) (audit : Option AuditAt) → root_at number e.audits ≡ Some root → slice_get e.audits v.audit ≡ audit
-    → IfSome audit (λ (a : AuditAt). IsSaid e root (walk_as e.image (suspected e.image v a.kind)) (repairs_found e number v))
+    → IfSome audit (λ (a : AuditAt). IsSaid e root (walk_as e (suspected e.image v a.kind)) (repairs_found e number v))
 audit_said law e number root v None is same = tt
 audit_said law e number root v (Some a) is same = rw same (root_said law e number (root_at number e.audits) root (suspected e.image v a.kind) is)
 

@@ -55,8 +55,8 @@ pub record IsChained (e : Explained) (root : Root) (text : List ℕ) : Type 0 wh
   pub stands : RootStands (with_words e.image words) e.audits root
 
 -- the walk that finds a violation, as it is suspected
-abbrev pub walk_as : Image → Suspected → Option FirstWalk
-walk_as image s = walk_of image s.kind s.violation
+abbrev pub walk_as : Explained → Suspected → Option FirstWalk
+walk_as e s = walk_of e.image e.audits s.kind s.violation
 
 -- Under `repair none`: so many words stand in the dump so, and with the other number of none of them the root audit stands, unless the walk that found the
 -- violation breaks with it.
@@ -80,7 +80,7 @@ pub record IsPart (e : Explained) (number : ℕ) (v : Violation) (part : List �
   pub middle : List ℕ
   pub ending : List ℕ
   pub text : part ≡ codes "root " ++ audit.name ++ codes "\n" ++ middle ++ ending
-  pub said : IfSome (slice_get e.audits v.audit) (λ (a : AuditAt). IsRepaired e root ending ⊎ IsUnrepaired e root (walk_as e.image (suspected e.image v a.kind)) ending)
+  pub said : IfSome (slice_get e.audits v.audit) (λ (a : AuditAt). IsRepaired e root ending ⊎ IsUnrepaired e root (walk_as e (suspected e.image v a.kind)) ending)
 
 -- that of one that is sound is empty
 abbrev pub IsPartBy : Explained → ℕ → Option Violation → List ℕ → Type 0

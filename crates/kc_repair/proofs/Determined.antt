@@ -19,16 +19,17 @@ use Rattle.kc_found.specs.Violations.{Violation}
 use Rattle.kc_kinds.specs.declared.kind.Kind.{Kind}
 use Rattle.kc_plan.specs.Planned.{AuditAt}
 use Rattle.kc_plan.specs.Roots.{Root}
+use Rattle.kc_found.specs.Failures.{CountsFailures}
 use Rattle.kc_found.specs.declared.failed.ReadFailed.{ReadFailed}
 use Rattle.kc_found.specs.declared.failed.ReadFailed.TheVariants.{NoMemory}
 use Rattle.kc_repair.specs.declared.suspect.suspect.Suspect.{Suspect}
 use Rattle.kc_repair.specs.Suspect.Suspects.{suspects}
-use Rattle.kc_repair.specs.declared.first.Sought.{Sought}
+use Rattle.kc_repair.specs.declared.first.Breaking.{Breaking}
 use Rattle.kc_repair.specs.declared.seeking.Suspected.{Suspected}
 use Rattle.kc_repair.specs.declared.outcome.Breach.{Breach}
 use Rattle.kc_repair.specs.declared.outcome.Next.{Next}
 use Rattle.kc_repair.specs.declared.outcome.Repair.{Repair}
-use Rattle.kc_repair.specs.Repairs.{IsElsewhere, IsFirstNext, IsNext, IsRepair, IsRepairBy, IsSuspected, first_next, is_same, judged_with, most, next_by, next_of, or_later, repair, repair_by, repair_of, repair_with, repairs}
+use Rattle.kc_repair.specs.Repairs.{IsElsewhere, IsFirstNext, IsNext, IsRepair, IsRepairBy, IsSuspected, WalkInside, first_next, is_same, judged_with, most, next_by, next_of, or_later, repair, repair_by, repair_of, repair_with, repairs}
 
 -- the test of a violation that is the same
 both : (a b : Bool) → a && b ≡ true → (a ≡ true) × (b ≡ true)
@@ -90,15 +91,15 @@ imaged segments segments' tail tail' content content' paging e f h =
     at (Some bytes) = refl
 
 -- so what the code answers is that
-pub given : (image : Option Image) (content : Option (List ℕ)) (of : List ℕ → Image) (audits : List AuditAt) (root : Root) (sought : Sought) (suspected : List Suspect) (r : Result Repair ReadFailed)
-    → image ≡ option_map of content → IfOk r (λ x. IfSome image (λ m. repair_with m audits root sought suspected ≡ x))
-    → IfOk r (λ x. IfSome content (λ bytes. IsRepairBy (of bytes) audits root sought suspected x))
-given image content of audits root sought suspected (Err stop) same exact = tt
-given image None of audits root sought suspected (Ok x) same exact = tt
-given image (Some bytes) of audits root sought suspected (Ok x) same exact =
-    let is : repair_with (of bytes) audits root sought suspected ≡ x = rw same at exact in
-    subst (λ y. IsRepairBy (of bytes) audits root sought suspected y) is
-    (gives (judged_with (of bytes) audits root sought.walk None) (judged_with (of bytes) audits root sought.walk (Some sought.found)) sought.found suspected)
+pub given : (image : Option Image) (content : Option (List ℕ)) (of : List ℕ → Image) (audits : List AuditAt) (root : Root) (breaking : Breaking) (suspected : List Suspect) (r : Result Repair ReadFailed)
+    → image ≡ option_map of content → IfOk r (λ x. IfSome image (λ m. repair_with m audits root breaking suspected ≡ x))
+    → IfOk r (λ x. IfSome content (λ bytes. IsRepairBy (of bytes) audits root breaking suspected x))
+given image content of audits root breaking suspected (Err stop) same exact = tt
+given image None of audits root breaking suspected (Ok x) same exact = tt
+given image (Some bytes) of audits root breaking suspected (Ok x) same exact =
+    let is : repair_with (of bytes) audits root breaking suspected ≡ x = rw same at exact in
+    subst (λ y. IsRepairBy (of bytes) audits root breaking suspected y) is
+    (gives (judged_with (of bytes) audits root breaking.walk None) (judged_with (of bytes) audits root breaking.walk (Some breaking.found)) breaking.found suspected)
 
 -- what was answered, where the question could be asked
 pub answered : {A : Type 0} (image : Option Image) (asked : Result (Result A ReadFailed) NoRoom) (a : A) (Says : Image → A → Type 0)
@@ -106,12 +107,21 @@ pub answered : {A : Type 0} (image : Option Image) (asked : Result (Result A Rea
 answered image (Ok r) a Says is says = let same : r ≡ Ok a = is in rw same at says
 answered image (Err none) a Says is says = absurd (let never : ⊥ = cc in never)
 
+-- and the walk of what was answered is of a kind of the kernel's
+pub walk-inside : (count : ℕ) (asked : Result (Result Suspected ReadFailed) NoRoom) (seen : Suspected) (old new : ℕ)
+    → result_unwrap_or asked (Err NoMemory) ≡ Ok seen → IfOk asked (λ x. CountsFailures x old new × IfOk x (λ (s : Suspected). WalkInside count s.breaking.walk)) → WalkInside count seen.breaking.walk
+walk-inside count (Ok asked) seen old new is leaves =
+    let same : asked ≡ Ok seen = is in
+    let both : CountsFailures (Ok seen) old new × WalkInside count seen.breaking.walk = rw same at leaves in
+    both.1
+walk-inside count (Err none) seen old new is leaves = absurd (let never : ⊥ = cc in never)
+
 -- that of what is suspected of a violation
-pub sought : (image image' : Option Image) (audits : List AuditAt) (root : Root) (kind : Kind) (v : Violation) (seen : Suspected) (r : Result Repair ReadFailed)
-    → image' ≡ image → IfSome image (λ i. IsSuspected i kind v seen) → IfOk r (λ x. IfSome image' (λ i. repair_with i audits root seen.sought seen.suspects ≡ x))
+pub repairs-suspected : (image image' : Option Image) (audits : List AuditAt) (root : Root) (kind : Kind) (v : Violation) (seen : Suspected) (r : Result Repair ReadFailed)
+    → image' ≡ image → IfSome image (λ i. IsSuspected i audits kind v seen) → IfOk r (λ x. IfSome image' (λ i. repair_with i audits root seen.breaking seen.suspects ≡ x))
     → IfOk r (λ x. IfSome image (λ i. x ≡ repair_of i audits root kind v))
-sought image image' audits root kind v seen (Err stop) same are exact = tt
-sought None image' audits root kind v seen (Ok x) same are exact = tt
-sought (Some i) image' audits root kind v seen (Ok x) same are exact =
-    sym (rw same at exact) ∙ ap (λ (l : List Suspect). repair_with i audits root seen.sought l) are.0
-    ∙ ap (λ (s : Sought). repair_with i audits root s (suspects i kind v)) are.1
+repairs-suspected image image' audits root kind v seen (Err stop) same are exact = tt
+repairs-suspected None image' audits root kind v seen (Ok x) same are exact = tt
+repairs-suspected (Some i) image' audits root kind v seen (Ok x) same are exact =
+    sym (rw same at exact) ∙ ap (λ (l : List Suspect). repair_with i audits root seen.breaking l) are.0
+    ∙ ap (λ (s : Breaking). repair_with i audits root s (suspects i kind v)) are.1

@@ -16,10 +16,16 @@ use Rattle.kc_found.specs.Rings.{ring_walk}
 use Rattle.kc_found.specs.Violations.{Violation}
 use Rattle.kc_found.specs.Walks.{WalksAs}
 use Rattle.kc_found.specs.XaSites.{entries_in, xa_judged}
-use Rattle.kc_kinds.specs.declared.kind.Kind.TheVariants.{Ring, Hlist, Rbtree, Xarray}
+use Rattle.kc_view.specs.declared.pids.PidShape.{PidShape}
+use Rattle.kc_view.specs.declared.slub.SlubShape.{SlubShape}
+use Rattle.kc_view.specs.declared.tasks.TaskShape.{TaskShape}
+use Rattle.kc_view.specs.Caches.{cache_slabs}
+use Rattle.kc_view.specs.PidTables.{pid_table}
+use Rattle.kc_view.specs.TaskLists.{task_list}
+use Rattle.kc_kinds.specs.declared.kind.Kind.TheVariants.{Ring, Hlist, Rbtree, Xarray, Slub, Tasks, Pids}
 use Rattle.kc_kinds.specs.Structures.{nodes_of}
 use Rattle.kc_repair.specs.declared.first.FirstWalk.{FirstWalk}
-use Rattle.kc_repair.specs.Repairs.{EndsAs, found_by, wrong_in}
+use Rattle.kc_repair.specs.Repairs.{EndsAs, WalkInside, found_by, if_finds, wrong_in}
 
 -- what any walk finds broken
 abbrev wrong : {B : Type 0} → Result B Violation → Option Violation
@@ -70,3 +76,26 @@ pub array-as : (image : Option Image) (w : FirstWalk) (shape : XaShape) (r : Res
 unfolding nodes_of
 array-as image w shape r e kind walks end =
     found-as image w (λ m. xa_judged m shape w.asked.audit w.asked.start) r e (λ m. rw kind (wrong-entries (xa_judged m shape w.asked.audit w.asked.start))) walks end
+
+pub cache-as : (image : Option Image) (w : FirstWalk) (shape : SlubShape) (r : Result (List ℕ) WalkStop) (e : Result (Option Violation) ReadFailed) → w.kind ≡ Slub shape
+    → WalksAs (λ x. x) (λ m. cache_slabs m shape w.asked) image r → EndsAs r e → IfOk e (λ found. IfSome image (λ m. found_by m w ≡ found))
+unfolding nodes_of
+cache-as image w shape r e kind walks end =
+    found-as image w (λ m. cache_slabs m shape w.asked) r e (λ m. rw kind (wrong-is (cache_slabs m shape w.asked))) walks end
+
+pub tasks-as : (image : Option Image) (w : FirstWalk) (shape : TaskShape) (r : Result (List ℕ) WalkStop) (e : Result (Option Violation) ReadFailed) → w.kind ≡ Tasks shape
+    → WalksAs (λ x. x) (λ m. task_list m shape w.asked) image r → EndsAs r e → IfOk e (λ found. IfSome image (λ m. found_by m w ≡ found))
+unfolding nodes_of
+tasks-as image w shape r e kind walks end =
+    found-as image w (λ m. task_list m shape w.asked) r e (λ m. rw kind (wrong-is (task_list m shape w.asked))) walks end
+
+pub pids-as : (image : Option Image) (w : FirstWalk) (shape : PidShape) (r : Result (List ℕ) WalkStop) (e : Result (Option Violation) ReadFailed) → w.kind ≡ Pids shape
+    → WalksAs (λ x. x) (λ m. pid_table m shape w.asked) image r → EndsAs r e → IfOk e (λ found. IfSome image (λ m. found_by m w ≡ found))
+unfolding nodes_of
+pids-as image w shape r e kind walks end =
+    found-as image w (λ m. pid_table m shape w.asked) r e (λ m. rw kind (wrong-is (pid_table m shape w.asked))) walks end
+
+-- the walk that is kept is of a kind of the kernel's
+pub finds-inside : (count : ℕ) (walk : Option FirstWalk) (again : Option Violation) → WalkInside count walk → WalkInside count (if_finds walk again)
+finds-inside count walk None inside = tt
+finds-inside count walk (Some v) inside = inside

@@ -16,13 +16,13 @@ use Rattle.kc_plan.specs.Verdicts.{IsClean}
 use Rattle.kc_run.specs.Laws.{CleanRootsStand}
 use Rattle.kc_repair.specs.declared.suspect.suspect.Suspect.{Suspect}
 use Rattle.kc_repair.specs.declared.first.FirstWalk.{FirstWalk}
-use Rattle.kc_repair.specs.declared.first.Sought.{Sought}
+use Rattle.kc_repair.specs.declared.first.Breaking.{Breaking}
 use Rattle.kc_repair.specs.declared.outcome.Breach.{Breach}
 use Rattle.kc_repair.specs.declared.outcome.Next.{Next}
 use Rattle.kc_repair.specs.declared.outcome.Repair.{Repair}
 use Rattle.kc_repair.specs.declared.outcome.Repair.TheVariants.{Stands, Nothing}
 use Rattle.kc_repair.specs.Laws.{ComesThen}
-use Rattle.kc_repair.specs.Repairs.{IsRepairBy, StandsAs, WalkBreaks, counted, first_found, first_next, is_made_first, is_same, judged_with, most, next_by, next_of, or_later, or_root, repair, repair_by, repair_with, repairs, verdict_with, with_suspect, wrong_in}
+use Rattle.kc_repair.specs.Repairs.{IsRepairBy, StandsAs, WalkBreaks, counted, first_found, first_next, is_same, judged_with, most, next_by, next_of, or_later, or_root, repair, repair_by, repair_with, repairs, verdict_with, with_suspect, wrong_in}
 
 -- ---- what comes first
 
@@ -30,13 +30,9 @@ wrong_breaks : (r : Result (List ℕ) Violation) (v : Violation) → wrong_in r 
 wrong_breaks (Ok nodes) v is = let never : ⊥ = cc in absurd never
 wrong_breaks (Err w) v is = (w, refl)
 
-found_breaks : (image : Image) (w : FirstWalk) (v : Violation) (made : Bool) → (if made then wrong_in (nodes_of image w.kind w.asked.audit w.asked.start) else None) ≡ Some v → WalkBreaks image (Some w)
-found_breaks image w v true is = wrong_breaks (nodes_of image w.kind w.asked.audit w.asked.start) v is
-found_breaks image w v false is = let never : ⊥ = cc in absurd never
-
 first_breaks : (image : Image) (walk : Option FirstWalk) (v : Violation) → first_found image walk ≡ Some v → WalkBreaks image walk
 first_breaks image None v is = let never : ⊥ = cc in absurd never
-first_breaks image (Some w) v is = found_breaks image w v (is_made_first w.kind) is
+first_breaks image (Some w) v is = wrong_breaks (nodes_of image w.kind w.asked.audit w.asked.start) v is
 
 -- ---- the law
 
@@ -73,25 +69,25 @@ none_passes p Q (x ∷ xs) holds none = at_test (p x) refl none (none_passes p Q
     at_test true e none later = let never : ⊥ = cc in absurd never
     at_test false e none later = All-cons Q x xs (holds x e) (later none)
 
-pub stands_as : CleanRootsStand → (image : Image) (audits : List AuditAt) (root : Root) (sought : Sought) (suspects : List Suspect) (r : Repair) → IsRepairBy image audits root sought suspects r
-    → StandsAs image audits root sought.walk suspects r
-stands_as law image audits root sought suspects (Stands s) is =
-    let judge : Suspect → Verdict = judged_with image audits root sought.walk None in
+pub stands_as : CleanRootsStand → (image : Image) (audits : List AuditAt) (root : Root) (breaking : Breaking) (suspects : List Suspect) (r : Repair) → IsRepairBy image audits root breaking suspects r
+    → StandsAs image audits root breaking.walk suspects r
+stands_as law image audits root breaking suspects (Stands s) is =
+    let judge : Suspect → Verdict = judged_with image audits root breaking.walk None in
     (law (with_suspect image s) audits root).0
-    (root_stands (first_found (with_suspect image s) sought.walk) (root_verdict (with_suspect image s) audits root).verdict (found_passes (repairs judge) (take most suspects) s is))
-stands_as law image audits root sought suspects (Nothing tried more next) is =
-    none_passes (repairs (judged_with image audits root sought.walk None)) (λ s. RootStands (with_suspect image s) audits root → WalkBreaks (with_suspect image s) sought.walk) (take most suspects)
+    (root_stands (first_found (with_suspect image s) breaking.walk) (root_verdict (with_suspect image s) audits root).verdict (found_passes (repairs judge) (take most suspects) s is))
+stands_as law image audits root breaking suspects (Nothing tried more next) is =
+    none_passes (repairs (judged_with image audits root breaking.walk None)) (λ s. RootStands (with_suspect image s) audits root → WalkBreaks (with_suspect image s) breaking.walk) (take most suspects)
     (λ s no stands.
-    breaks_first (with_suspect image s) sought.walk (first_found (with_suspect image s) sought.walk) (root_verdict (with_suspect image s) audits root).verdict refl no
+    breaks_first (with_suspect image s) breaking.walk (first_found (with_suspect image s) breaking.walk) (root_verdict (with_suspect image s) audits root).verdict refl no
     ((law (with_suspect image s) audits root).1 stands))
     is.none
 
-pub all_stand : CleanRootsStand → (content : Option (List ℕ)) (of : List ℕ → Image) (audits : List AuditAt) (root : Root) (sought : Sought) (suspects : List Suspect) (r : Result Repair ReadFailed)
-    → IfOk r (λ repair. IfSome content (λ bytes. IsRepairBy (of bytes) audits root sought suspects repair))
-    → IfOk r (λ repair. IfSome content (λ bytes. StandsAs (of bytes) audits root sought.walk suspects repair))
-all_stand law None of audits root sought suspects (Ok repair) exact = tt
-all_stand law (Some bytes) of audits root sought suspects (Ok repair) exact = stands_as law (of bytes) audits root sought suspects repair exact
-all_stand law content of audits root sought suspects (Err stop) exact = tt
+pub all_stand : CleanRootsStand → (content : Option (List ℕ)) (of : List ℕ → Image) (audits : List AuditAt) (root : Root) (breaking : Breaking) (suspects : List Suspect) (r : Result Repair ReadFailed)
+    → IfOk r (λ repair. IfSome content (λ bytes. IsRepairBy (of bytes) audits root breaking suspects repair))
+    → IfOk r (λ repair. IfSome content (λ bytes. StandsAs (of bytes) audits root breaking.walk suspects repair))
+all_stand law None of audits root breaking suspects (Ok repair) exact = tt
+all_stand law (Some bytes) of audits root breaking suspects (Ok repair) exact = stands_as law (of bytes) audits root breaking suspects repair exact
+all_stand law content of audits root breaking suspects (Err stop) exact = tt
 
 -- ---- what a suspect leads to, the root audit comes to
 
@@ -131,29 +127,29 @@ comes_here image audits root s n told = record {
   comes = ap (verdict_with image audits root) told.1 ∙ told.4;
 }
 
-comes_at : (image : Image) (audits : List AuditAt) (root : Root) (sought : Sought) (s : Suspect) (rest : Option Next) (n : Next) (o : Option Next)
-    → next_of sought.found s (judged_with image audits root sought.walk (Some sought.found) s) ≡ o → (rest ≡ Some n → ComesThen image audits root n) → or_later o rest ≡ Some n → ComesThen image audits root n
-comes_at image audits root sought s rest n None e later is = later is
-comes_at image audits root sought s rest n (Some m) e later is =
+comes_at : (image : Image) (audits : List AuditAt) (root : Root) (breaking : Breaking) (s : Suspect) (rest : Option Next) (n : Next) (o : Option Next)
+    → next_of breaking.found s (judged_with image audits root breaking.walk (Some breaking.found) s) ≡ o → (rest ≡ Some n → ComesThen image audits root n) → or_later o rest ≡ Some n → ComesThen image audits root n
+comes_at image audits root breaking s rest n None e later is = later is
+comes_at image audits root breaking s rest n (Some m) e later is =
     let same : m ≡ n = cc in
     comes_here image audits root s n
-    (of_root sought.found s (verdict_with image audits root s) n
-    (of_judge sought.found s (first_found (with_suspect image s) sought.walk) (verdict_with image audits root s) n (e ∙ ap (λ (x : Next). Some x) same)))
+    (of_root breaking.found s (verdict_with image audits root s) n
+    (of_judge breaking.found s (first_found (with_suspect image s) breaking.walk) (verdict_with image audits root s) n (e ∙ ap (λ (x : Next). Some x) same)))
 
-comes_then : (image : Image) (audits : List AuditAt) (root : Root) (sought : Sought) (xs : List Suspect) (n : Next)
-    → first_next (judged_with image audits root sought.walk (Some sought.found)) sought.found xs ≡ Some n → ComesThen image audits root n
-comes_then image audits root sought [] n is = let never : ⊥ = cc in absurd never
-comes_then image audits root sought (s ∷ later) n is =
-    comes_at image audits root sought s (first_next (judged_with image audits root sought.walk (Some sought.found)) sought.found later) n
-    (next_of sought.found s (judged_with image audits root sought.walk (Some sought.found) s)) refl (comes_then image audits root sought later n) is
+comes_then : (image : Image) (audits : List AuditAt) (root : Root) (breaking : Breaking) (xs : List Suspect) (n : Next)
+    → first_next (judged_with image audits root breaking.walk (Some breaking.found)) breaking.found xs ≡ Some n → ComesThen image audits root n
+comes_then image audits root breaking [] n is = let never : ⊥ = cc in absurd never
+comes_then image audits root breaking (s ∷ later) n is =
+    comes_at image audits root breaking s (first_next (judged_with image audits root breaking.walk (Some breaking.found)) breaking.found later) n
+    (next_of breaking.found s (judged_with image audits root breaking.walk (Some breaking.found) s)) refl (comes_then image audits root breaking later n) is
 
 next_told : (lead : Suspect → Verdict) (found : Breach) (xs : List Suspect) (first : Option Suspect) (tried : ℕ) (more : Bool) (n : Next) → repair_by lead found xs first ≡ Nothing tried more (Some n)
     → first_next lead found (take most xs) ≡ Some n
 next_told lead found xs (Some s) tried more n is = let never : ⊥ = cc in absurd never
 next_told lead found xs None tried more n is = cc
 
-pub nexts_of_root : (image : Image) (audits : List AuditAt) (root : Root) (sought : Sought) (xs : List Suspect) (tried : ℕ) (more : Bool) (n : Next)
-    → repair_with image audits root sought xs ≡ Nothing tried more (Some n) → ComesThen image audits root n
-nexts_of_root image audits root sought xs tried more n is =
-    comes_then image audits root sought (take most xs) n
-    (next_told (judged_with image audits root sought.walk (Some sought.found)) sought.found xs (find (repairs (judged_with image audits root sought.walk None)) (take most xs)) tried more n is)
+pub nexts_of_root : (image : Image) (audits : List AuditAt) (root : Root) (breaking : Breaking) (xs : List Suspect) (tried : ℕ) (more : Bool) (n : Next)
+    → repair_with image audits root breaking xs ≡ Nothing tried more (Some n) → ComesThen image audits root n
+nexts_of_root image audits root breaking xs tried more n is =
+    comes_then image audits root breaking (take most xs) n
+    (next_told (judged_with image audits root breaking.walk (Some breaking.found)) breaking.found xs (find (repairs (judged_with image audits root breaking.walk None)) (take most xs)) tried more n is)

@@ -14,20 +14,20 @@ use Rattle.kc_repair.specs.Suspect.Suspects.{suspects}
 use Rattle.kc_repair.specs.declared.outcome.Next.{Next}
 use Rattle.kc_repair.specs.declared.outcome.Repair.{Repair}
 use Rattle.kc_repair.specs.declared.outcome.Repair.TheVariants.{Stands, Nothing}
-use Rattle.kc_repair.specs.Repairs.{IsRepairBy, StandsAs, is_apart, repair_left, repair_of, sought_of, verdict_with, walk_of, with_suspect, with_words}
+use Rattle.kc_repair.specs.Repairs.{IsRepairBy, StandsAs, breaking_of, is_apart, repair_left, repair_of, verdict_with, walk_of, with_suspect, with_words}
 
 -- With a suspect that repairs a violation the root audit's structures stand, and where none does, they stand with none that is tried, unless the violation's
 -- walk breaks with it.
 abbrev pub RepairsStand : Type 0
 RepairsStand =
     (image : Image) (audits : List AuditAt) (root : Root) (kind : Kind) (v : Violation)
-    → StandsAs image audits root (walk_of image kind v) (suspects image kind v) (repair_of image audits root kind v)
+    → StandsAs image audits root (walk_of image audits kind v) (suspects image kind v) (repair_of image audits root kind v)
 
 -- the answer is about these suspects
 abbrev pub RepairsAreExact : Type 0
 RepairsAreExact =
     (image : Image) (audits : List AuditAt) (root : Root) (kind : Kind) (v : Violation)
-    → IsRepairBy image audits root (sought_of image kind v) (suspects image kind v) (repair_of image audits root kind v)
+    → IsRepairBy image audits root (breaking_of image audits kind v) (suspects image kind v) (repair_of image audits root kind v)
 
 -- the violation that a suspect leads to is what the root audit comes to with it
 pub record ComesThen (image : Image) (audits : List AuditAt) (root : Root) (n : Next) : Type 0 where
@@ -64,7 +64,7 @@ pub record IsLeft (image : Image) (earlier : List Suspect) (s : Suspect) : Type 
 abbrev pub LeftStand : Type 0
 LeftStand =
     (image : Image) (audits : List AuditAt) (root : Root) (earlier : List Suspect) (kind : Kind) (v : Violation)
-    → StandsAs (with_words image earlier) audits root (walk_of (with_words image earlier) kind v) (filter (is_apart earlier) (suspects (with_words image earlier) kind v)) (repair_left image audits root earlier kind v)
+    → StandsAs (with_words image earlier) audits root (walk_of (with_words image earlier) audits kind v) (filter (is_apart earlier) (suspects (with_words image earlier) kind v)) (repair_left image audits root earlier kind v)
 
 abbrev pub LeftWordsStand : Type 0
 LeftWordsStand =

@@ -1,6 +1,6 @@
 -- Suspects that are tried one by one: what the walk that broke, and then the root audit, come to where the word of one of them holds its value.
 use denote.Enum.Bare.{sameb}
-use Rattle.std.specs.Prelude.{◌≡◌, ℕ, ◌<◌, ⊤, min, nat_eq, nat_lt, ◌⊎◌, Bool, true, false, ◌&&◌, if◌then◌else◌, is_none, not, List, [], ◌∷◌, filter, length, map, take, find, Option, Some, None, Result, Ok, Err}
+use Rattle.std.specs.Prelude.{◌≡◌, ℕ, ◌<◌, ⊤, min, nat_eq, nat_lt, ◌⊎◌, Bool, true, false, ◌&&◌, if◌then◌else◌, is_none, not, List, [], ◌∷◌, filter, length, map, take, find, slice_get, Option, Some, None, option_map, IfSome, Result, Ok, Err}
 use Rattle.std.specs.List.{All, list_any}
 use Rattle.kc_memory.specs.Image.{Image}
 use Rattle.kc_memory.specs.contracts.rule.Rule.{the_type}
@@ -9,6 +9,7 @@ use Rattle.kc_found.specs.declared.verdict.Verdict.TheVariants.{Clean, Broken}
 use Rattle.kc_found.specs.Violations.{Violation}
 use Rattle.kc_kinds.specs.declared.kind.Kind.{Kind}
 use Rattle.kc_kinds.specs.declared.kind.Kind.TheVariants.{Slub, Tasks, Pids}
+use Rattle.kc_kinds.specs.Inside.{KindInside}
 use Rattle.kc_kinds.specs.Structures.{nodes_of}
 use Rattle.kc_plan.specs.Planned.{AuditAt}
 use Rattle.kc_plan.specs.Roots.{Root, broken_in, root_verdict}
@@ -22,7 +23,7 @@ use Rattle.kc_repair.specs.Suspect.Suspects.{suspects}
 use Rattle.kc_phys.specs.declared.patch.change.Change.{Change}
 use Rattle.kc_phys.specs.Patch.Changed.{patched, patched_all, share}
 use Rattle.kc_repair.specs.declared.first.FirstWalk.{FirstWalk}
-use Rattle.kc_repair.specs.declared.first.Sought.{Sought}
+use Rattle.kc_repair.specs.declared.first.Breaking.{Breaking}
 use Rattle.kc_repair.specs.declared.outcome.Breach.{Breach}
 use Rattle.kc_repair.specs.declared.seeking.Suspected.{Suspected}
 use Rattle.kc_repair.specs.declared.outcome.Next.{Next}
@@ -54,20 +55,18 @@ breach_of v = record { rule = v.rule; at = v.at }
 abbrev pub is_same : Breach → Violation → Bool
 is_same found v = sameb the_type v.rule found.rule && nat_eq v.at found.at
 
--- of which kinds a walk is made by itself: those that need no types of the kernel
-abbrev pub is_made_first : Kind → Bool
-is_made_first (Slub shape) = false
-is_made_first (Tasks shape) = false
-is_made_first (Pids shape) = false
-is_made_first _ = true
-
 abbrev pub wrong_in : Result (List ℕ) Violation → Option Violation
 wrong_in (Ok nodes) = None
 wrong_in (Err v) = Some v
 
 -- what a walk finds broken
 abbrev pub found_by : Image → FirstWalk → Option Violation
-found_by image w = if is_made_first w.kind then wrong_in (nodes_of image w.kind w.asked.audit w.asked.start) else None
+found_by image w = wrong_in (nodes_of image w.kind w.asked.audit w.asked.start)
+
+-- and where there is one
+abbrev pub first_found : Image → Option FirstWalk → Option Violation
+first_found image None = None
+first_found image (Some w) = found_by image w
 
 -- short of a failure, what a walk found broken is this
 abbrev pub EndsAs : {A : Type 0} → Result A WalkStop → Result (Option Violation) ReadFailed → Type 0
@@ -82,24 +81,35 @@ counted None found = found
 counted (Some only) None = None
 counted (Some only) (Some v) = if is_same only v then Some v else None
 
--- The walk of a violation: that of its audit's kind from where it started, if that finds the same. No walk finds one of a path or of a check.
-abbrev pub walk_from : Kind → Violation → FirstWalk
-walk_from kind v = record { kind = kind; asked = record { audit = v.audit; start = v.start } }
+-- The kind of the audit with a number in the plan.
+abbrev pub planned_kind : List AuditAt → ℕ → Option Kind
+planned_kind audits number = option_map (λ (a : AuditAt). a.kind) (slice_get audits number)
 
-abbrev pub if_finds : FirstWalk → Option Violation → Option FirstWalk
-if_finds w None = None
-if_finds w (Some v) = Some w
+-- The kind whose walk is made for a violation: the one that is asked for, but where its walk reads by the kernel's types that of the audit that found it.
+abbrev pub walked_kind : List AuditAt → Kind → ℕ → Option Kind
+walked_kind audits (Slub shape) number = planned_kind audits number
+walked_kind audits (Tasks shape) number = planned_kind audits number
+walked_kind audits (Pids shape) number = planned_kind audits number
+walked_kind audits kind number = Some kind
 
-abbrev pub walk_of : Image → Kind → Violation → Option FirstWalk
-walk_of image kind v = if_finds (walk_from kind v) (counted (Some (breach_of v)) (found_by image (walk_from kind v)))
+abbrev pub walk_from : List AuditAt → Kind → Violation → Option FirstWalk
+walk_from audits kind v =
+    option_map (λ (walked : Kind). record { kind = walked; asked = record { audit = v.audit; start = v.start } }) (walked_kind audits kind v.audit)
 
-abbrev pub sought_of : Image → Kind → Violation → Sought
-sought_of image kind v = record { found = breach_of v; walk = walk_of image kind v }
+abbrev pub if_finds : Option FirstWalk → Option Violation → Option FirstWalk
+if_finds walk None = None
+if_finds walk (Some v) = walk
 
--- what a walk finds broken, where there is one
-abbrev pub first_found : Image → Option FirstWalk → Option Violation
-first_found image None = None
-first_found image (Some w) = found_by image w
+-- The walk of a violation: that from where it started, if that finds the same. No walk finds one of a path or of a check.
+abbrev pub walk_of : Image → List AuditAt → Kind → Violation → Option FirstWalk
+walk_of image audits kind v = if_finds (walk_from audits kind v) (counted (Some (breach_of v)) (first_found image (walk_from audits kind v)))
+
+abbrev pub breaking_of : Image → List AuditAt → Kind → Violation → Breaking
+breaking_of image audits kind v = record { found = breach_of v; walk = walk_of image audits kind v }
+
+-- type numbers of a walk's kind that are among so many
+abbrev pub WalkInside : ℕ → Option FirstWalk → Type 0
+WalkInside count walk = IfSome walk (λ (w : FirstWalk). KindInside count w.kind)
 
 -- What it comes to: what that walk finds broken, if it counts, and else what the root audit comes to.
 abbrev pub or_root : Option Violation → Verdict → Verdict
@@ -153,9 +163,9 @@ IsRepair judge lead found suspects (Nothing tried more next) = IsNothing judge l
 
 -- Any violation of the walk that broke keeps a suspect from repairing. One leads elsewhere where that walk doesn't find the same again, and the root audit
 -- finds another.
-abbrev pub IsRepairBy : Image → List AuditAt → Root → Sought → List Suspect → Repair → Type 0
-IsRepairBy image audits root sought suspects r =
-    IsRepair (judged_with image audits root sought.walk None) (judged_with image audits root sought.walk (Some sought.found)) sought.found suspects r
+abbrev pub IsRepairBy : Image → List AuditAt → Root → Breaking → List Suspect → Repair → Type 0
+IsRepairBy image audits root breaking suspects r =
+    IsRepair (judged_with image audits root breaking.walk None) (judged_with image audits root breaking.walk (Some breaking.found)) breaking.found suspects r
 
 -- a walk finds something broken
 abbrev pub WalkBreaks : Image → Option FirstWalk → Type 0
@@ -209,13 +219,13 @@ repair_by lead found suspected None =
 abbrev pub repair : (judge lead : Suspect → Verdict) → Breach → List Suspect → Repair
 repair judge lead found suspected = repair_by lead found suspected (find (repairs judge) (take most suspected))
 
-abbrev pub repair_with : Image → List AuditAt → Root → Sought → List Suspect → Repair
-repair_with image audits root sought suspected =
-    repair (judged_with image audits root sought.walk None) (judged_with image audits root sought.walk (Some sought.found)) sought.found suspected
+abbrev pub repair_with : Image → List AuditAt → Root → Breaking → List Suspect → Repair
+repair_with image audits root breaking suspected =
+    repair (judged_with image audits root breaking.walk None) (judged_with image audits root breaking.walk (Some breaking.found)) breaking.found suspected
 
 -- what repairs a violation that an audit of this kind found under a root audit: the words that it suspects are tried
 abbrev pub repair_of : Image → List AuditAt → Root → Kind → Violation → Repair
-repair_of image audits root kind v = repair_with image audits root (sought_of image kind v) (suspects image kind v)
+repair_of image audits root kind v = repair_with image audits root (breaking_of image audits kind v) (suspects image kind v)
 
 -- a suspect whose word shares no byte with those that are changed
 abbrev pub is_apart : List Suspect → Suspect → Bool
@@ -224,15 +234,15 @@ is_apart earlier s = not (list_any (λ (word : Suspect). share s.off word.off) e
 -- what repairs one that is left in the memory with some words changed: of the words that it suspects those that aren't changed are tried
 abbrev pub repair_left : Image → List AuditAt → Root → List Suspect → Kind → Violation → Repair
 repair_left image audits root earlier kind v =
-    repair_with (with_words image earlier) audits root (sought_of (with_words image earlier) kind v) (filter (is_apart earlier) (suspects (with_words image earlier) kind v))
+    repair_with (with_words image earlier) audits root (breaking_of (with_words image earlier) audits kind v) (filter (is_apart earlier) (suspects (with_words image earlier) kind v))
 
 -- the code has these words, and tries them for this
-abbrev pub IsSuspected : Image → Kind → Violation → Suspected → Type 0
-IsSuspected image kind v seen = (seen.suspects ≡ suspects image kind v) × (seen.sought ≡ sought_of image kind v)
+abbrev pub IsSuspected : Image → List AuditAt → Kind → Violation → Suspected → Type 0
+IsSuspected image audits kind v seen = (seen.suspects ≡ suspects image kind v) × (seen.breaking ≡ breaking_of image audits kind v)
 
-abbrev pub IsSuspectedLeft : Image → List Suspect → Kind → Violation → Suspected → Type 0
-IsSuspectedLeft image earlier kind v left =
-    (left.suspects ≡ filter (is_apart earlier) (suspects (with_words image earlier) kind v)) × (left.sought ≡ sought_of (with_words image earlier) kind v)
+abbrev pub IsSuspectedLeft : Image → List AuditAt → List Suspect → Kind → Violation → Suspected → Type 0
+IsSuspectedLeft image audits earlier kind v left =
+    (left.suspects ≡ filter (is_apart earlier) (suspects (with_words image earlier) kind v)) × (left.breaking ≡ breaking_of (with_words image earlier) audits kind v)
 
 -- a verdict names an audit of a plan of so many
 abbrev pub NamesAudit : ℕ → Verdict → Type 0

@@ -1,14 +1,22 @@
 // The walk that broke, which is made before the root audit.
-ghost use Rattle.std.specs.Prelude.{◌≡◌, IfOk, IfSome, Some};
+ghost use Rattle.std.specs.Prelude.{◌≡◌, length, IfOk, IfSome, Some};
 ghost use Rattle.kc_found.specs.Failures.{CountsFailures};
-ghost use Rattle.kc_repair.specs.Repairs.{EndsAs, breach_of, counted, first_found, found_by, if_finds, is_same, sought_of, walk_from};
+ghost use Rattle.kc_kinds.specs.Inside.{KindInside};
+ghost use Rattle.kc_plan.specs.Inside.{AreInside as TypesAreInside};
+ghost use Rattle.kc_plan.specs.Views.{plan_seen};
+ghost use Rattle.kc_repair.specs.Repairs.{EndsAs, WalkInside, breach_of, breaking_of, counted, first_found, found_by, if_finds, is_same, planned_kind, walk_from, walked_kind};
 ghost use Rattle.kc_repair.specs.Suspect.Answers.{OnlyReads};
 
 use crate::outcome::Breach;
+use crate::trial::RootAudit;
+use kc_btf::Btf;
 use kc_found::{Asked, Found, ReadFailed, Space, WalkStop};
 use kc_kinds::Kind;
 use kc_list::{hchain, ring};
+use kc_pid::pids_walk;
 use kc_rb::rb_walk;
+use kc_slub::cache_walk;
+use kc_task::tasks_walk;
 use kc_word::Steps;
 use kc_xa::xa_walk;
 use std::alloc::Global;
@@ -23,9 +31,9 @@ pub struct FirstWalk {
     pub asked: Asked,
 }
 
-/// What suspects are tried for: a violation, and the walk that finds it, where one does.
+/// A violation for which suspects are tried, and the walk that finds it, where one does.
 #[derive(Clone, Copy)]
-pub struct Sought {
+pub struct Breaking {
     /// Its rule and its address.
     pub found: Breach,
     /// The walk.
@@ -47,10 +55,12 @@ fn wrong_in<T: Drop>(walked: Result<T, WalkStop>) -> Result<Option<Found>, ReadF
 // What a walk finds broken.
 fn found_by<M: Space, L: Ledger>(
     alloc: Global,
+    types: &Btf,
     memory: &mut M,
     walk: &FirstWalk,
     steps: &mut Steps<L>,
 ) -> Result<Option<Found>, ReadFailed>
+    requires { KindInside (length types.now.records) walk.now.kind }
     ensures exact { IfOk result (λ found. IfSome (M.image memory.old) (λ image. found_by image walk.now ≡ found)) }
     ensures reads { OnlyReads M.image M.files M.through M.most M.faults result memory.old memory.new }
 {
@@ -60,22 +70,28 @@ fn found_by<M: Space, L: Ledger>(
         Kind::Hlist(shape) => wrong_in(hchain(alloc, memory, shape, start, audit, steps)),
         Kind::Rbtree(shape) => wrong_in(rb_walk(alloc, memory, shape, start, audit, steps)),
         Kind::Xarray(shape) => wrong_in(xa_walk(alloc, memory, shape, start, audit, steps)),
-        Kind::Slub(_) | Kind::Tasks(_) | Kind::Pids(_) => Ok(None),
+        Kind::Slub(shape) => wrong_in(cache_walk(alloc, memory, types, shape, start, audit, steps)),
+        Kind::Tasks(shape) => wrong_in(tasks_walk(
+            alloc, memory, types, shape, start, audit, steps,
+        )),
+        Kind::Pids(shape) => wrong_in(pids_walk(alloc, memory, types, shape, start, audit, steps)),
     }
 }
 
 /// What a walk finds broken, where one is made.
 pub(crate) fn first_found<M: Space, L: Ledger>(
     alloc: Global,
+    types: &Btf,
     memory: &mut M,
     walk: &Option<FirstWalk>,
     steps: &mut Steps<L>,
 ) -> Result<Option<Found>, ReadFailed>
+    requires { WalkInside (length types.now.records) walk.now }
     ensures exact { IfOk result (λ found. IfSome (M.image memory.old) (λ image. first_found image walk.now ≡ found)) }
     ensures reads { OnlyReads M.image M.files M.through M.most M.faults result memory.old memory.new }
 {
     match walk {
-        Some(walk) => found_by(alloc, memory, walk, steps),
+        Some(walk) => found_by(alloc, types, memory, walk, steps),
         None => Ok(None),
     }
 }
@@ -108,44 +124,73 @@ fn breach_of(found: &Found) -> Breach
     }
 }
 
-// A walk of a kind, from where that of a violation started.
-fn walk_from(kind: &Kind, found: &Found) -> FirstWalk
-    ensures { result ≡ walk_from kind.now found.now }
+// The kind of the audit with a number in the plan, where there is one.
+fn planned_kind(audit: &RootAudit<'_>, number: u32) -> Option<Kind>
+    requires { TypesAreInside (length audit.now.types.now.records) audit.now.plan.now.audits }
+    ensures exact { result ≡ planned_kind (plan_seen audit.now.plan.now) number }
+    ensures inside { IfSome result (KindInside (length audit.now.types.now.records)) }
 {
-    FirstWalk {
-        kind: *kind,
-        asked: Asked {
-            audit: found.audit,
-            start: found.start,
-        },
+    if number < audit.plan.count() {
+        return Some(audit.plan.audit(number).kind);
+    }
+    None
+}
+
+// The kind of the structure that the walk of a violation is of.
+fn walked_kind(audit: &RootAudit<'_>, kind: &Kind, number: u32) -> Option<Kind>
+    requires { TypesAreInside (length audit.now.types.now.records) audit.now.plan.now.audits }
+    ensures exact { result ≡ walked_kind (plan_seen audit.now.plan.now) kind.now number }
+    ensures inside { IfSome result (KindInside (length audit.now.types.now.records)) }
+{
+    match kind {
+        Kind::Ring(_) | Kind::Hlist(_) | Kind::Rbtree(_) | Kind::Xarray(_) => Some(*kind),
+        Kind::Slub(_) | Kind::Tasks(_) | Kind::Pids(_) => planned_kind(audit, number),
+    }
+}
+
+// The walk of a violation, from where it started.
+fn walk_from(audit: &RootAudit<'_>, kind: &Kind, found: &Found) -> Option<FirstWalk>
+    requires { TypesAreInside (length audit.now.types.now.records) audit.now.plan.now.audits }
+    ensures exact { result ≡ walk_from (plan_seen audit.now.plan.now) kind.now found.now }
+    ensures inside { WalkInside (length audit.now.types.now.records) result }
+{
+    match walked_kind(audit, kind, found.audit) {
+        Some(kind) => Some(FirstWalk {
+            kind,
+            asked: Asked {
+                audit: found.audit,
+                start: found.start,
+            },
+        }),
+        None => None,
     }
 }
 
 /// A violation of an audit of this kind, and the walk that finds it, where one does.
-pub(crate) fn sought_of<M: Space, L: Ledger>(
+pub(crate) fn breaking_of<M: Space, L: Ledger>(
     alloc: Global,
     memory: &mut M,
+    audit: &RootAudit<'_>,
     kind: &Kind,
     found: &Found,
     steps: &mut Steps<L>,
-) -> Result<Sought, ReadFailed>
-    ensures exact { IfOk result (λ sought. IfSome (M.image memory.old) (λ image. sought_of image kind.now found.now ≡ sought)) }
+) -> Result<Breaking, ReadFailed>
+    requires { TypesAreInside (length audit.now.types.now.records) audit.now.plan.now.audits }
+    ensures exact { IfOk result (λ breaking. IfSome (M.image memory.old) (λ image. breaking_of image (plan_seen audit.now.plan.now) kind.now found.now ≡ breaking)) }
+    ensures inside { IfOk result (λ breaking. WalkInside (length audit.now.types.now.records) breaking.walk) }
     ensures reads { OnlyReads M.image M.files M.through M.most M.faults result memory.old memory.new }
 {
-    let walk = walk_from(kind, found);
-    let again = found_by(alloc, memory, &walk, steps)?;
-    Ok(sought_by(breach_of(found), walk, again))
+    let walk = walk_from(audit, kind, found);
+    let again = first_found(alloc, audit.types, memory, &walk, steps)?;
+    Ok(breaking_by(breach_of(found), walk, again))
 }
 
 // By what the walk finds.
-fn sought_by(found: Breach, walk: FirstWalk, again: Option<Found>) -> Sought
+fn breaking_by(found: Breach, walk: Option<FirstWalk>, again: Option<Found>) -> Breaking
     ensures { result ≡ record { found = found; walk = if_finds walk (counted (Some found) again) } }
 {
     match counted(Some(found), again) {
-        Some(_) => Sought {
-            found,
-            walk: Some(walk),
-        },
-        None => Sought { found, walk: None },
+        Some(_) => Breaking { found, walk },
+        None => Breaking { found, walk: None },
     }
 }

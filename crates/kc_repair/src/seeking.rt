@@ -1,5 +1,5 @@
 // The suspects of a violation, and which of them repairs.
-ghost use Rattle.std.specs.Prelude.{◌≡◌, ◌∷◌, [], ◌%◌, ◌^◌, ◌<◌, ⊤, ◌++◌, if◌then◌else◌, filter, length, IfErr, IfOk, IfSome, OnOk};
+ghost use Rattle.std.specs.Prelude.{◌≡◌, ◌∷◌, [], ◌%◌, ◌^◌, ◌<◌, ◌++◌, if◌then◌else◌, filter, length, IfErr, IfOk, IfSome, OnOk};
 ghost use Rattle.kc_found.specs.declared.failed.ReadFailed.TheVariants.{NoMemory as OutOfMemory};
 ghost use Rattle.kc_outside.specs.declared.store.Slot.TheVariants.{Dump};
 ghost use Rattle.kc_outside.specs.Files.{content};
@@ -12,10 +12,10 @@ ghost use Rattle.kc_mem.specs.Paged.{with_paging};
 ghost use Rattle.kc_plan.specs.Inside.{AreInside as TypesAreInside};
 ghost use Rattle.kc_plan.specs.Views.{plan_seen};
 ghost use Rattle.kc_repair.specs.Suspect.Answers.{OnlyReadsFrames};
-ghost use Rattle.kc_repair.specs.Repairs.{IsSuspected, IsSuspectedLeft, is_apart, repair_left, repair_of, with_words};
+ghost use Rattle.kc_repair.specs.Repairs.{IsSuspected, IsSuspectedLeft, WalkInside, is_apart, repair_left, repair_of, with_words};
 ghost use Rattle.kc_found.specs.Failures.{CountsFailures};
 
-use crate::first::{Sought, sought_of};
+use crate::first::{Breaking, breaking_of};
 use crate::trial::{RootAudit, ask_changed};
 use crate::tries::{Repaired, try_all};
 use crate::{Suspect, Suspects, suspects};
@@ -34,13 +34,14 @@ pub struct Suspected {
     /// The words.
     pub suspects: Suspects,
     /// The violation, and the walk that finds it.
-    pub sought: Sought,
+    pub breaking: Breaking,
 }
 
 // The question which words a violation suspects, that an audit of this kind found.
 #[derive(Clone, Copy)]
 struct Suspecting<'q> {
     alloc: Global,
+    audit: &'q RootAudit<'q>,
     kind: &'q Kind,
     found: &'q Found,
 }
@@ -48,11 +49,12 @@ struct Suspecting<'q> {
 impl<'q> Question for Suspecting<'q> {
     type Answer = Result<Suspected, ReadFailed>;
 
-    ghost may = { λ _. ⊤ };
+    ghost may = { λ of. TypesAreInside (length of.audit.now.types.now.records) of.audit.now.plan.now.audits };
 
-    ghost says = { λ of image answer. IfOk answer (IsSuspected image of.kind.now of.found.now) };
+    ghost says = { λ of image answer. IfOk answer (IsSuspected image (plan_seen of.audit.now.plan.now) of.kind.now of.found.now) };
 
-    ghost leaves = { λ _ answer before after. CountsFailures answer before after };
+    ghost leaves = { λ of answer before after. CountsFailures answer before after
+        × IfOk answer (λ seen. WalkInside (length of.audit.now.types.now.records) seen.breaking.walk) };
 
     fn ask<M: Space, L: Ledger>(
         &self,
@@ -60,8 +62,8 @@ impl<'q> Question for Suspecting<'q> {
         steps: &mut Steps<L>,
     ) -> Result<Suspected, ReadFailed> {
         let suspects = suspects(self.alloc, self.kind, self.found, memory, steps)?;
-        let sought = sought_of(self.alloc, memory, self.kind, self.found, steps)?;
-        Ok(Suspected { suspects, sought })
+        let breaking = breaking_of(self.alloc, memory, self.audit, self.kind, self.found, steps)?;
+        Ok(Suspected { suspects, breaking })
     }
 }
 
@@ -87,7 +89,12 @@ pub fn repair_over<'s, S: Store>(
     ensures stays { FramesStay (λ p. stored p.segments.items p.tail (content (S.files p.store.now) Dump (S.opened p.store.now Dump))) (λ p. S.files p.store.now) (λ p. p.store.ghost_name ∷ []) memory.entry result.memory }
     ensures cause { CountsFailures result.repair (S.faults memory.entry.store.now) (S.faults result.memory.store.now) }
 {
-    let question = Suspecting { alloc, kind, found };
+    let question = Suspecting {
+        alloc,
+        audit,
+        kind,
+        found,
+    };
     let Returned { memory, answer } = ask_over(alloc, memory, paging, &question);
     match answer.unwrap_or(Err(ReadFailed::NoMemory)) {
         Ok(seen) => try_all(
@@ -96,7 +103,7 @@ pub fn repair_over<'s, S: Store>(
             paging,
             audit,
             &[],
-            &seen.sought,
+            &seen.breaking,
             seen.suspects.as_slice(),
         ),
         Err(stop) => Repaired {
@@ -144,13 +151,13 @@ fn is_apart(earlier: &[Suspect], suspect: Suspect) -> bool
 
 // Those of them, for the same.
 fn left_of(alloc: Global, seen: Suspected, earlier: &[Suspect]) -> Result<Suspected, ReadFailed>
-    ensures exact { IfOk result (λ left. (left.suspects ≡ filter (is_apart earlier.now) seen.suspects) × (left.sought ≡ seen.sought)) }
+    ensures exact { IfOk result (λ left. (left.suspects ≡ filter (is_apart earlier.now) seen.suspects) × (left.breaking ≡ seen.breaking)) }
     ensures cause { IfErr result (λ stop. stop ≡ OutOfMemory) }
 {
     match apart(alloc, seen.suspects.as_slice(), earlier) {
         Ok(suspects) => Ok(Suspected {
             suspects,
-            sought: seen.sought,
+            breaking: seen.breaking,
         }),
         Err(NoMemory) => Err(ReadFailed::NoMemory),
     }
@@ -161,18 +168,26 @@ fn suspected_left<'s, S: Store>(
     alloc: Global,
     memory: Phys<'s, S>,
     paging: PageCfg,
+    audit: &RootAudit<'_>,
     earlier: &[Suspect],
     kind: &Kind,
     found: &Found,
 ) -> Returned<Phys<'s, S>, Result<Suspected, ReadFailed>>
     requires aligned { paging.table % 4096 ≡ 0 }
     requires small { paging.table < 2 ^ 52 }
+    requires types { TypesAreInside (length audit.now.types.now.records) audit.now.plan.now.audits }
 
     ensures exact { IfOk result.answer (λ left. IfSome (with_paging paging (stored memory.entry.segments.items memory.entry.tail (content (S.files memory.entry.store.now) Dump (S.opened memory.entry.store.now Dump))))
-        (λ image. IsSuspectedLeft image earlier.now kind.now found.now left)) }
+        (λ image. IsSuspectedLeft image (plan_seen audit.now.plan.now) earlier.now kind.now found.now left)) }
+    ensures inside { IfOk result.answer (λ left. WalkInside (length audit.now.types.now.records) left.breaking.walk) }
     ensures reads { OnlyReadsFrames (λ p. stored p.segments.items p.tail (content (S.files p.store.now) Dump (S.opened p.store.now Dump))) (λ p. S.files p.store.now) (λ p. p.store.ghost_name ∷ []) (λ p. S.faults p.store.now) result.answer memory.entry result.memory }
 {
-    let question = Suspecting { alloc, kind, found };
+    let question = Suspecting {
+        alloc,
+        audit,
+        kind,
+        found,
+    };
     let Returned { memory, answer } = ask_changed(alloc, memory, paging, earlier, &question);
     match answer.unwrap_or(Err(ReadFailed::NoMemory)) {
         Ok(seen) => Returned {
@@ -207,7 +222,9 @@ pub fn repair_left<'s, S: Store>(
         (λ image. repair ≡ repair_left image (plan_seen audit.now.plan.now) (audit.now.root.audit, audit.now.root.start) earlier.now kind.now found.now)) }
     ensures reads { OnlyReadsFrames (λ p. stored p.segments.items p.tail (content (S.files p.store.now) Dump (S.opened p.store.now Dump))) (λ p. S.files p.store.now) (λ p. p.store.ghost_name ∷ []) (λ p. S.faults p.store.now) result.repair memory.entry result.memory }
 {
-    let Returned { memory, answer } = suspected_left(alloc, memory, paging, earlier, kind, found);
+    let Returned { memory, answer } = suspected_left(
+        alloc, memory, paging, audit, earlier, kind, found,
+    );
     match answer {
         Ok(left) => try_all(
             alloc,
@@ -215,7 +232,7 @@ pub fn repair_left<'s, S: Store>(
             paging,
             audit,
             earlier,
-            &left.sought,
+            &left.breaking,
             left.suspects.as_slice(),
         ),
         Err(failed) => Repaired {

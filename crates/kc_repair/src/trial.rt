@@ -10,7 +10,7 @@ ghost use Rattle.kc_plan.specs.Inside.{AreInside as TypesAreInside};
 ghost use Rattle.kc_plan.specs.Roots.{root_verdict};
 ghost use Rattle.kc_plan.specs.Views.{plan_seen};
 ghost use Rattle.kc_repair.specs.Suspect.Answers.{OnlyReads, OnlyReadsFrames};
-ghost use Rattle.kc_repair.specs.Repairs.{NamesAudit, change_of, judged, judged_with, with_words};
+ghost use Rattle.kc_repair.specs.Repairs.{NamesAudit, WalkInside, change_of, judged, judged_with, with_words};
 ghost use Rattle.kc_found.specs.Failures.{CountsFailures};
 
 use crate::first::{FirstWalk, counted, first_found};
@@ -108,7 +108,8 @@ impl<'q> Question for OneTrial<'q> {
     type Answer = Result<Verdict, ReadFailed>;
 
     ghost may = { λ of. (of.by.now.audit.now.root.audit < length of.by.now.audit.now.plan.now.audits)
-        × TypesAreInside (length of.by.now.audit.now.types.now.records) of.by.now.audit.now.plan.now.audits };
+        × TypesAreInside (length of.by.now.audit.now.types.now.records) of.by.now.audit.now.plan.now.audits
+        × WalkInside (length of.by.now.audit.now.types.now.records) of.by.now.walk.now };
 
     ghost says = { λ of image answer. IfOk answer (λ found.
         judged image (plan_seen of.by.now.audit.now.plan.now) (of.by.now.audit.now.root.audit, of.by.now.audit.now.root.start) of.by.now.walk.now of.by.now.only ≡ found) };
@@ -120,7 +121,7 @@ impl<'q> Question for OneTrial<'q> {
         memory: &mut M,
         steps: &mut Steps<L>,
     ) -> Result<Verdict, ReadFailed> {
-        let found = first_found(self.alloc, memory, self.by.walk, steps)?;
+        let found = first_found(self.alloc, self.by.audit.types, memory, self.by.walk, steps)?;
         match counted(self.by.only, found) {
             Some(found) => Ok(Verdict::Broken(found)),
             None => of_root(self.alloc, self.by.audit, memory, steps),
@@ -237,7 +238,7 @@ pub fn verdict_over<'s, S: Store>(
 }
 
 /// What a suspect comes to, whose word is changed after these.
-pub fn try_suspect<'s, S: Store>(
+pub(crate) fn try_suspect<'s, S: Store>(
     alloc: Global,
     memory: Phys<'s, S>,
     paging: PageCfg,
@@ -249,6 +250,7 @@ pub fn try_suspect<'s, S: Store>(
     requires small { paging.table < 2 ^ 52 }
     requires inside { by.now.audit.now.root.audit < length by.now.audit.now.plan.now.audits }
     requires types { TypesAreInside (length by.now.audit.now.types.now.records) by.now.audit.now.plan.now.audits }
+    requires walk { WalkInside (length by.now.audit.now.types.now.records) by.now.walk.now }
 
     ensures exact { IfOk result.answer (λ found. IfSome (with_paging paging (stored memory.entry.segments.items memory.entry.tail (content (S.files memory.entry.store.now) Dump (S.opened memory.entry.store.now Dump))))
         (λ image. judged_with (with_words image earlier.now) (plan_seen by.now.audit.now.plan.now) (by.now.audit.now.root.audit, by.now.audit.now.root.start) by.now.walk.now by.now.only suspect ≡ found)) }
@@ -276,6 +278,7 @@ fn try_words<'s, S: Store>(
     requires small { paging.table < 2 ^ 52 }
     requires inside { by.now.audit.now.root.audit < length by.now.audit.now.plan.now.audits }
     requires types { TypesAreInside (length by.now.audit.now.types.now.records) by.now.audit.now.plan.now.audits }
+    requires walk { WalkInside (length by.now.audit.now.types.now.records) by.now.walk.now }
 
     ensures exact { IfOk result.answer (λ found. IfSome (with_paging paging (stored memory.entry.segments.items memory.entry.tail (content (S.files memory.entry.store.now) Dump (S.opened memory.entry.store.now Dump))))
         (λ image. judged (with_words image words.now) (plan_seen by.now.audit.now.plan.now) (by.now.audit.now.root.audit, by.now.audit.now.root.start) by.now.walk.now by.now.only ≡ found)) }

@@ -8,11 +8,11 @@ ghost use Rattle.kc_plan.specs.Inside.{AreInside as TypesAreInside};
 ghost use Rattle.kc_plan.specs.Views.{plan_seen};
 ghost use Rattle.kc_question.specs.Memory.{image_of};
 ghost use Rattle.kc_repair.specs.Suspect.Answers.{OnlyReadsFrames};
-ghost use Rattle.kc_repair.specs.Repairs.{IsRepairBy, StandsAs, ends_with, first_next, if_told, is_same, judged_with, most, next_by, next_of, repair_by, repair_with, repairs, stands_of, with_words};
+ghost use Rattle.kc_repair.specs.Repairs.{IsRepairBy, StandsAs, WalkInside, ends_with, first_next, if_told, is_same, judged_with, most, next_by, next_of, repair_by, repair_with, repairs, stands_of, with_words};
 ghost use Rattle.kc_found.specs.Failures.{CountsFailures};
 
 use crate::Suspect;
-use crate::first::{Sought, is_same};
+use crate::first::{Breaking, is_same};
 use crate::outcome::{Breach, Next, Repair};
 use crate::trial::{Judge, RootAudit, try_suspect};
 use kc_found::{Found, ReadFailed, Verdict};
@@ -63,8 +63,16 @@ pub fn repair<S: Store>(
         Err(NoMemory) => return Err(ReadFailed::NoMemory),
     };
     let memory = Phys::over(store, room);
-    let sought = Sought { found, walk: None };
-    let Repaired { memory, repair } = try_all(alloc, memory, paging, audit, &[], &sought, suspects);
+    let breaking = Breaking { found, walk: None };
+    let Repaired { memory, repair } = try_all(
+        alloc,
+        memory,
+        paging,
+        audit,
+        &[],
+        &breaking,
+        suspects,
+    );
     let _store = memory.into_store();
     repair
 }
@@ -122,6 +130,7 @@ fn first_that_repairs<'s, S: Store>(
     requires small { paging.table < 2 ^ 52 }
     requires root { by.now.audit.now.root.audit < length by.now.audit.now.plan.now.audits }
     requires types { TypesAreInside (length by.now.audit.now.types.now.records) by.now.audit.now.plan.now.audits }
+    requires walk { WalkInside (length by.now.audit.now.types.now.records) by.now.walk.now }
 
     ensures exact { IfOk result.answer (λ first. IfSome (with_paging paging (stored memory.entry.segments.items memory.entry.tail (content (S.files memory.entry.store.now) Dump (S.opened memory.entry.store.now Dump))))
         (λ image. find (repairs (judged_with (with_words image earlier.now) (plan_seen by.now.audit.now.plan.now) (by.now.audit.now.root.audit, by.now.audit.now.root.start) by.now.walk.now by.now.only)) suspects.now ≡ first)) }
@@ -185,6 +194,7 @@ fn first_that_leads<'s, S: Store>(
     requires small { paging.table < 2 ^ 52 }
     requires root { by.now.audit.now.root.audit < length by.now.audit.now.plan.now.audits }
     requires types { TypesAreInside (length by.now.audit.now.types.now.records) by.now.audit.now.plan.now.audits }
+    requires walk { WalkInside (length by.now.audit.now.types.now.records) by.now.walk.now }
 
     ensures exact { IfOk result.answer (λ next. IfSome (with_paging paging (stored memory.entry.segments.items memory.entry.tail (content (S.files memory.entry.store.now) Dump (S.opened memory.entry.store.now Dump))))
         (λ image. first_next (judged_with (with_words image earlier.now) (plan_seen by.now.audit.now.plan.now) (by.now.audit.now.root.audit, by.now.audit.now.root.start) by.now.walk.now by.now.only) found suspects.now ≡ next)) }
@@ -212,22 +222,23 @@ fn none_repairs<'s, S: Store>(
     paging: PageCfg,
     audit: &RootAudit<'_>,
     earlier: &[Suspect],
-    sought: &Sought,
+    breaking: &Breaking,
     suspects: &[Suspect],
 ) -> Repaired<'s, S>
     requires aligned { paging.table % 4096 ≡ 0 }
     requires small { paging.table < 2 ^ 52 }
     requires root { audit.now.root.audit < length audit.now.plan.now.audits }
     requires types { TypesAreInside (length audit.now.types.now.records) audit.now.plan.now.audits }
+    requires walk { WalkInside (length audit.now.types.now.records) breaking.now.walk }
 
     ensures exact { IfOk result.repair (λ repair. IfSome (with_paging paging (stored memory.entry.segments.items memory.entry.tail (content (S.files memory.entry.store.now) Dump (S.opened memory.entry.store.now Dump))))
-        (λ image. repair_by (judged_with (with_words image earlier.now) (plan_seen audit.now.plan.now) (audit.now.root.audit, audit.now.root.start) sought.now.walk (Some sought.now.found)) sought.now.found suspects.now None ≡ repair)) }
+        (λ image. repair_by (judged_with (with_words image earlier.now) (plan_seen audit.now.plan.now) (audit.now.root.audit, audit.now.root.start) breaking.now.walk (Some breaking.now.found)) breaking.now.found suspects.now None ≡ repair)) }
     ensures reads { OnlyReadsFrames (λ p. stored p.segments.items p.tail (content (S.files p.store.now) Dump (S.opened p.store.now Dump))) (λ p. S.files p.store.now) (λ p. p.store.ghost_name ∷ []) (λ p. S.faults p.store.now) result.repair memory.entry result.memory }
 {
     let by = Judge {
         audit,
-        walk: &sought.walk,
-        only: Some(sought.found),
+        walk: &breaking.walk,
+        only: Some(breaking.found),
     };
     let tried = tried_of(suspects);
     let Returned { memory, answer } = first_that_leads(
@@ -236,7 +247,7 @@ fn none_repairs<'s, S: Store>(
         paging,
         &by,
         earlier,
-        sought.found,
+        breaking.found,
         tried,
     );
     match answer {
@@ -262,21 +273,22 @@ pub(crate) fn try_all<'s, S: Store>(
     paging: PageCfg,
     audit: &RootAudit<'_>,
     earlier: &[Suspect],
-    sought: &Sought,
+    breaking: &Breaking,
     suspects: &[Suspect],
 ) -> Repaired<'s, S>
     requires aligned { paging.table % 4096 ≡ 0 }
     requires small { paging.table < 2 ^ 52 }
     requires root { audit.now.root.audit < length audit.now.plan.now.audits }
     requires types { TypesAreInside (length audit.now.types.now.records) audit.now.plan.now.audits }
+    requires walk { WalkInside (length audit.now.types.now.records) breaking.now.walk }
 
     ensures exact { IfOk result.repair (λ repair. IfSome (with_paging paging (stored memory.entry.segments.items memory.entry.tail (content (S.files memory.entry.store.now) Dump (S.opened memory.entry.store.now Dump))))
-        (λ image. repair_with (with_words image earlier.now) (plan_seen audit.now.plan.now) (audit.now.root.audit, audit.now.root.start) sought.now suspects.now ≡ repair)) }
+        (λ image. repair_with (with_words image earlier.now) (plan_seen audit.now.plan.now) (audit.now.root.audit, audit.now.root.start) breaking.now suspects.now ≡ repair)) }
     ensures reads { OnlyReadsFrames (λ p. stored p.segments.items p.tail (content (S.files p.store.now) Dump (S.opened p.store.now Dump))) (λ p. S.files p.store.now) (λ p. p.store.ghost_name ∷ []) (λ p. S.faults p.store.now) result.repair memory.entry result.memory }
 {
     let by = Judge {
         audit,
-        walk: &sought.walk,
+        walk: &breaking.walk,
         only: None,
     };
     let Returned { memory, answer } = first_that_repairs(
@@ -292,7 +304,7 @@ pub(crate) fn try_all<'s, S: Store>(
             memory,
             repair: Ok(Repair::Stands(suspect)),
         },
-        Ok(None) => none_repairs(alloc, memory, paging, audit, earlier, sought, suspects),
+        Ok(None) => none_repairs(alloc, memory, paging, audit, earlier, breaking, suspects),
         Err(stop) => Repaired {
             memory,
             repair: Err(stop),

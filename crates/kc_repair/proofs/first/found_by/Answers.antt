@@ -1,4 +1,4 @@
-use Rattle.kc_repair.proofs.FirstWalks.{array-as, hash-as, ring-as, tree-as}
+use Rattle.kc_repair.proofs.FirstWalks.{array-as, cache-as, hash-as, pids-as, ring-as, tasks-as, tree-as}
 use Rattle.kc_repair.proofs.first.found_by.Goals as goal
 
 pub returns-in-Ring-clause-exact : goal.returns-in-Ring-clause-exact
@@ -12,3 +12,12 @@ returns-in-Rbtree-clause-exact g c = tree-as _ c.args.walk.now c.in-Rbtree.shape
 
 pub returns-in-Xarray-clause-exact : goal.returns-in-Xarray-clause-exact
 returns-in-Xarray-clause-exact g c = array-as _ c.args.walk.now c.in-Xarray.shape c.xa_walk.result c.wrong_in-in-Xarray.result c.in-Xarray.is c.xa_walk.ensures.walk c.wrong_in-in-Xarray.ensures
+
+pub returns-in-Slub-clause-exact : goal.returns-in-Slub-clause-exact
+returns-in-Slub-clause-exact g c = cache-as _ c.args.walk.now c.in-Slub.shape c.cache_walk.result c.wrong_in-in-Slub.result c.in-Slub.is c.cache_walk.ensures.walk c.wrong_in-in-Slub.ensures
+
+pub returns-in-Tasks-clause-exact : goal.returns-in-Tasks-clause-exact
+returns-in-Tasks-clause-exact g c = tasks-as _ c.args.walk.now c.in-Tasks.shape c.tasks_walk.result c.wrong_in-in-Tasks.result c.in-Tasks.is c.tasks_walk.ensures.walk c.wrong_in-in-Tasks.ensures
+
+pub returns-in-Pids-clause-exact : goal.returns-in-Pids-clause-exact
+returns-in-Pids-clause-exact g c = pids-as _ c.args.walk.now c.in-Pids.shape c.pids_walk.result c.wrong_in-in-Pids.result c.in-Pids.is c.pids_walk.ensures.walk c.wrong_in-in-Pids.ensures

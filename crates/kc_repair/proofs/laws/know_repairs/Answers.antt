@@ -3,12 +3,12 @@ use Rattle.kc_memory.specs.Image.{Image}
 use Rattle.kc_plan.specs.Planned.{AuditAt}
 use Rattle.kc_plan.specs.Roots.{Root}
 use Rattle.std.specs.Prelude.{List, Some, None}
-use Rattle.kc_repair.specs.declared.first.Sought.{Sought}
+use Rattle.kc_repair.specs.declared.first.Breaking.{Breaking}
 use Rattle.kc_repair.specs.declared.suspect.suspect.Suspect.{Suspect}
 use Rattle.kc_repair.specs.Laws.{IsLeft}
 use Rattle.kc_repair.specs.Suspect.Laws.{IsSuspect}
 use Rattle.kc_repair.specs.Suspect.Suspects.{suspects}
-use Rattle.kc_repair.specs.Repairs.{IsRepairBy, is_apart, judged_with, repair_left, repair_of, repair_with, sought_of, with_words}
+use Rattle.kc_repair.specs.Repairs.{IsRepairBy, breaking_of, is_apart, judged_with, repair_left, repair_of, repair_with, with_words}
 use Rattle.kc_repair.proofs.Changing.{all-kept, with-one_more}
 use Rattle.kc_repair.proofs.Determined.{gives}
 use Rattle.kc_repair.proofs.Standing.{nexts_of_root, stands_as}
@@ -16,21 +16,21 @@ use Rattle.kc_repair.proofs.Told.{all_told}
 use Rattle.kc_repair.proofs.Unchanged.{left-stand_in_file}
 use Rattle.kc_repair.proofs.laws.know_repairs.Goals as goal
 
-given : (image : Image) (audits : List AuditAt) (root : Root) (sought : Sought) (xs : List Suspect) → IsRepairBy image audits root sought xs (repair_with image audits root sought xs)
-given image audits root sought xs = gives (judged_with image audits root sought.walk None) (judged_with image audits root sought.walk (Some sought.found)) sought.found xs
+given : (image : Image) (audits : List AuditAt) (root : Root) (breaking : Breaking) (xs : List Suspect) → IsRepairBy image audits root breaking xs (repair_with image audits root breaking xs)
+given image audits root breaking xs = gives (judged_with image audits root breaking.walk None) (judged_with image audits root breaking.walk (Some breaking.found)) breaking.found xs
 
 pub returns : goal.returns
 returns c = record {
   stand = λ image audits root kind v.
-      stands_as c.know_verdicts.ensures.roots image audits root (sought_of image kind v) (suspects image kind v) (repair_of image audits root kind v)
-      (given image audits root (sought_of image kind v) (suspects image kind v));
-  exact = λ image audits root kind v. given image audits root (sought_of image kind v) (suspects image kind v);
-  nexts = λ image audits root kind v tried more n is. nexts_of_root image audits root (sought_of image kind v) (suspects image kind v) tried more n is;
+      stands_as c.know_verdicts.ensures.roots image audits root (breaking_of image audits kind v) (suspects image kind v) (repair_of image audits root kind v)
+      (given image audits root (breaking_of image audits kind v) (suspects image kind v));
+  exact = λ image audits root kind v. given image audits root (breaking_of image audits kind v) (suspects image kind v);
+  nexts = λ image audits root kind v tried more n is. nexts_of_root image audits root (breaking_of image audits kind v) (suspects image kind v) tried more n is;
   left = λ image audits root earlier kind v.
-      stands_as c.know_verdicts.ensures.roots (with_words image earlier) audits root (sought_of (with_words image earlier) kind v) (filter (is_apart earlier) (suspects (with_words image earlier) kind v)) (repair_left image audits root earlier kind v)
-      (given (with_words image earlier) audits root (sought_of (with_words image earlier) kind v) (filter (is_apart earlier) (suspects (with_words image earlier) kind v)));
+      stands_as c.know_verdicts.ensures.roots (with_words image earlier) audits root (breaking_of (with_words image earlier) audits kind v) (filter (is_apart earlier) (suspects (with_words image earlier) kind v)) (repair_left image audits root earlier kind v)
+      (given (with_words image earlier) audits root (breaking_of (with_words image earlier) audits kind v) (filter (is_apart earlier) (suspects (with_words image earlier) kind v)));
   left_words = λ image audits root earlier kind v.
-      let of : Sought = sought_of (with_words image earlier) kind v in
+      let of : Breaking = breaking_of (with_words image earlier) audits kind v in
       all_told (IsLeft image earlier) (judged_with (with_words image earlier) audits root of.walk None) (judged_with (with_words image earlier) audits root of.walk (Some of.found)) of.found
       (filter (is_apart earlier) (suspects (with_words image earlier) kind v))
       (all-kept (IsSuspect (with_words image earlier)) (IsLeft image earlier) (is_apart earlier) (suspects (with_words image earlier) kind v) (λ x passes there. record { there = there; apart = passes })
@@ -38,6 +38,6 @@ returns c = record {
   in_file = left-stand_in_file c.know_places.ensures;
   one_more = with-one_more c.know_changes.ensures.last;
   words = λ image audits root kind v.
-      let of : Sought = sought_of image kind v in
+      let of : Breaking = breaking_of image audits kind v in
       all_told (IsSuspect image) (judged_with image audits root of.walk None) (judged_with image audits root of.walk (Some of.found)) of.found (suspects image kind v) (c.know_suspects.ensures image kind v);
 }
