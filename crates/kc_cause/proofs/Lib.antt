@@ -2,6 +2,7 @@ mod ChainLemmas
 mod FileLemmas
 mod Fits
 mod ItemLemmas
+mod LedLemmas
 mod MendedLemmas
 mod PlannedLemmas
 mod PrintedLaws

@@ -2,6 +2,7 @@ pub mod AreaText
 pub mod Framed
 pub mod Inside
 pub mod Named
+pub mod Leads
 pub mod Near
 pub mod NearText
 pub mod ObjectText

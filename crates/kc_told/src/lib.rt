@@ -5,6 +5,7 @@
 mod area_text;
 mod framed;
 mod inside;
+mod leads;
 mod named;
 mod near;
 mod near_text;
@@ -16,6 +17,7 @@ mod span;
 mod text;
 mod told;
 
+pub use leads::{push_leads, read_lead};
 pub use named::{Named, TaskName};
 pub use near::{Lead, NearWord};
 pub use object_text::push_unknown;
