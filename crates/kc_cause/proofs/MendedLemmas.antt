@@ -22,8 +22,8 @@ pub stand-told : (image : Option Image) (audits : List AuditAt) (root : Root) (k
     → repair ≡ Stands first → r ≡ Ok stand → IfOk r (λ s. IfSome image (λ m. repair_of m audits root kind v ≡ Stands first → s ≡ stand_of m audits root kind v))
     → IfSome image (λ m. repair_of m audits root kind v ≡ repair → Some stand ≡ stand_told m audits root kind v repair)
 stand-told None audits root kind v repair first r stand one is told = tt
-stand-told (Some m) audits root kind v repair first r stand one is told answer =
-    rw one (ap (λ (s : Stand). Some s) ((rw is at told) (answer ∙ one)))
+stand-told (Some m) audits root kind v repair first r stand one is told =
+    λ answer. rw one (ap (λ (s : Stand). Some s) ((rw is at told) (answer ∙ one)))
 
 -- the elements with the words that are changed
 pub elements-changed : (image : Option Image) (audits : List AuditAt) (root : Root) (number : ℕ) (repair : Repair) (words changed : Option (List Suspect)) (r : Result (Option ℕ) ReadFailed)
@@ -53,7 +53,8 @@ pub all-told : (image after : Option Image) (audits : List AuditAt) (root : Root
     → IfOk r (λ x. IfSome image (λ m. repair_of m audits root kind v ≡ repair → x ≡ mended_of m audits root kind v number))
 all-told image after audits root kind v number repair tried stand (Err stop) same is exact told = tt
 all-told None after audits root kind v number repair tried stand (Ok x) same is exact told = tt
-all-told (Some m) after audits root kind v number repair tried stand (Ok x) same is exact told answer =
+all-told (Some m) after audits root kind v number repair tried stand (Ok x) same is exact told =
+    λ answer.
     let stood : stand ≡ stand_told m audits root kind v repair = (rw is at exact) answer in
     (rw same at told) ∙ ap (mended_by m audits root number repair) stood ∙ ap (λ (f : Repair). mended_by m audits root number f (stand_told m audits root kind v f)) (sym answer)
 

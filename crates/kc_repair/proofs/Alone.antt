@@ -14,7 +14,7 @@ use Rattle.kc_repair.specs.declared.suspect.suspect.Suspect.{Suspect}
 use Rattle.kc_repair.specs.declared.first.FirstWalk.{FirstWalk}
 use Rattle.kc_repair.specs.Elements.{elements_by, elements_in}
 use Rattle.kc_repair.specs.Laws.{ElementsAreCounted, FailsWith, OthersStand}
-use Rattle.kc_repair.specs.Repairs.{first_found, judged_with, most, repairs, walk_of, with_suspect, with_words}
+use Rattle.kc_repair.specs.Repairs.{breach_of, first_found, judged_with, most, repairs, walk_of, with_suspect, with_words}
 use Rattle.kc_repair.specs.Suspect.Laws.{IsSuspect, SuspectsStand}
 use Rattle.kc_repair.specs.Suspect.Suspects.{suspects}
 use Rattle.kc_repair.proofs.Beside.{first-of}
@@ -39,7 +39,7 @@ pub others-stand : CleanRootsStand → SuspectsStand → OthersStand
 others-stand law suspected image audits root kind v s is =
     let walk : Option FirstWalk = walk_of image kind v in
     let passes : Suspect → Bool = repairs (judged_with image audits root walk None) in
-    let found : find passes (take most (suspects image kind v)) ≡ Some s = first-of _ _ (suspects image kind v) (find passes (take most (suspects image kind v))) s is in
+    let found : find passes (take most (suspects image kind v)) ≡ Some s = first-of (judged_with image audits root walk (Some (breach_of v))) (breach_of v) (suspects image kind v) (find passes (take most (suspects image kind v))) s is in
     let t = tried-parts passes (IsSuspect image) (suspects image kind v) s (suspected image kind v) (of-front passes most (suspects image kind v) s found) in
     record {
       before = t.before;

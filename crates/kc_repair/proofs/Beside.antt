@@ -1,5 +1,5 @@
 -- Whether another suspect repairs, where the memory is told or not.
-use Rattle.std.proofs.Common.{◌≡◌, ℕ, ◌+◌, nat_eq, Bool, List, [], ◌∷◌, length, take, find, is_some, is_none, Option, Some, None, Result, Ok, Err, refl, sym, ap, ◌∙◌}
+use Rattle.std.proofs.Common.{◌≡◌, ℕ, ◌+◌, nat_eq, Bool, true, List, [], ◌∷◌, length, take, find, is_some, is_none, Option, Some, None, Result, Ok, Err, refl, sym, ap, ◌∙◌}
 use Rattle.std.specs.Prelude.{IfOk, IfSome}
 use Rattle.kc_memory.specs.Image.{Image}
 use Rattle.kc_found.specs.declared.failed.ReadFailed.{ReadFailed}
@@ -18,7 +18,7 @@ use Rattle.kc_repair.specs.declared.outcome.Repair.TheVariants.{Stands, Nothing}
 use Rattle.kc_repair.specs.declared.others.Stand.{Stand}
 use Rattle.kc_repair.specs.declared.seeking.Suspected.{Suspected}
 use Rattle.kc_repair.specs.Others.{is_change, next_ones, stand_after, stand_by, stand_of, up_to, up_to_found}
-use Rattle.kc_repair.specs.Repairs.{IsSuspected, change_of, judged, judged_with, most, repair_by, repair_of, repairs, walk_of}
+use Rattle.kc_repair.specs.Repairs.{IsSuspected, breach_of, change_of, judged, judged_with, most, repair_by, repair_of, repairs, walk_of}
 use Rattle.kc_repair.specs.Suspect.Suspects.{suspects}
 use Rattle.kc_repair.proofs.Ups.{Alike, found-up_to, of-front, same-parts}
 
@@ -43,14 +43,14 @@ stand-here passes alike xs others first tried count second up after counted foun
     = ap (λ (o : Option Suspect). record { also = is_some o; tried = tried + count }) (sym found) ∙ ap (λ (k : ℕ). record { also = is_some (find passes others); tried = tried + k }) number in
     told ∙ ap (stand_after passes tried) after ∙ ap (λ (n : ℕ). stand_after passes n (next_ones n xs)) place
 
-pub others-tried : (image : Option Image) (audits : List AuditAt) (root : Root) (walk : Option FirstWalk) (xs others : List Suspect) (first : Suspect) (tried count : ℕ) (r : Result (Option Suspect) ReadFailed) (second : Option Suspect)
-    → tried ≡ up_to (is_change first) xs → others ≡ next_ones tried xs → count ≡ up_to_found second others → r ≡ Ok second
+pub others-tried : (image : Option Image) (audits : List AuditAt) (root : Root) (walk : Option FirstWalk) (xs others : List Suspect) (first : Suspect) (tried count : ℕ) (also : Bool) (r : Result (Option Suspect) ReadFailed) (second : Option Suspect)
+    → tried ≡ up_to (is_change first) xs → others ≡ next_ones tried xs → count ≡ up_to_found second others → also ≡ is_some second → r ≡ Ok second
     → IfOk r (λ o. IfSome image (λ m. find (repairs (judged_with m audits root walk None)) others ≡ o))
-    → IfSome image (λ m. find (repairs (judged_with m audits root walk None)) (take most xs) ≡ Some first → record { also = is_some second; tried = tried + count } ≡ stand_by (repairs (judged_with m audits root walk None)) xs)
-others-tried None audits root walk xs others first tried count r second up after counted is exact = tt
-others-tried (Some m) audits root walk xs others first tried count r second up after counted is exact first_is =
+    → IfSome image (λ m. find (repairs (judged_with m audits root walk None)) (take most xs) ≡ Some first → record { also = also; tried = tried + count } ≡ stand_by (repairs (judged_with m audits root walk None)) xs)
+others-tried None audits root walk xs others first tried count also r second up after counted more is exact = tt
+others-tried (Some m) audits root walk xs others first tried count also r second up after counted more is exact =
     let found : find (repairs (judged_with m audits root walk None)) others ≡ second = rw is at exact in
-    stand-here (repairs (judged_with m audits root walk None)) (judged-alike m audits root walk) xs others first tried count second up after counted found first_is
+    λ first_is. ap (λ (b : Bool). record { also = b; tried = tried + count }) more ∙ stand-here (repairs (judged_with m audits root walk None)) (judged-alike m audits root walk) xs others first tried count second up after counted found first_is
 
 -- the first that repairs is the answer's
 pub first-of : (lead : Suspect → Verdict) (breach : Breach) (xs : List Suspect) (o : Option Suspect) (s : Suspect) → repair_by lead breach xs o ≡ Stands s → o ≡ Some s
@@ -64,5 +64,5 @@ pub others-seen : (image after : Option Image) (audits : List AuditAt) (root : R
     → IfOk r (λ stand. IfSome image (λ m. repair_of m audits root kind v ≡ Stands first → stand ≡ stand_of m audits root kind v))
 others-seen image after audits root kind v seen first (Err stop) same are exact = tt
 others-seen None after audits root kind v seen first (Ok stand) same are exact = tt
-others-seen (Some m) after audits root kind v seen first (Ok stand) same are exact is =
-    (rw (are.0, are.1) at (rw same at exact)) (first-of _ _ (suspects m kind v) (find (repairs (judged_with m audits root (walk_of m kind v) None)) (take most (suspects m kind v))) first is)
+others-seen (Some m) after audits root kind v seen first (Ok stand) same are exact =
+    λ is. (rw (are.0, are.1) at (rw same at exact)) (first-of (judged_with m audits root (walk_of m kind v) (Some (breach_of v))) (breach_of v) (suspects m kind v) (find (repairs (judged_with m audits root (walk_of m kind v) None)) (take most (suspects m kind v))) first is)
