@@ -18,7 +18,7 @@ use Rattle.kc_repair.specs.Repairs.{breach_of, first_found, judged_with, most, r
 use Rattle.kc_repair.specs.Suspect.Laws.{IsSuspect, SuspectsStand}
 use Rattle.kc_repair.specs.Suspect.Suspects.{suspects}
 use Rattle.kc_repair.proofs.Beside.{first-of}
-use Rattle.kc_repair.proofs.Parts.{Tried, all-so, tried-parts}
+use Rattle.kc_repair.proofs.Parts.{all-so, tried-parts}
 use Rattle.kc_repair.proofs.Standing.{breaks_first, root_stands}
 use Rattle.kc_repair.proofs.Ups.{of-front}
 

@@ -1,5 +1,5 @@
 -- Whether another suspect repairs, where the memory is told or not.
-use Rattle.std.proofs.Common.{◌≡◌, ℕ, ◌+◌, nat_eq, Bool, true, List, [], ◌∷◌, length, take, find, is_some, is_none, Option, Some, None, Result, Ok, Err, refl, sym, ap, ◌∙◌}
+use Rattle.std.proofs.Common.{◌≡◌, ℕ, ◌+◌, Bool, true, List, take, find, is_some, is_none, Option, Some, None, Result, Ok, Err, sym, ap, ◌∙◌}
 use Rattle.std.specs.Prelude.{IfOk, IfSome}
 use Rattle.kc_memory.specs.Image.{Image}
 use Rattle.kc_found.specs.declared.failed.ReadFailed.{ReadFailed}
@@ -13,8 +13,7 @@ use Rattle.kc_plan.specs.Roots.{Root, broken_in}
 use Rattle.kc_repair.specs.declared.suspect.suspect.Suspect.{Suspect}
 use Rattle.kc_repair.specs.declared.first.FirstWalk.{FirstWalk}
 use Rattle.kc_repair.specs.declared.outcome.Breach.{Breach}
-use Rattle.kc_repair.specs.declared.outcome.Repair.{Repair}
-use Rattle.kc_repair.specs.declared.outcome.Repair.TheVariants.{Stands, Nothing}
+use Rattle.kc_repair.specs.declared.outcome.Repair.TheVariants.{Stands}
 use Rattle.kc_repair.specs.declared.others.Stand.{Stand}
 use Rattle.kc_repair.specs.declared.seeking.Suspected.{Suspected}
 use Rattle.kc_repair.specs.Others.{is_change, next_ones, stand_after, stand_by, stand_of, up_to, up_to_found}

@@ -1,4 +1,3 @@
-use Rattle.std.proofs.Common.{ap}
 use Rattle.kc_plan.specs.Views.{plan_seen}
 use Rattle.kc_repair.proofs.Beside.{others-tried}
 use Rattle.kc_repair.proofs.others.try_others.Goals as goal
