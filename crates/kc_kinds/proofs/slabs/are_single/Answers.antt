@@ -21,11 +21,13 @@ no-way p q r = search
 -- src/slabs.rt:32:1
 pub returns-then-is_single-2 : goal.returns-then-is_single-2
 returns-then-is_single-2 c = elim c.if-is_single.branch [
-    then-is_single w ↦ all-three c.is_single.ensures w.is_single-then-is_single.ensures c.is_single-then-is_single-2.ensures w.if-is_single.true w.value-is c.if-is_single-2.true
-  | else-is_single w ↦ no-way w.value-is w.if-is_single.false c.if-is_single-2.true ]
+  | then-is_single w ↦ all-three c.is_single.ensures w.is_single-then-is_single.ensures c.is_single-then-is_single-2.ensures w.if-is_single.true w.value-is c.if-is_single-2.true
+  | else-is_single w ↦ no-way w.value-is w.if-is_single.false c.if-is_single-2.true
+]
 
 -- src/slabs.rt:32:1
 pub returns-else-is_single-2 : goal.returns-else-is_single-2
 returns-else-is_single-2 c = elim c.if-is_single.branch [
-    then-is_single w ↦ not-second (is_single (address_in (kernel c.args.known.now) (codes "nr_node_ids"))) c.is_single.ensures w.is_single-then-is_single.ensures w.if-is_single.true w.value-is c.if-is_single-2.false
-  | else-is_single w ↦ not-first (is_single (address_in (kernel c.args.known.now) (codes "page_offset_base"))) (is_single (address_in (kernel c.args.known.now) (codes "nr_node_ids"))) c.is_single.ensures w.if-is_single.false w.value-is ]
+  | then-is_single w ↦ not-second (is_single (address_in (kernel c.args.known.now) (codes "nr_node_ids"))) c.is_single.ensures w.is_single-then-is_single.ensures w.if-is_single.true w.value-is c.if-is_single-2.false
+  | else-is_single w ↦ not-first (is_single (address_in (kernel c.args.known.now) (codes "page_offset_base"))) (is_single (address_in (kernel c.args.known.now) (codes "nr_node_ids"))) c.is_single.ensures w.if-is_single.false w.value-is
+]
