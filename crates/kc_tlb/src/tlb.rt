@@ -32,6 +32,9 @@ pub struct Tlb {
 
 const PAGE_BYTES: u64 = 4096;
 
+// As many places as memories mostly have: a page's place among them takes no division.
+const USUAL: u64 = 4096;
+
 impl Tlb {
     ghost use Rattle.std.specs.Prelude.{IsTrue, Some, slice_set};
     ghost use Rattle.kc_tlb.specs.Entries.{entry_of, place_in};
@@ -98,6 +101,7 @@ impl Tlb {
     }
 
     // Walks the tables, and keeps where they lead.
+    #[inline(never)]
     fn walked<F: Frames, L: Ledger>(
         &mut self,
         frames: &mut F,
@@ -145,7 +149,12 @@ impl Tlb {
         ensures place { result ≡ place_in self.now.places.items page }
         ensures within { result < vec_len self.now.places }
     {
-        (page % self.places.len() as u64) as usize
+        let count = self.places.len() as u64;
+        if count == USUAL {
+            (page % USUAL) as usize
+        } else {
+            (page % count) as usize
+        }
     }
 
     // Keeps where an address's page leads, in the page's place.
