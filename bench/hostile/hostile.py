@@ -14,8 +14,8 @@ ten seconds on the clock, or --seconds where the machine has other work, and has
 - where the second reader (`verdict.py`) reads the files too, with the same status and the same texts.
 
 Of kwhy the places are those of the lines `place`, `entry`, `alias`, `near`, `repair`, `fits`, `word` and `then`: each stands in the dump as it is printed,
-but for NEW, which is another number, and with which, of a chain with all, the second reader finds the root audit clean. Of an address and of `refs` the text is that of `why`,
-where it can read the files. A report that `check` refuses to print is refused by the same line, and one that it printed isn't, but where it was
+but for NEW, which is another number, and with which, of a chain with all, the second reader finds the root audit clean, with as many elements. Of an
+address and of `refs` the text is that of `why`, where it can read the files. A report that `check` refuses to print is refused by the same line, and one that it printed isn't, but where it was
 damaged since.
 
 A run that ends otherwise is printed, and its files are kept in FOLDER. It prints how many runs ended how, also where it is stopped by Ctrl-C or
@@ -61,7 +61,7 @@ WHY = {
     "stopped": f"M[1-6] [0-5] {HEX}", "alias": HEX, "near": f"{HEX} ({HEX} .+|stopped M[1-6] [0-5] {HEX})", "span": f"{HEX} {HEX}",
     "words": r"0|[1-9]\d*", "repair": rf"{CHANGED}|none of (the first 4096|\d+) tried", "then": f"{CHANGED} [A-Z][1-9]? {HEX}", "clean": "",
     "rule": "[A-Z][1-9]? .+", "expected": rf"{HEX} found {HEX} bits \d+", "fits": CHANGED, "chain": "[2-8]", "word": CHANGED, "says": ".+", "slabs": ".+",
-    "twice": HEX, "deleted": HEX, "beside": HEX, "copy": f"of {HEX}",
+    "twice": HEX, "deleted": HEX, "beside": HEX, "copy": f"of {HEX}", "stand": r"[12] of [1-9]\d* tried", "elements": r"0|[1-9]\d*", "leads": ".+",
     "flags": rf"{HEX} count -?\d+( mapcount \d+)?", "mapping": rf"{HEX} index \d+", "anonymous": rf"{HEX} index \d+", "movable": HEX, "ksm": HEX,
     "free": r"order \d+ page \d+( zone .*)?", "covers": r"page|(\d+ before and )?(object|byte \d+ to \d+ of \d+)( and \d+ after)?", "task": r"\d+ .*", "names": ".*",
 }
@@ -237,8 +237,11 @@ def repaired(case, out):
         causes = suspects.Causes(case.files["z.core"][:], f["z.btf"], f["z.map"], f["z.toml"])
         for offset, new in words:
             causes.put(int(offset, 16), int(new, 16))
-        if causes.judge(causes.numbers[part.split()[1]]) is not None:
+        root, audit = (causes.numbers[re.search(rf"^{name} (\S+)$", part, re.M)[1]] for name in ("root", "audit"))
+        if causes.judge(root) is not None:
             return "a repair leaves the audit broken"
+        if causes.elements(root, causes.audits[audit], []) not in part:
+            return "another number of elements"
     return None
 
 

@@ -6,8 +6,8 @@ FOLDER has a dump with its plans (README.md). The words that each audit reads ar
 `.words` beside the plans, by what they are: by the lines of that reader that read them. COUNT damages (400, seed 1) are made in a copy of the dump,
 one at a time and put back: of a plan at random, of what its words are at random, and of these a word at random, by turns with one bit changed and
 with another word. One that `check` doesn't notice is passed over, and another one made. Counts by rule, by plan and in all: `true` the old word is
-printed, `other` another number under `repair`, `fits` another one under `fits`, `none`. With the number that is printed the plan has to be clean, by
-`check`; ends with 1 where it isn't. With SHOWN (one of these words, or a rule) prints each such damage.
+printed, `other` another number under `repair`, `fits` another one under `fits`, `none`; and by whether kwhy says that it is the only one that repairs
+(`stand 1`). With the number that is printed the plan has to be clean, by `check`; ends with 1 where it isn't. With SHOWN (one of these words, or a rule) prints each such damage.
 """
 import collections
 import json
@@ -148,7 +148,7 @@ def main(words):
             if not found:
                 continue
             rule, kind, holds, seconds, text = found
-            for key in ("all", f"rule {rule}", f"plan {plan[:-5]}", "one word" if number % 2 == 0 else "one bit"):
+            for key in ("all", f"rule {rule}", f"plan {plan[:-5]}", "one word" if number % 2 == 0 else "one bit", *re.findall(r"^stand \d", text, re.M)):
                 seen[key][kind] += 1
             number, bad, slowest = number + 1, bad + (not holds), max(slowest, seconds)
             if shown in (kind, rule) or not holds:

@@ -31,6 +31,7 @@ from second.why import Sights
 
 MOST = 4096
 MOST_WORDS = 8
+MORE = 64  # how many others are tried after the first that repairs
 LINKS, TREE_LINKS, NEAR = 65536, 8192, 64
 POISONS = 0xDEAD000000000100, 0xDEAD000000000122
 
@@ -746,14 +747,45 @@ class Causes:
             for offset, word in reversed(old):
                 self.put(offset, word)
 
+    def led(self, place, number):
+        """A word and its other number, and what that leads to in the dump as it is, in the words of `near`."""
+        said = self.sights.why.said(place[0], number)
+        return columns(place, number) + "\n" + ("" if said == "number" else f"leads {said}\n")
+
+    def stand(self, root, broken, audit):
+        """How many words repair of those tried: after the first that does at most MORE others, up to a second one."""
+        of = Suspects(self.kernel, audit, broken)
+        walk = self.own_walk(audit, broken, of) or (lambda: None)
+        repairing, tried, left = 0, 0, None
+        for one in of.all():
+            if repairing == 2 or left == 0:
+                break
+            tried, left = tried + 1, None if left is None else left - 1
+            if self.with_word(*one, lambda: not walk() and self.judge(root) is None):
+                repairing, left = repairing + 1, MORE
+        return f"stand {repairing} of {tried} tried\n"
+
+    def elements(self, root, audit, words):
+        """How many elements the audit that found the violation meets with these words."""
+        run, old = Run(self.kernel, self.audits, self.numbers), []
+        try:
+            for place, number in words:
+                old.append((place[2], int.from_bytes(self.core.data[place[2] : place[2] + 8], "little")))
+                self.put(place[2], number)
+            run.take(root, self.audits[root].symbol)
+        finally:
+            for offset, word in reversed(old):
+                self.put(offset, word)
+        return f"elements {run.elements[self.audits.index(audit)]}\n"
+
     def repair(self, root, broken, audit):
         """The lines of the repair."""
         tried, more, last, then = self.tried(root, broken, audit, [])
         if last:
-            return f"{'fits' if only_fits(broken, *last) else 'repair'} {columns(*last)}\n"
+            return f"{'fits' if only_fits(broken, *last) else 'repair'} {self.led(*last)}{self.stand(root, broken, audit)}{self.elements(root, audit, [last])}"
         text, words = f"repair none of {'the first ' * more}{tried} tried\n", self.chain(root, then)
         if words:
-            return text + f"chain {len(words)}\n" + "".join(f"word {columns(*word)}\n" for word in words) + chain_sign(words)
+            return text + f"chain {len(words)}\n" + "".join(f"word {self.led(*word)}" for word in words) + chain_sign(words) + self.elements(root, audit, words)
         return text + (f"then {columns(*then[:2])} {then[2][0].rule} {then[2][0].at:016x}\n" if then else "")
 
     def lines(self, root):

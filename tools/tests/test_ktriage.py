@@ -324,6 +324,29 @@ class Pages(Folder):
         with open(self.path("page.html")) as file:
             self.assertIn("these 2 do together", file.read())
 
+    def test_what_a_repair_is_worth(self):
+        self.program("kaudit", BAD, 1)
+        self.program("kwhy", CAUSE + "\nleads object task_struct+8\nstand 1 of 65 tried\nelements 800\n")
+        said = ["ffff888000002000 at ffff888000001008 leads to object task_struct+8", "no other of 65 words tried does as well", "with it the audit meets 800 elements"]
+        self.assertIn("".join(f"  {line}\n" for line in said), self.triage()[1])
+        self.assertEqual(json.loads(self.triage("--json", "-")[1])["roots"][0]["worth"], said)
+        self.triage("--html", self.path("page.html"))
+        with open(self.path("page.html")) as file:
+            self.assertIn("No other of 65 words tried does as well.", file.read())
+
+    def test_that_a_repair_may_be_worth_little(self):
+        self.program("kaudit", BAD, 1)
+        self.program("kwhy", CAUSE + "\nleads zero\nstand 2 of 2 tried\nelements 1\n")
+        said = ["ffff888000002000 at ffff888000001008 says zero", "another word does as well, of 2 tried", "with it the audit meets 1 element"]
+        self.assertEqual(json.loads(self.triage("--json", "-")[1])["roots"][0]["worth"], said)
+
+    def test_what_words_are_worth_together(self):
+        self.program("kaudit", BAD, 1)
+        columns = CAUSE.split("repair ")[1]
+        self.program("kwhy", CAUSE.split("repair ")[0] + f"repair none of 65 tried\nchain 2\nword {columns}\nleads image a+0\nword {columns}\nelements 3\n")
+        said = ["ffff888000002000 at ffff888000001008 leads to image a+0", "with them the audit meets 3 elements"]
+        self.assertEqual(json.loads(self.triage("--json", "-")[1])["roots"][0]["worth"], said)
+
     def test_html_needs_no_network(self):
         self.program("kaudit", BAD.replace("tasks", "<b>&tasks"), 1)
         status, _, _ = self.triage("--html", self.path("page.html"))

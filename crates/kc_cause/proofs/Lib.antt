@@ -3,6 +3,7 @@ mod CopyLemmas
 mod FileLemmas
 mod Fits
 mod ItemLemmas
+mod LedLemmas
 mod MendedLemmas
 mod PlannedLemmas
 mod PrintedLaws

@@ -1,5 +1,5 @@
 -- What the text that explains a report says of repairs holds of the dump.
-use Rattle.std.proofs.Common.{◌≡◌, ℕ, zero, suc, ◌+◌, nat_eq, Bool, true, false, if◌then◌else◌, List, [], ◌∷◌, ◌++◌, length, take, map, find, slice_get, Option, Some, None, ◌⊎◌, inl, inr, refl, sym, ap, ◌∙◌, subst, cond, append_assoc, append-nil, arith}
+use Rattle.std.proofs.Common.{◌≡◌, ℕ, zero, suc, ◌+◌, nat_eq, Bool, true, false, if◌then◌else◌, List, [], ◌∷◌, ◌++◌, length, take, map, find, slice_get, is_some, Option, Some, None, ◌⊎◌, inl, inr, refl, sym, ap, ◌∙◌, subst, cond, append_assoc, append-nil, arith}
 use Rattle.std.specs.Prelude.{codes, decimal, min, IfSome, All, option_to_list}
 use Rattle.std.specs.Option.{option_map_or}
 use Rattle.std.specs.List.{AllByRecursion, AllZip, concat}
@@ -18,8 +18,17 @@ use Rattle.kc_repair.specs.declared.suspect.suspect.Suspect.{Suspect}
 use Rattle.kc_repair.specs.declared.outcome.Next.{Next}
 use Rattle.kc_repair.specs.declared.outcome.Repair.{Repair}
 use Rattle.kc_repair.specs.declared.outcome.Repair.TheVariants.{Stands, Nothing}
-use Rattle.kc_repair.specs.Laws.{ComesThen, LeftStand, LeftStandInFile, LeftWordsStand, NextsAreOfRoot, OneMore, RepairWordsStand, RepairsAreExact, RepairsStand, told_suspects}
+use Rattle.kc_repair.specs.Laws.{ComesThen, ElementsAreCounted, IsStand, LeftStand, LeftStandInFile, LeftWordsStand, NextsAreOfRoot, OneMore, OthersStand, RepairWordsStand, RepairsAreExact, RepairsStand, told_suspects}
+use Rattle.kc_repair.specs.declared.others.Stand.{Stand}
+use Rattle.kc_repair.specs.Elements.{elements_with}
+use Rattle.kc_repair.specs.Others.{stand_of}
+use Rattle.kc_sight.specs.Meanings.{meaning}
+use Rattle.kc_told.specs.declared.near.Lead.{Lead}
+use Rattle.kc_told.specs.Leads.{is_told}
+use Rattle.kc_told.specs.Near.{lead_as}
+use Rattle.kc_told.specs.Text.{meaning_text}
 use Rattle.kc_repair.specs.declared.first.FirstWalk.{FirstWalk}
+use Rattle.kc_cause.specs.declared.repairs.Mended.{Mended}
 use Rattle.kc_repair.specs.declared.first.Breaking.{Breaking}
 use Rattle.kc_repair.specs.Repairs.{IsRepairBy, StandsAs, breaking_of, most, repair_of, walk_of, with_suspect, with_words}
 use Rattle.kc_repair.specs.Suspect.Laws.{IsSuspect, SuspectsStand}
@@ -27,9 +36,9 @@ use Rattle.kc_repair.specs.Suspect.Suspects.{suspects}
 use Rattle.kc_report.specs.Lines.{rule_code}
 use Rattle.kc_text.specs.Compose.{texts}
 use Rattle.kc_text.specs.Text.{hex}
-use Rattle.kc_cause.specs.Explained.{Explained, causes_text, cause_lines, explained_text, fault_lines, first_lines, found_named, found_number, is_broken, or_clean, repairs_by, repairs_found, root_line, shown_lines}
-use Rattle.kc_cause.specs.Lines.{after_lines, bytes_line, next_lines, only_fits, repair_label, repair_lines, suspect_part, word_line}
-use Rattle.kc_cause.specs.Printed.{IsChained, IsExplanation, IsPart, IsPartBy, IsPartOf, IsRepaired, IsThen, IsUnrepaired, IsWhole, columns, explained_roots, walk_as}
+use Rattle.kc_cause.specs.Explained.{Explained, causes_text, cause_lines, explained_text, fault_lines, first_lines, found_named, found_number, changed_words, elements_told, is_broken, leads_to, mended_of, or_clean, repairs_found, root_line, shown_lines, stand_told}
+use Rattle.kc_cause.specs.Lines.{after_lines, bytes_line, elements_lines, mended_lines, next_lines, number_of, only_fits, repair_label, repair_lines, stand_line, stand_lines, suspect_part, word_line}
+use Rattle.kc_cause.specs.Printed.{CountsAs, IsAlone, IsChained, IsExplanation, IsPart, IsPartBy, IsPartOf, IsRepaired, IsThen, IsUnrepaired, IsWhole, IsWord, LeadsAs, columns, explained_roots, walk_as}
 use Rattle.kc_cause.specs.Chained.{chain_of}
 use Rattle.kc_cause.specs.Signs.{sign_lines, sign_of}
 use Rattle.kc_cause.specs.Suspected.{Suspected, suspected}
@@ -37,8 +46,8 @@ use Rattle.kc_cause.proofs.ChainLemmas.{Together, chained}
 
 -- ---- the lines on a repair
 
-abbrev IsSaid : Explained → Root → Option FirstWalk → List ℕ → Type 0
-IsSaid e root walk text = IsRepaired e root text ⊎ IsUnrepaired e root walk text
+abbrev IsSaid : Explained → Root → Option FirstWalk → ℕ → List ℕ → Type 0
+IsSaid e root walk number text = IsRepaired e root walk number text ⊎ IsUnrepaired e root walk number text
 
 label_one : (fits : Bool) → (repair_label fits ≡ codes "repair ") ⊎ (repair_label fits ≡ codes "fits ")
 label_one true = inr refl
@@ -71,68 +80,131 @@ first_told : (image : Image) (next : Option Next) (tried : ℕ) (more : Bool) �
 first_told image None tried more words n is = let none : ⊥ = cc in absurd none
 first_told image (Some m) tried more words n is = let same : n ≡ m = cc in rw same words.0
 
--- the words that repair together
-word-lines : (words : List Suspect) → texts word_line words ≡ concat (map (λ s. codes "word " ++ columns s ++ codes "\n") words)
-word-lines [] = refl
-word-lines (s ∷ later) = ap (λ (l : List ℕ). word_line s ++ l) (word-lines later)
+-- what the other number of a word leads to
+led-by : (e : Explained) (s : Suspect) (lead : Lead) (told : Bool) → lead ≡ lead_as e.image e.shapes.objects e.shapes.cpus (meaning s.va s.value) s.value
+    → LeadsAs e s (if told then codes "leads " ++ meaning_text e.symbols.image lead (meaning s.va s.value) s.value ++ codes "\n" else [])
+led-by e s lead true is = inr (record { words = meaning_text e.symbols.image lead (meaning s.va s.value) s.value; near = rw is refl; line = refl })
+led-by e s lead false is = inl refl
 
-after_said : (e : Explained) (root : Root) (words : Option (List Suspect)) (next : Option Next)
+led-said : (e : Explained) (s : Suspect) → LeadsAs e s (leads_to e s)
+led-said e s =
+    let lead : Lead = lead_as e.image e.shapes.objects e.shapes.cpus (meaning s.va s.value) s.value in
+    led-by e s lead (is_told e.symbols.image lead (meaning s.va s.value) s.value) refl
+
+-- whether others would do as well
+number-told : (also : Bool) (other : Option Suspect) (s : Suspect) → also ≡ is_some other → number_of also ≡ length (s ∷ option_to_list other)
+number-told also None s is = rw is refl
+number-told also (Some t) s is = rw is refl
+
+alone-said : (e : Explained) (root : Root) (walk : Option FirstWalk) (s : Suspect) (stand : Stand) → IsStand e.image e.audits root walk s stand → IsAlone e root walk s (stand_line stand)
+alone-said e root walk s stand is = record {
+  before = is.before;
+  after = is.after;
+  other = is.other;
+  there = is.there;
+  fail = is.fail;
+  also = is.also;
+  line = ap (λ (n : ℕ). codes "stand " ++ decimal n ++ codes " of " ++ decimal stand.tried ++ codes " tried\n") (number-told stand.also is.other s is.two)
+      ∙ ap (λ (n : ℕ). codes "stand " ++ decimal (length (s ∷ option_to_list is.other)) ++ codes " of " ++ decimal n ++ codes " tried\n") is.number;
+}
+
+-- the elements
+counts-said : ElementsAreCounted → (e : Explained) (root : Root) (words : List Suspect) (number : ℕ) (elements : Option ℕ) → elements_with e.image e.audits root words number ≡ elements
+    → CountsAs e root words number (elements_lines elements)
+counts-said law e root words number None is = inl refl
+counts-said law e root words number (Some n) is = inr (record { n = n; counts = law e.image e.audits root words number n is; line = refl })
+
+-- the words that repair together
+words-text : (leads : Suspect → List ℕ) (words : List Suspect) → texts (word_line leads) words ≡ concat (map (word_line leads) words)
+words-text leads [] = refl
+words-text leads (s ∷ later) = ap (λ (l : List ℕ). word_line leads s ++ l) (words-text leads later)
+
+words-said : (e : Explained) (words : List Suspect) → AllZip (IsWord e) words (map (word_line (leads_to e)) words)
+words-said e [] = tt
+words-said e (s ∷ later) = (record { leads = leads_to e s; led = led-said e s; line = refl }, words-said e later)
+
+after_said : ElementsAreCounted → (e : Explained) (root : Root) (number : ℕ) (words : Option (List Suspect)) (elements : Option ℕ) (next : Option Next)
+    → elements ≡ elements_told e.image e.audits root number words
     → ((all : List Suspect) → words ≡ Some all → Together e.image e.audits root all)
     → ((n : Next) → next ≡ Some n → ComesThen e.image e.audits root n × IsSuspect e.image n.suspect)
-    → IsChained e root (after_lines words next) ⊎ ((after_lines words next ≡ []) ⊎ IsThen e root (after_lines words next))
-after_said e root None next chained holds = inr (next_said e root next holds)
-after_said e root (Some all) next chained holds =
+    → IsChained e root number (after_lines (leads_to e) words elements next) ⊎ ((after_lines (leads_to e) words elements next ≡ []) ⊎ IsThen e root (after_lines (leads_to e) words elements next))
+after_said law e root number None elements next count chained holds = inr (next_said e root next holds)
+after_said law e root number (Some all) elements next count chained holds =
     let both = chained all refl in
     inl (record {
       words = all;
-      line = ap (λ (l : List ℕ). codes "chain " ++ decimal (length all) ++ codes "\n" ++ l ++ sign_lines (sign_of all)) (word-lines all);
+      lines = map (word_line (leads_to e)) all;
+      each = words-said e all;
+      elements = elements_lines elements;
+      line = ap (λ (l : List ℕ). codes "chain " ++ decimal (length all) ++ codes "\n" ++ l ++ (sign_lines (sign_of all) ++ elements_lines elements)) (words-text (leads_to e) all);
       there = both.there;
       in_file = both.in_file;
       stands = both.stands;
+      counted = counts-said law e root all number elements (sym count);
     })
 
 -- what an answer on a violation says
-record Answers (e : Explained) (root : Root) (breaking : Breaking) (of : List Suspect) (words : Option (List Suspect)) (r : Repair) : Type 0 where
+record Answers (e : Explained) (root : Root) (breaking : Breaking) (of : List Suspect) (number : ℕ) (m : Mended) (r : Repair) : Type 0 where
   all : AllByRecursion (IsSuspect e.image) of
   is : IsRepairBy e.image e.audits root breaking of r
   stands : StandsAs e.image e.audits root breaking.walk of r
   told : AllByRecursion (IsSuspect e.image) (told_suspects r)
   comes : (tried : ℕ) (more : Bool) (n : Next) → r ≡ Nothing tried more (Some n) → ComesThen e.image e.audits root n
-  chained : (all : List Suspect) → words ≡ Some all → Together e.image e.audits root all
+  chained : (all : List Suspect) → m.words ≡ Some all → Together e.image e.audits root all
+  alone : (s : Suspect) → r ≡ Stands s → (stand : Stand) × (m.stand ≡ Some stand) × IsStand e.image e.audits root breaking.walk s stand
+  counted : m.elements ≡ elements_told e.image e.audits root number (changed_words r m.words)
 
-none_next : (e : Explained) (root : Root) (breaking : Breaking) (of : List Suspect) (words : Option (List Suspect)) (tried : ℕ) (more : Bool) (next : Option Next) → Answers e root breaking of words (Nothing tried more next)
+none_next : (e : Explained) (root : Root) (breaking : Breaking) (of : List Suspect) (number : ℕ) (m : Mended) (tried : ℕ) (more : Bool) (next : Option Next) → Answers e root breaking of number m (Nothing tried more next)
     → (n : Next) → next ≡ Some n → ComesThen e.image e.audits root n × IsSuspect e.image n.suspect
-none_next e root breaking of words tried more next by n some =
+none_next e root breaking of number m tried more next by n some =
     (by.comes tried more n (ap (λ (o : Option Next). Nothing tried more o) some), first_told e.image next tried more by.told n some)
 
-none_said : (e : Explained) (root : Root) (breaking : Breaking) (of : List Suspect) (words : Option (List Suspect)) (tried : ℕ) (more : Bool) (next : Option Next) (v : Violation)
-    → Answers e root breaking of words (Nothing tried more next) → IsUnrepaired e root breaking.walk (repair_lines v words (Nothing tried more next))
-none_said e root breaking of words tried true next v by = record {
+none_said : ElementsAreCounted → (e : Explained) (root : Root) (breaking : Breaking) (of : List Suspect) (number : ℕ) (m : Mended) (tried : ℕ) (more : Bool) (next : Option Next) (v : Violation)
+    → Answers e root breaking of number m (Nothing tried more next) → IsUnrepaired e root breaking.walk number (repair_lines (leads_to e) v m (Nothing tried more next))
+none_said law e root breaking of number m tried true next v by = record {
   tried = take most of;
   label = codes "repair none of the first ";
   one = inr refl;
-  next = after_lines words next;
-  line = ap (λ (n : ℕ). codes "repair none of the first " ++ decimal n ++ codes " tried\n" ++ after_lines words next) (by.is.number ∙ sym (length-take most of));
+  next = after_lines (leads_to e) m.words m.elements next;
+  line = ap (λ (n : ℕ). codes "repair none of the first " ++ decimal n ++ codes " tried\n" ++ after_lines (leads_to e) m.words m.elements next) (by.is.number ∙ sym (length-take most of));
   there = all_taken (IsSuspect e.image) most of by.all;
   fails = by.stands;
-  goes_on = after_said e root words next by.chained (none_next e root breaking of words tried true next by);
+  goes_on = after_said law e root number m.words m.elements next by.counted by.chained (none_next e root breaking of number m tried true next by);
 }
-none_said e root breaking of words tried false next v by = record {
+none_said law e root breaking of number m tried false next v by = record {
   tried = take most of;
   label = codes "repair none of ";
   one = inl refl;
-  next = after_lines words next;
-  line = ap (λ (n : ℕ). codes "repair none of " ++ decimal n ++ codes " tried\n" ++ after_lines words next) (by.is.number ∙ sym (length-take most of));
+  next = after_lines (leads_to e) m.words m.elements next;
+  line = ap (λ (n : ℕ). codes "repair none of " ++ decimal n ++ codes " tried\n" ++ after_lines (leads_to e) m.words m.elements next) (by.is.number ∙ sym (length-take most of));
   there = all_taken (IsSuspect e.image) most of by.all;
   fails = by.stands;
-  goes_on = after_said e root words next by.chained (none_next e root breaking of words tried false next by);
+  goes_on = after_said law e root number m.words m.elements next by.counted by.chained (none_next e root breaking of number m tried false next by);
 }
 
-repair_said : (e : Explained) (root : Root) (breaking : Breaking) (of : List Suspect) (words : Option (List Suspect)) (r : Repair) (v : Violation)
-    → Answers e root breaking of words r → IsSaid e root breaking.walk (repair_lines v words r)
-repair_said e root breaking of words (Stands s) v by =
-    inl (record { label = repair_label (only_fits v.rule v.at s); one = label_one (only_fits v.rule v.at s); word = s; line = refl; there = by.told.0; stands = by.stands })
-repair_said e root breaking of words (Nothing tried more next) v by = inr (none_said e root breaking of words tried more next v by)
+one_said : ElementsAreCounted → (e : Explained) (root : Root) (breaking : Breaking) (of : List Suspect) (number : ℕ) (m : Mended) (s : Suspect) (v : Violation)
+    → Answers e root breaking of number m (Stands s) → IsRepaired e root breaking.walk number (repair_lines (leads_to e) v m (Stands s))
+one_said law e root breaking of number m s v by =
+    let alone = by.alone s refl in
+    record {
+      label = repair_label (only_fits v.rule v.at s);
+      one = label_one (only_fits v.rule v.at s);
+      word = s;
+      leads = leads_to e s;
+      stand = stand_lines m.stand;
+      elements = elements_lines m.elements;
+      line = refl;
+      there = by.told.0;
+      stands = by.stands;
+      led = led-said e s;
+      alone = rw alone.1 (alone-said e root breaking.walk s alone.0 alone.2);
+      counted = counts-said law e root (s ∷ []) number m.elements (sym by.counted);
+    }
+
+repair_said : ElementsAreCounted → (e : Explained) (root : Root) (breaking : Breaking) (of : List Suspect) (number : ℕ) (m : Mended) (r : Repair) (v : Violation)
+    → Answers e root breaking of number m r → IsSaid e root breaking.walk number (repair_lines (leads_to e) v m r)
+repair_said law e root breaking of number m (Stands s) v by = inl (one_said law e root breaking of number m s v by)
+repair_said law e root breaking of number m (Nothing tried more next) v by = inr (none_said law e root breaking of number m tried more next v by)
 
 -- what is known of repairs
 pub record Known : Type 0 where
@@ -145,10 +217,18 @@ pub record Known : Type 0 where
   pub left_words : LeftWordsStand
   pub in_file : LeftStandInFile
   pub one_more : OneMore
+  pub others : OthersStand
+  pub elements : ElementsAreCounted
 
-kind_said : Known → (e : Explained) (root : Root) (kind : Kind) (v : Violation) → IsSaid e root (walk_of e.image e.audits kind v) (repairs_by e.image e.audits root v (repair_of e.image e.audits root kind v))
-kind_said law e root kind v =
-    repair_said e root (breaking_of e.image e.audits kind v) (suspects e.image kind v) (chain_of e.image e.audits root (repair_of e.image e.audits root kind v)) (repair_of e.image e.audits root kind v) v
+stood : Known → (e : Explained) (root : Root) (kind : Kind) (v : Violation) (number : ℕ) (r : Repair) (s : Suspect) → repair_of e.image e.audits root kind v ≡ r → r ≡ Stands s
+    → (stand : Stand) × (stand_told e.image e.audits root kind v r ≡ Some stand) × IsStand e.image e.audits root (walk_of e.image e.audits kind v) s stand
+stood law e root kind v number r s is stands =
+    (stand_of e.image e.audits root kind v, ap (stand_told e.image e.audits root kind v) stands, law.others e.image e.audits root kind v s (is ∙ stands))
+
+kind_said : Known → (e : Explained) (root : Root) (number : ℕ) (kind : Kind) (v : Violation)
+    → IsSaid e root (walk_of e.image e.audits kind v) number (mended_lines (leads_to e) v (mended_of e.image e.audits root kind v number))
+kind_said law e root number kind v =
+    repair_said law.elements e root (breaking_of e.image e.audits kind v) (suspects e.image kind v) number (mended_of e.image e.audits root kind v number) (repair_of e.image e.audits root kind v) v
     (record {
       all = law.suspects e.image kind v;
       is = law.exact e.image e.audits root kind v;
@@ -157,16 +237,18 @@ kind_said law e root kind v =
       comes = law.nexts e.image e.audits root kind v;
       chained = λ all is.
           chained (record { first_stand = law.stand; first_words = law.words; stand = law.left; words = law.left_words; in_file = law.in_file; one_more = law.one_more }) e.image e.audits root kind v all is;
+      alone = λ s is. stood law e root kind v number (repair_of e.image e.audits root kind v) s refl is;
+      counted = refl;
     })
 
 root_said : Known → (e : Explained) (number : ℕ) (at : Option Root) (root : Root) (s : Suspected) → at ≡ Some root
-    → IsSaid e root (walk_as e s) (option_map_or (λ (r : Root). repairs_by e.image e.audits r s.violation (repair_of e.image e.audits r s.kind s.violation)) at [])
-root_said law e number at root s is = rw is (kind_said law e root s.kind s.violation)
+    → IsSaid e root (walk_as e s) number (option_map_or (λ (r : Root). mended_lines (leads_to e) s.violation (mended_of e.image e.audits r s.kind s.violation number)) at [])
+root_said law e number at root s is = rw is (kind_said law e root number s.kind s.violation)
 
 audit_said : Known → (e : Explained) (number : ℕ) (root : Root) (v : Violation) (audit : Option AuditAt) → root_at number e.audits ≡ Some root → slice_get e.audits v.audit ≡ audit
-    → IfSome audit (λ (a : AuditAt). IsSaid e root (walk_as e (suspected e.image v a.kind)) (repairs_found e number v))
+    → IfSome audit (λ (a : AuditAt). IsSaid e root (walk_as e (suspected e.image v a.kind)) v.audit (repairs_found e number v))
 audit_said law e number root v None is same = tt
-audit_said law e number root v (Some a) is same = rw same (root_said law e number (root_at number e.audits) root (suspected e.image v a.kind) is)
+audit_said law e number root v (Some a) is same = rw same (root_said law e v.audit (root_at number e.audits) root (suspected e.image v a.kind) is)
 
 -- ---- the part of a root audit
 

@@ -84,11 +84,11 @@ shown_added image after r o v a old mid new is same one two =
 -- what repairs it, as it is suspected
 pub repairs_told : {A E : Type 0} (image after : Option Image) (r : Result A E) (o : PlanOf) (root : ℕ) (v : Violation) (a : AuditAt) (ring : Option AsRing) (kind : Kind) (w : Violation) (old new : List ℕ)
     → slice_get (plan_seen o.plan.now) v.audit ≡ Some a → after ≡ image → IfSome image (λ m. suspected_view a.kind v ring ≡ suspected m v a.kind) → suspected_view a.kind v ring ≡ record { kind = kind; violation = w }
-    → OnOk r (IfSome after (λ m. new ≡ old ++ repairs_as (over_plan o m) root kind w)) → OnOk r (IfSome image (λ m. new ≡ old ++ repairs_found (over_plan o m) root v))
+    → OnOk r (IfSome after (λ m. new ≡ old ++ repairs_as (over_plan o m) root v.audit kind w)) → OnOk r (IfSome image (λ m. new ≡ old ++ repairs_found (over_plan o m) root v))
 repairs_told image after (Err e) o root v a ring kind w old new is same tells seen_as added = tt
 repairs_told None after (Ok x) o root v a ring kind w old new is same tells seen_as added = tt
 repairs_told (Some m) after (Ok x) o root v a ring kind w old new is same tells seen_as added =
-    rw is ((rw same at added) ∙ ap (λ (s : Suspected). old ++ repairs_of (over_plan o m) root s) (sym seen_as ∙ tells))
+    rw is ((rw same at added) ∙ ap (λ (s : Suspected). old ++ repairs_of (over_plan o m) root v.audit s) (sym seen_as ∙ tells))
 
 -- the lines of a violation, one part after the other
 pub broken_added : {A E : Type 0} (image after last : Option Image) (r : Result A E) (old named shown counted new a1 a2 c : List ℕ) (b d : Image → List ℕ)

@@ -12,6 +12,11 @@ use Rattle.kc_plan.specs.Roots.{Root, broken_in, root_verdicts}
 use Rattle.kc_plan.specs.Verdicts.{verdict}
 use Rattle.kc_run.specs.Each.{root_at}
 use Rattle.kc_repair.specs.declared.outcome.Repair.{Repair}
+use Rattle.kc_repair.specs.declared.outcome.Repair.TheVariants.{Stands, Nothing}
+use Rattle.kc_repair.specs.declared.others.Stand.{Stand}
+use Rattle.kc_repair.specs.declared.suspect.suspect.Suspect.{Suspect}
+use Rattle.kc_repair.specs.Elements.{elements_with}
+use Rattle.kc_repair.specs.Others.{stand_of}
 use Rattle.kc_repair.specs.Repairs.{repair_of}
 use Rattle.kc_cause.specs.declared.repairs.Mended.{Mended}
 use Rattle.kc_cause.specs.Chained.{chain_of}
@@ -30,6 +35,7 @@ use Rattle.kc_command.specs.Paging.{by_info}
 use Rattle.kc_command.specs.declared.ends.status.Status.TheVariants.{Done}
 use Rattle.kc_command.specs.Ends.Written.{Written}
 use Rattle.kc_report.specs.Lines.{place_line}
+use Rattle.kc_told.specs.Leads.{leads_of}
 use Rattle.kc_told.specs.Objects.{Shapes, kernel_by, shapes_by, told_of}
 use Rattle.kc_sight.specs.Looks.{words}
 use Rattle.kc_sight.specs.Sights.{page_start}
@@ -46,7 +52,7 @@ use Rattle.kc_audit.specs.Audits.{names_of, plan_over}
 use Rattle.kc_cause.specs.Rings.{ring_lines}
 use Rattle.kc_cause.specs.Copies.{shown_signs}
 use Rattle.kc_cause.specs.Suspected.{Suspected, suspected}
-use Rattle.kc_cause.specs.Lines.{bytes_line, named_lines, number_lines, repair_lines}
+use Rattle.kc_cause.specs.Lines.{bytes_line, mended_lines, named_lines, number_lines}
 
 -- what is explained: a memory that is audited, with its kernel's types, the version of a plan, the plan's audits, where the kernel has what tells
 -- of an address and of slabs, the dump's page frames, and the map's symbols
@@ -117,24 +123,53 @@ found_named types audits v = option_map_or (λ (a : AuditAt). named_lines types 
 abbrev pub found_number : List AuditAt → Violation → List ℕ
 found_number audits v = option_map_or (λ (a : AuditAt). number_lines a.kind v) (slice_get audits v.audit) []
 
+-- whether others would do as well as the word that repairs, where one does
+abbrev pub stand_told : Image → List AuditAt → Root → Kind → Violation → Repair → Option Stand
+stand_told image audits root kind v (Stands s) = Some (stand_of image audits root kind v)
+stand_told image audits root kind v (Nothing tried more next) = None
+
+-- the words that are changed: the one that repairs, or those that do together
+abbrev pub changed_words : Repair → Option (List Suspect) → Option (List Suspect)
+changed_words (Stands s) words = Some (s ∷ [])
+changed_words (Nothing tried more next) words = words
+
+-- with these the audit with a number meets so many elements
+abbrev pub elements_told : Image → List AuditAt → Root → ℕ → Option (List Suspect) → Option ℕ
+elements_told image audits root number None = None
+elements_told image audits root number (Some words) = elements_with image audits root words number
+
+-- what is said of an answer on a violation: the words that repair together after it, and the elements of the audit with a number
+abbrev pub mended_with : Image → List AuditAt → Root → ℕ → Repair → Option Stand → Option (List Suspect) → Mended
+mended_with image audits root number repair stand words = record {
+  repair = repair;
+  words = words;
+  stand = stand;
+  elements = elements_told image audits root number (changed_words repair words);
+}
+
+abbrev pub mended_by : Image → List AuditAt → Root → ℕ → Repair → Option Stand → Mended
+mended_by image audits root number repair stand = mended_with image audits root number repair stand (chain_of image audits root repair)
+
 -- what repairs a violation of a kind of structure that a root audit found: a word, and else words that do together
-abbrev pub repairs_by : Image → List AuditAt → Root → Violation → Repair → List ℕ
-repairs_by image audits root v repair = repair_lines v (chain_of image audits root repair) repair
+abbrev pub mended_of : Image → List AuditAt → Root → Kind → Violation → ℕ → Mended
+mended_of image audits root kind v number =
+    mended_by image audits root number (repair_of image audits root kind v) (stand_told image audits root kind v (repair_of image audits root kind v))
 
--- the code has this first answer, and the words that repair together after it
-abbrev pub IsMended : Image → List AuditAt → Root → Repair → Mended → Type 0
-IsMended image audits root first m = (m.repair ≡ first) × (m.words ≡ chain_of image audits root first)
+-- what the number leads to that a suspect's word may have held, in the memory as it is
+abbrev pub leads_to : Explained → Suspect → List ℕ
+leads_to e s = leads_of e.symbols.image e.image e.shapes s.va s.value
 
--- under the root audit with a number
-abbrev pub repairs_as : Explained → ℕ → Kind → Violation → List ℕ
-repairs_as e root kind v = option_map_or (λ (r : Root). repairs_by e.image e.audits r v (repair_of e.image e.audits r kind v)) (root_at root e.audits) []
+-- under the root audit with a number; the audit with another one found it
+abbrev pub repairs_as : Explained → ℕ → ℕ → Kind → Violation → List ℕ
+repairs_as e root number kind v =
+    option_map_or (λ (r : Root). mended_lines (leads_to e) v (mended_of e.image e.audits r kind v number)) (root_at root e.audits) []
 
 -- of one as it is suspected, by the audit that found it
-abbrev pub repairs_of : Explained → ℕ → Suspected → List ℕ
-repairs_of e root s = repairs_as e root s.kind s.violation
+abbrev pub repairs_of : Explained → ℕ → ℕ → Suspected → List ℕ
+repairs_of e root number s = repairs_as e root number s.kind s.violation
 
 abbrev pub repairs_found : Explained → ℕ → Violation → List ℕ
-repairs_found e root v = option_map_or (λ (a : AuditAt). repairs_of e root (suspected e.image v a.kind)) (slice_get e.audits v.audit) []
+repairs_found e root v = option_map_or (λ (a : AuditAt). repairs_of e root v.audit (suspected e.image v a.kind)) (slice_get e.audits v.audit) []
 
 -- the lines of a violation of a root audit: what it is about, the words that show it, the number that it expects, and what repairs it
 abbrev pub broken_lines : Explained → ℕ → Violation → List ℕ

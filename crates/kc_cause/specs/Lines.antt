@@ -22,6 +22,8 @@ use Rattle.kc_repair.specs.declared.suspect.suspect.Suspect.{Suspect}
 use Rattle.kc_repair.specs.declared.outcome.Next.{Next}
 use Rattle.kc_repair.specs.declared.outcome.Repair.{Repair}
 use Rattle.kc_repair.specs.declared.outcome.Repair.TheVariants.{Stands, Nothing}
+use Rattle.kc_repair.specs.declared.others.Stand.{Stand}
+use Rattle.kc_cause.specs.declared.repairs.Mended.{Mended}
 use Rattle.kc_cause.specs.Sentences.{sentence}
 use Rattle.kc_cause.specs.Signs.{sign_lines, sign_of}
 
@@ -121,19 +123,61 @@ abbrev pub repair_label : Bool → List ℕ
 repair_label true = codes "fits "
 repair_label false = codes "repair "
 
--- words that repair together: how many, each of them in the order in which they are changed, and what they show
-abbrev pub word_line : Suspect → List ℕ
-word_line s = codes "word " ++ suspect_part s ++ codes "\n"
+-- a word that is suspected, and what its other number leads to
+abbrev pub led_lines : (Suspect → List ℕ) → Suspect → List ℕ
+led_lines leads s = suspect_part s ++ codes "\n" ++ leads s
 
-abbrev pub chain_lines : List Suspect → List ℕ
-chain_lines words = codes "chain " ++ decimal (length words) ++ codes "\n" ++ texts word_line words ++ sign_lines (sign_of words)
+-- how many elements the audit that found the violation meets with the word that repairs, or with the words
+abbrev pub elements_lines : Option ℕ → List ℕ
+elements_lines elements = option_map_or (λ (n : ℕ). codes "elements " ++ decimal n ++ codes "\n") elements []
+
+-- words that repair together: how many, and each of them in the order in which they are changed
+abbrev pub word_line : (Suspect → List ℕ) → Suspect → List ℕ
+word_line leads s = codes "word " ++ led_lines leads s
+
+abbrev pub count_line : List Suspect → List ℕ
+count_line words = codes "chain " ++ decimal (length words) ++ codes "\n"
+
+abbrev pub counted_lines : (Suspect → List ℕ) → List Suspect → List ℕ
+counted_lines leads words = count_line words ++ texts (word_line leads) words
+
+-- and what they show, and how many elements there are with them
+abbrev pub ending_lines : List Suspect → Option ℕ → List ℕ
+ending_lines words elements = sign_lines (sign_of words) ++ elements_lines elements
+
+abbrev pub chain_lines : (Suspect → List ℕ) → List Suspect → Option ℕ → List ℕ
+chain_lines leads words elements = counted_lines leads words ++ ending_lines words elements
 
 -- after that no word repairs: those that do together, or what the first leads to that leads elsewhere
-abbrev pub after_lines : Option (List Suspect) → Option Next → List ℕ
-after_lines (Some words) next = chain_lines words
-after_lines None next = next_lines next
+abbrev pub after_lines : (Suspect → List ℕ) → Option (List Suspect) → Option ℕ → Option Next → List ℕ
+after_lines leads (Some words) elements next = chain_lines leads words elements
+after_lines leads None elements next = next_lines next
+
+abbrev pub none_line : ℕ → Bool → List ℕ
+none_line tried more = codes "repair none of " ++ tried_part tried more ++ codes " tried\n"
+
+-- whether others would do as well as the word that repairs: how many do, of so many that were tried
+abbrev pub number_of : Bool → ℕ
+number_of also = if also then 2 else 1
+
+abbrev pub stand_line : Stand → List ℕ
+stand_line s = codes "stand " ++ decimal (number_of s.also) ++ codes " of " ++ decimal s.tried ++ codes " tried\n"
+
+abbrev pub stand_lines : Option Stand → List ℕ
+stand_lines stand = option_map_or stand_line stand []
+
+-- what it is worth
+abbrev pub worth_lines : Mended → List ℕ
+worth_lines m = stand_lines m.stand ++ elements_lines m.elements
+
+-- one word that repairs
+abbrev pub one_lines : (Suspect → List ℕ) → Violation → Mended → Suspect → List ℕ
+one_lines leads v m s = repair_label (only_fits v.rule v.at s) ++ (led_lines leads s ++ worth_lines m)
 
 -- what repairs a violation
-abbrev pub repair_lines : Violation → Option (List Suspect) → Repair → List ℕ
-repair_lines v words (Stands s) = repair_label (only_fits v.rule v.at s) ++ suspect_part s ++ codes "\n"
-repair_lines v words (Nothing tried more next) = codes "repair none of " ++ tried_part tried more ++ codes " tried\n" ++ after_lines words next
+abbrev pub repair_lines : (Suspect → List ℕ) → Violation → Mended → Repair → List ℕ
+repair_lines leads v m (Stands s) = one_lines leads v m s
+repair_lines leads v m (Nothing tried more next) = none_line tried more ++ after_lines leads m.words m.elements next
+
+abbrev pub mended_lines : (Suspect → List ℕ) → Violation → Mended → List ℕ
+mended_lines leads v m = repair_lines leads v m m.repair

@@ -48,5 +48,7 @@ returns c = record {
     left_words = c.know_repairs.ensures.left_words;
     in_file = c.know_repairs.ensures.in_file;
     one_more = c.know_repairs.ensures.one_more;
+    others = c.know_repairs.ensures.others;
+    elements = c.know_repairs.ensures.elements;
   });
 }
