@@ -1,6 +1,7 @@
 pub mod AreaText
 pub mod Framed
 pub mod Inside
+pub mod Leads
 pub mod ModuleSymbols
 pub mod Named
 pub mod Near

@@ -5,6 +5,7 @@
 mod area_text;
 mod framed;
 mod inside;
+mod leads;
 mod module_symbol;
 mod named;
 mod near;
@@ -17,6 +18,7 @@ mod span;
 mod text;
 mod told;
 
+pub use leads::{push_leads, read_lead};
 pub use named::{Named, TaskName};
 pub use near::{Lead, NearWord};
 pub use object_text::push_unknown;

@@ -74,7 +74,7 @@ fn tell_described<S: Space, L: Ledger>(
 }
 
 // What an address leads to; where the kernel lacks what that asks for, its word isn't read.
-fn lead_at<S: Space, L: Ledger>(
+pub(crate) fn lead_at<S: Space, L: Ledger>(
     alloc: Global,
     space: &mut S,
     types: &Btf,

@@ -54,7 +54,7 @@ fn free_mark(free: &Result<FreeSpot, Found>, frozen: bool, kept: &Kept) -> &'sta
 }
 
 // The object that holds an address.
-fn object_in(lead: &Lead) -> Option<InObject<'_>>
+pub(crate) fn object_in(lead: &Lead) -> Option<InObject<'_>>
     ensures { option_map in_object_view result ≡ object_in lead.now.kept lead.now.held }
 {
     let Some(Ok(held)) = &lead.held else {
