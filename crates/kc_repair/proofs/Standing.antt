@@ -45,11 +45,11 @@ not_clean (Clean counts) e clean = let none : ⊥ = cc in none
 not_clean (Broken v) e clean = clean
 
 -- where nothing is found first, the root audit judges
-root_stands : (found : Option Violation) (root : Verdict) → is_none (broken_in (or_root found root)) ≡ true → IsClean root
+pub root_stands : (found : Option Violation) (root : Verdict) → is_none (broken_in (or_root found root)) ≡ true → IsClean root
 root_stands None root e = is_clean root e
 root_stands (Some v) root e = let never : ⊥ = cc in absurd never
 
-breaks_first : (image : Image) (walk : Option FirstWalk) (found : Option Violation) (root : Verdict) → first_found image walk ≡ found → is_none (broken_in (or_root found root)) ≡ false → IsClean root → WalkBreaks image walk
+pub breaks_first : (image : Image) (walk : Option FirstWalk) (found : Option Violation) (root : Verdict) → first_found image walk ≡ found → is_none (broken_in (or_root found root)) ≡ false → IsClean root → WalkBreaks image walk
 breaks_first image walk None root is e clean = absurd (not_clean root e clean)
 breaks_first image walk (Some v) root is e clean = first_breaks image walk v is
 

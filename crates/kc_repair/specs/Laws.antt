@@ -1,20 +1,26 @@
 -- What repairs say.
-use Rattle.std.specs.Prelude.{◌≡◌, ℕ, Bool, true, filter, ◌++◌, List, [], ◌∷◌, Option, Some, option_map, option_to_list}
+use Rattle.std.specs.Prelude.{◌≡◌, ℕ, Bool, true, filter, ◌++◌, List, [], ◌∷◌, length, slice_get, Option, Some, is_some, option_map, option_to_list, IfSome}
 use Rattle.std.specs.List.{AllByRecursion}
 use Rattle.kc_memory.specs.declared.words.Origin.TheVariants.{File}
 use Rattle.kc_memory.specs.Image.{Image, pword}
-use Rattle.kc_found.specs.declared.verdict.Verdict.TheVariants.{Broken}
+use Rattle.kc_found.specs.declared.verdict.AuditCount.{AuditCount}
+use Rattle.kc_found.specs.declared.verdict.Verdict.TheVariants.{Clean, Broken}
 use Rattle.kc_found.specs.Violations.{Violation}
 use Rattle.kc_kinds.specs.declared.kind.Kind.{Kind}
 use Rattle.kc_plan.specs.Planned.{AuditAt}
-use Rattle.kc_plan.specs.Roots.{Root}
+use Rattle.kc_plan.specs.Roots.{Root, root_verdict}
+use Rattle.kc_plan.specs.Stands.{RootStands}
+use Rattle.kc_repair.specs.declared.first.FirstWalk.{FirstWalk}
+use Rattle.kc_repair.specs.declared.others.Stand.{Stand}
+use Rattle.kc_repair.specs.Elements.{elements_with}
+use Rattle.kc_repair.specs.Others.{stand_of}
 use Rattle.kc_repair.specs.declared.suspect.suspect.Suspect.{Suspect}
 use Rattle.kc_repair.specs.Suspect.Laws.{IsSuspect}
 use Rattle.kc_repair.specs.Suspect.Suspects.{suspects}
 use Rattle.kc_repair.specs.declared.outcome.Next.{Next}
 use Rattle.kc_repair.specs.declared.outcome.Repair.{Repair}
 use Rattle.kc_repair.specs.declared.outcome.Repair.TheVariants.{Stands, Nothing}
-use Rattle.kc_repair.specs.Repairs.{IsRepairBy, StandsAs, breaking_of, is_apart, repair_left, repair_of, verdict_with, walk_of, with_suspect, with_words}
+use Rattle.kc_repair.specs.Repairs.{IsRepairBy, StandsAs, WalkBreaks, breaking_of, is_apart, repair_left, repair_of, verdict_with, walk_of, with_suspect, with_words}
 
 -- With a suspect that repairs a violation the root audit's structures stand, and where none does, they stand with none that is tried, unless the violation's
 -- walk breaks with it.
@@ -82,3 +88,39 @@ LeftStandInFile = (image : Image) (earlier : List Suspect) (s : Suspect) → IsL
 -- one word more is changed over the others
 abbrev pub OneMore : Type 0
 OneMore = (image : Image) (words : List Suspect) (s : Suspect) → with_words image (words ++ s ∷ []) ≡ with_suspect (with_words image words) s
+
+-- with a word the structures don't stand, unless the walk that comes first breaks with it
+abbrev pub FailsWith : Image → List AuditAt → Root → Option FirstWalk → Suspect → Type 0
+FailsWith image audits root walk s = RootStands (with_suspect image s) audits root → WalkBreaks (with_suspect image s) walk
+
+-- What is said of a word that repairs beside others: so many words of the dump were tried, those before it, itself, and those after it. With none of those
+-- the structures stand, but for the last one, where another word repairs.
+pub record IsStand (image : Image) (audits : List AuditAt) (root : Root) (walk : Option FirstWalk) (s : Suspect) (stand : Stand) : Type 0 where
+  pub before : List Suspect
+  pub after : List Suspect
+  pub other : Option Suspect
+  pub there : AllByRecursion (IsSuspect image) (before ++ after ++ option_to_list other)
+  pub fail : AllByRecursion (FailsWith image audits root walk) (before ++ after)
+  pub also : IfSome other (λ (t : Suspect). RootStands (with_suspect image t) audits root)
+  pub two : stand.also ≡ is_some other
+  pub number : stand.tried ≡ length (before ++ s ∷ after ++ option_to_list other)
+
+abbrev pub OthersStand : Type 0
+OthersStand =
+    (image : Image) (audits : List AuditAt) (root : Root) (kind : Kind) (v : Violation) (s : Suspect)
+    → repair_of image audits root kind v ≡ Stands s → IsStand image audits root (walk_of image audits kind v) s (stand_of image audits root kind v)
+
+-- the root audit is clean with some words changed, and counts so many elements of the audit with a number
+pub record IsCounted (image : Image) (audits : List AuditAt) (root : Root) (words : List Suspect) (number n : ℕ) : Type 0 where
+  pub counts : List AuditCount
+  pub clean : (root_verdict (with_words image words) audits root).verdict ≡ Clean counts
+  pub place : ℕ
+  pub named : slice_get (root_verdict (with_words image words) audits root).audits place ≡ Some number
+  pub count : AuditCount
+  pub counted : slice_get counts place ≡ Some count
+  pub elements : count.elements ≡ n
+
+abbrev pub ElementsAreCounted : Type 0
+ElementsAreCounted =
+    (image : Image) (audits : List AuditAt) (root : Root) (words : List Suspect) (number n : ℕ)
+    → elements_with image audits root words number ≡ Some n → IsCounted image audits root words number n

@@ -1,5 +1,5 @@
 // What the definitions say.
-ghost use Rattle.kc_repair.specs.Laws.{LeftStand, LeftStandInFile, LeftWordsStand, NextsAreOfRoot, OneMore, RepairWordsStand, RepairsAreExact, RepairsStand};
+ghost use Rattle.kc_repair.specs.Laws.{ElementsAreCounted, LeftStand, LeftStandInFile, LeftWordsStand, NextsAreOfRoot, OneMore, OthersStand, RepairWordsStand, RepairsAreExact, RepairsStand};
 
 use crate::know_suspects;
 use kc_found::know_places;
@@ -11,6 +11,8 @@ use kc_run::know_verdicts;
 /// what the root audit comes to with it. Each suspect that is told is a word of the dump, at its place in the file, with another number than
 /// stands there. The same holds of a violation that is left where some words are changed, over the memory with these; and the number of such a
 /// word stands at its physical address and offset in the dump as it is, too.
+/// Beside a word that repairs so many others were tried as are told: with none of them the structures stand, but for the last one, where another word
+/// repairs. The elements that are told are counted by the clean verdict of the root audit with these words.
 pub fn know_repairs()
     ensures stand { RepairsStand }
     ensures exact { RepairsAreExact }
@@ -20,6 +22,8 @@ pub fn know_repairs()
     ensures left_words { LeftWordsStand }
     ensures in_file { LeftStandInFile }
     ensures one_more { OneMore }
+    ensures others { OthersStand }
+    ensures elements { ElementsAreCounted }
 {
     know_changes();
     know_places();

@@ -2,16 +2,20 @@
 //! which its word holds its value, until the walk that broke and then the same root audit stand there. No file is written.
 #![tactic(auto)]
 
+mod elements;
 mod first;
 mod laws;
+mod others;
 mod outcome;
 mod seeking;
 mod suspect;
 mod trial;
 mod tries;
 
+pub use elements::elements_over;
 pub use first::FirstWalk;
 pub use laws::know_repairs;
+pub use others::{Stand, stand_over};
 pub use outcome::{Breach, Next, Repair};
 pub use seeking::{repair_left, repair_over};
 pub use suspect::{Suspect, Suspects, know_suspects, suspects};

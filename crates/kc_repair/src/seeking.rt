@@ -39,11 +39,15 @@ pub struct Suspected {
 
 // The question which words a violation suspects, that an audit of this kind found.
 #[derive(Clone, Copy)]
-struct Suspecting<'q> {
-    alloc: Global,
-    audit: &'q RootAudit<'q>,
-    kind: &'q Kind,
-    found: &'q Found,
+pub struct Suspecting<'q> {
+    /// What it takes memory of.
+    pub alloc: Global,
+    /// The root audit that found it.
+    pub audit: &'q RootAudit<'q>,
+    /// The kind of the audit.
+    pub kind: &'q Kind,
+    /// The violation.
+    pub found: &'q Found,
 }
 
 impl<'q> Question for Suspecting<'q> {

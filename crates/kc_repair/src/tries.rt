@@ -117,8 +117,8 @@ fn if_stands(
     }
 }
 
-// The first suspect that repairs, each after some words that are changed.
-fn first_that_repairs<'s, S: Store>(
+/// The first suspect that repairs, each after some words that are changed.
+pub(crate) fn first_that_repairs<'s, S: Store>(
     alloc: Global,
     memory: Phys<'s, S>,
     paging: PageCfg,

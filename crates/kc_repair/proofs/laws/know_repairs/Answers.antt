@@ -9,6 +9,7 @@ use Rattle.kc_repair.specs.Laws.{IsLeft}
 use Rattle.kc_repair.specs.Suspect.Laws.{IsSuspect}
 use Rattle.kc_repair.specs.Suspect.Suspects.{suspects}
 use Rattle.kc_repair.specs.Repairs.{IsRepairBy, breaking_of, is_apart, judged_with, repair_left, repair_of, repair_with, with_words}
+use Rattle.kc_repair.proofs.Alone.{elements-counted, others-stand}
 use Rattle.kc_repair.proofs.Changing.{all-kept, with-one_more}
 use Rattle.kc_repair.proofs.Determined.{gives}
 use Rattle.kc_repair.proofs.Standing.{nexts_of_root, stands_as}
@@ -36,6 +37,8 @@ returns c = record {
       (all-kept (IsSuspect (with_words image earlier)) (IsLeft image earlier) (is_apart earlier) (suspects (with_words image earlier) kind v) (λ x passes there. record { there = there; apart = passes })
       (c.know_suspects.ensures (with_words image earlier) kind v));
   in_file = left-stand_in_file c.know_places.ensures;
+  others = others-stand c.know_verdicts.ensures.roots c.know_suspects.ensures;
+  elements = elements-counted;
   one_more = with-one_more c.know_changes.ensures.last;
   words = λ image audits root kind v.
       let of : Breaking = breaking_of image audits kind v in
