@@ -197,7 +197,8 @@ class Areas:
         """Where a task's stack begins."""
         return self.kernel.field(task, "task_struct", "stack")[0]
 
-    def stack(self, at):
+    def owner(self, at):
+        """The task whose stack has an address, as its own, its number, its name, and the byte of the stack."""
         kernel = self.kernel
         first, end = self.symbol("init_stack"), self.symbol("__end_init_task") or self.symbol("__end_init_stack")
         if first is None or end is None or end < first:
@@ -208,11 +209,15 @@ class Areas:
             stack = self.stack_of(task)
             if stack and stack <= at < stack + size:
                 pid = kernel.field(task, "task_struct", "pid")[0]
-                return f"{pid} {shown(self.text(task + kernel.byte('task_struct', 'comm'), most))}+{at - stack}"
+                return task, pid, shown(self.text(task + kernel.byte("task_struct", "comm"), most)), at - stack
             return None
 
         found, broken = self.tasks()
         return first_of(found, in_stack, broken)
+
+    def stack(self, at):
+        owner = self.owner(at)
+        return owner and "{1} {2}+{3}".format(*owner)
 
     def told(self, name, act, at):
         try:

@@ -585,6 +585,27 @@ class Elements:
         label, head, owner, struct, link = found
         return f"list {label}\n" + self.text(self.of_list(head % TOP, owner, struct, link))
 
+    def led_by(self, areas):
+        """The task and its member by which the walk of the task list came there: the leader's `signal` of a list of threads, and where the violation lies in no
+        list the `stack` of the task whose stack begins there; or nothing."""
+        listed = self.in_list()
+        if listed is not None:
+            return (int(listed[0].split()[-1], 16), "signal") if listed[0].startswith("threads") else None
+        owner = areas.owner(self.broken.at)
+        return (owner[0], "stack") if owner and owner[3] == 0 else None
+
+    def by_line(self, areas):
+        """The word of that member."""
+        try:
+            found = self.led_by(areas) if self.audit.kind == "tasks" else None
+            if found is None:
+                return ""
+            byte = self.kernel.byte("task_struct", found[1])
+            place = self.kernel.memory.place((found[0] + byte) % TOP)
+        except (Broken, Refused):
+            return ""
+        return f"by {place_line(place)[6:-1]} {self.path(self.kernel.struct('task_struct'), byte)}\n"
+
     def in_list(self):
         """That list, or nothing."""
         lists = {"tasks": self.task_lists, "slub": self.partial_lists}.get(self.audit.kind)
@@ -795,7 +816,7 @@ class Causes:
             return ""
         broken, audit = found
         elements = Elements(self.kernel, audit, broken)
-        text = f"root {self.audits[root].name}\naudit {audit.name}\nrule {broken.rule} {SENTENCES[broken.rule]}\n{elements.line()}{elements.list_lines()}"
+        text = f"root {self.audits[root].name}\naudit {audit.name}\nrule {broken.rule} {SENTENCES[broken.rule]}\n{elements.line()}{elements.list_lines()}{elements.by_line(self.sights.areas)}"
         return text + "".join(map(self.place_lines, broken.places)) + self.signs(broken) + elements.number_line() + self.repair(root, broken, audit)
 
     def value(self, at):

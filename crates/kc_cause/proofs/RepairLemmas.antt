@@ -50,6 +50,13 @@ then_lines None after (Ok a) old mid new first rest same one two = tt
 then_lines (Some m) after (Ok a) old mid new first rest same one two =
     (rw same at two) ∙ ap (λ l. l ++ rest m) one ∙ append_assoc old (first m) (rest m)
 
+-- lines of what was looked for, over a memory that stays
+pub looked_lines : {A B E : Type 0} (image after : Option Image) (r : Result A E) (seek : Image → B) (found : B) (lines : Image → B → List ℕ) (old new : List ℕ) → after ≡ image
+    → IfSome image (λ m. found ≡ seek m) → OnOk r (IfSome after (λ m. new ≡ old ++ lines m found)) → OnOk r (IfSome image (λ m. new ≡ old ++ lines m (seek m)))
+looked_lines image after (Err e) seek found lines old new same is one = tt
+looked_lines None after (Ok a) seek found lines old new same is one = tt
+looked_lines (Some m) after (Ok a) seek found lines old new same is one = (rw same at one) ∙ ap (λ x. old ++ lines m x) is
+
 -- a place, with what its word says by itself and what is told of its address
 pub place_added : {P T : Type 0} (image after : Option Image) (o : PlanOf) (p : Place) (va : ℕ) (items : P → List (Result VWord Stopped)) (view : T → Told) (page : P) (told : T) (old one two new : List ℕ)
     → p.va ≡ Some va → after ≡ image → one ≡ old ++ place_line p → LooksAs items (λ m. words m (page_start va) 512) image (Ok page)
@@ -69,10 +76,10 @@ place_added (Some m) after o p va items view page told old one two new is same f
 
 -- the list in which a violation lies, and the words that show it
 pub listed_added : {A E : Type 0} (image after : Option Image) (r : Result A E) (o : PlanOf) (v : Violation) (a : AuditAt) (ps : List Place) (old mid new : List ℕ)
-    → v.places ≡ ps → slice_get (plan_seen o.plan.now) v.audit ≡ Some a → after ≡ image → IfSome image (λ m. mid ≡ old ++ ring_lines o.types.now m v a.kind)
+    → v.places ≡ ps → slice_get (plan_seen o.plan.now) v.audit ≡ Some a → after ≡ image → IfSome image (λ m. mid ≡ old ++ ring_lines o.types.now o.shapes.words.areas m v a.kind)
     → OnOk r (IfSome after (λ m. new ≡ mid ++ texts (place_told (over_plan o m)) ps)) → OnOk r (IfSome image (λ m. new ≡ old ++ listed_lines (over_plan o m) v))
 listed_added image after r o v a ps old mid new placed is same one two =
-    rw (is, placed) (then_lines image after r old mid new (λ m. ring_lines o.types.now m v a.kind) (λ m. texts (place_told (over_plan o m)) ps) same one two)
+    rw (is, placed) (then_lines image after r old mid new (λ m. ring_lines o.types.now o.shapes.words.areas m v a.kind) (λ m. texts (place_told (over_plan o m)) ps) same one two)
 
 -- and what kslab finds in the slabs of its cache
 pub shown_added : {A E : Type 0} (image after : Option Image) (r : Result A E) (o : PlanOf) (v : Violation) (a : AuditAt) (old mid new : List ℕ)

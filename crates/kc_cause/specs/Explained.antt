@@ -92,9 +92,9 @@ says_at e value (Some va) = says_lines e.symbols.image va value (words e.image (
 abbrev pub place_told : Explained → Place → List ℕ
 place_told e p = place_line p ++ says_at e p.value p.va ++ told_at e p.va
 
--- the list in which a violation lies, by the audit that found it, and the words that show it
+-- the list in which a violation lies, and the word of a task that led there, by the audit that found it; and the words that show it
 abbrev pub listed_lines : Explained → Violation → List ℕ
-listed_lines e v = option_map_or (λ (a : AuditAt). ring_lines e.types e.image v a.kind) (slice_get e.audits v.audit) [] ++ texts (place_told e) v.places
+listed_lines e v = option_map_or (λ (a : AuditAt). ring_lines e.types e.shapes.areas e.image v a.kind) (slice_get e.audits v.audit) [] ++ texts (place_told e) v.places
 
 -- what kslab finds in the slabs of a cache, where the kernel has what tells of slabs
 abbrev pub slabs_by : Image → List ℕ → ℕ → Option SlabShapes → List ℕ

@@ -1,3 +1,4 @@
+pub mod Came
 pub mod Chained
 pub mod Copies
 pub mod Explained

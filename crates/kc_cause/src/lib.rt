@@ -1,6 +1,7 @@
 //! From a report to its cause: what the verdicts on the root audits of a plan say, the elements that they are about, and the words that would repair them.
 #![tactic(auto)]
 
+mod came;
 mod chain;
 mod copies;
 mod explained;

@@ -58,19 +58,23 @@ fn type_name(btf: &Btf, ty: u32) -> &[u8]
     btf.name(btf.ty(ty).name)
 }
 
-// The path of the member of an element in which a byte lies, where there is one.
-fn push_path(
+/// Adds the path of the member of a type in which a byte lies, where there is one.
+///
+/// # Errors
+///
+/// No memory was left.
+pub(crate) fn push_path(
     alloc: Global,
     text: &mut Vec<u8>,
     btf: &Btf,
-    element: Element,
-    at: u64,
+    ty: u32,
+    byte: u64,
 ) -> Result<(), NoMemory>
-    requires { element.ty ≤ length btf.now.records }
-    ensures { OnOk result (text.new.items ≡ text.old.items ++ path_part (member_path btf.now element.ty (container_of element.at at))) }
+    requires { ty ≤ length btf.now.records }
+    ensures { OnOk result (text.new.items ≡ text.old.items ++ path_part (member_path btf.now ty byte)) }
 {
     let mut path = Vec::new(alloc);
-    push_member(&mut path, btf, element.ty, container_of(element.at, at))?;
+    push_member(&mut path, btf, ty, byte)?;
     if path.is_empty() {
         return Ok(());
     }
@@ -101,7 +105,8 @@ fn push_about(
     ensures { OnOk result (text.new.items ≡ text.old.items ++ about_part btf.now found.now element) }
 {
     if is_of_member(found.rule) {
-        push_path(alloc, text, btf, element, found.at)
+        let byte = container_of(element.at, found.at);
+        push_path(alloc, text, btf, element.ty, byte)
     } else {
         Ok(())
     }

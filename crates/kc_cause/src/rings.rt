@@ -7,8 +7,10 @@ ghost use Rattle.kc_view.specs.TaskLists.{IsInside};
 ghost use Rattle.kc_which.specs.CacheRings.{cache_ring, slab_in};
 ghost use Rattle.kc_which.specs.TaskRings.{task_in, task_ring};
 ghost use Rattle.kc_repair.specs.Suspect.Answers.{OnlyReads};
-ghost use Rattle.kc_cause.specs.Rings.{cache_lines, ring_lines, task_lines, task_list_line, typed_slab, typed_task};
+ghost use Rattle.kc_cause.specs.Judged.{TasksAreInside};
+ghost use Rattle.kc_cause.specs.Rings.{cache_lines, found_ring, led_tasks, ring_lines, task_lines, task_list_line, typed_slab, typed_task};
 
+use crate::came::push_came;
 use crate::judged::PlanOf;
 use crate::lines::push_element;
 use kc_btf::Btf;
@@ -122,6 +124,23 @@ fn push_tasks(
     push_element(over.alloc, text, over.types, element, confirmed, found)
 }
 
+fn push_found_ring(
+    text: &mut Vec<u8>,
+    over: &PlanOf<'_>,
+    shape: &TaskShape,
+    found: &Found,
+    ring: Option<TaskRing>,
+) -> Result<(), NoMemory>
+    requires { shape.now.task ≤ length over.now.types.now.records }
+    ensures { OnOk result (text.new.items ≡ text.old.items ++ found_ring over.now.types.now shape.now found.now ring) }
+{
+    match ring {
+        Some(ring) => push_tasks(text, over, shape, found, ring),
+        None => Ok(()),
+    }
+}
+
+// The same of the ring in which a violation lies, and the word of a task by which the walk came there.
 fn push_task_ring<M: Space, L: Ledger>(
     text: &mut Vec<u8>,
     over: &PlanOf<'_>,
@@ -130,14 +149,15 @@ fn push_task_ring<M: Space, L: Ledger>(
     found: &Found,
     steps: &mut Steps<L>,
 ) -> Result<(), ReadFailed>
-    requires { shape.now.task ≤ length over.now.types.now.records }
-    ensures added { OnOk result (IfSome (M.image memory.old) (λ image. text.new.items ≡ text.old.items ++ option_map_or (task_lines over.now.types.now shape.now found.now) (task_ring image shape.now found.now) [])) }
+    requires task { shape.now.task ≤ length over.now.types.now.records }
+    requires tasks { TasksAreInside over.now }
+    ensures added { OnOk result (IfSome (M.image memory.old) (λ image.
+        text.new.items ≡ text.old.items ++ led_tasks over.now.types.now over.now.shapes.words.areas image shape.now found.now (task_ring image shape.now found.now))) }
     ensures reads { OnlyReads M.image M.files M.through M.most M.faults result memory.old memory.new }
 {
-    let Some(ring) = task_ring(over, memory, shape, found, steps)? else {
-        return Ok(());
-    };
-    Ok(push_tasks(text, over, shape, found, ring)?)
+    let ring = task_ring(over, memory, shape, found, steps)?;
+    push_found_ring(text, over, shape, found, ring)?;
+    push_came(text, over, memory, shape, found, ring, steps)
 }
 
 // What has a pointer of a partial list, with its type.
@@ -199,7 +219,8 @@ fn push_cache_ring<M: Space, L: Ledger>(
     Ok(push_partial(text, over, shape, found, list)?)
 }
 
-/// Adds the lines of the list of tasks or of a slab cache in which a violation lies, where it lies in one.
+/// Adds the lines of the list of tasks or of a slab cache in which a violation lies, where it lies in one, and of the word of a task by which the walk came
+/// there.
 ///
 /// # Errors
 ///
@@ -212,8 +233,10 @@ pub(crate) fn push_ring<M: Space, L: Ledger>(
     found: &Found,
     steps: &mut Steps<L>,
 ) -> Result<(), ReadFailed>
-    requires { KindInside (length over.now.types.now.records) kind.now }
-    ensures added { OnOk result (IfSome (M.image memory.old) (λ image. text.new.items ≡ text.old.items ++ ring_lines over.now.types.now image found.now kind.now)) }
+    requires kind { KindInside (length over.now.types.now.records) kind.now }
+    requires tasks { TasksAreInside over.now }
+    ensures added { OnOk result (IfSome (M.image memory.old) (λ image.
+        text.new.items ≡ text.old.items ++ ring_lines over.now.types.now over.now.shapes.words.areas image found.now kind.now)) }
     ensures reads { OnlyReads M.image M.files M.through M.most M.faults result memory.old memory.new }
 {
     match kind {
