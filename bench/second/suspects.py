@@ -834,6 +834,9 @@ class Causes:
                 value = self.value(broken.at + far)
                 if value is not None and (value & ~3 if broken.rule == "R1" else value) == broken.expected:
                     text += f"beside {(broken.at + far) % TOP:016x}\n"
+        if broken.rule in ("L1", "H1", "R1", "X3", "X4") and broken.expected == 0:
+            before, here, after = (self.value(broken.at + far) for far in (-8, 0, 8))
+            text += f"beside {(broken.at + 8) % TOP:016x}\n" if before and before == here and after == 0 else ""
         other, node = self.copied(broken), (broken.at - 8) % TOP
         if other is None and broken.rule == "L1" and self.is_again(node, broken.expected):
             return text + f"twice {node:016x}\n"

@@ -115,9 +115,15 @@ abbrev pub around_lines : Image → Rule → ℕ → ℕ → List ℕ
 around_lines image rule at number =
     beside_line image rule number (at_offset at 8) ++ beside_line image rule number (at_offset at 16) ++ before_lines image rule number at
 
--- a null pointer is everywhere
+-- A null pointer is everywhere: it counts where the word before its place stands in its place, too, as where the words from there on were moved by 8 bytes.
+abbrev pub is_shifted : Image → ℕ → Bool
+is_shifted image at = same_at image (node_of at 8) at && is_some_of 0 (number_at image (at_offset at 8))
+
+abbrev pub null_lines : Image → ℕ → List ℕ
+null_lines image at = if is_shifted image at then codes "beside " ++ hex (at_offset at 8) ++ codes "\n" else []
+
 abbrev pub pointer_lines : Image → Rule → ℕ → ℕ → List ℕ
-pointer_lines image rule at number = if number == 0 then [] else around_lines image rule at number
+pointer_lines image rule at number = if number == 0 then null_lines image at else around_lines image rule at number
 
 abbrev pub beside_lines : Image → Violation → List ℕ
 beside_lines image v = if is_of_pointer v.rule then option_map_or (pointer_lines image v.rule v.at) v.expected [] else []

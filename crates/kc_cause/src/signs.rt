@@ -4,7 +4,7 @@ ghost use Rattle.std.specs.Option.{option_map_or};
 ghost use Rattle.kc_text.specs.Text.{hex};
 ghost use Rattle.kc_repair.specs.Suspect.Answers.{OnlyReads};
 ghost use Rattle.kc_cause.specs.Copies.{shown_signs};
-ghost use Rattle.kc_cause.specs.Signs.{around_lines, before_lines, behind_lines, beside_line, beside_lines, is_copied, is_deleted, is_of_links, is_of_list, is_of_parent, is_of_pointer, is_shared, is_some_of, is_twice, led_sign, list_sign, number_at, pointer_lines, pointer_of, prev_sign, same_at, sign_by, sign_line, sign_lines, sign_of};
+ghost use Rattle.kc_cause.specs.Signs.{around_lines, before_lines, behind_lines, beside_line, beside_lines, is_copied, is_deleted, is_of_links, is_of_list, is_of_parent, is_of_pointer, is_shared, is_shifted, is_some_of, is_twice, led_sign, list_sign, null_lines, number_at, pointer_lines, pointer_of, prev_sign, same_at, sign_by, sign_line, sign_lines, sign_of};
 
 use crate::copies::found_sign;
 use kc_found::{Found, ReadFailed, Rule, Space};
@@ -330,6 +330,37 @@ fn push_around<M: Space, L: Ledger>(
     push_before(text, memory, rule, number, at, steps)
 }
 
+// Whether the words from the one before an address on were moved by 8 bytes, and a null pointer stands 8 bytes on.
+fn is_shifted<M: Space, L: Ledger>(
+    memory: &mut M,
+    at: u64,
+    steps: &mut Steps<L>,
+) -> Result<bool, ReadFailed>
+    ensures shifted { IfOk result (λ is. IfSome (M.image memory.old) (λ image. is ≡ is_shifted image at)) }
+    ensures reads { OnlyReads M.image M.files M.through M.most M.faults result memory.old memory.new }
+{
+    if !same_at(memory, at.wrapping_sub(8), at, steps)? {
+        return Ok(false);
+    }
+    let next = read_number(memory, at.wrapping_add(8), steps)?;
+    Ok(is_some_of(0, next))
+}
+
+fn push_null<M: Space, L: Ledger>(
+    text: &mut Vec<u8>,
+    memory: &mut M,
+    at: u64,
+    steps: &mut Steps<L>,
+) -> Result<(), ReadFailed>
+    ensures added { OnOk result (IfSome (M.image memory.old) (λ image. text.new.items ≡ text.old.items ++ null_lines image at)) }
+    ensures reads { OnlyReads M.image M.files M.through M.most M.faults result memory.old memory.new }
+{
+    if is_shifted(memory, at, steps)? {
+        push_named(text, b"beside ", at.wrapping_add(8))?;
+    }
+    Ok(())
+}
+
 fn push_pointer<M: Space, L: Ledger>(
     text: &mut Vec<u8>,
     memory: &mut M,
@@ -342,7 +373,7 @@ fn push_pointer<M: Space, L: Ledger>(
     ensures reads { OnlyReads M.image M.files M.through M.most M.faults result memory.old memory.new }
 {
     if number == 0 {
-        Ok(())
+        push_null(text, memory, at, steps)
     } else {
         push_around(text, memory, rule, at, number, steps)
     }
