@@ -64,6 +64,24 @@ fn is_told(image: &ImageMap<'_>, lead: &Lead, meaning: Meaning, value: u64) -> b
     }
 }
 
+// The line of what it leads to, by what it says.
+fn push_told_lead(
+    text: &mut Vec<u8>,
+    image: &ImageMap<'_>,
+    lead: &Lead,
+    meaning: Meaning,
+    value: u64,
+) -> Result<(), NoMemory>
+    ensures { OnOk result (text.new.items ≡ text.old.items ++ leads_line (image_symbols image.now) lead.now meaning value) }
+{
+    if !is_told(image, lead, meaning, value) {
+        return Ok(());
+    }
+    push(text, b"leads ")?;
+    push_meaning(text, image, lead, meaning, value)?;
+    push(text, b"\n")
+}
+
 /// Adds what a number leads to that may come to stand in the word at a virtual address, in the words of a line on a word beside an address, but of
 /// one that may be anything.
 ///
@@ -79,11 +97,5 @@ pub fn push_leads(
 ) -> Result<(), NoMemory>
     ensures { OnOk result (text.new.items ≡ text.old.items ++ leads_line (image_symbols image.now) lead.now (meaning va value) value) }
 {
-    let meaning = meaning_of(va, value);
-    if !is_told(image, lead, meaning, value) {
-        return Ok(());
-    }
-    push(text, b"leads ")?;
-    push_meaning(text, image, lead, meaning, value)?;
-    push(text, b"\n")
+    push_told_lead(text, image, lead, meaning_of(va, value), value)
 }
