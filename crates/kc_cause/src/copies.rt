@@ -4,8 +4,8 @@ ghost use Rattle.kc_repair.specs.Suspect.Answers.{OnlyReads};
 ghost use Rattle.kc_cause.specs.Copies.{above_sign, again_of, again_sign, agree_at, below_sign, child_sign, comes_back, found_sign, has_before, has_child, has_more, has_words, head_sign, heads_sign, is_again, is_copied_head, is_copied_node, is_empty_head, links_sign, near_sign, node_sign, own_sign, parent_sign, ring_sign, tree_sign, word_sign};
 
 use crate::signs::{
-    Sign, is_of_links, is_of_list, is_of_parent, is_shared, is_some_of, list_sign, read_number,
-    same_at,
+    Sign, holds, is_of_links, is_of_list, is_of_parent, is_shared, list_sign, read_number, same_at,
+    sign_if,
 };
 use kc_found::{Found, ReadFailed, Space};
 use kc_word::Steps;
@@ -28,7 +28,7 @@ fn agree_at<M: Space, L: Ledger>(
     ensures reads { OnlyReads M.image M.files M.through M.most M.faults result memory.old memory.new }
 {
     match read_number(memory, other, steps)? {
-        Some(number) => Ok(is_some_of(number, read_number(memory, one, steps)?)),
+        Some(number) => holds(memory, one, number, steps),
         None => Ok(false),
     }
 }
@@ -128,10 +128,8 @@ fn node_sign<M: Space, L: Ledger>(
     ensures sign { IfOk result (λ sign. IfSome (M.image memory.old) (λ image. sign ≡ node_sign image node other)) }
     ensures reads { OnlyReads M.image M.files M.through M.most M.faults result memory.old memory.new }
 {
-    if is_copied_node(memory, node, other, steps)? {
-        return Ok(Some(Sign::Copied(other)));
-    }
-    Ok(None)
+    let copied = is_copied_node(memory, node, other, steps)?;
+    Ok(sign_if(copied, Sign::Copied(other)))
 }
 
 // What a tree's node shows beside the one that a link leads to.
@@ -221,11 +219,10 @@ fn is_empty_head<M: Space, L: Ledger>(
     ensures empty { IfOk result (λ is. IfSome (M.image memory.old) (λ image. is ≡ is_empty_head image head)) }
     ensures reads { OnlyReads M.image M.files M.through M.most M.faults result memory.old memory.new }
 {
-    if !is_some_of(head, read_number(memory, head, steps)?) {
+    if !holds(memory, head, head, steps)? {
         return Ok(false);
     }
-    let back = read_number(memory, head.wrapping_add(8), steps)?;
-    Ok(is_some_of(head, back))
+    holds(memory, head.wrapping_add(8), head, steps)
 }
 
 // Whether the words at an address are those of an empty list's head elsewhere.
@@ -257,10 +254,8 @@ fn head_sign<M: Space, L: Ledger>(
     ensures sign { IfOk result (λ sign. IfSome (M.image memory.old) (λ image. sign ≡ head_sign image at head)) }
     ensures reads { OnlyReads M.image M.files M.through M.most M.faults result memory.old memory.new }
 {
-    if is_copied_head(memory, at, head, steps)? {
-        return Ok(Some(Sign::Copied(head)));
-    }
-    Ok(None)
+    let copied = is_copied_head(memory, at, head, steps)?;
+    Ok(sign_if(copied, Sign::Copied(head)))
 }
 
 fn word_sign<M: Space, L: Ledger>(
@@ -356,8 +351,7 @@ fn is_again<M: Space, L: Ledger>(
     if prev == node {
         return Ok(false);
     }
-    let following = read_number(memory, prev, steps)?;
-    if !is_some_of(node, following) {
+    if !holds(memory, prev, node, steps)? {
         return Ok(false);
     }
     comes_back(memory, node, above, prev, steps)
@@ -373,10 +367,8 @@ fn again_sign<M: Space, L: Ledger>(
     ensures sign { IfOk result (λ sign. IfSome (M.image memory.old) (λ image. sign ≡ again_sign image node prev above)) }
     ensures reads { OnlyReads M.image M.files M.through M.most M.faults result memory.old memory.new }
 {
-    if is_again(memory, node, above, prev, steps)? {
-        return Ok(Some(Sign::Twice(node)));
-    }
-    Ok(None)
+    let again = is_again(memory, node, above, prev, steps)?;
+    Ok(sign_if(again, Sign::Twice(node)))
 }
 
 fn ring_sign<M: Space, L: Ledger>(

@@ -1,5 +1,5 @@
 // What words show of how they came to be wrong.
-ghost use Rattle.std.specs.Prelude.{◌≡◌, ◌++◌, ◌==◌, codes, false, IfOk, IfSome, OnOk};
+ghost use Rattle.std.specs.Prelude.{◌≡◌, ◌++◌, ◌==◌, if◌then◌else◌, codes, false, Some, None, IfOk, IfSome, OnOk};
 ghost use Rattle.std.specs.Option.{option_map_or};
 ghost use Rattle.kc_text.specs.Text.{hex};
 ghost use Rattle.kc_repair.specs.Suspect.Answers.{OnlyReads};
@@ -115,13 +115,34 @@ pub(crate) fn read_number<M: Space, L: Ledger>(
     }
 }
 
-pub(crate) fn is_some_of(value: u64, found: Option<u64>) -> bool
+fn is_some_of(value: u64, found: Option<u64>) -> bool
     ensures { result ≡ is_some_of value found }
 {
     match found {
         Some(number) => number == value,
         None => false,
     }
+}
+
+// Whether a virtual address holds a number.
+pub(crate) fn holds<M: Space, L: Ledger>(
+    memory: &mut M,
+    at: u64,
+    value: u64,
+    steps: &mut Steps<L>,
+) -> Result<bool, ReadFailed>
+    ensures holds { IfOk result (λ is. IfSome (M.image memory.old) (λ image. is ≡ is_some_of value (number_at image at))) }
+    ensures reads { OnlyReads M.image M.files M.through M.most M.faults result memory.old memory.new }
+{
+    let found = read_number(memory, at, steps)?;
+    Ok(is_some_of(value, found))
+}
+
+// A sign, where it is shown.
+pub(crate) fn sign_if(shown: bool, sign: Sign) -> Option<Sign>
+    ensures { result ≡ if shown then Some sign else None }
+{
+    if shown { Some(sign) } else { None }
 }
 
 pub(crate) fn is_shared(found: Option<u64>, number: u64) -> bool
@@ -160,8 +181,7 @@ fn is_copied<M: Space, L: Ledger>(
     if other == node {
         return Ok(false);
     }
-    let back = read_number(memory, other.wrapping_add(8), steps)?;
-    if !is_some_of(prev, back) {
+    if !holds(memory, other.wrapping_add(8), prev, steps)? {
         return Ok(false);
     }
     same_at(memory, node, other, steps)
@@ -178,10 +198,8 @@ fn led_sign<M: Space, L: Ledger>(
     ensures sign { IfOk result (λ sign. IfSome (M.image memory.old) (λ image. sign ≡ led_sign image node prev other)) }
     ensures reads { OnlyReads M.image M.files M.through M.most M.faults result memory.old memory.new }
 {
-    if is_copied(memory, node, prev, other, steps)? {
-        return Ok(Some(Sign::Copied(other)));
-    }
-    Ok(None)
+    let copied = is_copied(memory, node, prev, other, steps)?;
+    Ok(sign_if(copied, Sign::Copied(other)))
 }
 
 fn prev_sign<M: Space, L: Ledger>(
@@ -342,8 +360,7 @@ fn is_shifted<M: Space, L: Ledger>(
     if !same_at(memory, at.wrapping_sub(8), at, steps)? {
         return Ok(false);
     }
-    let next = read_number(memory, at.wrapping_add(8), steps)?;
-    Ok(is_some_of(0, next))
+    holds(memory, at.wrapping_add(8), 0, steps)
 }
 
 fn push_null<M: Space, L: Ledger>(
