@@ -735,7 +735,7 @@ class Causes:
     def tried(self, root, broken, audit, changed):
         """How many words are tried, whether there are more, the one that repairs, and else the first that leads to another violation, and to which one. The
         words that are changed so far aren't tried. One repairs where the walk that finds the violation stands, and the root audit does; one leads elsewhere
-        where that walk doesn't find the same again, and the root audit finds another."""
+        where that walk doesn't find the same again, and the root audit finds another. Where words are changed already, it is enough that the walk does."""
         of, same = Suspects(self.kernel, audit, broken), (broken.rule, broken.at)
         walk = self.own_walk(audit, broken, of) or (lambda: None)
         suspects = (one for one in of.all() if all(abs(one[0][2] - at) >= 8 for at in changed))
@@ -744,9 +744,13 @@ class Causes:
             if self.with_word(*one, lambda: not walk() and self.judge(root) is None):
                 return len(some), False, one, None
         more, then = next(suspects, None) is not None, None
+
+        def leads():
+            first = walk()
+            return first, None if first == same else self.judge(root)
         for one in some:
-            found = self.with_word(*one, lambda: None if walk() == same else self.judge(root))
-            if found and (found[0].rule, found[0].at) != same:
+            first, found = self.with_word(*one, leads)
+            if first != same and (first and changed or found and (found[0].rule, found[0].at) != same):
                 then = *one, found
                 break
         return len(some), more, None, then
@@ -755,7 +759,7 @@ class Causes:
         """The words that repair together, after the first that leads to another violation; or nothing."""
         words, old = [], []
         try:
-            while then and len(words) < MOST_WORDS:
+            while then and then[2] and len(words) < MOST_WORDS:
                 place, number, (broken, audit) = then
                 words.append((place, number))
                 old.append(place[2:])
