@@ -19,7 +19,7 @@ from plans.reader import TOP, Broken
 from second.inside import PAGE, object_of
 from second.why import Sights
 
-FILLS = (bytes(8), b"overrun ", *(bytes([byte]) * 8 for byte in (0x6B, 0x5A, 0xA5, 0xBB, 0xCC, 0xAA)))
+FILLS = (bytes(8), b"overrun ", b'a: "1"\r\n', *(bytes([byte]) * 8 for byte in (0x6B, 0x5A, 0xA5, 0xBB, 0xCC, 0xAA)))
 FORMS = ("object", "some", "end", "start", "both", "page")
 
 

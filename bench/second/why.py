@@ -31,6 +31,7 @@ POISON_END 0xa5
 POISON_FREE_INITMEM 0xcc
 """
 FILLS = ("zero", "pattern", "text")
+ESCAPES = {ord(a): "\\" + b for a, b in zip('\t\n\r"\\', 'tnr"\\')}
 
 
 def patterns():
@@ -75,6 +76,16 @@ def origin_text(origin):
     return origin if origin == "tail" else f"{origin:016x}"
 
 
+def is_visible(c):
+    return 0x20 <= c <= 0x7E
+
+
+def is_text(data):
+    """Whether a word is text: five bytes or more, then NULs; four of them are visible, others may be tabs and ends of lines."""
+    front = data.rstrip(b"\0")
+    return len(front) > 4 and sum(map(is_visible, front)) > 3 and all(is_visible(c) or c in b"\t\n\r" for c in front)
+
+
 def meaning(va, value):
     """What a word says by itself."""
     data = value.to_bytes(8, "little")
@@ -86,7 +97,7 @@ def meaning(va, value):
         return "unlisted"
     if len(set(data)) == 1 and data[0] in PATTERNS:
         return "pattern"
-    if all(0x20 <= c <= 0x7E for c in data):
+    if is_text(data):
         return "text"
     return "small" if value < 1 << 16 else "number"
 
@@ -160,7 +171,7 @@ class Why:
     def said(self, va, value):
         kind = meaning(va, value)
         if kind == "text":
-            return f'text "{value.to_bytes(8, "little").decode()}"'
+            return f'text "{value.to_bytes(8, "little").rstrip(bytes(1)).decode().translate(ESCAPES)}"'
         if kind == "small":
             return f"small {value}"
         if kind == "pattern":

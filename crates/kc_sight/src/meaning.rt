@@ -1,7 +1,8 @@
 // What a word says by itself.
-ghost use Rattle.std.specs.Prelude.{◌≡◌};
+ghost use Rattle.std.specs.Prelude.{◌≡◌, ◌≤◌, length, count_by};
+ghost use Rattle.std.specs.List.{list_all};
 ghost use Rattle.kc_found.specs.Nodes.{is_poison};
-ghost use Rattle.kc_sight.specs.Meanings.{is_filled, is_pattern, is_text, is_visible, meaning};
+ghost use Rattle.kc_sight.specs.Meanings.{is_filled, is_nul, is_pattern, is_text, is_text_byte, is_text_of, is_visible, meaning, text_length};
 
 /// What a word of memory says by itself, where nothing is known of its type.
 #[derive(Clone, Copy, Debug, PartialEq, Eq)]
@@ -15,7 +16,8 @@ pub enum Meaning {
     Unlisted,
     /// One byte eight times, which the kernel fills memory with.
     Pattern(u8),
-    /// Eight visible characters of ASCII, or spaces.
+    /// Text: visible characters of ASCII, spaces, tabs and ends of lines, eight, or five to seven and then NULs; at least four of them are
+    /// visible or spaces.
     Text,
     /// A number below 65,536.
     Small,
@@ -51,11 +53,52 @@ fn is_visible(byte: u8) -> bool
     matches!(byte, b' '..=b'~')
 }
 
-// Whether all eight bytes are visible.
+fn is_text_byte(byte: u8) -> bool
+    ensures { result ≡ is_text_byte byte }
+{
+    is_visible(byte) || matches!(byte, b'\t' | b'\n' | b'\r')
+}
+
+// How many bytes come before the first NUL.
+fn text_length(bytes: &[u8]) -> usize
+    ensures exact { result ≡ text_length bytes.now }
+    ensures within { result ≤ length bytes.now }
+{
+    bytes.iter().take_while(|byte| **byte != 0).count()
+}
+
+// How many are visible.
+fn count_visible(bytes: &[u8]) -> usize
+    ensures { result ≡ count_by is_visible bytes.now }
+{
+    bytes.iter().filter(|byte| is_visible(**byte)).count()
+}
+
+fn are_text(bytes: &[u8]) -> bool
+    ensures { result ≡ list_all is_text_byte bytes.now }
+{
+    bytes.iter().all(|byte| is_text_byte(*byte))
+}
+
+fn are_nul(bytes: &[u8]) -> bool
+    ensures { result ≡ list_all is_nul bytes.now }
+{
+    bytes.iter().all(|byte| *byte == 0)
+}
+
+// Whether bytes are text, behind which only NULs come.
+fn is_text_of(bytes: &[u8]) -> bool
+    ensures { result ≡ is_text_of bytes.now }
+{
+    let length = text_length(bytes);
+    let (text, behind) = (&bytes[..length], &bytes[length..]);
+    length >= 5 && count_visible(bytes) >= 4 && are_text(text) && are_nul(behind)
+}
+
 fn is_text(value: u64) -> bool
     ensures { result ≡ is_text value }
 {
-    value.to_le_bytes().iter().all(|byte| is_visible(*byte))
+    is_text_of(&value.to_le_bytes())
 }
 
 /// What a word with this value says, which stands at virtual address `va`: the first of the meanings in the order of

@@ -1,3 +1,4 @@
+mod ByteLemmas
 mod SaysLemmas
 pub mod NearLemmas
 pub mod ShapeLemmas

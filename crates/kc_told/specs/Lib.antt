@@ -12,4 +12,5 @@ pub mod SaysText
 pub mod SeenText
 pub mod Spans
 pub mod Text
+pub mod TextLaws
 pub mod Views

@@ -1,5 +1,5 @@
 -- What is printed of an address.
-use Rattle.std.specs.Prelude.{ℕ, ◌==◌, ◌-◌, if◌then◌else◌, Bool, true, false, List, [], ◌++◌, codes, decimal, length, map, slice_get, Option, Some, None, option_and_then, Result, Ok, Err}
+use Rattle.std.specs.Prelude.{ℕ, ◌==◌, ◌-◌, if◌then◌else◌, Bool, true, false, List, [], ◌∷◌, ◌++◌, codes, decimal, length, map, slice_get, Option, Some, None, option_and_then, Result, Ok, Err}
 use Rattle.std.specs.Int.{to_le_bytes, w64}
 use Rattle.kc_memory.specs.declared.rule.Rule.{Rule}
 use Rattle.kc_memory.specs.declared.rule.Rule.TheVariants.{M6}
@@ -83,13 +83,24 @@ pattern_text byte =
     else (if byte == 0xcc then codes "pattern cc SLUB_RED_ACTIVE|POISON_FREE_INITMEM"
     else codes "pattern")))))
 
+-- a byte of a text, on one line and between quotation marks; a NUL has no text, since only NULs come behind it
+abbrev pub byte_text : ℕ → List ℕ
+byte_text c =
+    if c == 0x0 then []
+    else (if c == 0x9 then codes "\\t"
+    else (if c == 0xa then codes "\\n"
+    else (if c == 0xd then codes "\\r"
+    else (if c == 0x22 then codes "\\\""
+    else (if c == 0x5c then codes "\\\\"
+    else c ∷ [])))))
+
 -- what a word says
 abbrev pub meaning_text : (ℕ → Option SymbolAt) → Lead → Meaning → ℕ → List ℕ
 meaning_text symbols lead Zero value = codes "zero"
 meaning_text symbols lead Own value = codes "self"
 meaning_text symbols lead Unlisted value = codes "unlisted"
 meaning_text symbols lead (Pattern byte) value = pattern_text byte
-meaning_text symbols lead Text value = codes "text \"" ++ to_le_bytes w64 value ++ codes "\""
+meaning_text symbols lead Text value = codes "text \"" ++ texts byte_text (to_le_bytes w64 value) ++ codes "\""
 meaning_text symbols lead Small value = codes "small " ++ decimal value
 meaning_text symbols lead Number value = number_text (symbols value) lead value
 

@@ -5,6 +5,7 @@
 mod area_text;
 mod framed;
 mod inside;
+mod laws;
 mod leads;
 mod module_symbol;
 mod named;
@@ -18,6 +19,7 @@ mod span;
 mod text;
 mod told;
 
+pub use laws::know_texts;
 pub use leads::{push_leads, read_lead};
 pub use named::{Named, TaskName};
 pub use near::{Lead, NearWord};

@@ -5,7 +5,7 @@ ghost use Rattle.kc_sight.specs.Entries.{page_bytes};
 ghost use Rattle.kc_sight.specs.Meanings.{meaning};
 ghost use Rattle.kc_text.specs.Compose.{texts};
 ghost use Rattle.kc_sight.specs.Views.{image_symbols, sight_view, symbol_view};
-ghost use Rattle.kc_told.specs.Text.{alias_line, around_lines, beside_lines, bounds_line, entry_line, head_lines, is_absent, is_mapped, meaning_text, near_line, number_text, seen_line, page_line, pattern_text, size_line, span_line, stopped_text, sight_lines, symbol_line, symbol_text, word_line};
+ghost use Rattle.kc_told.specs.Text.{alias_line, around_lines, beside_lines, bounds_line, byte_text, entry_line, head_lines, is_absent, is_mapped, meaning_text, near_line, number_text, seen_line, page_line, pattern_text, size_line, span_line, stopped_text, sight_lines, symbol_line, symbol_text, word_line};
 
 use crate::near::{Lead, NearWord};
 use crate::near_text::push_lead;
@@ -161,12 +161,36 @@ fn push_number(
     push_symbol(text, symbol, value)
 }
 
-// Eight bytes that are visible.
-fn push_visible(text: &mut Vec<u8>, value: u64) -> Result<(), NoMemory>
-    ensures { OnOk result (text.new.items ≡ text.old.items ++ (codes "text \"" ++ to_le_bytes w64 value ++ codes "\"")) }
+// A byte of a text, on one line.
+fn push_byte(text: &mut Vec<u8>, byte: u8) -> Result<(), NoMemory>
+    ensures { OnOk result (text.new.items ≡ text.old.items ++ byte_text byte) }
+{
+    match byte {
+        0 => Ok(()),
+        b'\t' => push(text, b"\\t"),
+        b'\n' => push(text, b"\\n"),
+        b'\r' => push(text, b"\\r"),
+        b'"' => push(text, b"\\\""),
+        b'\\' => push(text, b"\\\\"),
+        _ => push(text, &[byte]),
+    }
+}
+
+fn push_bytes(text: &mut Vec<u8>, bytes: &[u8]) -> Result<(), NoMemory>
+    ensures { OnOk result (text.new.items ≡ text.old.items ++ texts byte_text bytes.now) }
+{
+    for byte in bytes {
+        push_byte(text, *byte)?;
+    }
+    Ok(())
+}
+
+// The text that a word is.
+fn push_text(text: &mut Vec<u8>, value: u64) -> Result<(), NoMemory>
+    ensures { OnOk result (text.new.items ≡ text.old.items ++ (codes "text \"" ++ texts byte_text (to_le_bytes w64 value) ++ codes "\"")) }
 {
     push(text, b"text \"")?;
-    push(text, &value.to_le_bytes())?;
+    push_bytes(text, &value.to_le_bytes())?;
     push(text, b"\"")
 }
 
@@ -200,7 +224,7 @@ pub(crate) fn push_meaning(
         Meaning::Own => push(text, b"self"),
         Meaning::Unlisted => push(text, b"unlisted"),
         Meaning::Pattern(byte) => push(text, pattern_text(byte)),
-        Meaning::Text => push_visible(text, value),
+        Meaning::Text => push_text(text, value),
         Meaning::Small => push_numbered(text, b"small ", value),
         Meaning::Number => push_number(text, image.symbol(value), lead, value),
     }
