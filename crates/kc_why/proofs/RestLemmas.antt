@@ -1,5 +1,5 @@
 -- What standard output took before the rest of an answer, and with it.
-use Rattle.std.proofs.Common.{◌≡◌, ℕ, ◌+◌, ◌-◌, ◌^◌, ◌<◌, Bool, true, false, nat_eq, List, [], ◌++◌, length, take, Option, Some, None, option_map, IfSome, inl, inr, Result, Ok, Err, append-nil, refl, sym, ap, subst, ◌∙◌, arith}
+use Rattle.std.proofs.Common.{◌≡◌, ◌⊎◌, ℕ, ◌+◌, ◌-◌, ◌^◌, ◌<◌, Bool, true, false, nat_eq, List, [], ◌++◌, length, take, Option, Some, None, option_map, IfSome, inl, inr, Result, Ok, Err, append-nil, refl, sym, ap, subst, ◌∙◌, arith}
 use Rattle.std.proofs.Math.Seq.{take-append-add, take-append_seam}
 use Rattle.std.proofs.lemmas.List.{append_assoc, length-append, take-append-le}
 use Rattle.std.specs.Bool.{OnTrue}
@@ -112,8 +112,8 @@ comes_front usage write asks (Some f) None opened_old opened_new old mid err_old
     record {
       front = [];
       lines = [];
-      took = comes.1.0 ∙ with_none old;
-      said = comes.1.1 ∙ with_none err_old;
+      took = comes.1 ∙ with_none old;
+      said = comes.2 ∙ with_none err_old;
       alone = inl refl;
       is = ap (λ (a : Option (Asked _)). written_files usage write a f) comes.0;
     }
@@ -130,8 +130,8 @@ comes_front usage write asks (Some f) (Some (Err (Refused refusal))) opened_old 
     record {
       front = [];
       lines = [];
-      took = comes.leaves.1.0 ∙ with_none old;
-      said = comes.leaves.1.1 ∙ with_none err_old;
+      took = comes.leaves.1 ∙ with_none old;
+      said = comes.leaves.2 ∙ with_none err_old;
       alone = inl refl;
       is = asked_written usage write asks comes.asked f comes.is ∙ ap (option_map (ended write)) comes.leaves.0;
     }
@@ -142,11 +142,11 @@ comes_front usage write asks (Some f) (Some (Err Memory)) opened_old opened_new 
 pub comes_part : {A : Type 0} (usage : List ℕ) (write : A → Written) (asks : Option (Asked A)) (files : Option Files) (outcome : Option (Result Answer Halt)) (opened_old opened_new : Slot → Option (List ℕ)) (old mid err_old err_mid : Option (List ℕ))
     → Comes write asks files outcome opened_old opened_new old mid err_old err_mid → IfSome files (λ f. TookFront (written_files usage write asks f) old mid)
 comes_part usage write asks None outcome opened_old opened_new old mid err_old err_mid comes = tt
-comes_part usage write asks (Some f) None opened_old opened_new old mid err_old err_mid comes = inl comes.1.0
+comes_part usage write asks (Some f) None opened_old opened_new old mid err_old err_mid comes = inl comes.1
 comes_part usage write asks (Some f) (Some (Ok answer)) opened_old opened_new old mid err_old err_mid comes =
     inr (subst (λ (o : Option Written). TookOut o old mid) (sym (asked_written usage write asks comes.asked f comes.is ∙ comes.leaves.whole))
     (front_part old mid comes.leaves.front (written_by answer).out comes.leaves.took))
-comes_part usage write asks (Some f) (Some (Err (Refused refusal))) opened_old opened_new old mid err_old err_mid comes = inl comes.leaves.1.0
+comes_part usage write asks (Some f) (Some (Err (Refused refusal))) opened_old opened_new old mid err_old err_mid comes = inl comes.leaves.1
 comes_part usage write asks (Some f) (Some (Err Store)) opened_old opened_new old mid err_old err_mid comes =
     subst (λ (o : Option Written). TookFront o old mid) (sym (asked_written usage write asks comes.asked f comes.is)) comes.leaves
 comes_part usage write asks (Some f) (Some (Err Memory)) opened_old opened_new old mid err_old err_mid comes =
