@@ -7,7 +7,8 @@ _kaudit()
         kaudit) commands="word layout show check selftest certify recheck" ;;
         kplain) commands="check certify recheck show word core" ;;
         kfiles) [ "$COMP_CWORD" -eq 2 ] && commands="map types log modules module note" ;;
-        kwhy) [ "$COMP_CWORD" -eq 4 ] && commands="refs" ;;
+        kwhy) [ "$COMP_CWORD" -eq 4 ] && commands="refs"
+            [ "$COMP_CWORD" -eq 6 ] && [ "${COMP_WORDS[4]}" = refs ] && commands="progress" ;;
         ktriage) commands="--types --map --json --html --keep --programs --plans --help" ;;
     esac
     COMPREPLY=()

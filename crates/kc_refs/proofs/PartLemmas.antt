@@ -122,3 +122,6 @@ segment_parts sought bytes s p first count is below =
 pub no_segments : (sought : Sought) (bytes : List ℕ) → in_segments sought bytes [] ≡ []
 unfolding in_segments
 no_segments sought bytes = refl
+
+pub part_count : (s p : Segment) (first count : ℕ) → p ≡ part s first count → word_count p ≡ count
+part_count s p first count is = ap word_count is ∙ count_in s first count

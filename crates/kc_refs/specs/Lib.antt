@@ -1,4 +1,6 @@
 pub mod Lines
 pub mod Parts
+pub mod Progress
 pub mod Put
+pub mod Says
 pub mod Stops

@@ -13,8 +13,10 @@ pub enum RefsStop {
     Store,
     /// No memory was left.
     Memory,
-    /// A call of the sink failed. Its count of faults rose.
+    /// A call of the sink for words failed. Its count of faults rose.
     Sink,
+    /// A call of the sink for progress failed. Its count of faults rose.
+    Progress,
 }
 
 impl From<ReadFailed> for RefsStop {

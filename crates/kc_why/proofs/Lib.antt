@@ -2,6 +2,7 @@ pub mod HuntLemmas
 pub mod ReportLemmas
 pub mod RestLemmas
 pub mod RunLemmas
+pub mod SaidLemmas
 pub mod WhyLemmas
 pub mod WrittenLaws
 pub mod LookLemmas

@@ -1,5 +1,5 @@
 -- What standard output took before the rest of an answer, and with it.
-use Rattle.std.proofs.Common.{◌≡◌, ℕ, ◌+◌, ◌-◌, ◌^◌, ◌<◌, Bool, true, false, nat_eq, List, [], ◌++◌, length, take, Option, Some, None, option_map, IfSome, inl, inr, Result, Ok, Err, append-nil, refl, sym, ap, subst, ◌∙◌, arith}
+use Rattle.std.proofs.Common.{◌≡◌, ◌⊎◌, ℕ, ◌+◌, ◌-◌, ◌^◌, ◌<◌, Bool, true, false, nat_eq, List, [], ◌++◌, length, take, Option, Some, None, option_map, IfSome, inl, inr, Result, Ok, Err, append-nil, refl, sym, ap, subst, ◌∙◌, arith}
 use Rattle.std.proofs.Math.Seq.{take-append-add, take-append_seam}
 use Rattle.std.proofs.lemmas.List.{append_assoc, length-append, take-append-le}
 use Rattle.std.specs.Bool.{OnTrue}
@@ -61,22 +61,22 @@ part_longer old new text rest took = record {
 -- ---- what the code came to
 
 -- where nothing was taken before
-whole_after : {A : Type 0} (write : A → Written) (made : Made A) (answer : Answer) (old : Option (List ℕ)) → option_map (ended write) made ≡ Some (written_by answer) → HasRest write made answer old old
-whole_after write made (Done text) old is = record { front = []; took = with_none old; whole = is }
-whole_after write made (Broken text) old is = record { front = []; took = with_none old; whole = is }
+whole_after : {A : Type 0} (write : A → Written) (made : Made A) (answer : Answer) (old err : Option (List ℕ)) → option_map (ended write) made ≡ Some (written_by answer) → HasRest write made answer old old err err
+whole_after write made (Done text) old err is = record { front = []; lines = []; took = with_none old; said = with_none err; whole = is }
+whole_after write made (Broken text) old err is = record { front = []; lines = []; took = with_none old; said = with_none err; whole = is }
 
-pub halted_after : {A : Type 0} (write : A → Written) (made : Made A) (halt : Halt) (old : Option (List ℕ)) → Halts made halt → Leaves write made (Err halt) old old
-halted_after write made (Refused refusal) old is = (is, refl)
-halted_after write made Store old is = inl refl
-halted_after write made Memory old is = inl refl
+pub halted_after : {A : Type 0} (write : A → Written) (made : Made A) (halt : Halt) (old err : Option (List ℕ)) → Halts made halt → Leaves write made (Err halt) old old err err
+halted_after write made (Refused refusal) old err is = (is, refl, refl)
+halted_after write made Store old err is = inl refl
+halted_after write made Memory old err is = inl refl
 
-leaves_whole : {A : Type 0} (write : A → Written) (made : Made A) (r : Result Answer Halt) (old : Option (List ℕ)) → Prints write made r → Leaves write made r old old
-leaves_whole write made (Ok answer) old prints = whole_after write made answer old prints
-leaves_whole write made (Err halt) old prints = halted_after write made halt old prints
+leaves_whole : {A : Type 0} (write : A → Written) (made : Made A) (r : Result Answer Halt) (old err : Option (List ℕ)) → Prints write made r → Leaves write made r old old err err
+leaves_whole write made (Ok answer) old err prints = whole_after write made answer old err prints
+leaves_whole write made (Err halt) old err prints = halted_after write made halt old err prints
 
-pub leaves_whole_of : {A : Type 0} (write : A → Written) (made : Files → Made A) (files : Option Files) (r : Result Answer Halt) (old : Option (List ℕ)) → PrintsOf write made files r → LeavesOf write made files r old old
-leaves_whole_of write made None r old prints = tt
-leaves_whole_of write made (Some f) r old prints = leaves_whole write (made f) r old prints
+pub leaves_whole_of : {A : Type 0} (write : A → Written) (made : Files → Made A) (files : Option Files) (r : Result Answer Halt) (old err : Option (List ℕ)) → PrintsOf write made files r → LeavesOf write made files r old old err err
+leaves_whole_of write made None r old err prints = tt
+leaves_whole_of write made (Some f) r old err prints = leaves_whole write (made f) r old err prints
 
 -- ---- the output of the words
 
@@ -85,54 +85,78 @@ ends_written usage write None = refl
 ends_written usage write (Some r) = refl
 
 -- what is written of words that ask for something
-asked_written : {A : Type 0} (usage : List ℕ) (write : A → Written) (asks : Option (Asked A)) (asked : Asked A) (f : Files) → asks ≡ Some asked
+pub asked_written : {A : Type 0} (usage : List ℕ) (write : A → Written) (asks : Option (Asked A)) (asked : Asked A) (f : Files) → asks ≡ Some asked
     → written_files usage write asks f ≡ option_map (ended write) (asked.made (asked_files asked f))
 asked_written usage write asks asked f is = ap (λ (a : Option (Asked _)). written_files usage write a f) is ∙ ends_written usage write (asked.made (asked_files asked f))
 
--- the sink took a front of it, and the rest is what the words came to
-record IsAfter (old mid : Option (List ℕ)) (w : Written) (output : Option Written) : Type 0 where
+-- the sinks took a front of it and lines, and the rest is what the words came to; before another text for standard error no lines
+record IsAfter (old mid err_old err_mid : Option (List ℕ)) (w : Written) (output : Option Written) : Type 0 where
   front : List ℕ
+  lines : List ℕ
   took : mid ≡ with_piece old front
-  is : output ≡ Some (after front w)
+  said : err_mid ≡ with_piece err_old lines
+  alone : (lines ≡ []) ⊎ (w.err ≡ [])
+  is : output ≡ Some (after front lines w)
 
-abbrev IsFront : Option Written → (Files → Option Written) → Option Files → Option (List ℕ) → Option (List ℕ) → Type 0
-IsFront came output files old mid = IfSome files (λ f. IfSome came (λ w. IsAfter old mid w (output f)))
+abbrev IsFront : Option Written → (Files → Option Written) → Option Files → Option (List ℕ) → Option (List ℕ) → Option (List ℕ) → Option (List ℕ) → Type 0
+IsFront came output files old mid err_old err_mid = IfSome files (λ f. IfSome came (λ w. IsAfter old mid err_old err_mid w (output f)))
 
-comes_front : {A : Type 0} (usage : List ℕ) (write : A → Written) (asks : Option (Asked A)) (files : Option Files) (outcome : Option (Result Answer Halt)) (opened_old opened_new : Slot → Option (List ℕ)) (old mid : Option (List ℕ))
-    → Comes write asks files outcome opened_old opened_new old mid → IsFront (ending usage outcome) (written_files usage write asks) files old mid
-comes_front usage write asks None outcome opened_old opened_new old mid comes = tt
-comes_front usage write asks (Some f) None opened_old opened_new old mid comes =
-    record { front = []; took = comes.1 ∙ with_none old; is = ap (λ (a : Option (Asked _)). written_files usage write a f) comes.0 }
-comes_front usage write asks (Some f) (Some (Ok answer)) opened_old opened_new old mid comes =
-    record { front = comes.leaves.front; took = comes.leaves.took; is = asked_written usage write asks comes.asked f comes.is ∙ comes.leaves.whole }
-comes_front usage write asks (Some f) (Some (Err (Refused refusal))) opened_old opened_new old mid comes =
+no_err : (answer : Answer) → (written_by answer).err ≡ []
+no_err (Done text) = refl
+no_err (Broken text) = refl
+
+comes_front : {A : Type 0} (usage : List ℕ) (write : A → Written) (asks : Option (Asked A)) (files : Option Files) (outcome : Option (Result Answer Halt)) (opened_old opened_new : Slot → Option (List ℕ)) (old mid err_old err_mid : Option (List ℕ))
+    → Comes write asks files outcome opened_old opened_new old mid err_old err_mid → IsFront (ending usage outcome) (written_files usage write asks) files old mid err_old err_mid
+comes_front usage write asks None outcome opened_old opened_new old mid err_old err_mid comes = tt
+comes_front usage write asks (Some f) None opened_old opened_new old mid err_old err_mid comes =
     record {
       front = [];
+      lines = [];
+      took = comes.1 ∙ with_none old;
+      said = comes.2 ∙ with_none err_old;
+      alone = inl refl;
+      is = ap (λ (a : Option (Asked _)). written_files usage write a f) comes.0;
+    }
+comes_front usage write asks (Some f) (Some (Ok answer)) opened_old opened_new old mid err_old err_mid comes =
+    record {
+      front = comes.leaves.front;
+      lines = comes.leaves.lines;
+      took = comes.leaves.took;
+      said = comes.leaves.said;
+      alone = inr (no_err answer);
+      is = asked_written usage write asks comes.asked f comes.is ∙ comes.leaves.whole;
+    }
+comes_front usage write asks (Some f) (Some (Err (Refused refusal))) opened_old opened_new old mid err_old err_mid comes =
+    record {
+      front = [];
+      lines = [];
       took = comes.leaves.1 ∙ with_none old;
+      said = comes.leaves.2 ∙ with_none err_old;
+      alone = inl refl;
       is = asked_written usage write asks comes.asked f comes.is ∙ ap (option_map (ended write)) comes.leaves.0;
     }
-comes_front usage write asks (Some f) (Some (Err Store)) opened_old opened_new old mid comes = tt
-comes_front usage write asks (Some f) (Some (Err Memory)) opened_old opened_new old mid comes = tt
+comes_front usage write asks (Some f) (Some (Err Store)) opened_old opened_new old mid err_old err_mid comes = tt
+comes_front usage write asks (Some f) (Some (Err Memory)) opened_old opened_new old mid err_old err_mid comes = tt
 
 -- before the rest it took nothing, or a first part
-pub comes_part : {A : Type 0} (usage : List ℕ) (write : A → Written) (asks : Option (Asked A)) (files : Option Files) (outcome : Option (Result Answer Halt)) (opened_old opened_new : Slot → Option (List ℕ)) (old mid : Option (List ℕ))
-    → Comes write asks files outcome opened_old opened_new old mid → IfSome files (λ f. TookFront (written_files usage write asks f) old mid)
-comes_part usage write asks None outcome opened_old opened_new old mid comes = tt
-comes_part usage write asks (Some f) None opened_old opened_new old mid comes = inl comes.1
-comes_part usage write asks (Some f) (Some (Ok answer)) opened_old opened_new old mid comes =
+pub comes_part : {A : Type 0} (usage : List ℕ) (write : A → Written) (asks : Option (Asked A)) (files : Option Files) (outcome : Option (Result Answer Halt)) (opened_old opened_new : Slot → Option (List ℕ)) (old mid err_old err_mid : Option (List ℕ))
+    → Comes write asks files outcome opened_old opened_new old mid err_old err_mid → IfSome files (λ f. TookFront (written_files usage write asks f) old mid)
+comes_part usage write asks None outcome opened_old opened_new old mid err_old err_mid comes = tt
+comes_part usage write asks (Some f) None opened_old opened_new old mid err_old err_mid comes = inl comes.1
+comes_part usage write asks (Some f) (Some (Ok answer)) opened_old opened_new old mid err_old err_mid comes =
     inr (subst (λ (o : Option Written). TookOut o old mid) (sym (asked_written usage write asks comes.asked f comes.is ∙ comes.leaves.whole))
     (front_part old mid comes.leaves.front (written_by answer).out comes.leaves.took))
-comes_part usage write asks (Some f) (Some (Err (Refused refusal))) opened_old opened_new old mid comes = inl comes.leaves.1
-comes_part usage write asks (Some f) (Some (Err Store)) opened_old opened_new old mid comes =
+comes_part usage write asks (Some f) (Some (Err (Refused refusal))) opened_old opened_new old mid err_old err_mid comes = inl comes.leaves.1
+comes_part usage write asks (Some f) (Some (Err Store)) opened_old opened_new old mid err_old err_mid comes =
     subst (λ (o : Option Written). TookFront o old mid) (sym (asked_written usage write asks comes.asked f comes.is)) comes.leaves
-comes_part usage write asks (Some f) (Some (Err Memory)) opened_old opened_new old mid comes =
+comes_part usage write asks (Some f) (Some (Err Memory)) opened_old opened_new old mid err_old err_mid comes =
     subst (λ (o : Option Written). TookFront o old mid) (sym (asked_written usage write asks comes.asked f comes.is)) comes.leaves
 
-pub comes_part_at : {A : Type 0} (usage : List ℕ) (write : A → Written) (asks : Option (Asked A)) (files : Option Files) (outcome : Option (Result Answer Halt)) (opened_old opened_new : Slot → Option (List ℕ)) (old mid new : Option (List ℕ))
-    → Comes write asks files outcome opened_old opened_new old mid → new ≡ mid → IfSome files (λ f. TookFront (written_files usage write asks f) old new)
-comes_part_at usage write asks files outcome opened_old opened_new old mid new comes is =
+pub comes_part_at : {A : Type 0} (usage : List ℕ) (write : A → Written) (asks : Option (Asked A)) (files : Option Files) (outcome : Option (Result Answer Halt)) (opened_old opened_new : Slot → Option (List ℕ)) (old mid new err_old err_mid : Option (List ℕ))
+    → Comes write asks files outcome opened_old opened_new old mid err_old err_mid → new ≡ mid → IfSome files (λ f. TookFront (written_files usage write asks f) old new)
+comes_part_at usage write asks files outcome opened_old opened_new old mid new err_old err_mid comes is =
     subst (λ (m : Option (List ℕ)). IfSome files (λ f. TookFront (written_files usage write asks f) old m)) (sym is)
-    (comes_part usage write asks files outcome opened_old opened_new old mid comes)
+    (comes_part usage write asks files outcome opened_old opened_new old mid err_old err_mid comes)
 
 -- ---- how a program ends by what its words came to
 
@@ -140,58 +164,84 @@ on_true : {P Q : Type 0} (b : Bool) → (P → Q) → OnTrue b P → OnTrue b Q
 on_true true follows p = follows p
 on_true false follows p = tt
 
-tells_after : (output : Files → Option Written) (files : Option Files) (came : Option Written) (s : Status) (old mid new err_old err_new : Option (List ℕ))
-    → IsFront came output files old mid → IsWritten came s mid new err_old err_new → IsTold output files s old new err_old err_new
-tells_after output None came s old mid new err_old err_new is ends = tt
-tells_after output (Some f) None s old mid new err_old err_new is ends = absurd ends
-tells_after output (Some f) (Some w) s old mid new err_old err_new is ends =
+tells_after : (output : Files → Option Written) (files : Option Files) (came : Option Written) (s : Status) (old mid new err_old err_mid err_new : Option (List ℕ))
+    → IsFront came output files old mid err_old err_mid → IsWritten came s mid new err_mid err_new → IsTold output files s old new err_old err_new
+tells_after output None came s old mid new err_old err_mid err_new is ends = tt
+tells_after output (Some f) None s old mid new err_old err_mid err_new is ends = absurd ends
+tells_after output (Some f) (Some w) s old mid new err_old err_mid err_new is ends =
     subst (λ (o : Option Written). IsWritten o s old new err_old err_new) (sym is.is)
-    (record { ends = ends.ends; out_took = ends.out_took ∙ ap (λ (t : Option (List ℕ)). with_piece t w.out) is.took ∙ with_two old is.front w.out; err_took = ends.err_took })
+    (record {
+      ends = ends.ends;
+      out_took = ends.out_took ∙ ap (λ (t : Option (List ℕ)). with_piece t w.out) is.took ∙ with_two old is.front w.out;
+      err_took = ends.err_took ∙ ap (λ (t : Option (List ℕ)). with_piece t w.err) is.said ∙ with_two err_old is.lines w.err;
+    })
 
-pub rest_told : {A : Type 0} (usage : List ℕ) (write : A → Written) (asks : Option (Asked A)) (files : Option Files) (outcome : Option (Result Answer Halt)) (opened_old opened_new : Slot → Option (List ℕ)) (s : Status) (old mid new err_old err_new : Option (List ℕ))
-    → Comes write asks files outcome opened_old opened_new old mid → OnTrue (is_answer s) (IsWritten (ending usage outcome) s mid new err_old err_new)
+pub rest_told : {A : Type 0} (usage : List ℕ) (write : A → Written) (asks : Option (Asked A)) (files : Option Files) (outcome : Option (Result Answer Halt)) (opened_old opened_new : Slot → Option (List ℕ)) (s : Status) (old mid new err_old err_mid err_new : Option (List ℕ))
+    → Comes write asks files outcome opened_old opened_new old mid err_old err_mid → OnTrue (is_answer s) (IsWritten (ending usage outcome) s mid new err_mid err_new)
     → OnTrue (is_answer s) (IsTold (written_files usage write asks) files s old new err_old err_new)
-rest_told usage write asks files outcome opened_old opened_new s old mid new err_old err_new comes told =
+rest_told usage write asks files outcome opened_old opened_new s old mid new err_old err_mid err_new comes told =
     on_true (is_answer s)
-    (tells_after (written_files usage write asks) files (ending usage outcome) s old mid new err_old err_new (comes_front usage write asks files outcome opened_old opened_new old mid comes)) told
+    (tells_after (written_files usage write asks) files (ending usage outcome) s old mid new err_old err_mid err_new (comes_front usage write asks files outcome opened_old opened_new old mid err_old err_mid comes)) told
 
-took_after : (output : Files → Option Written) (files : Option Files) (came : Option Written) (old mid new : Option (List ℕ)) → IsFront came output files old mid → TookOut came mid new → TookPart output files old new
-took_after output None came old mid new is took = tt
-took_after output (Some f) None old mid new is took = absurd took
-took_after output (Some f) (Some w) old mid new is took = subst (λ (o : Option Written). TookOut o old new) (sym is.is) (prefix_after old mid new is.front w.out is.took took)
+took_after : (output : Files → Option Written) (files : Option Files) (came : Option Written) (old mid new err_old err_mid : Option (List ℕ)) → IsFront came output files old mid err_old err_mid → TookOut came mid new → TookPart output files old new
+took_after output None came old mid new err_old err_mid is took = tt
+took_after output (Some f) None old mid new err_old err_mid is took = absurd took
+took_after output (Some f) (Some w) old mid new err_old err_mid is took = subst (λ (o : Option Written). TookOut o old new) (sym is.is) (prefix_after old mid new is.front w.out is.took took)
 
 -- the counts are those of standard output
-pub rest_part : {A : Type 0} (usage : List ℕ) (write : A → Written) (asks : Option (Asked A)) (files : Option Files) (outcome : Option (Result Answer Halt)) (opened_old opened_new : Slot → Option (List ℕ)) (s : Status) (faults_old faults_mid faults_new : ℕ) (old mid new : Option (List ℕ))
-    → Comes write asks files outcome opened_old opened_new old mid → faults_mid ≡ faults_old → At s status.SinkFailed (faults_mid < faults_new → TookOut (ending usage outcome) mid new)
+pub rest_part : {A : Type 0} (usage : List ℕ) (write : A → Written) (asks : Option (Asked A)) (files : Option Files) (outcome : Option (Result Answer Halt)) (opened_old opened_new : Slot → Option (List ℕ)) (s : Status) (faults_old faults_mid faults_new : ℕ) (old mid new err_old err_mid : Option (List ℕ))
+    → Comes write asks files outcome opened_old opened_new old mid err_old err_mid → faults_mid ≡ faults_old → At s status.SinkFailed (faults_mid < faults_new → TookOut (ending usage outcome) mid new)
     → At s status.SinkFailed (faults_old < faults_new → TookPart (written_files usage write asks) files old new)
-rest_part usage write asks files outcome opened_old opened_new s faults_old faults_mid faults_new old mid new comes same took =
+rest_part usage write asks files outcome opened_old opened_new s faults_old faults_mid faults_new old mid new err_old err_mid comes same took =
     on_true (nat_eq (number s) 4)
-    (λ part rose. took_after (written_files usage write asks) files (ending usage outcome) old mid new (comes_front usage write asks files outcome opened_old opened_new old mid comes) (part (subst (λ (n : ℕ). n < faults_new) (sym same) rose))) took
+    (λ part rose. took_after (written_files usage write asks) files (ending usage outcome) old mid new err_old err_mid (comes_front usage write asks files outcome opened_old opened_new old mid err_old err_mid comes)
+    (part (subst (λ (n : ℕ). n < faults_new) (sym same) rose))) took
 
-line_after : {P Q : Type 0} (output : Files → Option Written) (files : Option Files) (came : Option Written) (old mid err_old err_new : Option (List ℕ))
-    → IsFront came output files old mid → (P → Q) → TookLine came P err_old err_new → ErrFailed output files Q err_old err_new
-line_after output None came old mid err_old err_new is rose took = tt
-line_after output (Some f) None old mid err_old err_new is rose (inl took) = absurd took
-line_after output (Some f) None old mid err_old err_new is rose (inr (inl took)) = inr (inl took)
-line_after output (Some f) None old mid err_old err_new is rose (inr (inr took)) = inr (inr (rose took.0, took.1))
-line_after output (Some f) (Some w) old mid err_old err_new is rose (inl took) = inl (subst (λ (o : Option Written). TookErr o err_old err_new) (sym is.is) took)
-line_after output (Some f) (Some w) old mid err_old err_new is rose (inr (inl took)) = inr (inl took)
-line_after output (Some f) (Some w) old mid err_old err_new is rose (inr (inr took)) = inr (inr (rose took.0, took.1))
+-- a first part of what is written to standard error after the lines is one of all of it, where either is none
+took_nothing : (mid new : Option (List ℕ)) (text : List ℕ) → TookPrefix mid new [] → TookPrefix mid new text
+took_nothing mid new text took = record {
+  count = 0;
+  within = omega arith;
+  took = took.took ∙ ap (λ (n : ℕ). with_piece mid (take n [])) (let none : took.count ≡ 0 = omega (arith, took.within) in none);
+}
+
+err_alone : (lines text : List ℕ) (mid new : Option (List ℕ)) → (lines ≡ []) ⊎ (text ≡ []) → TookPrefix mid new text → TookPrefix mid new (lines ++ text)
+err_alone lines text mid new (inl none) took = subst (λ (l : List ℕ). TookPrefix mid new (l ++ text)) (sym none) took
+err_alone lines text mid new (inr none) took = took_nothing mid new (lines ++ text) (subst (TookPrefix mid new) none took)
+
+err_at : (output : Option Written) (w : Written) (old mid err_old err_mid err_new : Option (List ℕ)) → IsAfter old mid err_old err_mid w output → TookPrefix err_mid err_new w.err
+    → TookErr output err_mid err_new
+err_at output w old mid err_old err_mid err_new is took =
+    subst (λ (o : Option Written). TookErr o err_mid err_new) (sym is.is) (err_alone is.lines w.err err_mid err_new is.alone took)
+
+line_after : {P Q : Type 0} (output : Files → Option Written) (files : Option Files) (came : Option Written) (old mid err_old err_mid err_new : Option (List ℕ))
+    → IsFront came output files old mid err_old err_mid → (P → Q) → TookLine came P err_mid err_new → ErrFailed output files Q err_mid err_new
+line_after output None came old mid err_old err_mid err_new is rose took = tt
+line_after output (Some f) None old mid err_old err_mid err_new is rose (inl took) = absurd took
+line_after output (Some f) None old mid err_old err_mid err_new is rose (inr (inl took)) = inr (inl took)
+line_after output (Some f) None old mid err_old err_mid err_new is rose (inr (inr took)) = inr (inr (rose took.0, took.1))
+line_after output (Some f) (Some w) old mid err_old err_mid err_new is rose (inl took) = inl (err_at (output f) w old mid err_old err_mid err_new is took)
+line_after output (Some f) (Some w) old mid err_old err_mid err_new is rose (inr (inl took)) = inr (inl took)
+line_after output (Some f) (Some w) old mid err_old err_mid err_new is rose (inr (inr took)) = inr (inr (rose took.0, took.1))
 
 rose_where_failed : {P : Type 0} (outcome : Option (Result Answer Halt)) → OnStoreIn outcome P → outcome ≡ Some (Err Store) → P
 rose_where_failed {P} outcome cause is = subst (λ (o : Option (Result Answer Halt)). OnStoreIn o P) is cause
 
-pub rest_fails : {A : Type 0} (usage : List ℕ) (write : A → Written) (asks : Option (Asked A)) (files : Option Files) (outcome : Option (Result Answer Halt)) (opened_old opened_new : Slot → Option (List ℕ)) (s : Status) (store_old store_new faults_old faults_mid faults_new : ℕ) (old mid err_old err_new : Option (List ℕ))
-    → Comes write asks files outcome opened_old opened_new old mid → OnStoreIn outcome (Rose store_old store_new) → faults_mid ≡ faults_old
-    → At s status.SinkFailed (faults_mid < 2 ^ 64 - 1 → faults_new ≡ faults_mid → TookLine (ending usage outcome) (outcome ≡ Some (Err Store)) err_old err_new)
-    → At s status.SinkFailed (faults_old < 2 ^ 64 - 1 → faults_new ≡ faults_old → ErrFailed (written_files usage write asks) files (Rose store_old store_new) err_old err_new)
-rest_fails usage write asks files outcome opened_old opened_new s store_old store_new faults_old faults_mid faults_new old mid err_old err_new comes cause quiet failed =
+pub rest_fails : {A : Type 0} (usage : List ℕ) (write : A → Written) (asks : Option (Asked A)) (files : Option Files) (outcome : Option (Result Answer Halt)) (opened_old opened_new : Slot → Option (List ℕ)) (s : Status) (store_old store_new faults_old faults_mid faults_new : ℕ) (old mid err_old err_mid err_new : Option (List ℕ)) (Q : Type 0)
+    → Comes write asks files outcome opened_old opened_new old mid err_old err_mid → OnStoreIn outcome (Rose store_old store_new) → faults_mid ≡ faults_old
+    → (ErrFailed (written_files usage write asks) files (Rose store_old store_new) err_mid err_new → Q)
+    → At s status.SinkFailed (faults_mid < 2 ^ 64 - 1 → faults_new ≡ faults_mid → TookLine (ending usage outcome) (outcome ≡ Some (Err Store)) err_mid err_new)
+    → At s status.SinkFailed (faults_old < 2 ^ 64 - 1 → faults_new ≡ faults_old → Q)
+rest_fails usage write asks files outcome opened_old opened_new s store_old store_new faults_old faults_mid faults_new old mid err_old err_mid err_new Q comes cause quiet follows failed =
     on_true (nat_eq (number s) 4)
-    (λ took few same. line_after (written_files usage write asks) files (ending usage outcome) old mid err_old err_new (comes_front usage write asks files outcome opened_old opened_new old mid comes) (rose_where_failed outcome cause)
-    (took (subst (λ (n : ℕ). n < 2 ^ 64 - 1) (sym quiet) few) (same ∙ sym quiet))) failed
+    (λ took few same. follows (line_after (written_files usage write asks) files (ending usage outcome) old mid err_old err_mid err_new (comes_front usage write asks files outcome opened_old opened_new old mid err_old err_mid comes)
+    (rose_where_failed outcome cause) (took (subst (λ (n : ℕ). n < 2 ^ 64 - 1) (sym quiet) few) (same ∙ sym quiet)))) failed
 
 pub on_silent : (P Q : Type 0) (s : Status) → (P → Q) → OnTrue (is_silent s) P → OnTrue (is_silent s) Q
 on_silent P Q s follows p = on_true (is_silent s) follows p
 
 pub at_sink : (P Q : Type 0) (s : Status) → (P → Q) → At s status.SinkFailed P → At s status.SinkFailed Q
 at_sink P Q s follows p = on_true (nat_eq (number s) 4) follows p
+
+pub at_status : (P Q : Type 0) (s one : Status) → (P → Q) → At s one P → At s one Q
+at_status P Q s one follows p = on_true (nat_eq (number s) (number one)) follows p

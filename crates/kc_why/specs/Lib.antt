@@ -3,6 +3,7 @@ pub mod Looking
 pub mod Memory
 pub mod Ready
 pub mod Rest
+pub mod Said
 pub mod Searching
 pub mod Taken
 pub mod Why

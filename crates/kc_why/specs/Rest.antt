@@ -1,4 +1,4 @@
--- What standard output took before the rest of an answer is put, or before there was none.
+-- What the sinks took before the rest of an answer is put, or before there was none.
 use Rattle.std.specs.Prelude.{◌≡◌, ⊤, ◌⊎◌, ℕ, List, [], ◌++◌, length, Option, Some, None, option_map, Result, Ok, Err}
 use Rattle.kc_outside.specs.declared.store.Slot.{Slot}
 use Rattle.kc_outside.specs.Files.{Files}
@@ -21,35 +21,37 @@ use Rattle.kc_why.specs.WordText.{rest_text}
 use Rattle.kc_found.specs.Violations.{Violation}
 use Rattle.kc_owner.specs.declared.object.keys.FreeKeys.{FreeKeys}
 
--- what is written, with a front before its text
-abbrev pub after : List ℕ → Written → Written
-after front w = record { out = front ++ w.out; err = w.err; status = w.status }
+-- what is written, with a front before its text, and lines before what standard error takes
+abbrev pub after : List ℕ → List ℕ → Written → Written
+after front lines w = record { out = front ++ w.out; err = lines ++ w.err; status = w.status }
 
--- a sink took the front of what is written, and an answer is the rest
-pub record HasRest {A : Type 0} (write : A → Written) (made : Made A) (answer : Answer) (old new : Option (List ℕ)) : Type 0 where
+-- the sinks took the front of what is written and the lines, and an answer is the rest
+pub record HasRest {A : Type 0} (write : A → Written) (made : Made A) (answer : Answer) (old new err_old err_new : Option (List ℕ)) : Type 0 where
   pub front : List ℕ
+  pub lines : List ℕ
   pub took : new ≡ with_piece old front
-  pub whole : option_map (ended write) made ≡ Some (after front (written_by answer))
+  pub said : err_new ≡ with_piece err_old lines
+  pub whole : option_map (ended write) made ≡ Some (after front lines (written_by answer))
 
 -- it took nothing, or a first part of what is written
 abbrev pub TookFront : Option Written → Option (List ℕ) → Option (List ℕ) → Type 0
 TookFront written old new = (new ≡ old) ⊎ TookOut written old new
 
--- what the code came to, and what the sink took before: nothing before a refusal
-abbrev pub Leaves : {A : Type 0} → (A → Written) → Made A → Result Answer Halt → Option (List ℕ) → Option (List ℕ) → Type 0
-Leaves write made (Ok answer) old new = HasRest write made answer old new
-Leaves write made (Err (Refused refusal)) old new = (made ≡ Some (Err refusal)) × (new ≡ old)
-Leaves write made (Err Store) old new = TookFront (option_map (ended write) made) old new
-Leaves write made (Err Memory) old new = TookFront (option_map (ended write) made) old new
+-- what the code came to, and what the sinks took before: nothing before a refusal
+abbrev pub Leaves : {A : Type 0} → (A → Written) → Made A → Result Answer Halt → Option (List ℕ) → Option (List ℕ) → Option (List ℕ) → Option (List ℕ) → Type 0
+Leaves write made (Ok answer) old new err_old err_new = HasRest write made answer old new err_old err_new
+Leaves write made (Err (Refused refusal)) old new err_old err_new = (made ≡ Some (Err refusal)) × (new ≡ old) × (err_new ≡ err_old)
+Leaves write made (Err Store) old new err_old err_new = TookFront (option_map (ended write) made) old new
+Leaves write made (Err Memory) old new err_old err_new = TookFront (option_map (ended write) made) old new
 
 -- the same of the files, and of the bytes of one file, where they are told
-abbrev pub LeavesOf : {A : Type 0} → (A → Written) → (Files → Made A) → Option Files → Result Answer Halt → Option (List ℕ) → Option (List ℕ) → Type 0
-LeavesOf write made None r old new = ⊤
-LeavesOf write made (Some files) r old new = Leaves write (made files) r old new
+abbrev pub LeavesOf : {A : Type 0} → (A → Written) → (Files → Made A) → Option Files → Result Answer Halt → Option (List ℕ) → Option (List ℕ) → Option (List ℕ) → Option (List ℕ) → Type 0
+LeavesOf write made None r old new err_old err_new = ⊤
+LeavesOf write made (Some files) r old new err_old err_new = Leaves write (made files) r old new err_old err_new
 
-abbrev pub LeavesOfBytes : {A : Type 0} → (A → Written) → (List ℕ → Made A) → Option (List ℕ) → Result Answer Halt → Option (List ℕ) → Option (List ℕ) → Type 0
-LeavesOfBytes write made None r old new = ⊤
-LeavesOfBytes write made (Some bytes) r old new = Leaves write (made bytes) r old new
+abbrev pub LeavesOfBytes : {A : Type 0} → (A → Written) → (List ℕ → Made A) → Option (List ℕ) → Result Answer Halt → Option (List ℕ) → Option (List ℕ) → Option (List ℕ) → Option (List ℕ) → Type 0
+LeavesOfBytes write made None r old new err_old err_new = ⊤
+LeavesOfBytes write made (Some bytes) r old new err_old err_new = Leaves write (made bytes) r old new err_old err_new
 
 -- where the sink failed, it had taken a first part
 abbrev pub PartOf : {A : Type 0} → (A → Written) → (Files → Made A) → Option Files → Option (List ℕ) → Option (List ℕ) → Type 0
@@ -61,16 +63,16 @@ PartOfBytes write made None old new = ⊤
 PartOfBytes write made (Some bytes) old new = TookOut (option_map (ended write) (made bytes)) old new
 
 -- what words came to that ask for something, and what was taken before
-pub record Came {A : Type 0} (write : A → Written) (asks : Option (Asked A)) (files : Option Files) (r : Result Answer Halt) (opened_old opened_new : Slot → Option (List ℕ)) (old new : Option (List ℕ)) : Type 0 where
+pub record Came {A : Type 0} (write : A → Written) (asks : Option (Asked A)) (files : Option Files) (r : Result Answer Halt) (opened_old opened_new : Slot → Option (List ℕ)) (old new err_old err_new : Option (List ℕ)) : Type 0 where
   pub asked : Asked A
   pub is : asks ≡ Some asked
-  pub leaves : LeavesOf write (λ f. asked.made (asked_files asked f)) files r old new
+  pub leaves : LeavesOf write (λ f. asked.made (asked_files asked f)) files r old new err_old err_new
   pub unopened : StayBehind asked.named r opened_old opened_new
 
 -- the same of words that may not be a command
-abbrev pub Comes : {A : Type 0} → (A → Written) → Option (Asked A) → Option Files → Option (Result Answer Halt) → (Slot → Option (List ℕ)) → (Slot → Option (List ℕ)) → Option (List ℕ) → Option (List ℕ) → Type 0
-Comes write asks files None opened_old opened_new old new = (asks ≡ None) × (new ≡ old)
-Comes write asks files (Some r) opened_old opened_new old new = Came write asks files r opened_old opened_new old new
+abbrev pub Comes : {A : Type 0} → (A → Written) → Option (Asked A) → Option Files → Option (Result Answer Halt) → (Slot → Option (List ℕ)) → (Slot → Option (List ℕ)) → Option (List ℕ) → Option (List ℕ) → Option (List ℕ) → Option (List ℕ) → Type 0
+Comes write asks files None opened_old opened_new old new err_old err_new = (asks ≡ None) × (new ≡ old) × (err_new ≡ err_old)
+Comes write asks files (Some r) opened_old opened_new old new err_old err_new = Came write asks files r opened_old opened_new old new err_old err_new
 
 -- what is said where a file is refused, and where words aren't a command
 abbrev pub OnRefused : Option (Result Answer Halt) → Type 0 → Type 0

@@ -1,5 +1,5 @@
 -- kwhy: what lies at an address of a dump, which words of the dump hold it, or what explains a report.
-use Rattle.std.specs.Prelude.{◌≡◌, ⊤, ℕ, Bool, true, false, if◌then◌else◌, List, [], ◌∷◌, codes, Option, Some, None, option_map, Result, Ok, Err}
+use Rattle.std.specs.Prelude.{◌≡◌, ⊤, ℕ, Bool, true, false, ◌&&◌, if◌then◌else◌, List, [], ◌∷◌, codes, Option, Some, None, option_map, Result, Ok, Err}
 use Rattle.std.specs.Str.{bytes_eq}
 use Rattle.kc_word.specs.Hex.{hex_number}
 use Rattle.kc_word.specs.declared.plain.Segment.{Segment}
@@ -13,6 +13,7 @@ use Rattle.kc_syms.specs.Addresses.{common_of}
 use Rattle.kc_syms.specs.Rows.{RowText, addresses}
 use Rattle.kc_question.specs.Memory.{bytes_of}
 use Rattle.kc_command.specs.Inputs.{rows_in, view_headers}
+use Rattle.kc_command.specs.declared.kernel.KernelFiles.{KernelFiles}
 use Rattle.kc_command.specs.Kernels.{KernelAt, kernel_in}
 use Rattle.kc_command.specs.Made.{◌>>=◌, Made, gives}
 use Rattle.kc_command.specs.declared.ends.status.Status.TheVariants.{Done}
@@ -27,7 +28,10 @@ use Rattle.kc_owner.specs.Object.Shapes.{object_shape}
 use Rattle.kc_sight.specs.Refs.Holding.{in_segments}
 use Rattle.kc_sight.specs.declared.aliases.Rules.{Rules}
 use Rattle.kc_sight.specs.Sights.{sight}
+use Rattle.kc_refs.specs.Progress.{progress_text}
+use Rattle.kc_why.specs.declared.files.Aim.{Aim}
 use Rattle.kc_why.specs.declared.files.Asks.{Asks}
+use Rattle.kc_why.specs.declared.files.FindAsks.{FindAsks}
 use Rattle.kc_why.specs.declared.files.Form.{Form}
 use Rattle.kc_why.specs.declared.files.Form.TheVariants as form
 use Rattle.kc_why.specs.declared.files.Whole.{Whole}
@@ -47,12 +51,14 @@ pub record Looked : Type 0 where
   pub address : ℕ
   pub symbols : MapSymbols
 
--- what is searched: the bytes of a dump, its segments, what its free pointers are encoded with, and a value
+-- what is searched: the bytes of a dump, its segments, what its free pointers are encoded with, a value, and whether it's told how far the
+-- search is
 pub record Searched : Type 0 where
   pub bytes : List ℕ
   pub segments : List Segment
   pub keys : Option (Result FreeKeys Violation)
   pub value : ℕ
+  pub progress : Bool
 
 -- what is shown: what is seen of an address, where a value is written, or what explains a report
 pub data Shown : Type 0 where
@@ -66,8 +72,14 @@ shown_text (Sees l) = seen_text l.symbols (sight l.image l.rules l.address) (tol
 shown_text (Finds s) = words_text s.keys (in_segments (sought_by s.value s.keys) s.bytes s.segments)
 shown_text (Tells e) = explained_text e
 
+-- what standard error takes on the way: of a search that is told of, how far it is
+abbrev pub said_text : Shown → List ℕ
+said_text (Sees l) = []
+said_text (Finds s) = progress_text s.progress s.segments
+said_text (Tells e) = []
+
 abbrev pub why_written : Shown → Written
-why_written s = record { out = shown_text s; err = []; status = Done }
+why_written s = record { out = shown_text s; err = said_text s; status = Done }
 
 -- the kernel's rules, by the notes of its dump and by the rows of its map
 abbrev pub rules_by : Info → List RowText → Rules
@@ -96,26 +108,27 @@ abbrev pub seen_in : Image → ℕ → KernelAt → Made Shown
 seen_in image address kernel = rows_in kernel.map >>= (λ rows. gives (Sees (looked_by image address kernel rows)))
 
 -- where a value is written in a dump
-abbrev pub searched_by : List ℕ → ℕ → KernelAt → List RowText → Searched
-searched_by bytes value kernel rows = record {
+abbrev pub searched_by : List ℕ → Aim → KernelAt → List RowText → Searched
+searched_by bytes aim kernel rows = record {
   bytes = bytes;
   segments = kernel.segments;
   keys = keys_of (memory_of kernel bytes) (object_shape (kernel_by kernel.types rows kernel.told));
-  value = value;
+  value = aim.value;
+  progress = aim.progress;
 }
 
-abbrev pub found_in : List ℕ → ℕ → KernelAt → Made Shown
-found_in bytes value kernel = rows_in kernel.map >>= (λ rows. gives (Finds (searched_by bytes value kernel rows)))
+abbrev pub found_in : List ℕ → Aim → KernelAt → Made Shown
+found_in bytes aim kernel = rows_in kernel.map >>= (λ rows. gives (Finds (searched_by bytes aim kernel rows)))
 
 -- what is asked of a dump: what lies at a virtual address, or which words hold a value
 pub data Question : Type 0 where
   Sight : ℕ → Question
-  Words : ℕ → Question
+  Words : Aim → Question
 
 -- what is shown of a dump's bytes
 abbrev pub shown_in : Question → List ℕ → KernelAt → Made Shown
 shown_in (Sight address) bytes kernel = seen_in (memory_of kernel bytes) address kernel
-shown_in (Words value) bytes kernel = found_in bytes value kernel
+shown_in (Words aim) bytes kernel = found_in bytes aim kernel
 
 -- the faults come in the order dump, types and map
 abbrev pub why_made : Question → Option (List ℕ) → Option (List ℕ) → Option (List ℕ) → Made Shown
@@ -135,10 +148,16 @@ why_asked q = record {
   made = λ files. why_made q.question (files slot.Dump) (files slot.Btf) (files slot.Map);
 }
 
--- the words after the map: a number in hex, with `refs` before it where the words that hold it are wanted
+-- what is asked of words that hold a number in hex
+abbrev pub words_of : List ℕ → Bool → Option Question
+words_of address progress = option_map (λ n. Words (record { value = n; progress = progress })) (hex_number address)
+
+-- the words after the map: a number in hex, with `refs` before it where the words that hold it are wanted, and then with `progress` after it
+-- where it's to be told how far the search is
 abbrev pub question_of : List (List ℕ) → Option Question
 question_of (address ∷ []) = option_map Sight (hex_number address)
-question_of (form ∷ address ∷ []) = if bytes_eq form (codes "refs") then option_map Words (hex_number address) else None
+question_of (form ∷ address ∷ []) = if bytes_eq form (codes "refs") then words_of address false else None
+question_of (form ∷ address ∷ last ∷ []) = if bytes_eq form (codes "refs") && bytes_eq last (codes "progress") then words_of address true else None
 question_of _ = None
 
 abbrev pub question_asked : List ℕ → List ℕ → List ℕ → Option Question → Option (Asked Shown)
@@ -166,7 +185,7 @@ why_asks (dump ∷ btf ∷ map ∷ words) = words_asked dump btf map words
 why_asks _ = None
 
 abbrev pub usage_text : List ℕ
-usage_text = codes "usage: kwhy DUMP BTF MAP ADDRESS\nusage: kwhy DUMP BTF MAP refs ADDRESS\nusage: kwhy DUMP BTF MAP PLAN REPORT\n"
+usage_text = codes "usage: kwhy DUMP BTF MAP ADDRESS\nusage: kwhy DUMP BTF MAP refs ADDRESS\nusage: kwhy DUMP BTF MAP refs ADDRESS progress\nusage: kwhy DUMP BTF MAP PLAN REPORT\n"
 
 -- what is written of words over a store's files
 abbrev pub written_of : List (List ℕ) → Told → Option Written
@@ -181,15 +200,24 @@ abbrev pub finds : List (List ℕ) → Bool
 finds (dump ∷ btf ∷ map ∷ words) = is_search words
 finds _ = false
 
+-- whether the words, and those after the map, ask to be told how far a search is
+abbrev pub is_followed : List (List ℕ) → Bool
+is_followed (form ∷ address ∷ last ∷ []) = bytes_eq last (codes "progress")
+is_followed _ = false
+
+abbrev pub follows : List (List ℕ) → Bool
+follows (dump ∷ btf ∷ map ∷ words) = is_followed words
+follows _ = false
+
 -- as the code keeps it
-abbrev pub asking : (ℕ → Question) → Asks → Asking
-asking question a = record { dump = a.files.dump.now; btf = a.files.btf.now; map = a.files.map.now; question = question a.number }
+abbrev pub asking : KernelFiles → Question → Asking
+asking files question = record { dump = files.dump.now; btf = files.btf.now; map = files.map.now; question = question }
 
 abbrev pub sees_asked : Asks → Asked Shown
-sees_asked a = why_asked (asking Sight a)
+sees_asked a = why_asked (asking a.files (Sight a.number))
 
-abbrev pub finds_asked : Asks → Asked Shown
-finds_asked a = why_asked (asking Words a)
+abbrev pub finds_asked : FindAsks → Asked Shown
+finds_asked a = why_asked (asking a.files (Words a.aim))
 
 abbrev pub whole_view : Whole → Asked Shown
 whole_view (whole.Sees a) = sees_asked a
@@ -203,3 +231,8 @@ form_view (form.Shows w) = whole_view w
 abbrev pub IsSearch : Option Form → Bool → Type 0
 IsSearch (Some (form.Finds a)) test = test ≡ true
 IsSearch _ test = ⊤
+
+-- and such words ask to be told how far it is
+abbrev pub IsFollowed : Option Form → Bool → Type 0
+IsFollowed (Some (form.Finds a)) test = a.aim.progress ≡ test
+IsFollowed _ test = ⊤

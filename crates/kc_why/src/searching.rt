@@ -1,5 +1,5 @@
 // The search for a value in a dump.
-ghost use Rattle.std.specs.Prelude.{◌≡◌, ⊤, ◌+◌, ◌≤◌, ◌^◌, map, max, IfOk, IfSome, OnErr, OnOk};
+ghost use Rattle.std.specs.Prelude.{◌≡◌, ⊤, ◌+◌, ◌≤◌, ◌^◌, map, max, false, IfOk, IfSome, OnErr, OnOk};
 ghost use Rattle.std.specs.Bool.{OnTrue};
 ghost use Rattle.std.specs.List.{All};
 ghost use Rattle.kc_outside.specs.declared.store.Slot.TheVariants.{Dump};
@@ -15,7 +15,9 @@ ghost use Rattle.kc_text.specs.Compose.{texts};
 ghost use Rattle.kc_sight.specs.Refs.Holding.{in_segments};
 ghost use Rattle.kc_sight.specs.Refs.Stops.{Told};
 ghost use Rattle.kc_refs.specs.Lines.{found_lines};
+ghost use Rattle.kc_refs.specs.Progress.{goal_of, words_in};
 ghost use Rattle.kc_refs.specs.Put.{Wrote};
+ghost use Rattle.kc_refs.specs.Says.{CountsProgress, Says};
 ghost use Rattle.kc_refs.specs.Stops.{CountsSink, CountsStore};
 ghost use Rattle.kc_why.specs.Memory.{memory_of};
 ghost use Rattle.kc_why.specs.Searching.{IsThere, direct_in, keys_in, keys_of, sought_by};
@@ -29,7 +31,7 @@ use kc_outside::{Sink, Store};
 use kc_owner::{CacheKey, FreeKeys, ObjectShape, free_keys};
 use kc_phys::{Phys, Room};
 use kc_question::{Question, Returned, ask_over};
-use kc_refs::{RefsStop, put_words};
+use kc_refs::{RefsStop, Search, put_words};
 use kc_sight::Sought;
 use kc_word::{NoMemory, Segment, Steps, Tail};
 use std::alloc::Global;
@@ -169,17 +171,20 @@ pub(crate) fn begin<S: Store>(
     Ok(Hunt { told, sought, same })
 }
 
-/// Writes the words that are looked for, where the segments lie in the dump still, and tells how many they are.
+/// Writes the words that are looked for, where the segments lie in the dump still, and tells how many they are; and how far the search is, where
+/// that is to be told.
 ///
 /// # Errors
 ///
-/// A failed call of the store or of the sink; no memory was left.
-pub(crate) fn put_found<S: Store, O: Sink>(
+/// A failed call of the store or of a sink; no memory was left.
+pub(crate) fn put_found<S: Store, O: Sink, E: Sink>(
     alloc: Global,
     store: &mut S,
     segments: &[Segment],
     hunt: &Hunt,
+    progress: bool,
     out: &mut O,
+    err: &mut E,
 ) -> Result<u64, RefsStop>
     requires inside { OnTrue hunt.now.same (AreInside (S.sizes store.old Dump) segments.now) }
     requires below { All (λ s. s.paddr + max s.filesz s.memsz ≤ 2 ^ 64) segments.now }
@@ -188,20 +193,21 @@ pub(crate) fn put_found<S: Store, O: Sink>(
         Wrote (keys_in hunt.now.told) (in_segments hunt.now.sought bytes segments.now) (O.taken out.old) (O.taken out.new) count))) }
     ensures part { OnTrue hunt.now.same (OnErr result (Told (content (S.files store.old) Dump (S.opened store.old Dump)) (λ bytes.
         TookPrefix (O.taken out.old) (O.taken out.new) (texts (found_lines (keys_in hunt.now.told)) (in_segments hunt.now.sought bytes segments.now))))) }
+    ensures says { OnTrue hunt.now.same (Says (goal_of progress segments.now) 0 (words_in segments.now) result (E.taken err.old) (E.taken err.new)) }
+    ensures unsaid { hunt.now.same ≡ false → err.new ≡ err.old }
+    ensures untold { progress ≡ false → err.new ≡ err.old }
     ensures files { S.files store.new ≡ S.files store.old }
     ensures store_counts { CountsStore result (S.faults store.old) (S.faults store.new) }
     ensures sink_counts { CountsSink O.taken O.faults O.asked result out.old out.new }
+    ensures progress_counts { CountsProgress E.taken E.faults E.asked result err.old err.new }
 {
-    if hunt.same {
-        put_words(
-            alloc,
-            store,
-            segments,
-            &hunt.sought,
-            keys_in(&hunt.told),
-            out,
-        )
-    } else {
-        Ok(0)
+    if !hunt.same {
+        return Ok(0);
     }
+    let search = Search {
+        sought: &hunt.sought,
+        keys: keys_in(&hunt.told),
+        progress,
+    };
+    put_words(alloc, store, segments, &search, out, err)
 }

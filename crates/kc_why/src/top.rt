@@ -14,10 +14,11 @@ ghost use Rattle.kc_command.specs.Ends.Last.{StopsAtFailure};
 ghost use Rattle.kc_command.specs.Ends.Status.{At, is_answer, is_silent, is_sink_quiet, is_store_quiet, number};
 ghost use Rattle.kc_command.specs.Ends.Unopened.{AskedStay};
 ghost use Rattle.kc_why.specs.Rest.{TookFront};
+ghost use Rattle.kc_why.specs.Said.{AfterProgress};
 ghost use Rattle.kc_why.specs.Taken.{TookTrue, out_of};
 ghost use Rattle.kc_why.specs.Why.{finds, why_asks, usage_text, written_of};
 
-use crate::files::run;
+use crate::files::{FailedSink, run};
 use crate::laws::know_why;
 use kc_command::{Status, finish};
 use kc_outside::{Failed, Sink, Store};
@@ -26,7 +27,7 @@ use std::alloc::Global;
 
 /// The lines that say how the program is called.
 const USAGE: &[u8] =
-    b"usage: kwhy DUMP BTF MAP ADDRESS\nusage: kwhy DUMP BTF MAP refs ADDRESS\nusage: kwhy DUMP BTF MAP PLAN REPORT\n";
+    b"usage: kwhy DUMP BTF MAP ADDRESS\nusage: kwhy DUMP BTF MAP refs ADDRESS\nusage: kwhy DUMP BTF MAP refs ADDRESS progress\nusage: kwhy DUMP BTF MAP PLAN REPORT\n";
 
 const SINK_FAILED: &[u8] = b"sink failed\n";
 
@@ -46,7 +47,8 @@ fn tell_failure<E: Sink>(err: &mut E)
 
 /// The program. It answers the status that it ends with: done where what is seen of the address is shown, also where its word can't be
 /// read, or where the words that hold it are, also where there is none, or where a report is explained. The words that hold an address are
-/// put as they are found, after all that can be refused was read; another text is made whole before a byte of it is put.
+/// put as they are found, after all that can be refused was read; another text is made whole before a byte of it is put. Where that is asked for,
+/// standard error takes a line at each gigabyte of words that was searched.
 pub fn kwhy<S: Store, O: Sink, E: Sink>(
     alloc: Global,
     words: &[String],
@@ -72,10 +74,10 @@ pub fn kwhy<S: Store, O: Sink, E: Sink>(
         → (Rose (O.faults out.old) (O.faults out.new) → ⊥)
         → (Rose (E.faults err.old) (E.faults err.new) → ⊥) → IsTrue (is_answer result || nat_eq (number result) 5) }
 
-    // Each status has its cause.
+    // Each status has its cause. Where a search is told of, its lines stand before why it came to no answer; else that stands alone.
     ensures store_failed { At result StoreFailed (Rose (S.faults store.old) (S.faults store.new)) }
-    ensures store_text { At result StoreFailed (E.taken err.new ≡ with_piece (E.taken err.old) store_failed) }
-    ensures memory_text { At result OutOfMemory (E.taken err.new ≡ with_piece (E.taken err.old) memory_refused) }
+    ensures store_text { At result StoreFailed (AfterProgress (map string_bytes words.now) (S.files store.old) (E.taken err.old) (λ mid. E.taken err.new ≡ with_piece mid store_failed)) }
+    ensures memory_text { At result OutOfMemory (AfterProgress (map string_bytes words.now) (S.files store.old) (E.taken err.old) (λ mid. E.taken err.new ≡ with_piece mid memory_refused)) }
     ensures usage { At result NoCommand (why_asks (map string_bytes words.now) ≡ None) }
     ensures usage_text { At result NoCommand (E.taken err.new ≡ with_piece (E.taken err.old) usage_text) }
     ensures usage_only { why_asks (map string_bytes words.now) ≡ None → IsTrue
@@ -101,20 +103,20 @@ pub fn kwhy<S: Store, O: Sink, E: Sink>(
         (AskedStay (why_asks (map string_bytes words.now)) (S.files store.old) (S.opened store.old)
         (S.opened store.new)) }
 
-    // What the sinks took where one failed.
+    // What the sinks took where one failed: standard error the lines of how far the search was first, where these are wanted.
     ensures out_part { At result SinkFailed (O.faults out.old < O.faults out.new
         → TookPart (written_of (map string_bytes words.now)) (S.files store.old) (O.taken out.old) (O.taken out.new)) }
     ensures err_part { At result SinkFailed
-        (O.faults out.old < O.faults out.new → TookPrefix (E.taken err.old) (E.taken err.new) sink_failed) }
+        (O.faults out.old < O.faults out.new → AfterProgress (map string_bytes words.now) (S.files store.old) (E.taken err.old) (λ mid. TookPrefix mid (E.taken err.new) sink_failed)) }
     ensures err_whole { At result SinkFailed (E.faults err.old < 2 ^ 64 - 1 → E.faults err.new ≡ E.faults err.old
-        → E.taken err.new ≡ with_piece (E.taken err.old) sink_failed) }
+        → AfterProgress (map string_bytes words.now) (S.files store.old) (E.taken err.old) (λ mid. E.taken err.new ≡ with_piece mid sink_failed)) }
     ensures out_nothing { At result SinkFailed (O.faults out.old < 2 ^ 64 - 1 → O.faults out.new ≡ O.faults out.old
         → finds (map string_bytes words.now) ≡ false → O.taken out.new ≡ O.taken out.old) }
     ensures out_front { At result SinkFailed (O.faults out.old < 2 ^ 64 - 1 → O.faults out.new ≡ O.faults out.old
         → IfSome (S.files store.old) (λ files. TookFront (written_of (map string_bytes words.now) files) (O.taken out.old) (O.taken out.new))) }
     ensures err_failed { At result SinkFailed (O.faults out.old < 2 ^ 64 - 1 → O.faults out.new ≡ O.faults out.old
-        → ErrFailed (written_of (map string_bytes words.now)) (S.files store.old)
-        (Rose (S.faults store.old) (S.faults store.new)) (E.taken err.old) (E.taken err.new)) }
+        → AfterProgress (map string_bytes words.now) (S.files store.old) (E.taken err.old) (λ mid. ErrFailed (written_of (map string_bytes words.now)) (S.files store.old)
+        (Rose (S.faults store.old) (S.faults store.new)) mid (E.taken err.new))) }
 
     // A sink isn't called again after it failed.
     ensures out_last { StopsAtFailure O.taken O.faults O.asked out.old out.new }
@@ -127,11 +129,12 @@ pub fn kwhy<S: Store, O: Sink, E: Sink>(
     ensures err_later { E.faults err.old ≤ E.faults err.new }
 {
     know_why();
-    match run(alloc, store, words, out) {
+    match run(alloc, store, words, out, err) {
         Ok(outcome) => finish(alloc, outcome, USAGE, out, err),
-        Err(Failed) => {
+        Err(FailedSink::Shown) => {
             tell_failure(err);
             Status::SinkFailed
         }
+        Err(FailedSink::Progress) => Status::SinkFailed,
     }
 }
