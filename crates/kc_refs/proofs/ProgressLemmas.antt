@@ -1,12 +1,10 @@
 -- What is said of a search, from one word to another and on.
 use Rattle.std.proofs.Common.{◌≡◌, ℕ, Bool, true, false, zero, suc, [], ◌∷◌, ◌++◌, ◌+◌, ◌-◌, ◌/◌, ◌≤◌, ◌<◌, List, length, take, get_or, Option, Some, None, Result, Ok, Err, append-nil, refl, sym, ap, subst, ◌∙◌, arith}
 use Rattle.std.specs.Option.{ForSome}
-use Rattle.std.specs.List.{range_with_len}
-use Rattle.std.proofs.Math.Seq.{take-append-add, take-length}
+use Rattle.std.proofs.Math.Seq.{take-append-add}
 use Rattle.std.proofs.lemmas.List.{append_assoc, length-append, take-append-le}
 use Rattle.kc_word.specs.declared.plain.Segment.{Segment}
 use Rattle.kc_outside.specs.Texts.{with_piece}
-use Rattle.kc_text.specs.Compose.{texts}
 use Rattle.kc_sight.specs.Refs.Holding.{word_count}
 use Rattle.kc_command.specs.Ends.Ends.{TookPrefix}
 use Rattle.kc_refs.specs.declared.stop.RefsStop.{RefsStop}
