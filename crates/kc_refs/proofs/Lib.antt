@@ -1,3 +1,4 @@
+pub mod PaceLemmas
 pub mod PartLemmas
 pub mod Pieces
 pub mod ProgressExamples

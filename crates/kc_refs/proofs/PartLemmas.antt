@@ -91,7 +91,7 @@ segments_more sought bytes segments i d below =
     ∙ ap (λ (l : List FoundWord). in_segments sought bytes (take i segments) ++ l) (one_segment sought bytes (get_or segments i d))
 
 -- and of those after it
-next_segments : (sought : Sought) (bytes : List ℕ) (s : Segment) (others : List Segment) → in_segments sought bytes (s ∷ others) ≡ in_segment sought bytes s ++ in_segments sought bytes others
+pub next_segments : (sought : Sought) (bytes : List ℕ) (s : Segment) (others : List Segment) → in_segments sought bytes (s ∷ others) ≡ in_segment sought bytes s ++ in_segments sought bytes others
 unfolding in_segments
 next_segments sought bytes s others = refl
 

@@ -1,26 +1,17 @@
 -- What is said of a search, from one word to another and on.
 use Rattle.std.proofs.Common.{◌≡◌, ℕ, Bool, true, false, zero, suc, [], ◌∷◌, ◌++◌, ◌+◌, ◌-◌, ◌/◌, ◌≤◌, ◌<◌, List, length, take, get_or, Option, Some, None, Result, Ok, Err, append-nil, refl, sym, ap, subst, ◌∙◌, arith}
 use Rattle.std.specs.Option.{ForSome}
-use Rattle.std.specs.List.{range_with_len}
-use Rattle.std.proofs.Math.Seq.{take-append-add, take-length}
+use Rattle.std.proofs.Math.Seq.{take-append-add}
 use Rattle.std.proofs.lemmas.List.{append_assoc, length-append, take-append-le}
 use Rattle.kc_word.specs.declared.plain.Segment.{Segment}
 use Rattle.kc_outside.specs.Texts.{with_piece}
-use Rattle.kc_text.specs.Compose.{texts}
 use Rattle.kc_sight.specs.Refs.Holding.{word_count}
 use Rattle.kc_command.specs.Ends.Ends.{TookPrefix}
 use Rattle.kc_refs.specs.declared.stop.RefsStop.{RefsStop}
 use Rattle.kc_refs.specs.declared.stop.RefsStop.TheVariants.{Store, Memory, Sink, Progress}
 use Rattle.kc_refs.specs.Progress.{TookUntil, gigabyte, goal_of, lines_to, read_line, read_lines, words_in}
 use Rattle.kc_refs.specs.Says.{IsOther, Says, SaysLine}
-
-with_two : (old : Option (List ℕ)) (one two : List ℕ) → with_piece (with_piece old one) two ≡ with_piece old (one ++ two)
-with_two None one two = refl
-with_two (Some o) one two = ap (λ (t : List ℕ). Some t) (append_assoc o one two)
-
-with_none : (old : Option (List ℕ)) → old ≡ with_piece old []
-with_none None = refl
-with_none (Some o) = ap (λ (t : List ℕ). Some t) (sym (append-nil o))
+use Rattle.kc_refs.proofs.PutLemmas.{with_none, with_two}
 
 -- a first part of a text after another
 prefix_after : (old mid new : Option (List ℕ)) (one two : List ℕ) → mid ≡ with_piece old one → TookPrefix mid new two → TookPrefix old new (one ++ two)
@@ -57,7 +48,7 @@ full_later : (a b : ℕ) → a ≤ b → a / gigabyte ≤ b / gigabyte
 full_later a b later = omega (arith, later)
 
 -- what is said up to a word, and from there on
-said_joined : (goal : Option ℕ) (from mid to : ℕ) → from ≤ mid → mid ≤ to → lines_to goal from to ≡ lines_to goal from mid ++ lines_to goal mid to
+pub said_joined : (goal : Option ℕ) (from mid to : ℕ) → from ≤ mid → mid ≤ to → lines_to goal from to ≡ lines_to goal from mid ++ lines_to goal mid to
 said_joined None from mid to first rest = refl
 said_joined (Some all) from mid to first rest =
     let one = full_later from mid first in

@@ -11,15 +11,15 @@ use Rattle.kc_owner.specs.declared.object.keys.CacheKey.{CacheKey}
 use Rattle.kc_refs.specs.Lines.{found_lines}
 use Rattle.kc_refs.specs.Put.{Wrote}
 
-with_two : (old : Option (List ℕ)) (one two : List ℕ) → with_piece (with_piece old one) two ≡ with_piece old (one ++ two)
+pub with_two : (old : Option (List ℕ)) (one two : List ℕ) → with_piece (with_piece old one) two ≡ with_piece old (one ++ two)
 with_two None one two = refl
 with_two (Some o) one two = ap (λ (t : List ℕ). Some t) (append_assoc o one two)
 
-with_none : (old : Option (List ℕ)) → old ≡ with_piece old []
+pub with_none : (old : Option (List ℕ)) → old ≡ with_piece old []
 with_none None = refl
 with_none (Some o) = ap (λ (t : List ℕ). Some t) (sym (append-nil o))
 
-texts_joined : {X : Type 0} (f : X → List ℕ) (xs ys : List X) → texts f (xs ++ ys) ≡ texts f xs ++ texts f ys
+pub texts_joined : {X : Type 0} (f : X → List ℕ) (xs ys : List X) → texts f (xs ++ ys) ≡ texts f xs ++ texts f ys
 texts_joined f [] ys = refl
 texts_joined f (x ∷ xs) ys = ap (λ (t : List ℕ). f x ++ t) (texts_joined f xs ys) ∙ sym (append_assoc (f x) (texts f xs) (texts f ys))
 

@@ -1,4 +1,5 @@
 pub mod Lines
+pub mod Pace
 pub mod Parts
 pub mod Progress
 pub mod Put

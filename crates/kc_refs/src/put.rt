@@ -10,7 +10,9 @@ ghost use Rattle.kc_sight.specs.Refs.Holding.{IsAddressed, IsInside, in_segment,
 ghost use Rattle.kc_sight.specs.Refs.Stops.{Told};
 ghost use Rattle.kc_command.specs.Ends.Ends.{TookPrefix};
 ghost use Rattle.kc_refs.specs.Lines.{found_lines};
-ghost use Rattle.kc_refs.specs.Progress.{goal_of, words_in};
+ghost use Rattle.kc_refs.specs.Pace.{InPace, found_until};
+ghost use Rattle.kc_refs.specs.Parts.{words_from};
+ghost use Rattle.kc_refs.specs.Progress.{goal_of, lines_to, words_in};
 ghost use Rattle.kc_refs.specs.Put.{Wrote};
 ghost use Rattle.kc_refs.specs.Says.{CountsProgress, IsOther, Says};
 ghost use Rattle.kc_refs.specs.Stops.{CountsSink, CountsStore};
@@ -108,6 +110,10 @@ fn put_segment<S: Store, O: Sink, E: Sink>(
     ensures part { OnErr result (Told (content (S.files store.old) Dump (S.opened store.old Dump)) (λ bytes.
         TookPrefix (O.taken out.old) (O.taken out.new) (texts (found_lines search.now.keys.now) (in_segment search.now.sought.now bytes segment.now)))) }
     ensures says { Says course.goal course.read (course.read + word_count segment.now) result (E.taken err.old) (E.taken err.new) }
+    ensures pace { OnErr result (Told (content (S.files store.old) Dump (S.opened store.old Dump)) (λ bytes.
+        InPace (λ n. texts (found_lines search.now.keys.now) (words_from search.now.sought.now bytes segment.now 0 n))
+        (λ n. lines_to course.goal course.read (course.read + n)) (word_count segment.now)
+        (O.taken out.old) (O.taken out.new) (E.taken err.old) (E.taken err.new))) }
     ensures untold { course.goal ≡ None → err.new ≡ err.old }
     ensures stays { StoreStays S.opened S.sizes S.files S.may S.asked store.old store.new }
     ensures store_counts { CountsStore result (S.faults store.old) (S.faults store.new) }
@@ -154,6 +160,10 @@ pub fn put_words<S: Store, O: Sink, E: Sink>(
     ensures part { OnErr result (Told (content (S.files store.old) Dump (S.opened store.old Dump)) (λ bytes.
         TookPrefix (O.taken out.old) (O.taken out.new) (texts (found_lines search.now.keys.now) (in_segments search.now.sought.now bytes segments.now)))) }
     ensures says { Says (goal_of search.now.progress segments.now) 0 (words_in segments.now) result (E.taken err.old) (E.taken err.new) }
+    ensures pace { OnErr result (Told (content (S.files store.old) Dump (S.opened store.old Dump)) (λ bytes.
+        InPace (λ n. texts (found_lines search.now.keys.now) (found_until search.now.sought.now bytes segments.now n))
+        (λ n. lines_to (goal_of search.now.progress segments.now) 0 n) (words_in segments.now)
+        (O.taken out.old) (O.taken out.new) (E.taken err.old) (E.taken err.new))) }
     ensures untold { search.now.progress ≡ false → err.new ≡ err.old }
     ensures stays { StoreStays S.opened S.sizes S.files S.may S.asked store.old store.new }
     ensures store_counts { CountsStore result (S.faults store.old) (S.faults store.new) }

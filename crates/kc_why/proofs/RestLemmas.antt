@@ -24,7 +24,7 @@ use Rattle.kc_why.specs.Rest.{Comes, HasRest, Leaves, LeavesOf, TookFront, after
 
 -- ---- texts
 
-with_none : (old : Option (List ℕ)) → old ≡ with_piece old []
+pub with_none : (old : Option (List ℕ)) → old ≡ with_piece old []
 with_none None = refl
 with_none (Some o) = ap (λ (t : List ℕ). Some t) (sym (append-nil o))
 
@@ -245,3 +245,25 @@ at_sink P Q s follows p = on_true (nat_eq (number s) 4) follows p
 
 pub at_status : (P Q : Type 0) (s one : Status) → (P → Q) → At s one P → At s one Q
 at_status P Q s one follows p = on_true (nat_eq (number s) (number one)) follows p
+
+-- ---- usage stands alone, and so does a first part where another sink failed
+
+on_both : {P Q R : Type 0} (b : Bool) → (P → Q → R) → OnTrue b P → OnTrue b Q → OnTrue b R
+on_both true follows p q = follows p q
+on_both false follows p q = tt
+
+none_before : {A : Type 0} (write : A → Written) (asks : Option (Asked A)) (files : Option Files) (outcome : Option (Result Answer Halt)) (opened_old opened_new : Slot → Option (List ℕ)) (old mid err_old err_mid : Option (List ℕ))
+    → Comes write asks files outcome opened_old opened_new old mid err_old err_mid → outcome ≡ None → err_mid ≡ err_old
+none_before write asks files outcome opened_old opened_new old mid err_old err_mid comes is =
+    (subst (λ (o : Option (Result Answer Halt)). Comes write asks files o opened_old opened_new old mid err_old err_mid) is comes).2
+
+pub usage_alone : {A : Type 0} (write : A → Written) (asks : Option (Asked A)) (files : Option Files) (outcome : Option (Result Answer Halt)) (opened_old opened_new : Slot → Option (List ℕ)) (s : Status) (usage : List ℕ) (old mid err_old err_mid err_new : Option (List ℕ))
+    → Comes write asks files outcome opened_old opened_new old mid err_old err_mid → At s status.NoCommand (outcome ≡ None) → At s status.NoCommand (err_new ≡ with_piece err_mid usage)
+    → At s status.NoCommand (err_new ≡ with_piece err_old usage)
+usage_alone write asks files outcome opened_old opened_new s usage old mid err_old err_mid err_new comes =
+    on_both (nat_eq (number s) 6)
+    (λ none took. took ∙ ap (λ (t : Option (List ℕ)). with_piece t usage) (none_before write asks files outcome opened_old opened_new old mid err_old err_mid comes none))
+
+pub front_of : (output : Files → Option Written) (files : Option Files) (old new : Option (List ℕ)) → TookPart output files old new → IfSome files (λ f. TookFront (output f) old new)
+front_of output None old new took = tt
+front_of output (Some f) old new took = inr took

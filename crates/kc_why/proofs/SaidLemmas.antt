@@ -1,5 +1,5 @@
 -- What standard error took of how far a search is.
-use Rattle.std.proofs.Common.{◌≡◌, ◌⊎◌, ℕ, ◌+◌, ◌-◌, ◌/◌, ◌≤◌, Bool, true, false, List, [], Option, Some, None, option_map, IfSome, inl, inr, Result, Ok, Err, OnErr, append-nil, refl, sym, ap, subst, ◌∙◌, arith}
+use Rattle.std.proofs.Common.{◌≡◌, ◌⊎◌, ℕ, ◌+◌, ◌-◌, ◌/◌, ◌≤◌, Bool, true, false, List, [], Option, Some, None, option_map, IfSome, inl, inr, Result, Ok, Err, OnErr, refl, sym, ap, subst, ◌∙◌, arith}
 use Rattle.std.specs.Bool.{OnTrue}
 use Rattle.std.proofs.lemmas.Bool.{OnTrue_at}
 use Rattle.kc_word.specs.declared.plain.Segment.{Segment}
@@ -27,11 +27,7 @@ use Rattle.kc_why.specs.Ready.{IsReady}
 use Rattle.kc_why.specs.Said.{After, AreLines, IsFirst, OnProgress, SearchSays, TookLines, UnlessProgress}
 use Rattle.kc_why.specs.Why.{Question, Words, found_in, shown_in, why_made, why_written}
 use Rattle.kc_why.proofs.HuntLemmas.{holds_made, words_written}
-use Rattle.kc_why.proofs.RestLemmas.{asked_written}
-
-with_none : (old : Option (List ℕ)) → old ≡ with_piece old []
-with_none None = refl
-with_none (Some o) = ap (λ (t : List ℕ). Some t) (sym (append-nil o))
+use Rattle.kc_why.proofs.RestLemmas.{asked_written, with_none}
 
 -- ---- where nothing was said
 
@@ -98,6 +94,15 @@ pub on_then : {A P Q : Type 0} (r : Result A FailedSink) → (P → Q) → OnPro
 on_then (Ok a) follows p = tt
 on_then (Err Shown) follows p = tt
 on_then (Err Progress) follows p = follows p
+
+-- a failed sink is handed on
+pub unless_handed : {A B P Q : Type 0} (e : FailedSink) → (P → Q) → UnlessProgress {A = A} (Err e) P → UnlessProgress {A = B} (Err e) Q
+unless_handed Shown follows p = follows p
+unless_handed Progress follows p = tt
+
+pub on_handed : {A B P Q : Type 0} (e : FailedSink) → (P → Q) → OnProgress {A = A} (Err e) P → OnProgress {A = B} (Err e) Q
+on_handed Shown follows p = tt
+on_handed Progress follows p = follows p
 
 said_lines : (content now : Option (List ℕ)) (aim : Aim) (kernel : KernelAt) (h : Hunt) (r : Result (Result Answer Halt) FailedSink) (old new : Option (List ℕ)) → IsReady aim kernel content now (Ok h)
     → SearchSays (goal_of aim.progress kernel.segments) (words_in kernel.segments) r old new

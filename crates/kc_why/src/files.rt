@@ -1,5 +1,5 @@
 // The files of kwhy, and what is shown of an address.
-ghost use Rattle.std.specs.Prelude.{◌≡◌, ◌++◌, ◌+◌, ◌≤◌, ◌^◌, ℕ, List, [], map, max, false, None, Some, Err, option_map, IfOk, IfSome, OnErr, OnOk};
+ghost use Rattle.std.specs.Prelude.{◌≡◌, ◌++◌, ◌+◌, ◌≤◌, ◌^◌, ℕ, List, [], map, max, false, true, None, Some, Err, option_map, IfOk, IfSome, OnErr, OnOk};
 ghost use Rattle.std.specs.Bool.{OnTrue};
 ghost use Rattle.std.specs.List.{All};
 ghost use Rattle.std.specs.Option.{ForSome};
@@ -105,6 +105,7 @@ pub enum Form<'w> {
 // What is asked of words that hold a number.
 fn find_asks<'w>(files: KernelFiles<'w>, address: &String, progress: bool) -> Option<Form<'w>>
     ensures asked { option_map form_view result ≡ question_asked files.dump.now files.btf.now files.map.now (words_of (string_bytes address.now) progress) }
+    ensures search { IsSearch result true }
     ensures followed { IsFollowed result progress }
 {
     let value = read_hex(address.as_str().as_bytes())?;
@@ -160,8 +161,9 @@ fn read(words: &[String]) -> Option<Form<'_>>
 }
 
 /// Runs kwhy on the words after its name: the first fault of the dump, the types or the map, else what is seen of the address; or, where the
-/// words that hold a value are looked for, what follows their lines, which `out` took, and `err` how far the search is, where that is asked for; or also the first fault of the plan or the report,
-/// else what explains the report. `None` where these aren't its words; the store isn't asked then.
+/// words that hold a value are looked for, what follows their lines, which `out` took, as `err` took how far the search is, where that is asked
+/// for; or also the first fault of the plan or the report, else what explains the report. `None` where these aren't its words; the store isn't
+/// asked then.
 ///
 /// # Errors
 ///

@@ -2,7 +2,7 @@ use Rattle.std.proofs.Common.{map, ◌-◌, ◌^◌, ◌<◌, ℕ, refl, sym, su
 use Rattle.std.specs.String.{string_bytes}
 use Rattle.kc_why.specs.Why.{why_asks, why_written, usage_text, written_of}
 use Rattle.kc_command.specs.declared.ends.status.Status.TheVariants.{OutOfMemory, StoreFailed}
-use Rattle.kc_why.proofs.RestLemmas.{at_sink, at_status, comes_part_at, on_silent, rest_fails, rest_part, rest_told}
+use Rattle.kc_why.proofs.RestLemmas.{at_sink, at_status, comes_part_at, front_of, on_silent, rest_fails, rest_part, rest_told, usage_alone}
 use Rattle.kc_why.proofs.SaidLemmas.{after_lines, cut_fails, said_nothing}
 use Rattle.kc_why.proofs.TakenLemmas.{answer_true}
 use Rattle.kc_why.proofs.top.kwhy.Goals as goal
@@ -70,3 +70,12 @@ returns-in-Ok-clause-silent_part g c =
     (λ same. comes_part_at usage_text why_written (why_asks (map string_bytes c.args.words.now)) (g.S.Store.files c.args.store.now) c.in-Ok.outcome _ _ (g.O.Sink.taken c.args.out.now) (g.O.Sink.taken c.run.new.out) (g.O.Sink.taken c.finish.new.out) (g.E.Sink.taken c.args.err.now) (g.E.Sink.taken c.run.new.err)
     c.in-Ok.ensures.output same)
     c.finish.ensures.silent_text
+
+pub returns-in-Ok-clause-usage_text : goal.returns-in-Ok-clause-usage_text
+returns-in-Ok-clause-usage_text g c =
+    usage_alone why_written (why_asks (map string_bytes c.args.words.now)) (g.S.Store.files c.args.store.now) c.in-Ok.outcome _ _ c.finish.result usage_text (g.O.Sink.taken c.args.out.now) (g.O.Sink.taken c.run.new.out)
+    (g.E.Sink.taken c.args.err.now) (g.E.Sink.taken c.run.new.err) (g.E.Sink.taken c.finish.new.err) c.in-Ok.ensures.output c.finish.ensures.usage c.finish.ensures.usage_text
+
+pub returns-in-Err-Progress-clause-out_front : goal.returns-in-Err-Progress-clause-out_front
+returns-in-Err-Progress-clause-out_front g c =
+    λ few same. front_of (written_of (map string_bytes c.args.words.now)) (g.S.Store.files c.args.store.now) (g.O.Sink.taken c.args.out.now) (g.O.Sink.taken c.run.new.out) c.in-Err-Progress.ensures.part
