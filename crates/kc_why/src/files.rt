@@ -104,7 +104,7 @@ pub enum Form<'w> {
 
 // What is asked of words that hold a number.
 fn find_asks<'w>(files: KernelFiles<'w>, address: &String, progress: bool) -> Option<Form<'w>>
-    ensures asked { option_map form_view result ≡ question_asked files.dump.now files.btf.now files.map.now (words_of (string_bytes address.now) progress) }
+    ensures asked { option_map form_view result ≡ question_asked files.entry.dump.now files.entry.btf.now files.entry.map.now (words_of (string_bytes address.now) progress) }
     ensures search { IsSearch result true }
     ensures followed { IsFollowed result progress }
 {
