@@ -95,14 +95,14 @@ on_then (Ok a) follows p = tt
 on_then (Err Shown) follows p = tt
 on_then (Err Progress) follows p = follows p
 
--- a failed sink is handed on
-pub unless_handed : {A B P Q : Type 0} (e : FailedSink) → (P → Q) → UnlessProgress {A = A} (Err e) P → UnlessProgress {A = B} (Err e) Q
-unless_handed Shown follows p = follows p
-unless_handed Progress follows p = tt
+-- which sink failed
+pub if_shown : (A P : Type 0) (e : FailedSink) → e ≡ Shown → UnlessProgress {A = A} (Err e) P → P
+if_shown A P Shown is p = p
+if_shown A P Progress is p = absurd (let none : ⊥ = cc in none)
 
-pub on_handed : {A B P Q : Type 0} (e : FailedSink) → (P → Q) → OnProgress {A = A} (Err e) P → OnProgress {A = B} (Err e) Q
-on_handed Shown follows p = tt
-on_handed Progress follows p = follows p
+pub if_progress : (A P : Type 0) (e : FailedSink) → e ≡ Progress → OnProgress {A = A} (Err e) P → P
+if_progress A P Shown is p = absurd (let none : ⊥ = cc in none)
+if_progress A P Progress is p = p
 
 said_lines : (content now : Option (List ℕ)) (aim : Aim) (kernel : KernelAt) (h : Hunt) (r : Result (Result Answer Halt) FailedSink) (old new : Option (List ℕ)) → IsReady aim kernel content now (Ok h)
     → SearchSays (goal_of aim.progress kernel.segments) (words_in kernel.segments) r old new

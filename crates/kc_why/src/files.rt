@@ -104,7 +104,8 @@ pub enum Form<'w> {
 
 // What is asked of words that hold a number.
 fn find_asks<'w>(files: KernelFiles<'w>, address: &String, progress: bool) -> Option<Form<'w>>
-    ensures asked { option_map form_view result ≡ question_asked files.dump.now files.btf.now files.map.now (words_of (string_bytes address.now) progress) }
+    ensures asked { option_map form_view result ≡ question_asked files.entry.dump.now files.entry.btf.now files.entry.map.now
+        (words_of (string_bytes address.now) progress) }
     ensures search { IsSearch result true }
     ensures followed { IsFollowed result progress }
 {
@@ -182,7 +183,8 @@ pub fn run<S: Store, O: Sink, E: Sink>(
     ensures asked { OnErr result (why_asks (map string_bytes words.now) ≡ None → ⊥) }
     ensures part { OnErr result (TookPart (written_of (map string_bytes words.now)) (S.files store.old) (O.taken out.old) (O.taken out.new)) }
     ensures lines { UnlessProgress result (TookProgress (map string_bytes words.now) (S.files store.old) (E.taken err.old) (E.taken err.new)) }
-    ensures cut { OnProgress result (IfSome (S.files store.old) (λ files. TookErr (written_of (map string_bytes words.now) files) (E.taken err.old) (E.taken err.new))) }
+    ensures cut { OnProgress result (IfSome (S.files store.old) (λ files.
+        TookErr (written_of (map string_bytes words.now) files) (E.taken err.old) (E.taken err.new))) }
     ensures whole { finds (map string_bytes words.now) ≡ false → out.new ≡ out.old }
     ensures untold { follows (map string_bytes words.now) ≡ false → err.new ≡ err.old }
     ensures refused { IfOk result (λ outcome. OnRefused outcome (out.new ≡ out.old)) }
@@ -307,10 +309,11 @@ fn find_in<S: Store, O: Sink, E: Sink>(
         (content (S.files store.old) Dump (S.opened store.old Dump)) r (O.taken out.old) (O.taken out.new) (E.taken err.old) (E.taken err.new)) }
     ensures part { OnErr result (PartOfBytes why_written (λ bytes. found_in bytes aim (kernel_view kernel.now))
         (content (S.files store.old) Dump (S.opened store.old Dump)) (O.taken out.old) (O.taken out.new)) }
-    ensures lines { UnlessProgress result (TookLines aim.progress (option_map (λ bytes. option_map (ended why_written) (found_in bytes aim (kernel_view kernel.now)))
+    ensures lines { UnlessProgress result (TookLines aim.progress
+        (option_map (λ bytes. option_map (ended why_written) (found_in bytes aim (kernel_view kernel.now)))
         (content (S.files store.old) Dump (S.opened store.old Dump))) (E.taken err.old) (E.taken err.new)) }
-    ensures cut { OnProgress result (IfSome (content (S.files store.old) Dump (S.opened store.old Dump)) (λ bytes. TookErr (option_map (ended why_written)
-        (found_in bytes aim (kernel_view kernel.now))) (E.taken err.old) (E.taken err.new))) }
+    ensures cut { OnProgress result (IfSome (content (S.files store.old) Dump (S.opened store.old Dump)) (λ bytes.
+        TookErr (option_map (ended why_written) (found_in bytes aim (kernel_view kernel.now))) (E.taken err.old) (E.taken err.new))) }
     ensures untold { aim.progress ≡ false → err.new ≡ err.old }
     ensures refused_map { IfOk result (λ r. RefusesIn Map r) }
     ensures refused { IfOk result (λ r. OnRefused (Some r) (out.new ≡ out.old)) }
@@ -383,7 +386,8 @@ fn put_hunted<S: Store, O: Sink, E: Sink>(
         Searches hunt.now.told (in_segments hunt.now.sought bytes kernel.now.core.segments) r (O.taken out.old) (O.taken out.new)))) }
     ensures part { OnTrue hunt.now.same (OnErr result (Told (content (S.files store.old) Dump (S.opened store.old Dump)) (λ bytes.
         TookPrefix (O.taken out.old) (O.taken out.new) (texts (found_lines (keys_in hunt.now.told)) (in_segments hunt.now.sought bytes kernel.now.core.segments))))) }
-    ensures says { OnTrue hunt.now.same (SearchSays (goal_of progress kernel.now.core.segments) (words_in kernel.now.core.segments) result (E.taken err.old) (E.taken err.new)) }
+    ensures says { OnTrue hunt.now.same (SearchSays (goal_of progress kernel.now.core.segments) (words_in kernel.now.core.segments) result
+        (E.taken err.old) (E.taken err.new)) }
     ensures unsaid { hunt.now.same ≡ false → err.new ≡ err.old }
     ensures untold { progress ≡ false → err.new ≡ err.old }
     ensures not_refused { IfOk result (λ r. NotRefused r) }

@@ -76,8 +76,10 @@ pub fn kwhy<S: Store, O: Sink, E: Sink>(
 
     // Each status has its cause. Where a search is told of, its lines stand before why it came to no answer; else that stands alone.
     ensures store_failed { At result StoreFailed (Rose (S.faults store.old) (S.faults store.new)) }
-    ensures store_text { At result StoreFailed (AfterProgress (map string_bytes words.now) (S.files store.old) (E.taken err.old) (λ mid. E.taken err.new ≡ with_piece mid store_failed)) }
-    ensures memory_text { At result OutOfMemory (AfterProgress (map string_bytes words.now) (S.files store.old) (E.taken err.old) (λ mid. E.taken err.new ≡ with_piece mid memory_refused)) }
+    ensures store_text { At result StoreFailed (AfterProgress (map string_bytes words.now) (S.files store.old) (E.taken err.old)
+        (λ mid. E.taken err.new ≡ with_piece mid store_failed)) }
+    ensures memory_text { At result OutOfMemory (AfterProgress (map string_bytes words.now) (S.files store.old) (E.taken err.old)
+        (λ mid. E.taken err.new ≡ with_piece mid memory_refused)) }
     ensures usage { At result NoCommand (why_asks (map string_bytes words.now) ≡ None) }
     ensures usage_text { At result NoCommand (E.taken err.new ≡ with_piece (E.taken err.old) usage_text) }
     ensures usage_only { why_asks (map string_bytes words.now) ≡ None → IsTrue
@@ -107,16 +109,18 @@ pub fn kwhy<S: Store, O: Sink, E: Sink>(
     ensures out_part { At result SinkFailed (O.faults out.old < O.faults out.new
         → TookPart (written_of (map string_bytes words.now)) (S.files store.old) (O.taken out.old) (O.taken out.new)) }
     ensures err_part { At result SinkFailed
-        (O.faults out.old < O.faults out.new → AfterProgress (map string_bytes words.now) (S.files store.old) (E.taken err.old) (λ mid. TookPrefix mid (E.taken err.new) sink_failed)) }
+        (O.faults out.old < O.faults out.new → AfterProgress (map string_bytes words.now) (S.files store.old) (E.taken err.old)
+        (λ mid. TookPrefix mid (E.taken err.new) sink_failed)) }
     ensures err_whole { At result SinkFailed (E.faults err.old < 2 ^ 64 - 1 → E.faults err.new ≡ E.faults err.old
-        → AfterProgress (map string_bytes words.now) (S.files store.old) (E.taken err.old) (λ mid. E.taken err.new ≡ with_piece mid sink_failed)) }
+        → AfterProgress (map string_bytes words.now) (S.files store.old) (E.taken err.old)
+        (λ mid. E.taken err.new ≡ with_piece mid sink_failed)) }
     ensures out_nothing { At result SinkFailed (O.faults out.old < 2 ^ 64 - 1 → O.faults out.new ≡ O.faults out.old
         → finds (map string_bytes words.now) ≡ false → O.taken out.new ≡ O.taken out.old) }
     ensures out_front { At result SinkFailed (O.faults out.old < 2 ^ 64 - 1 → O.faults out.new ≡ O.faults out.old
         → IfSome (S.files store.old) (λ files. TookFront (written_of (map string_bytes words.now) files) (O.taken out.old) (O.taken out.new))) }
     ensures err_failed { At result SinkFailed (O.faults out.old < 2 ^ 64 - 1 → O.faults out.new ≡ O.faults out.old
-        → AfterProgress (map string_bytes words.now) (S.files store.old) (E.taken err.old) (λ mid. ErrFailed (written_of (map string_bytes words.now)) (S.files store.old)
-        (Rose (S.faults store.old) (S.faults store.new)) mid (E.taken err.new))) }
+        → AfterProgress (map string_bytes words.now) (S.files store.old) (E.taken err.old)
+        (λ mid. ErrFailed (written_of (map string_bytes words.now)) (S.files store.old) (Rose (S.faults store.old) (S.faults store.new)) mid (E.taken err.new))) }
 
     // A sink isn't called again after it failed.
     ensures out_last { StopsAtFailure O.taken O.faults O.asked out.old out.new }

@@ -16,7 +16,7 @@ returns-in-None-clause-lines g c = said_nothing _ _ _ _ refl
 pub returns-in-Some-Shows-clause-lines : goal.returns-in-Some-Shows-clause-lines
 returns-in-Some-Shows-clause-lines g c = said_nothing _ _ _ _ refl
 
-pub returns-in-Some-Finds-clause-lines : goal.returns-in-Some-Finds-clause-lines
-returns-in-Some-Finds-clause-lines g c =
+pub returns-in_ok-find-in-Some-Finds-clause-lines : goal.returns-in_ok-find-in-Some-Finds-clause-lines
+returns-in_ok-find-in-Some-Finds-clause-lines g c =
     lines_asked usage_text why_written (why_asks (map string_bytes c.args.words.now)) (finds_asked c.in-Some-Finds.asks) (g.S.Store.files c.args.store.now) c.in-Some-Finds.asks.aim.progress (follows (map string_bytes c.args.words.now))
     (g.E.Sink.taken c.args.err.now) (g.E.Sink.taken c.find.new.err) (search rules) (search rules) (search rules)

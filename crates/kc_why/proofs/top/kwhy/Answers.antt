@@ -1,9 +1,12 @@
-use Rattle.std.proofs.Common.{map, ◌-◌, ◌^◌, ◌<◌, ℕ, refl, sym, subst, ◌∙◌}
+use Rattle.std.proofs.Common.{◌≡◌, map, ◌-◌, ◌^◌, ◌<◌, ℕ, Option, Result, refl, rules, sym, subst, ◌∙◌}
 use Rattle.std.specs.String.{string_bytes}
+use Rattle.kc_command.specs.declared.ends.answer.Answer.{Answer}
+use Rattle.kc_command.specs.declared.halt.Halt.{Halt}
+use Rattle.kc_why.specs.declared.files.FailedSink.TheVariants.{Shown, Progress}
 use Rattle.kc_why.specs.Why.{why_asks, why_written, usage_text, written_of}
 use Rattle.kc_command.specs.declared.ends.status.Status.TheVariants.{OutOfMemory, StoreFailed}
 use Rattle.kc_why.proofs.RestLemmas.{at_sink, at_status, comes_part_at, front_of, on_silent, rest_fails, rest_part, rest_told, usage_alone}
-use Rattle.kc_why.proofs.SaidLemmas.{after_lines, cut_fails, said_nothing}
+use Rattle.kc_why.proofs.SaidLemmas.{after_lines, cut_fails, if_progress, if_shown, said_nothing}
 use Rattle.kc_why.proofs.TakenLemmas.{answer_true}
 use Rattle.kc_why.proofs.top.kwhy.Goals as goal
 
@@ -52,17 +55,23 @@ returns-in-Ok-clause-err_failed g c =
     c.in-Ok.ensures.output c.in-Ok.ensures.cause c.in-Ok.ensures.out_quiet (λ failed. after_lines c.in-Ok.ensures.lines failed) c.finish.ensures.err_failed
 
 pub returns-in-Err-Shown-clause-err_part : goal.returns-in-Err-Shown-clause-err_part
-returns-in-Err-Shown-clause-err_part g c = λ rose. after_lines c.in-Err-Shown.ensures.lines c.tell_failure.ensures.part
+returns-in-Err-Shown-clause-err_part g c =
+    let shown : c.in-Err-Shown.field-0 ≡ Shown = search rules in
+    λ rose. after_lines (if_shown (Option (Result Answer Halt)) _ c.in-Err-Shown.field-0 shown c.in-Err-Shown.ensures.lines) c.tell_failure.ensures.part
 
 pub returns-in-Err-Shown-clause-err_whole : goal.returns-in-Err-Shown-clause-err_whole
 returns-in-Err-Shown-clause-err_whole g c =
-    λ few same. after_lines c.in-Err-Shown.ensures.lines
-    (c.tell_failure.ensures.whole (subst (λ (n : ℕ). n < 2 ^ 64 - 1) (sym c.in-Err-Shown.ensures.err_quiet) few) (same ∙ sym c.in-Err-Shown.ensures.err_quiet))
+    let shown : c.in-Err-Shown.field-0 ≡ Shown = search rules in
+    let quiet = if_shown (Option (Result Answer Halt)) _ c.in-Err-Shown.field-0 shown c.in-Err-Shown.ensures.err_quiet in
+    λ few same. after_lines (if_shown (Option (Result Answer Halt)) _ c.in-Err-Shown.field-0 shown c.in-Err-Shown.ensures.lines)
+    (c.tell_failure.ensures.whole (subst (λ (n : ℕ). n < 2 ^ 64 - 1) (sym quiet) few) (same ∙ sym quiet))
 
 pub returns-in-Err-Progress-clause-err_failed : goal.returns-in-Err-Progress-clause-err_failed
 returns-in-Err-Progress-clause-err_failed g c =
+    let cut : c.in-Err-Progress.field-0 ≡ Progress = search rules in
     λ few same. after_lines (said_nothing _ _ _ _ refl)
-    (cut_fails (written_of (map string_bytes c.args.words.now)) (g.S.Store.files c.args.store.now) _ (g.E.Sink.taken c.args.err.now) (g.E.Sink.taken c.run.new.err) c.in-Err-Progress.ensures.cut)
+    (cut_fails (written_of (map string_bytes c.args.words.now)) (g.S.Store.files c.args.store.now) _ (g.E.Sink.taken c.args.err.now) (g.E.Sink.taken c.run.new.err)
+    (if_progress (Option (Result Answer Halt)) _ c.in-Err-Progress.field-0 cut c.in-Err-Progress.ensures.cut))
 
 pub returns-in-Ok-clause-silent_part : goal.returns-in-Ok-clause-silent_part
 returns-in-Ok-clause-silent_part g c =
