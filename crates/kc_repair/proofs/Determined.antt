@@ -99,7 +99,7 @@ given image None of audits root breaking suspected (Ok x) same exact = tt
 given image (Some bytes) of audits root breaking suspected (Ok x) same exact =
     let is : repair_with (of bytes) audits root breaking suspected ≡ x = rw same at exact in
     subst (λ y. IsRepairBy (of bytes) audits root breaking suspected y) is
-    (gives (judged_with (of bytes) audits root breaking.walk None) (judged_with (of bytes) audits root breaking.walk (Some breaking.found)) breaking.found suspected)
+    (gives (judged_with (of bytes) audits root breaking.walk None) (judged_with (of bytes) audits root breaking.walk breaking.only) breaking.found suspected)
 
 -- what was answered, where the question could be asked
 pub answered : {A : Type 0} (image : Option Image) (asked : Result (Result A ReadFailed) NoRoom) (a : A) (Says : Image → A → Type 0)

@@ -17,16 +17,16 @@ use Rattle.kc_repair.specs.declared.outcome.Repair.{Repair}
 use Rattle.kc_repair.specs.Suspect.Suspects.{suspects}
 use Rattle.kc_repair.specs.declared.first.Breaking.{Breaking}
 use Rattle.kc_repair.specs.declared.seeking.Suspected.{Suspected}
-use Rattle.kc_repair.specs.Repairs.{IsSuspected, IsSuspectedLeft, WalkInside, is_apart, repair_left, repair_with, with_words}
+use Rattle.kc_repair.specs.Repairs.{IsSuspected, IsSuspectedLeft, WalkInside, any_leads, is_apart, repair_left, repair_with, with_words}
 use Rattle.kc_repair.proofs.Determined.{walk-inside}
 
 -- those that are left to be tried
 pub kept-left : (image : Option Image) (audits : List AuditAt) (seen : Suspected) (r : Result Suspected ReadFailed) (earlier : List Suspect) (kind : Kind) (v : Violation)
-    → IfOk r (λ left. (left.suspects ≡ filter (is_apart earlier) seen.suspects) × (left.breaking ≡ seen.breaking)) → IfSome image (λ i. IsSuspected (with_words i earlier) audits kind v seen)
+    → IfOk r (λ left. (left.suspects ≡ filter (is_apart earlier) seen.suspects) × (left.breaking ≡ any_leads seen.breaking)) → IfSome image (λ i. IsSuspected (with_words i earlier) audits kind v seen)
     → IfOk r (λ left. IfSome image (λ i. IsSuspectedLeft i audits earlier kind v left))
 kept-left image audits seen (Err stop) earlier kind v is are = tt
 kept-left None audits seen (Ok left) earlier kind v is are = tt
-kept-left (Some i) audits seen (Ok left) earlier kind v is are = (is.0 ∙ ap (filter (is_apart earlier)) are.0, is.1 ∙ are.1)
+kept-left (Some i) audits seen (Ok left) earlier kind v is are = (is.0 ∙ ap (filter (is_apart earlier)) are.0, is.1 ∙ ap any_leads are.1)
 
 -- what was asked failed at no reading, and nor does what is answered
 pub left-quiet : (count : ℕ) (asked : Result (Result Suspected ReadFailed) NoRoom) (seen : Suspected) (r : Result Suspected ReadFailed) (old new : ℕ)
@@ -52,7 +52,7 @@ left-quiet count (Ok asked) seen r old new is leaves cause = quiet r cause
 -- the walk of what is left is of a kind of the kernel's
 pub left-inside : (count : ℕ) (asked : Result (Result Suspected ReadFailed) NoRoom) (seen : Suspected) (earlier : List Suspect) (r : Result Suspected ReadFailed) (old new : ℕ)
     → result_unwrap_or asked (Err NoMemory) ≡ Ok seen → IfOk asked (λ x. CountsFailures x old new × IfOk x (λ (s : Suspected). WalkInside count s.breaking.walk))
-    → IfOk r (λ left. (left.suspects ≡ filter (is_apart earlier) seen.suspects) × (left.breaking ≡ seen.breaking)) → IfOk r (λ left. WalkInside count left.breaking.walk)
+    → IfOk r (λ left. (left.suspects ≡ filter (is_apart earlier) seen.suspects) × (left.breaking ≡ any_leads seen.breaking)) → IfOk r (λ left. WalkInside count left.breaking.walk)
 left-inside count asked seen earlier (Err stop) old new is leaves left = tt
 left-inside count asked seen earlier (Ok left) old new is leaves are =
     subst (λ (b : Breaking). WalkInside count b.walk) (sym are.1) (walk-inside count asked seen old new is leaves)

@@ -127,29 +127,29 @@ comes_here image audits root s n told = record {
   comes = ap (verdict_with image audits root) told.1 ∙ told.4;
 }
 
-comes_at : (image : Image) (audits : List AuditAt) (root : Root) (breaking : Breaking) (s : Suspect) (rest : Option Next) (n : Next) (o : Option Next)
-    → next_of breaking.found s (judged_with image audits root breaking.walk (Some breaking.found) s) ≡ o → (rest ≡ Some n → ComesThen image audits root n) → or_later o rest ≡ Some n → ComesThen image audits root n
-comes_at image audits root breaking s rest n None e later is = later is
-comes_at image audits root breaking s rest n (Some m) e later is =
+comes_at : (image : Image) (audits : List AuditAt) (root : Root) (found : Breach) (walk : Option FirstWalk) (s : Suspect) (rest : Option Next) (n : Next) (o : Option Next)
+    → next_of found s (judged_with image audits root walk (Some found) s) ≡ o → (rest ≡ Some n → ComesThen image audits root n) → or_later o rest ≡ Some n → ComesThen image audits root n
+comes_at image audits root found walk s rest n None e later is = later is
+comes_at image audits root found walk s rest n (Some m) e later is =
     let same : m ≡ n = cc in
     comes_here image audits root s n
-    (of_root breaking.found s (verdict_with image audits root s) n
-    (of_judge breaking.found s (first_found (with_suspect image s) breaking.walk) (verdict_with image audits root s) n (e ∙ ap (λ (x : Next). Some x) same)))
+    (of_root found s (verdict_with image audits root s) n
+    (of_judge found s (first_found (with_suspect image s) walk) (verdict_with image audits root s) n (e ∙ ap (λ (x : Next). Some x) same)))
 
-comes_then : (image : Image) (audits : List AuditAt) (root : Root) (breaking : Breaking) (xs : List Suspect) (n : Next)
-    → first_next (judged_with image audits root breaking.walk (Some breaking.found)) breaking.found xs ≡ Some n → ComesThen image audits root n
-comes_then image audits root breaking [] n is = let never : ⊥ = cc in absurd never
-comes_then image audits root breaking (s ∷ later) n is =
-    comes_at image audits root breaking s (first_next (judged_with image audits root breaking.walk (Some breaking.found)) breaking.found later) n
-    (next_of breaking.found s (judged_with image audits root breaking.walk (Some breaking.found) s)) refl (comes_then image audits root breaking later n) is
+comes_then : (image : Image) (audits : List AuditAt) (root : Root) (found : Breach) (walk : Option FirstWalk) (xs : List Suspect) (n : Next)
+    → first_next (judged_with image audits root walk (Some found)) found xs ≡ Some n → ComesThen image audits root n
+comes_then image audits root found walk [] n is = let never : ⊥ = cc in absurd never
+comes_then image audits root found walk (s ∷ later) n is =
+    comes_at image audits root found walk s (first_next (judged_with image audits root walk (Some found)) found later) n
+    (next_of found s (judged_with image audits root walk (Some found) s)) refl (comes_then image audits root found walk later n) is
 
 next_told : (lead : Suspect → Verdict) (found : Breach) (xs : List Suspect) (first : Option Suspect) (tried : ℕ) (more : Bool) (n : Next) → repair_by lead found xs first ≡ Nothing tried more (Some n)
     → first_next lead found (take most xs) ≡ Some n
 next_told lead found xs (Some s) tried more n is = let never : ⊥ = cc in absurd never
 next_told lead found xs None tried more n is = cc
 
-pub nexts_of_root : (image : Image) (audits : List AuditAt) (root : Root) (breaking : Breaking) (xs : List Suspect) (tried : ℕ) (more : Bool) (n : Next)
-    → repair_with image audits root breaking xs ≡ Nothing tried more (Some n) → ComesThen image audits root n
-nexts_of_root image audits root breaking xs tried more n is =
-    comes_then image audits root breaking (take most xs) n
-    (next_told (judged_with image audits root breaking.walk (Some breaking.found)) breaking.found xs (find (repairs (judged_with image audits root breaking.walk None)) (take most xs)) tried more n is)
+pub nexts_of_root : (image : Image) (audits : List AuditAt) (root : Root) (found : Breach) (walk : Option FirstWalk) (xs : List Suspect) (tried : ℕ) (more : Bool) (n : Next)
+    → repair_with image audits root (record { found = found; walk = walk; only = Some found }) xs ≡ Nothing tried more (Some n) → ComesThen image audits root n
+nexts_of_root image audits root found walk xs tried more n is =
+    comes_then image audits root found walk (take most xs) n
+    (next_told (judged_with image audits root walk (Some found)) found xs (find (repairs (judged_with image audits root walk None)) (take most xs)) tried more n is)

@@ -105,7 +105,11 @@ abbrev pub walk_of : Image → List AuditAt → Kind → Violation → Option Fi
 walk_of image audits kind v = if_finds (walk_from audits kind v) (counted (Some (breach_of v)) (first_found image (walk_from audits kind v)))
 
 abbrev pub breaking_of : Image → List AuditAt → Kind → Violation → Breaking
-breaking_of image audits kind v = record { found = breach_of v; walk = walk_of image audits kind v }
+breaking_of image audits kind v = record { found = breach_of v; walk = walk_of image audits kind v; only = Some (breach_of v) }
+
+-- where words are changed already, a suspect leads to whatever that walk finds then
+abbrev pub any_leads : Breaking → Breaking
+any_leads b = record { found = b.found; walk = b.walk; only = None }
 
 -- type numbers of a walk's kind that are among so many
 abbrev pub WalkInside : ℕ → Option FirstWalk → Type 0
@@ -161,11 +165,11 @@ abbrev pub IsRepair : (judge lead : Suspect → Verdict) → Breach → List Sus
 IsRepair judge lead found suspects (Stands s) = find (repairs judge) (take most suspects) ≡ Some s
 IsRepair judge lead found suspects (Nothing tried more next) = IsNothing judge lead found suspects tried more next
 
--- Any violation of the walk that broke keeps a suspect from repairing. One leads elsewhere where that walk doesn't find the same again, and the root audit
--- finds another.
+-- Any violation of the walk that broke keeps a suspect from repairing. One leads elsewhere by what that walk finds that counts, and else by what the root
+-- audit finds.
 abbrev pub IsRepairBy : Image → List AuditAt → Root → Breaking → List Suspect → Repair → Type 0
 IsRepairBy image audits root breaking suspects r =
-    IsRepair (judged_with image audits root breaking.walk None) (judged_with image audits root breaking.walk (Some breaking.found)) breaking.found suspects r
+    IsRepair (judged_with image audits root breaking.walk None) (judged_with image audits root breaking.walk breaking.only) breaking.found suspects r
 
 -- a walk finds something broken
 abbrev pub WalkBreaks : Image → Option FirstWalk → Type 0
@@ -221,7 +225,7 @@ repair judge lead found suspected = repair_by lead found suspected (find (repair
 
 abbrev pub repair_with : Image → List AuditAt → Root → Breaking → List Suspect → Repair
 repair_with image audits root breaking suspected =
-    repair (judged_with image audits root breaking.walk None) (judged_with image audits root breaking.walk (Some breaking.found)) breaking.found suspected
+    repair (judged_with image audits root breaking.walk None) (judged_with image audits root breaking.walk breaking.only) breaking.found suspected
 
 -- what repairs a violation that an audit of this kind found under a root audit: the words that it suspects are tried
 abbrev pub repair_of : Image → List AuditAt → Root → Kind → Violation → Repair
@@ -234,7 +238,11 @@ is_apart earlier s = not (list_any (λ (word : Suspect). share s.off word.off) e
 -- what repairs one that is left in the memory with some words changed: of the words that it suspects those that aren't changed are tried
 abbrev pub repair_left : Image → List AuditAt → Root → List Suspect → Kind → Violation → Repair
 repair_left image audits root earlier kind v =
-    repair_with (with_words image earlier) audits root (breaking_of (with_words image earlier) audits kind v) (filter (is_apart earlier) (suspects (with_words image earlier) kind v))
+    repair_with (with_words image earlier) audits root (any_leads (breaking_of (with_words image earlier) audits kind v)) (filter (is_apart earlier) (suspects (with_words image earlier) kind v))
+
+-- what the walk of a violation finds broken where some words are changed
+abbrev pub found_left : Image → List AuditAt → List Suspect → Kind → Violation → Option Violation
+found_left image audits words kind v = first_found (with_words image words) (walk_from audits kind v)
 
 -- the code has these words, and tries them for this
 abbrev pub IsSuspected : Image → List AuditAt → Kind → Violation → Suspected → Type 0
@@ -242,7 +250,7 @@ IsSuspected image audits kind v seen = (seen.suspects ≡ suspects image kind v)
 
 abbrev pub IsSuspectedLeft : Image → List AuditAt → List Suspect → Kind → Violation → Suspected → Type 0
 IsSuspectedLeft image audits earlier kind v left =
-    (left.suspects ≡ filter (is_apart earlier) (suspects (with_words image earlier) kind v)) × (left.breaking ≡ breaking_of (with_words image earlier) audits kind v)
+    (left.suspects ≡ filter (is_apart earlier) (suspects (with_words image earlier) kind v)) × (left.breaking ≡ any_leads (breaking_of (with_words image earlier) audits kind v))
 
 -- a verdict names an audit of a plan of so many
 abbrev pub NamesAudit : ℕ → Verdict → Type 0

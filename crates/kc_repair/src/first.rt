@@ -4,7 +4,7 @@ ghost use Rattle.kc_found.specs.Failures.{CountsFailures};
 ghost use Rattle.kc_kinds.specs.Inside.{KindInside};
 ghost use Rattle.kc_plan.specs.Inside.{AreInside as TypesAreInside};
 ghost use Rattle.kc_plan.specs.Views.{plan_seen};
-ghost use Rattle.kc_repair.specs.Repairs.{EndsAs, WalkInside, breach_of, breaking_of, counted, first_found, found_by, if_finds, is_same, planned_kind, walk_from, walked_kind};
+ghost use Rattle.kc_repair.specs.Repairs.{EndsAs, WalkInside, any_leads, breach_of, breaking_of, counted, first_found, found_by, if_finds, is_same, planned_kind, walk_from, walked_kind};
 ghost use Rattle.kc_repair.specs.Suspect.Answers.{OnlyReads};
 
 use crate::outcome::Breach;
@@ -38,6 +38,8 @@ pub struct Breaking {
     pub found: Breach,
     /// The walk.
     pub walk: Option<FirstWalk>,
+    /// What of this walk's violations a suspect leads to, if not to any: to one of this rule at this address, which is where it was.
+    pub only: Option<Breach>,
 }
 
 // What a walk found broken.
@@ -148,8 +150,8 @@ fn walked_kind(audit: &RootAudit<'_>, kind: &Kind, number: u32) -> Option<Kind>
     }
 }
 
-// The walk of a violation, from where it started.
-fn walk_from(audit: &RootAudit<'_>, kind: &Kind, found: &Found) -> Option<FirstWalk>
+/// The walk of a violation, from where it started.
+pub(crate) fn walk_from(audit: &RootAudit<'_>, kind: &Kind, found: &Found) -> Option<FirstWalk>
     requires { TypesAreInside (length audit.now.types.now.records) audit.now.plan.now.audits }
     ensures exact { result ≡ walk_from (plan_seen audit.now.plan.now) kind.now found.now }
     ensures inside { WalkInside (length audit.now.types.now.records) result }
@@ -187,10 +189,32 @@ pub(crate) fn breaking_of<M: Space, L: Ledger>(
 
 // By what the walk finds.
 fn breaking_by(found: Breach, walk: Option<FirstWalk>, again: Option<Found>) -> Breaking
-    ensures { result ≡ record { found = found; walk = if_finds walk (counted (Some found) again) } }
+    ensures { result ≡ record { found = found; walk = if_finds walk (counted (Some found) again); only = Some found } }
 {
-    match counted(Some(found), again) {
-        Some(_) => Breaking { found, walk },
-        None => Breaking { found, walk: None },
+    Breaking {
+        found,
+        walk: if_finds(walk, counted(Some(found), again)),
+        only: Some(found),
+    }
+}
+
+// The walk, if it finds something.
+fn if_finds(walk: Option<FirstWalk>, again: Option<Found>) -> Option<FirstWalk>
+    ensures { result ≡ if_finds walk again }
+{
+    match again {
+        Some(_) => walk,
+        None => None,
+    }
+}
+
+/// The same, where a suspect leads to any violation of the walk.
+pub(crate) fn any_leads(breaking: Breaking) -> Breaking
+    ensures { result ≡ any_leads breaking }
+{
+    Breaking {
+        found: breaking.found,
+        walk: breaking.walk,
+        only: None,
     }
 }

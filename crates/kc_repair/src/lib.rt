@@ -11,6 +11,7 @@ mod seeking;
 mod suspect;
 mod trial;
 mod tries;
+mod walked;
 
 pub use elements::elements_over;
 pub use first::FirstWalk;
@@ -21,3 +22,4 @@ pub use seeking::{repair_left, repair_over};
 pub use suspect::{Suspect, Suspects, know_suspects, suspects};
 pub use trial::{RootAudit, ask_changed, verdict_over};
 pub use tries::{MOST, Repaired, repair};
+pub use walked::found_left;

@@ -12,10 +12,10 @@ ghost use Rattle.kc_mem.specs.Paged.{with_paging};
 ghost use Rattle.kc_plan.specs.Inside.{AreInside as TypesAreInside};
 ghost use Rattle.kc_plan.specs.Views.{plan_seen};
 ghost use Rattle.kc_repair.specs.Suspect.Answers.{OnlyReadsFrames};
-ghost use Rattle.kc_repair.specs.Repairs.{IsSuspected, IsSuspectedLeft, WalkInside, is_apart, repair_left, repair_of, with_words};
+ghost use Rattle.kc_repair.specs.Repairs.{IsSuspected, IsSuspectedLeft, WalkInside, any_leads, is_apart, repair_left, repair_of, with_words};
 ghost use Rattle.kc_found.specs.Failures.{CountsFailures};
 
-use crate::first::{Breaking, breaking_of};
+use crate::first::{Breaking, any_leads, breaking_of};
 use crate::trial::{RootAudit, ask_changed};
 use crate::tries::{Repaired, try_all};
 use crate::{Suspect, Suspects, suspects};
@@ -153,15 +153,15 @@ fn is_apart(earlier: &[Suspect], suspect: Suspect) -> bool
     !shares_any(earlier, suspect.off)
 }
 
-// Those of them, for the same.
+// Those of them, where any violation of the walk leads on.
 fn left_of(alloc: Global, seen: Suspected, earlier: &[Suspect]) -> Result<Suspected, ReadFailed>
-    ensures exact { IfOk result (λ left. (left.suspects ≡ filter (is_apart earlier.now) seen.suspects) × (left.breaking ≡ seen.breaking)) }
+    ensures exact { IfOk result (λ left. (left.suspects ≡ filter (is_apart earlier.now) seen.suspects) × (left.breaking ≡ any_leads seen.breaking)) }
     ensures cause { IfErr result (λ stop. stop ≡ OutOfMemory) }
 {
     match apart(alloc, seen.suspects.as_slice(), earlier) {
         Ok(suspects) => Ok(Suspected {
             suspects,
-            breaking: seen.breaking,
+            breaking: any_leads(seen.breaking),
         }),
         Err(NoMemory) => Err(ReadFailed::NoMemory),
     }
@@ -205,7 +205,8 @@ fn suspected_left<'s, S: Store>(
     }
 }
 
-/// What repairs a violation that is left where some words are changed. These words aren't tried again.
+/// What repairs a violation that is left where some words are changed. These words aren't tried again. A suspect that doesn't repair leads to what the
+/// violation's walk finds with it, and where that walk stands to what the root audit finds.
 ///
 /// The answer fails where the store did, whose count of faults then rose, or where no memory was left.
 pub fn repair_left<'s, S: Store>(

@@ -49,7 +49,7 @@ pub fn repair<S: Store>(
     requires types { TypesAreInside (length audit.now.types.now.records) audit.now.plan.now.audits }
 
     ensures exact { IfOk result (λ repair. IfSome (content (S.files store.old) Dump (S.opened store.old Dump))
-        (λ bytes. IsRepairBy (image_of bytes segments.now audit.now.plan.now.tail paging) (plan_seen audit.now.plan.now) (audit.now.root.audit, audit.now.root.start) (record { found = found; walk = None }) suspects.now repair)) }
+        (λ bytes. IsRepairBy (image_of bytes segments.now audit.now.plan.now.tail paging) (plan_seen audit.now.plan.now) (audit.now.root.audit, audit.now.root.start) (record { found = found; walk = None; only = Some found }) suspects.now repair)) }
     // With a suspect that is told the structures of the root audit stand, and where none is told, with none that was tried.
     ensures stands { IfOk result (λ repair. IfSome (content (S.files store.old) Dump (S.opened store.old Dump))
         (λ bytes. StandsAs (image_of bytes segments.now audit.now.plan.now.tail paging) (plan_seen audit.now.plan.now) (audit.now.root.audit, audit.now.root.start) None suspects.now repair)) }
@@ -63,7 +63,11 @@ pub fn repair<S: Store>(
         Err(NoMemory) => return Err(ReadFailed::NoMemory),
     };
     let memory = Phys::over(store, room);
-    let breaking = Breaking { found, walk: None };
+    let breaking = Breaking {
+        found,
+        walk: None,
+        only: Some(found),
+    };
     let Repaired { memory, repair } = try_all(
         alloc,
         memory,
@@ -232,13 +236,13 @@ fn none_repairs<'s, S: Store>(
     requires walk { WalkInside (length audit.now.types.now.records) breaking.now.walk }
 
     ensures exact { IfOk result.repair (λ repair. IfSome (with_paging paging (stored memory.entry.segments.items memory.entry.tail (content (S.files memory.entry.store.now) Dump (S.opened memory.entry.store.now Dump))))
-        (λ image. repair_by (judged_with (with_words image earlier.now) (plan_seen audit.now.plan.now) (audit.now.root.audit, audit.now.root.start) breaking.now.walk (Some breaking.now.found)) breaking.now.found suspects.now None ≡ repair)) }
+        (λ image. repair_by (judged_with (with_words image earlier.now) (plan_seen audit.now.plan.now) (audit.now.root.audit, audit.now.root.start) breaking.now.walk breaking.now.only) breaking.now.found suspects.now None ≡ repair)) }
     ensures reads { OnlyReadsFrames (λ p. stored p.segments.items p.tail (content (S.files p.store.now) Dump (S.opened p.store.now Dump))) (λ p. S.files p.store.now) (λ p. p.store.ghost_name ∷ []) (λ p. S.faults p.store.now) result.repair memory.entry result.memory }
 {
     let by = Judge {
         audit,
         walk: &breaking.walk,
-        only: Some(breaking.found),
+        only: breaking.only,
     };
     let tried = tried_of(suspects);
     let Returned { memory, answer } = first_that_leads(
