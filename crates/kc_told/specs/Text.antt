@@ -94,13 +94,17 @@ byte_text c =
     else (if c == 0x5c then codes "\\\\"
     else c ∷ [])))))
 
+-- the text that a word is
+unfoldable pub word_text : ℕ → List ℕ
+word_text value = codes "text \"" ++ texts byte_text (to_le_bytes w64 value) ++ codes "\""
+
 -- what a word says
 abbrev pub meaning_text : (ℕ → Option SymbolAt) → Lead → Meaning → ℕ → List ℕ
 meaning_text symbols lead Zero value = codes "zero"
 meaning_text symbols lead Own value = codes "self"
 meaning_text symbols lead Unlisted value = codes "unlisted"
 meaning_text symbols lead (Pattern byte) value = pattern_text byte
-meaning_text symbols lead Text value = codes "text \"" ++ texts byte_text (to_le_bytes w64 value) ++ codes "\""
+meaning_text symbols lead Text value = word_text value
 meaning_text symbols lead Small value = codes "small " ++ decimal value
 meaning_text symbols lead Number value = number_text (symbols value) lead value
 

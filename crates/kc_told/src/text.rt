@@ -1,11 +1,10 @@
 // What is printed.
-ghost use Rattle.std.specs.Prelude.{◌≡◌, ◌++◌, ◌-◌, ◌≤◌, codes, length, option_and_then, option_map, slice_get, Ok, OnOk};
-ghost use Rattle.std.specs.Int.{to_le_bytes, w64};
+ghost use Rattle.std.specs.Prelude.{◌≡◌, ◌++◌, ◌-◌, ◌≤◌, length, option_and_then, option_map, slice_get, Ok, OnOk};
 ghost use Rattle.kc_sight.specs.Entries.{page_bytes};
 ghost use Rattle.kc_sight.specs.Meanings.{meaning};
 ghost use Rattle.kc_text.specs.Compose.{texts};
 ghost use Rattle.kc_sight.specs.Views.{image_symbols, sight_view, symbol_view};
-ghost use Rattle.kc_told.specs.Text.{alias_line, around_lines, beside_lines, bounds_line, byte_text, entry_line, head_lines, is_absent, is_mapped, meaning_text, near_line, number_text, seen_line, page_line, pattern_text, size_line, span_line, stopped_text, sight_lines, symbol_line, symbol_text, word_line};
+ghost use Rattle.kc_told.specs.Text.{alias_line, around_lines, beside_lines, bounds_line, byte_text, entry_line, head_lines, is_absent, is_mapped, meaning_text, near_line, number_text, seen_line, page_line, pattern_text, size_line, span_line, stopped_text, sight_lines, symbol_line, symbol_text, word_line, word_text};
 
 use crate::near::{Lead, NearWord};
 use crate::near_text::push_lead;
@@ -186,8 +185,9 @@ fn push_bytes(text: &mut Vec<u8>, bytes: &[u8]) -> Result<(), NoMemory>
 }
 
 // The text that a word is.
+#[tactic(auto, unfolding(crate::specs::Text::word_text))]
 fn push_text(text: &mut Vec<u8>, value: u64) -> Result<(), NoMemory>
-    ensures { OnOk result (text.new.items ≡ text.old.items ++ (codes "text \"" ++ texts byte_text (to_le_bytes w64 value) ++ codes "\"")) }
+    ensures { OnOk result (text.new.items ≡ text.old.items ++ word_text value) }
 {
     push(text, b"text \"")?;
     push_bytes(text, &value.to_le_bytes())?;
