@@ -74,6 +74,28 @@ pub(crate) fn spot_of(blocks: &[Block], number: u64) -> Spot
     Spot::Nowhere
 }
 
+// The same, where a place is looked at first.
+#[inline(always)]
+pub(crate) fn spot_near(blocks: &[Block], near: usize, number: u64) -> Spot
+    requires table { IsTable blocks.now }
+    requires some { number < 2 ^ 58 }
+    ensures { IsSpot blocks.now number result }
+{
+    if near < blocks.len() && blocks[near].number == number {
+        return Spot::Here(near);
+    }
+    spot_of(blocks, number)
+}
+
+// Takes one of a block's words.
+#[inline(always)]
+pub(crate) fn mark(block: &mut Block, word: usize)
+    requires { word < length block.old.words }
+    ensures { block.new ≡ record { number = block.old.number; words = set block.old.words word true } }
+{
+    block.words[word] = true;
+}
+
 // How many blocks a table of so many places takes before it grows.
 fn most_blocks(places: usize) -> u64 {
     first_places(places) as u64 / 8 * 5

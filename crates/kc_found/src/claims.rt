@@ -3,7 +3,7 @@ ghost use Rattle.std.specs.Prelude.{◌≡◌, ◌+◌, ◌^◌, ◌<◌, List, 
 ghost use Rattle.kc_found.specs.Taken.{is_taken, with_word};
 ghost use Rattle.kc_found.specs.Blocks.{with_blocks, IsTable, Misses};
 
-use crate::blocks::{Block, Spot, grown, more_blocks, spot_of};
+use crate::blocks::{Block, Spot, grown, mark, more_blocks, spot_near};
 use kc_word::NoMemory;
 use std::alloc::Global;
 use std::collections::BTreeSet;
@@ -21,6 +21,8 @@ pub struct Claims {
     count: u64,
     // How many blocks more the table takes before it grows.
     room: u64,
+    // The place that is looked at first: where the last block stood.
+    near: usize,
 }
 
 impl Model for Claims {
@@ -45,6 +47,7 @@ impl Claims {
             others: BTreeSet::new(alloc),
             count: 0,
             room: 0,
+            near: 0,
         }
     }
 
@@ -53,6 +56,7 @@ impl Claims {
     /// # Errors
     ///
     /// Out of memory. Then, as on false, nothing changes.
+    #[inline(always)]
     pub fn take(&mut self, pa: u64) -> Result<bool, NoMemory>
         ensures answer { IfOk result (λ new. new ≡ not (is_taken self.old pa)) }
         ensures taken { IfOk result (λ new. self.new ≡ (if new then with_word self.old pa else self.old)) }
@@ -67,6 +71,7 @@ impl Claims {
     }
 
     // Takes an address in the room that is there.
+    #[inline(always)]
     fn add(&mut self, pa: u64) -> Result<bool, NoMemory>
         ensures answer { IfOk result (λ new. new ≡ not (is_taken self.old pa)) }
         ensures taken { IfOk result (λ new. self.new ≡ (if new then with_word self.old pa else self.old)) }
@@ -77,7 +82,13 @@ impl Claims {
         let Some(count) = self.count.checked_add(1) else {
             return Err(NoMemory);
         };
-        let new = put(&mut self.blocks, &mut self.others, &mut self.room, pa)?;
+        let new = put(
+            &mut self.blocks,
+            &mut self.others,
+            &mut self.room,
+            &mut self.near,
+            pa,
+        )?;
         if new {
             self.count = count;
         }
@@ -85,6 +96,7 @@ impl Claims {
     }
 
     // Makes room for more blocks. Where one has no place in a larger table, the table stays as it is from now on.
+    #[inline(never)]
     fn grow(&mut self) -> Result<(), NoMemory>
         ensures { self.new ≡ self.old }
     {
@@ -107,11 +119,13 @@ fn is_other(others: &BTreeSet<u64>, pa: u64) -> bool
 }
 
 // Takes an address.
+#[inline(always)]
 #[tactic(auto, using(crate::proofs::Stored::blocks_stay))]
 fn put(
     blocks: &mut Vec<Block>,
     others: &mut BTreeSet<u64>,
     room: &mut u64,
+    near: &mut usize,
     pa: u64,
 ) -> Result<bool, NoMemory>
     requires { IsTable blocks.old.items }
@@ -125,23 +139,23 @@ fn put(
     if pa % 8 != 0 {
         return put_other(blocks, others, pa);
     }
-    match spot_of(blocks, number) {
+    match spot_near(blocks, *near, number) {
         Spot::Here(place) => {
-            let mut words = blocks[place].words;
-            if words[word] {
+            if blocks[place].words[word] {
                 return Ok(false);
             }
             if is_other(others, pa) {
                 return Ok(false);
             }
-            words[word] = true;
-            blocks[place] = Block { number, words };
+            *near = place;
+            mark(&mut blocks[place], word);
             Ok(true)
         }
         Spot::Free(place) => {
             if is_other(others, pa) {
                 return Ok(false);
             }
+            *near = place;
             let mut words = [false; 8];
             words[word] = true;
             blocks[place] = Block { number, words };
@@ -153,6 +167,7 @@ fn put(
 }
 
 // Takes an address that no block has.
+#[inline(never)]
 #[tactic(auto, using(crate::proofs::Stored::blocks_then, crate::proofs::Stored::misses_same, crate::proofs::Rising::found_by_order))]
 fn put_other(blocks: &Vec<Block>, others: &mut BTreeSet<u64>, pa: u64) -> Result<bool, NoMemory>
     requires { Misses blocks.now.items pa }

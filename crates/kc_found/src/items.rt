@@ -49,11 +49,26 @@ impl<T: Drop> Items<T> {
         }
     }
 
+    /// The empty list, with memory for so many items.
+    ///
+    /// # Errors
+    ///
+    /// Out of memory.
+    pub fn with_room(alloc: Global, room: usize) -> Result<Self, NoMemory>
+        ensures { IfOk result (λ list. list ≡ []) }
+    {
+        match Vec::with_capacity(alloc, room) {
+            Ok(items) => Ok(Items { items }),
+            Err(_) => Err(NoMemory),
+        }
+    }
+
     /// Adds an item at the end.
     ///
     /// # Errors
     ///
     /// Out of memory, where the list stays as it was.
+    #[inline(always)]
     pub fn push(&mut self, item: T) -> Result<(), NoMemory>
         ensures added { OnOk result (self.new ≡ self.old ++ item ∷ []) }
         ensures fits { OnOk result (length self.new < 2 ^ 64) }

@@ -17,6 +17,7 @@ use std::alloc::Global;
 /// # Errors
 ///
 /// Rule A where it was taken before, or out of memory.
+#[inline(always)]
 pub fn take_word(
     alloc: Global,
     claims: &mut Claims,

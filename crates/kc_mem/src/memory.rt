@@ -83,6 +83,7 @@ impl<F: Frames> Space for Memory<F> {
 
     ghost most_small = { λ m. most_six m.tlb.paging };
 
+    #[inline(always)]
     fn word<L: Ledger>(&mut self, va: u64, steps: &mut Steps<L>) -> Result<VWord, Stop>
         ensures word { AnswersAs (λ image. vword image va) (with_paging self.old.tlb.paging (F.image self.old.frames)) result }
         ensures asked { IfOk result (λ w. w.va ≡ va) }
@@ -123,6 +124,7 @@ fn stop_by(va: u64, rule: Rule, pa: u64) -> Stop
 }
 
 // The word at a virtual address: M1, else the stop of the translation, else M6, else the word.
+#[inline(always)]
 #[tactic(auto, unfolding(kc_memory::specs::Translation::vword, kc_memory::specs::Reads::word_reads))]
 fn read<F: Frames, L: Ledger>(
     frames: &mut F,
@@ -157,6 +159,7 @@ fn read<F: Frames, L: Ledger>(
 }
 
 // The word at a virtual address whose physical one is known.
+#[inline(always)]
 fn read_at<F: Frames, L: Ledger>(
     frames: &mut F,
     va: u64,

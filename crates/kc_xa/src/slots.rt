@@ -56,6 +56,9 @@ fn enter_slot<S: Space, L: Ledger>(
     ensures cause { CountsWalkFaults result (S.faults space.old) (S.faults space.new) }
 {
     let kind = entry_of(shape, &word);
+    if kind == XaEntry::Nothing {
+        return Ok(None);
+    }
     let index = index_of(node.base, slot, node.shift);
     if let Some(rule) = slot_fault(shape.chunk, &node.slots, node.shift, slot, index, kind) {
         return Err(broken_at(alloc, asked, rule, &word, None));

@@ -15,6 +15,7 @@ use std::alloc::Global;
 use std::sync::ledger::Ledger;
 
 // The word at an address, to which `led` leads.
+#[inline(always)]
 pub(crate) fn read_word<S: Space, L: Ledger>(
     alloc: Global,
     space: &mut S,
@@ -36,6 +37,7 @@ pub(crate) fn read_word<S: Space, L: Ledger>(
     }
 }
 
+#[inline(always)]
 fn push_word(slots: &mut Items<VWord>, word: VWord) -> Result<(), WalkStop>
     ensures added { OnOk result (slots.new ≡ slots.old ++ word ∷ []) }
     ensures memory { IfErr result (λ stop. stop ≡ WalkStop.NoMemory) }
@@ -65,7 +67,7 @@ fn read_slots<S: Space, L: Ledger>(
     ensures stays { SpaceStays S.image S.files S.through S.most space.old space.new }
     ensures cause { CountsWalkFaults result (S.faults space.old) (S.faults space.new) }
 {
-    let mut slots = Items::new(alloc);
+    let mut slots = Items::with_room(alloc, count as usize)?;
     for i in 0..count {
         let at = va.wrapping_add(8 * i);
         let word = match read_word(alloc, space, asked, at, Some(led), steps) {
