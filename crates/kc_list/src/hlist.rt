@@ -9,6 +9,7 @@ ghost use Rattle.kc_found.specs.Nodes.{at_offset, is_poison, one_taken, two_take
 ghost use Rattle.kc_found.specs.Walks.{CountsWalkFaults, IsNamed, OnBroken, TakesAs, WalksAs, WithinSteps};
 ghost use Rattle.kc_list.specs.Near.{EndsSoon};
 
+use crate::pass::Pass;
 use crate::words::{enter_both, enter_word, is_poison};
 use kc_found::{Asked, Claims, HShape, Rule, Space, VWord, WalkStop, Walked, broken_at, push_node};
 use kc_word::Steps;
@@ -17,61 +18,55 @@ use std::sync::ledger::Ledger;
 
 // Reads and takes the head's word `first`.
 fn enter_head<S: Space, L: Ledger>(
-    alloc: Global,
+    pass: &Pass<HShape>,
     space: &mut S,
-    shape: &HShape,
-    asked: &Asked,
     claims: &mut Claims,
     steps: &mut Steps<L>,
 ) -> Result<VWord, WalkStop>
-    ensures word { IfOk result (λ w. IfSome (S.image space.old) (λ i. vword i (at_offset asked.now.start shape.now.first) ≡ Ok w)) }
-    ensures site { TakesAs (λ i. one_taken asked.now None (vword i (at_offset asked.now.start shape.now.first))) claims.old claims.new (S.image space.old) result }
-    ensures named { IsNamed result asked.now.audit asked.now.start }
+    ensures word { IfOk result (λ w. IfSome (S.image space.old) (λ i. vword i (at_offset pass.now.asked.start pass.now.shape.first) ≡ Ok w)) }
+    ensures site { TakesAs (λ i. one_taken pass.now.asked None (vword i (at_offset pass.now.asked.start pass.now.shape.first))) claims.old claims.new (S.image space.old) result }
+    ensures named { IsNamed result pass.now.asked.audit pass.now.asked.start }
     ensures steps { steps.new ≤ steps.old + S.most space.old }
 
     ensures stays { SpaceStays S.image S.files S.through S.most space.old space.new }
     ensures cause { CountsWalkFaults result (S.faults space.old) (S.faults space.new) }
 {
-    let first = asked.start.wrapping_add(shape.first);
-    enter_word(alloc, space, asked, claims, first, None, steps)
+    let first = pass.asked.start.wrapping_add(pass.shape.first);
+    enter_word(pass, space, claims, first, None, steps)
 }
 
 // Reads and takes the words `next` and `pprev` of the node that a pointer leads to.
 fn enter_links<S: Space, L: Ledger>(
-    alloc: Global,
+    pass: &Pass<HShape>,
     space: &mut S,
-    shape: &HShape,
-    asked: &Asked,
     claims: &mut Claims,
     from: VWord,
     steps: &mut Steps<L>,
 ) -> Result<(VWord, VWord), WalkStop>
-    ensures links { IfOk result (λ p. IfSome (S.image space.old) (λ i. hash_links (vword i) shape.now from.value ≡ Ok p)) }
-    ensures site { TakesAs (λ i. two_taken asked.now (Some from) (hash_links (vword i) shape.now from.value)) claims.old claims.new (S.image space.old) result }
-    ensures named { IsNamed result asked.now.audit asked.now.start }
+    ensures links { IfOk result (λ p. IfSome (S.image space.old) (λ i. hash_links (vword i) pass.now.shape from.value ≡ Ok p)) }
+    ensures site { TakesAs (λ i. two_taken pass.now.asked (Some from) (hash_links (vword i) pass.now.shape from.value)) claims.old claims.new (S.image space.old) result }
+    ensures named { IsNamed result pass.now.asked.audit pass.now.asked.start }
     ensures steps { steps.new ≤ steps.old + 2 * S.most space.old }
 
     ensures stays { SpaceStays S.image S.files S.through S.most space.old space.new }
     ensures cause { CountsWalkFaults result (S.faults space.old) (S.faults space.new) }
 {
-    let next = from.value.wrapping_add(shape.next);
-    let pprev = from.value.wrapping_add(shape.pprev);
-    enter_both(alloc, space, asked, claims, next, pprev, Some(from), steps)
+    let next = from.value.wrapping_add(pass.shape.next);
+    let pprev = from.value.wrapping_add(pass.shape.pprev);
+    enter_both(pass, space, claims, next, pprev, Some(from), steps)
 }
 
 // Enters the node that a pointer leads to, and gives its `next` and `pprev`.
 fn enter_node<S: Space, L: Ledger>(
-    alloc: Global,
+    pass: &Pass<HShape>,
     space: &mut S,
-    shape: &HShape,
-    asked: &Asked,
     claims: &mut Claims,
     from: VWord,
     steps: &mut Steps<L>,
 ) -> Result<(VWord, VWord), WalkStop>
-    ensures links { IfOk result (λ p. IfSome (S.image space.old) (λ i. hash_links (vword i) shape.now from.value ≡ Ok p)) }
-    ensures site { TakesAs (λ i. hash_site asked.now (hash_links (vword i) shape.now from.value) from) claims.old claims.new (S.image space.old) result }
-    ensures named { IsNamed result asked.now.audit asked.now.start }
+    ensures links { IfOk result (λ p. IfSome (S.image space.old) (λ i. hash_links (vword i) pass.now.shape from.value ≡ Ok p)) }
+    ensures site { TakesAs (λ i. hash_site pass.now.asked (hash_links (vword i) pass.now.shape from.value) from) claims.old claims.new (S.image space.old) result }
+    ensures named { IsNamed result pass.now.asked.audit pass.now.asked.start }
     ensures steps { steps.new ≤ steps.old + 2 * S.most space.old }
     // K is told by the pointer: no word is read then.
     ensures unread { OnTrue (is_poison from.value) (steps.new ≡ steps.old) }
@@ -80,14 +75,14 @@ fn enter_node<S: Space, L: Ledger>(
     ensures cause { CountsWalkFaults result (S.faults space.old) (S.faults space.new) }
 {
     if is_poison(from.value) {
-        return Err(broken_at(alloc, asked, Rule::K, &from, None));
+        return Err(broken_at(pass.alloc, &pass.asked, Rule::K, &from, None));
     }
-    let links = match enter_links(alloc, space, shape, asked, claims, from, steps) {
+    let links = match enter_links(pass, space, claims, from, steps) {
         Ok(links) => links,
         Err(stop) => return Err(stop),
     };
     if links.1.value != from.va {
-        return Err(broken_at(alloc, asked, Rule::H1, &links.1, Some(from.va)));
+        return Err(broken_at(pass.alloc, &pass.asked, Rule::H1, &links.1, Some(from.va)));
     }
     Ok(links)
 }
@@ -120,15 +115,19 @@ pub fn hchain<S: Space, L: Ledger>(
     ensures stays { SpaceStays S.image S.files S.through S.most space.old space.new }
     ensures cause { CountsWalkFaults result (S.faults space.old) (S.faults space.new) }
 {
-    let asked = Asked { audit, start: head };
+    let pass = Pass {
+        alloc,
+        asked: Asked { audit, start: head },
+        shape: *shape,
+    };
     let mut claims = Claims::new(alloc);
     let mut walked = Walked::new(alloc);
-    let mut from = match enter_head(alloc, space, shape, &asked, &mut claims, steps) {
+    let mut from = match enter_head(&pass, space, &mut claims, steps) {
         Ok(first) => first,
         Err(stop) => return Err(stop),
     };
     while from.value != 0 {
-        let links = match enter_node(alloc, space, shape, &asked, &mut claims, from, steps) {
+        let links = match enter_node(&pass, space, &mut claims, from, steps) {
             Ok(links) => links,
             Err(stop) => return Err(stop),
         };

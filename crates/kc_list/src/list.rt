@@ -9,6 +9,7 @@ ghost use Rattle.kc_found.specs.Rings.{links, ring_chain, ring_site, ring_walk};
 ghost use Rattle.kc_found.specs.Walks.{CountsWalkFaults, IsNamed, OnBroken, TakesAs, WalksAs, WithinSteps};
 ghost use Rattle.kc_list.specs.Near.{EndsSoon};
 
+use crate::pass::Pass;
 use crate::words::{enter_both, is_poison};
 use kc_found::{
     Asked, Claims, ListShape, Rule, Space, VWord, WalkStop, Walked, broken_at, push_node,
@@ -19,42 +20,38 @@ use std::sync::ledger::Ledger;
 
 // Reads and takes the words `next` and `prev` of a node, to which `led` leads.
 fn enter_links<S: Space, L: Ledger>(
-    alloc: Global,
+    pass: &Pass<ListShape>,
     space: &mut S,
-    shape: &ListShape,
-    asked: &Asked,
     claims: &mut Claims,
     node: u64,
     led: Option<VWord>,
     steps: &mut Steps<L>,
 ) -> Result<(VWord, VWord), WalkStop>
-    ensures links { IfOk result (λ p. IfSome (S.image space.old) (λ i. links (vword i) shape.now node ≡ Ok p)) }
-    ensures site { TakesAs (λ i. two_taken asked.now led (links (vword i) shape.now node)) claims.old claims.new (S.image space.old) result }
-    ensures named { IsNamed result asked.now.audit asked.now.start }
+    ensures links { IfOk result (λ p. IfSome (S.image space.old) (λ i. links (vword i) pass.now.shape node ≡ Ok p)) }
+    ensures site { TakesAs (λ i. two_taken pass.now.asked led (links (vword i) pass.now.shape node)) claims.old claims.new (S.image space.old) result }
+    ensures named { IsNamed result pass.now.asked.audit pass.now.asked.start }
     ensures steps { steps.new ≤ steps.old + 2 * S.most space.old }
 
     ensures stays { SpaceStays S.image S.files S.through S.most space.old space.new }
     ensures cause { CountsWalkFaults result (S.faults space.old) (S.faults space.new) }
 {
-    let next = node.wrapping_add(shape.next);
-    let prev = node.wrapping_add(shape.prev);
-    enter_both(alloc, space, asked, claims, next, prev, led, steps)
+    let next = node.wrapping_add(pass.shape.next);
+    let prev = node.wrapping_add(pass.shape.prev);
+    enter_both(pass, space, claims, next, prev, led, steps)
 }
 
 // Enters the node that a pointer leads to from the node `before`, and gives its `next` and `prev`.
 fn enter_node<S: Space, L: Ledger>(
-    alloc: Global,
+    pass: &Pass<ListShape>,
     space: &mut S,
-    shape: &ListShape,
-    asked: &Asked,
     claims: &mut Claims,
     from: VWord,
     before: u64,
     steps: &mut Steps<L>,
 ) -> Result<(VWord, VWord), WalkStop>
-    ensures links { IfOk result (λ p. IfSome (S.image space.old) (λ i. links (vword i) shape.now from.value ≡ Ok p)) }
-    ensures site { TakesAs (λ i. ring_site asked.now (links (vword i) shape.now from.value) from before) claims.old claims.new (S.image space.old) result }
-    ensures named { IsNamed result asked.now.audit asked.now.start }
+    ensures links { IfOk result (λ p. IfSome (S.image space.old) (λ i. links (vword i) pass.now.shape from.value ≡ Ok p)) }
+    ensures site { TakesAs (λ i. ring_site pass.now.asked (links (vword i) pass.now.shape from.value) from before) claims.old claims.new (S.image space.old) result }
+    ensures named { IsNamed result pass.now.asked.audit pass.now.asked.start }
     ensures steps { steps.new ≤ steps.old + 2 * S.most space.old }
     // N and K are told by the pointer: no word is read then.
     ensures unread { OnTrue (nat_eq from.value 0 || is_poison from.value) (steps.new ≡ steps.old) }
@@ -63,18 +60,18 @@ fn enter_node<S: Space, L: Ledger>(
     ensures cause { CountsWalkFaults result (S.faults space.old) (S.faults space.new) }
 {
     if from.value == 0 {
-        return Err(broken_at(alloc, asked, Rule::N, &from, None));
+        return Err(broken_at(pass.alloc, &pass.asked, Rule::N, &from, None));
     }
     if is_poison(from.value) {
-        return Err(broken_at(alloc, asked, Rule::K, &from, None));
+        return Err(broken_at(pass.alloc, &pass.asked, Rule::K, &from, None));
     }
     let node = from.value;
-    let links = match enter_links(alloc, space, shape, asked, claims, node, Some(from), steps) {
+    let links = match enter_links(pass, space, claims, node, Some(from), steps) {
         Ok(links) => links,
         Err(stop) => return Err(stop),
     };
     if links.1.value != before {
-        return Err(broken_at(alloc, asked, Rule::L1, &links.1, Some(before)));
+        return Err(broken_at(pass.alloc, &pass.asked, Rule::L1, &links.1, Some(before)));
     }
     Ok(links)
 }
@@ -107,34 +104,20 @@ pub fn ring<S: Space, L: Ledger>(
     ensures stays { SpaceStays S.image S.files S.through S.most space.old space.new }
     ensures cause { CountsWalkFaults result (S.faults space.old) (S.faults space.new) }
 {
-    let asked = Asked { audit, start: head };
+    let pass = Pass {
+        alloc,
+        asked: Asked { audit, start: head },
+        shape: *shape,
+    };
     let mut claims = Claims::new(alloc);
     let mut walked = Walked::new(alloc);
-    let (mut from, last) = match enter_links(
-        alloc,
-        space,
-        shape,
-        &asked,
-        &mut claims,
-        head,
-        None,
-        steps,
-    ) {
+    let (mut from, last) = match enter_links(&pass, space, &mut claims, head, None, steps) {
         Ok(links) => links,
         Err(stop) => return Err(stop),
     };
     let mut before = head;
     while from.value != head {
-        let links = match enter_node(
-            alloc,
-            space,
-            shape,
-            &asked,
-            &mut claims,
-            from,
-            before,
-            steps,
-        ) {
+        let links = match enter_node(&pass, space, &mut claims, from, before, steps) {
             Ok(links) => links,
             Err(stop) => return Err(stop),
         };
@@ -143,7 +126,7 @@ pub fn ring<S: Space, L: Ledger>(
         from = links.0;
     }
     if last.value != before {
-        return Err(broken_at(alloc, &asked, Rule::L1, &last, Some(before)));
+        return Err(broken_at(alloc, &pass.asked, Rule::L1, &last, Some(before)));
     }
     Ok(walked)
 }

@@ -6,9 +6,9 @@ ghost use Rattle.kc_memory.specs.Translation.{vword};
 ghost use Rattle.kc_found.specs.Nodes.{both, one_taken, two_taken};
 ghost use Rattle.kc_found.specs.Walks.{CountsWalkFaults, IsNamed, TakesAs};
 
-use kc_found::{Asked, Claims, Space, Stop, VWord, WalkStop, stopped, take_word};
+use crate::pass::Pass;
+use kc_found::{Claims, Space, Stop, VWord, WalkStop, stopped, take_word};
 use kc_word::Steps;
-use std::alloc::Global;
 use std::sync::ledger::Ledger;
 
 // Two words, the first one first.
@@ -30,18 +30,17 @@ fn read_both<S: Space, L: Ledger>(
 }
 
 // Reads and takes a word, to which `led` leads.
-pub(crate) fn enter_word<S: Space, L: Ledger>(
-    alloc: Global,
+pub(crate) fn enter_word<S: Space, Shape, L: Ledger>(
+    pass: &Pass<Shape>,
     space: &mut S,
-    asked: &Asked,
     claims: &mut Claims,
     va: u64,
     led: Option<VWord>,
     steps: &mut Steps<L>,
 ) -> Result<VWord, WalkStop>
     ensures word { IfOk result (λ w. IfSome (S.image space.old) (λ image. vword image va ≡ Ok w)) }
-    ensures site { TakesAs (λ i. one_taken asked.now led (vword i va)) claims.old claims.new (S.image space.old) result }
-    ensures named { IsNamed result asked.now.audit asked.now.start }
+    ensures site { TakesAs (λ i. one_taken pass.now.asked led (vword i va)) claims.old claims.new (S.image space.old) result }
+    ensures named { IsNamed result pass.now.asked.audit pass.now.asked.start }
     ensures steps { steps.new ≤ steps.old + S.most space.old }
 
     ensures stays { SpaceStays S.image S.files S.through S.most space.old space.new }
@@ -49,17 +48,16 @@ pub(crate) fn enter_word<S: Space, L: Ledger>(
 {
     let word = match space.word(va, steps) {
         Ok(word) => word,
-        Err(stop) => return Err(stopped(alloc, asked, stop, led)),
+        Err(stop) => return Err(stopped(pass.alloc, &pass.asked, stop, led)),
     };
-    take_word(alloc, claims, asked, &word)?;
+    take_word(pass.alloc, claims, &pass.asked, &word)?;
     Ok(word)
 }
 
 // Reads and takes two words, to which `led` leads.
-pub(crate) fn enter_both<S: Space, L: Ledger>(
-    alloc: Global,
+pub(crate) fn enter_both<S: Space, Shape, L: Ledger>(
+    pass: &Pass<Shape>,
     space: &mut S,
-    asked: &Asked,
     claims: &mut Claims,
     first: u64,
     second: u64,
@@ -67,8 +65,8 @@ pub(crate) fn enter_both<S: Space, L: Ledger>(
     steps: &mut Steps<L>,
 ) -> Result<(VWord, VWord), WalkStop>
     ensures words { IfOk result (λ p. IfSome (S.image space.old) (λ image. both (vword image) first second ≡ Ok p)) }
-    ensures site { TakesAs (λ i. two_taken asked.now led (both (vword i) first second)) claims.old claims.new (S.image space.old) result }
-    ensures named { IsNamed result asked.now.audit asked.now.start }
+    ensures site { TakesAs (λ i. two_taken pass.now.asked led (both (vword i) first second)) claims.old claims.new (S.image space.old) result }
+    ensures named { IsNamed result pass.now.asked.audit pass.now.asked.start }
     ensures steps { steps.new ≤ steps.old + 2 * S.most space.old }
 
     ensures stays { SpaceStays S.image S.files S.through S.most space.old space.new }
@@ -76,10 +74,10 @@ pub(crate) fn enter_both<S: Space, L: Ledger>(
 {
     let words = match read_both(space, first, second, steps) {
         Ok(words) => words,
-        Err(stop) => return Err(stopped(alloc, asked, stop, led)),
+        Err(stop) => return Err(stopped(pass.alloc, &pass.asked, stop, led)),
     };
-    take_word(alloc, claims, asked, &words.0)?;
-    take_word(alloc, claims, asked, &words.1)?;
+    take_word(pass.alloc, claims, &pass.asked, &words.0)?;
+    take_word(pass.alloc, claims, &pass.asked, &words.1)?;
     Ok(words)
 }
 

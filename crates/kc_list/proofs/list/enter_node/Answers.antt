@@ -4,4 +4,4 @@ use Rattle.kc_list.proofs.list.enter_node.Goals as goal
 
 pub returns-in-Err-clause-site : goal.returns-in-Err-clause-site
 returns-in-Err-clause-site g c =
-    node_stops _ _ (g.S.Space.image c.args.space.now) c.args.claims.now c.args.shape.now c.args.asked.now c.args.from c.args.before c.in-Err.stop (search rules) (search rules) c.in-Err.ensures.site
+    node_stops _ _ (g.S.Space.image c.args.space.now) c.args.claims.now c.args.pass.now.shape c.args.pass.now.asked c.args.from c.args.before c.in-Err.stop (search rules) (search rules) c.in-Err.ensures.site
