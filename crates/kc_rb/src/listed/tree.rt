@@ -17,6 +17,14 @@ use kc_word::{NoMemory, Steps};
 use std::alloc::Global;
 use std::sync::ledger::Ledger;
 
+// A tree that is tested: the allocator, who asked, and where the words stand.
+#[derive(Drop)]
+struct RbPass {
+    alloc: Global,
+    asked: Asked,
+    shape: RbShape,
+}
+
 // Whether another number of black nodes stands above a null than above the first one.
 fn differs(first: Option<u64>, black: u64) -> bool
     ensures { result ≡ differs first black }
@@ -65,22 +73,23 @@ fn push_children(
 
 // Tests whether these numbers are the tree at a position.
 fn test_numbers<S: Space, L: Ledger>(
-    alloc: Global,
+    pass: &RbPass,
     space: &mut S,
-    shape: &RbShape,
-    asked: &Asked,
     claims: &mut Claims,
     root: RbSpot,
     numbers: &Walked,
     steps: &mut Steps<L>,
 ) -> Result<(), TestStop>
     requires { root.black ≡ 0 }
-    ensures test { TellsAs (λ i. listed (course_of i shape.now asked.now) None claims.old (root ∷ []) numbers.now) (S.image space.old) result }
+    ensures test { TellsAs (λ i. listed (course_of i pass.now.shape pass.now.asked) None claims.old (root ∷ []) numbers.now) (S.image space.old) result }
     ensures steps { steps.new ≤ steps.old + 30 * length numbers.now }
 
     ensures stays { SpaceStays S.image S.files S.through S.most space.old space.new }
     ensures cause { CountsTestFaults result (S.faults space.old) (S.faults space.new) }
 {
+    let alloc = pass.alloc;
+    let asked = &pass.asked;
+    let shape = &pass.shape;
     let mut pending = Vec::new(alloc);
     push_spot(&mut pending, root)?;
     let mut first = None;
@@ -186,16 +195,13 @@ pub fn test_tree<S: Space, L: Ledger>(
         Ok(head) => head,
         Err(stop) => return Err(test_stop_of(stop)),
     };
-    test_numbers(
+    let pass = RbPass {
         alloc,
-        space,
-        shape,
-        &asked,
-        &mut claims,
-        root_of(head.root),
-        numbers,
-        steps,
-    )?;
+        asked,
+        shape: *shape,
+    };
+    let root = root_of(head.root);
+    test_numbers(&pass, space, &mut claims, root, numbers, steps)?;
     match is_first(alloc, &head.leftmost, numbers) {
         Ok(true) => Ok(()),
         Ok(false) => Err(TestStop::Unfit),

@@ -6,15 +6,15 @@ use Rattle.kc_rb.proofs.listed.tree.test_numbers.Goals as goal
 
 pub returns-in-None-clause-test : goal.returns-in-None-clause-test
 returns-in-None-clause-test g c =
-    runs_out _ (g.S.Space.image c.args.space.now) c.args.shape.now c.args.asked.now _ c.loop-i.first c.loop-i.claims c.loop-i.pending.items c.args.numbers.now c.loop-i.i c.get-number.result.now c.get-number.ensures (nil_from_length _ (sym c.loop-i.pending.ok.0 ∙ c.in-None.ensures.cases.0)) c.loop-i.invariant.0
+    runs_out _ (g.S.Space.image c.args.space.now) c.args.pass.now.shape c.args.pass.now.asked _ c.loop-i.first c.loop-i.claims c.loop-i.pending.items c.args.numbers.now c.loop-i.i c.get-number.result.now c.get-number.ensures (nil_from_length _ (sym c.loop-i.pending.ok.0 ∙ c.in-None.ensures.cases.0)) c.loop-i.invariant.0
 
 pub returns-then-number-spot-clause-test : goal.returns-then-number-spot-clause-test
 returns-then-number-spot-clause-test g c =
-    strays _ (g.S.Space.image c.args.space.now) c.args.shape.now c.args.asked.now _ c.loop-i.first c.loop-i.claims c.loop-i.pending.items c.pop.new.self.items c.in-Some.spot c.args.numbers.now c.loop-i.i c.get-number.result.now c.get-number.ensures c.in-Some.ensures.items (search rules) c.loop-i.invariant.0
+    strays _ (g.S.Space.image c.args.space.now) c.args.pass.now.shape c.args.pass.now.asked _ c.loop-i.first c.loop-i.claims c.loop-i.pending.items c.pop.new.self.items c.in-Some.spot c.args.numbers.now c.loop-i.i c.get-number.result.now c.get-number.ensures c.in-Some.ensures.items (search rules) c.loop-i.invariant.0
 
 pub loop-i-preserved-then-number-eq0 : goal.loop-i-preserved-then-number-eq0
 loop-i-preserved-then-number-eq0 g c = (
-  null_goes (g.S.Space.image c.args.space.now) c.args.shape.now c.args.asked.now _ c.loop-i.first c.loop-i.claims c.loop-i.pending.items c.pop.new.self.items c.in-Some.spot c.args.numbers.now c.loop-i.i c.get-number.result.now c.or_else.result c.get-number.ensures c.in-Some.ensures.items (search rules) (search rules) (search rules) c.or_else.ensures c.loop-i.invariant.0,
+  null_goes (g.S.Space.image c.args.space.now) c.args.pass.now.shape c.args.pass.now.asked _ c.loop-i.first c.loop-i.claims c.loop-i.pending.items c.pop.new.self.items c.in-Some.spot c.args.numbers.now c.loop-i.i c.get-number.result.now c.or_else.result c.get-number.ensures c.in-Some.ensures.items (search rules) (search rules) (search rules) c.or_else.ensures c.loop-i.invariant.0,
   c.loop-i.invariant.1,
   c.loop-i.invariant.2,
   omega (arith, c.loop-i.invariant.3),
@@ -29,7 +29,7 @@ push_children-requires g c =
 pub loop-i-preserved : goal.loop-i-preserved
 loop-i-preserved g c =
     let few = few_pop c.loop-i.i c.loop-i.pending.items c.pop.new.self.items c.in-Some.spot c.in-Some.ensures.items c.loop-i.invariant.4 in (
-      node_goes (g.S.Space.image c.args.space.now) c.args.shape.now c.args.asked.now _ c.loop-i.first c.loop-i.claims c.enter_node.new.claims c.loop-i.pending.items c.pop.new.self.items c.push_children.new.pending.items c.in-Some.spot c.args.numbers.now c.loop-i.i c.get-number.result.now c.in-Ok.entered.0 c.in-Ok.entered.1 c.in-Ok.entered
+      node_goes (g.S.Space.image c.args.space.now) c.args.pass.now.shape c.args.pass.now.asked _ c.loop-i.first c.loop-i.claims c.enter_node.new.claims c.loop-i.pending.items c.pop.new.self.items c.push_children.new.pending.items c.in-Some.spot c.args.numbers.now c.loop-i.i c.get-number.result.now c.in-Ok.entered.0 c.in-Ok.entered.1 c.in-Ok.entered
           c.get-number.ensures c.in-Some.ensures.items (search rules) (search rules) (rw c.loop-i.invariant.1.same_image at c.in-Ok.ensures.site) (rw c.loop-i.invariant.1.same_image at c.in-Ok.ensures.links) (rw c.loop-i.invariant.1.same_image at c.in-Ok.ensures.key) c.in_ok-push_children.ensures.added c.loop-i.invariant.0,
       stays_on _ _ _ _ c.args.space.now c.loop-i.space c.enter_node.new.space c.loop-i.invariant.1 c.in-Ok.ensures.stays,
       c.in-Ok.ensures.cause ∙ c.loop-i.invariant.2,
@@ -39,5 +39,5 @@ loop-i-preserved g c =
 
 pub returns-in-Err-clause-test : goal.returns-in-Err-clause-test
 returns-in-Err-clause-test g c =
-    node_halts _ _ (g.S.Space.image c.args.space.now) c.args.shape.now c.args.asked.now _ c.loop-i.first c.loop-i.claims c.enter_node.new.claims c.loop-i.pending.items c.pop.new.self.items c.in-Some.spot c.args.numbers.now c.loop-i.i c.get-number.result.now c.in-Err.stop c.test_stop_of.result
+    node_halts _ _ (g.S.Space.image c.args.space.now) c.args.pass.now.shape c.args.pass.now.asked _ c.loop-i.first c.loop-i.claims c.enter_node.new.claims c.loop-i.pending.items c.pop.new.self.items c.in-Some.spot c.args.numbers.now c.loop-i.i c.get-number.result.now c.in-Err.stop c.test_stop_of.result
     c.get-number.ensures c.in-Some.ensures.items (search rules) (search rules) c.test_stop_of.ensures (rw c.loop-i.invariant.1.same_image at c.in-Err.ensures.site) c.loop-i.invariant.0
