@@ -7,6 +7,7 @@ mod entries;
 mod laws;
 mod listed;
 mod nodes;
+mod pass;
 mod rules;
 mod slots;
 mod walk;

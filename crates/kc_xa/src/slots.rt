@@ -8,12 +8,9 @@ ghost use Rattle.kc_xa.specs.Steps.{Enters, Kept, Pays, PaysIn, Walks, node_step
 
 use crate::entries::{entry_of, index_of, slot_fault};
 use crate::nodes::open_node;
-use kc_found::{
-    Asked, Claims, Space, VWord, WalkStop, XaEntry, XaHolder, XaItem, XaNode, XaShape, XaWalked,
-    broken_at,
-};
+use crate::pass::{SlotWord, XaPass};
+use kc_found::{Claims, Space, WalkStop, XaEntry, XaHolder, XaItem, XaNode, XaWalked, broken_at};
 use kc_word::{NoMemory, Steps};
-use std::alloc::Global;
 use std::sync::ledger::Ledger;
 
 // Adds a pointer to the walked list.
@@ -29,32 +26,33 @@ pub(crate) fn push_item(walked: &mut XaWalked, index: u64, entry: u64) -> Result
 
 // Tries the entry of a slot, and opens the node that it leads to.
 fn enter_slot<S: Space, L: Ledger>(
-    alloc: Global,
+    pass: &XaPass,
     space: &mut S,
-    shape: &XaShape,
-    asked: &Asked,
     claims: &mut Claims,
     walked: &mut XaWalked,
     node: &XaNode,
-    slot: u64,
-    word: VWord,
+    entry: SlotWord,
     steps: &mut Steps<L>,
 ) -> Result<Option<XaNode>, WalkStop>
-    requires chunk { shape.now.chunk ≤ 64 }
-    requires slot { slot < 64 }
+    requires chunk { pass.now.shape.chunk ≤ 64 }
+    requires slot { entry.slot < 64 }
     requires small { node.now.shift ≤ 60 }
-    ensures enters { IfSome (S.image space.old) (λ i. Enters i (xa_course i shape.now asked.now) node.now slot word claims.old claims.new walked.old walked.new result) }
+    ensures enters { IfSome (S.image space.old) (λ i. Enters i (xa_course i pass.now.shape pass.now.asked) node.now entry.slot entry.word claims.old claims.new walked.old walked.new result) }
     ensures falls { IfOk result (λ r. IfSome r (λ child. child.shift < node.now.shift)) }
-    ensures size { IfOk result (λ r. IfSome r (λ child. length child.slots ≡ shape.now.chunk)) }
+    ensures size { IfOk result (λ r. IfSome r (λ child. length child.slots ≡ pass.now.shape.chunk)) }
     ensures none { IfOk result (λ r. IfNone r (claims.new ≡ claims.old)) }
-    ensures more { IfOk result (λ r. IfSome r (λ child. length claims.new ≡ length claims.old + (shape.now.chunk + 2))) }
-    ensures named { IsNamed result asked.now.audit asked.now.start }
-    ensures steps { steps.new ≤ steps.old + node_steps (S.most space.old) shape.now.chunk }
+    ensures more { IfOk result (λ r. IfSome r (λ child. length claims.new ≡ length claims.old + (pass.now.shape.chunk + 2))) }
+    ensures named { IsNamed result pass.now.asked.audit pass.now.asked.start }
+    ensures steps { steps.new ≤ steps.old + node_steps (S.most space.old) pass.now.shape.chunk }
     ensures still { IfOk result (λ r. IfNone r (steps.new ≤ steps.old)) }
 
     ensures stays { SpaceStays S.image S.files S.through S.most space.old space.new }
     ensures cause { CountsWalkFaults result (S.faults space.old) (S.faults space.new) }
 {
+    let SlotWord { slot, word } = entry;
+    let alloc = pass.alloc;
+    let asked = &pass.asked;
+    let shape = &pass.shape;
     let kind = entry_of(shape, &word);
     let index = index_of(node.base, slot, node.shift);
     if let Some(rule) = slot_fault(shape.chunk, &node.slots, node.shift, slot, index, kind) {
@@ -88,37 +86,37 @@ fn enter_slot<S: Space, L: Ledger>(
 // Walks the slots of a node, each with all below it. A node's shift is less than that of the node above it, so no more
 // than 16 calls stand one in the other.
 pub(crate) fn walk_slots<S: Space, L: Ledger>(
-    alloc: Global,
+    pass: &XaPass,
     space: &mut S,
-    shape: &XaShape,
-    asked: &Asked,
     claims: &mut Claims,
     walked: &mut XaWalked,
     node: &XaNode,
     steps: &mut Steps<L>,
 ) -> Result<(), WalkStop>
-    requires chunk { shape.now.chunk ≤ 64 }
-    requires some { 2 ≤ shape.now.chunk }
-    requires size { length node.now.slots ≡ shape.now.chunk }
+    requires chunk { pass.now.shape.chunk ≤ 64 }
+    requires some { 2 ≤ pass.now.shape.chunk }
+    requires size { length node.now.slots ≡ pass.now.shape.chunk }
     requires small { node.now.shift ≤ 60 }
-    ensures walks { IfSome (S.image space.old) (λ i. Walks i (xa_course i shape.now asked.now) node.now claims.old claims.new walked.old walked.new result) }
+    ensures walks { IfSome (S.image space.old) (λ i. Walks i (xa_course i pass.now.shape pass.now.asked) node.now claims.old claims.new walked.old walked.new result) }
     ensures pays { OnOk result (Pays (S.most space.old) claims.old claims.new steps.old steps.new) }
     ensures bound { IfSome (S.image space.old) (λ i. PaysIn i (S.most space.old) claims.old steps.old steps.new) }
     ensures grows { OnOk result (length claims.old ≤ length claims.new) }
-    ensures named { IsNamed result asked.now.audit asked.now.start }
+    ensures named { IsNamed result pass.now.asked.audit pass.now.asked.start }
 
     ensures stays { SpaceStays S.image S.files S.through S.most space.old space.new }
     ensures cause { CountsWalkFaults result (S.faults space.old) (S.faults space.new) }
 {
     for (i, word) in node.slots.as_slice().iter().enumerate() {
-        let child = match enter_slot(
-            alloc, space, shape, asked, claims, walked, node, i as u64, *word, steps,
-        ) {
+        let entry = SlotWord {
+            slot: i as u64,
+            word: *word,
+        };
+        let child = match enter_slot(pass, space, claims, walked, node, entry, steps) {
             Ok(Some(child)) => child,
             Ok(None) => continue,
             Err(stop) => return Err(stop),
         };
-        match walk_slots(alloc, space, shape, asked, claims, walked, &child, steps) {
+        match walk_slots(pass, space, claims, walked, &child, steps) {
             Ok(()) => continue,
             Err(stop) => return Err(stop),
         }

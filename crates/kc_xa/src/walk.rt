@@ -13,6 +13,7 @@ ghost use Rattle.kc_found.specs.XaSites.{node_site, xa_course, xa_judged};
 
 use crate::entries::{entry_of, head_fault, know_chunk};
 use crate::nodes::open_node;
+use crate::pass::XaPass;
 use crate::slots::{push_item, walk_slots};
 use crate::words::read_word;
 use kc_found::{
@@ -47,59 +48,58 @@ pub fn read_head<S: Space, L: Ledger>(
 
 // Opens the node that the head leads to.
 fn open_root<S: Space, L: Ledger>(
-    alloc: Global,
+    pass: &XaPass,
     space: &mut S,
-    shape: &XaShape,
-    asked: &Asked,
     claims: &mut Claims,
     head: VWord,
     steps: &mut Steps<L>,
 ) -> Result<XaNode, WalkStop>
-    requires { shape.now.chunk ≤ 64 }
-    ensures site { WalksAs (λ _. claims.new) (λ i. passed claims.old (node_site asked.now shape.now None (head.value - 2) (xa_words (behind_entry (vword i) asked.now (Some head)) shape.now (head.value - 2)))) (S.image space.old) result }
-    ensures opened { IfOk result (λ o. IfSome (S.image space.old) (λ i. IsOpened shape.now head 0 (xa_words (behind_entry (vword i) asked.now (Some head)) shape.now (head.value - 2)) o)) }
+    requires { pass.now.shape.chunk ≤ 64 }
+    ensures site { WalksAs (λ _. claims.new) (λ i. passed claims.old (node_site pass.now.asked pass.now.shape None (head.value - 2) (xa_words (behind_entry (vword i) pass.now.asked (Some head)) pass.now.shape (head.value - 2)))) (S.image space.old) result }
+    ensures opened { IfOk result (λ o. IfSome (S.image space.old) (λ i. IsOpened pass.now.shape head 0 (xa_words (behind_entry (vword i) pass.now.asked (Some head)) pass.now.shape (head.value - 2)) o)) }
     ensures small { IfOk result (λ o. o.shift ≤ 60) }
-    ensures size { IfOk result (λ o. length o.slots ≡ shape.now.chunk) }
-    ensures more { OnOk result (length claims.new ≡ length claims.old + (shape.now.chunk + 2)) }
-    ensures named { IsNamed result asked.now.audit asked.now.start }
-    ensures steps { steps.new ≤ steps.old + node_steps (S.most space.old) shape.now.chunk }
+    ensures size { IfOk result (λ o. length o.slots ≡ pass.now.shape.chunk) }
+    ensures more { OnOk result (length claims.new ≡ length claims.old + (pass.now.shape.chunk + 2)) }
+    ensures named { IsNamed result pass.now.asked.audit pass.now.asked.start }
+    ensures steps { steps.new ≤ steps.old + node_steps (S.most space.old) pass.now.shape.chunk }
 
     ensures stays { SpaceStays S.image S.files S.through S.most space.old space.new }
     ensures cause { CountsWalkFaults result (S.faults space.old) (S.faults space.new) }
 {
+    let alloc = pass.alloc;
+    let asked = &pass.asked;
+    let shape = &pass.shape;
     open_node(alloc, space, shape, asked, claims, None, head, 0, steps)
 }
 
 // Walks an xarray.
 fn walk_head<S: Space, L: Ledger>(
-    alloc: Global,
+    pass: &XaPass,
     space: &mut S,
-    shape: &XaShape,
-    asked: &Asked,
     steps: &mut Steps<L>,
 ) -> Result<XaWalked, WalkStop>
-    requires chunk { shape.now.chunk ≤ 64 }
-    requires some { 2 ≤ shape.now.chunk }
-    ensures walk { WalksAs (λ w. w) (λ i. xa_judged i shape.now asked.now.audit asked.now.start) (S.image space.old) result }
-    ensures named { IsNamed result asked.now.audit asked.now.start }
+    requires chunk { pass.now.shape.chunk ≤ 64 }
+    requires some { 2 ≤ pass.now.shape.chunk }
+    ensures walk { WalksAs (λ w. w) (λ i. xa_judged i pass.now.shape pass.now.asked.audit pass.now.asked.start) (S.image space.old) result }
+    ensures named { IsNamed result pass.now.asked.audit pass.now.asked.start }
     ensures bound { WithinSteps (S.image space.old) (S.most space.old) steps.old steps.new }
 
     ensures stays { SpaceStays S.image S.files S.through S.most space.old space.new }
     ensures cause { CountsWalkFaults result (S.faults space.old) (S.faults space.new) }
 {
-    let mut claims = Claims::new(alloc);
-    let mut walked = XaWalked::new(alloc);
-    let head = match read_head(alloc, space, shape, asked, steps) {
+    let mut claims = Claims::new(pass.alloc);
+    let mut walked = XaWalked::new(pass.alloc);
+    let head = match read_head(pass.alloc, space, &pass.shape, &pass.asked, steps) {
         Ok(word) => word,
         Err(stop) => return Err(stop),
     };
-    match take_word(alloc, &mut claims, asked, &head) {
+    match take_word(pass.alloc, &mut claims, &pass.asked, &head) {
         Ok(()) => {}
         Err(stop) => return Err(stop),
     }
-    let kind = entry_of(shape, &head);
+    let kind = entry_of(&pass.shape, &head);
     if let Some(rule) = head_fault(kind) {
-        return Err(broken_at(alloc, asked, rule, &head, None));
+        return Err(broken_at(pass.alloc, &pass.asked, rule, &head, None));
     }
     match kind {
         XaEntry::Pointer => {
@@ -107,20 +107,11 @@ fn walk_head<S: Space, L: Ledger>(
             Ok(walked)
         }
         XaEntry::Node => {
-            let node = match open_root(alloc, space, shape, asked, &mut claims, head, steps) {
+            let node = match open_root(pass, space, &mut claims, head, steps) {
                 Ok(node) => node,
                 Err(stop) => return Err(stop),
             };
-            match walk_slots(
-                alloc,
-                space,
-                shape,
-                asked,
-                &mut claims,
-                &mut walked,
-                &node,
-                steps,
-            ) {
+            match walk_slots(pass, space, &mut claims, &mut walked, &node, steps) {
                 Ok(()) => Ok(walked),
                 Err(stop) => Err(stop),
             }
@@ -155,6 +146,10 @@ pub fn xa_walk<S: Space, L: Ledger>(
     ensures cause { CountsWalkFaults result (S.faults space.old) (S.faults space.new) }
 {
     know_chunk(shape);
-    let asked = Asked { audit, start };
-    walk_head(alloc, space, shape, &asked, steps)
+    let pass = XaPass {
+        alloc,
+        asked: Asked { audit, start },
+        shape: *shape,
+    };
+    walk_head(&pass, space, steps)
 }

@@ -10,6 +10,7 @@ ghost use Rattle.kc_xa.specs.Listed.Falling.{IsSound};
 
 use crate::listed::spots::XaSpot;
 use crate::listed::steps::{enter_head, pass_spot};
+use crate::pass::XaPass;
 use kc_found::{Asked, Claims, Space, TestStop, Walked, XaShape};
 use kc_word::{NoMemory, Steps};
 use std::alloc::Global;
@@ -29,24 +30,22 @@ fn push_number(numbers: &mut Walked, number: u64) -> Result<(), TestStop>
 // The entries at positions, the last one first, with all below them. A node's shift is below that of the node above it, so this
 // ends whatever the memory tells.
 fn list_numbers<S: Space, L: Ledger>(
-    alloc: Global,
+    pass: &XaPass,
     space: &mut S,
-    shape: &XaShape,
-    asked: &Asked,
     claims: &mut Claims,
     pending: &mut Vec<XaSpot>,
     steps: &mut Steps<L>,
 ) -> Result<Walked, TestStop>
-    requires { AllByRecursion (IsSound shape.now.chunk) pending.old.items }
-    ensures lists { ListsAs (λ i ns. listed (xa_course i shape.now asked.now) claims.old (reverse pending.old.items) ns) (S.image space.old) result }
+    requires { AllByRecursion (IsSound pass.now.shape.chunk) pending.old.items }
+    ensures lists { ListsAs (λ i ns. listed (xa_course i pass.now.shape pass.now.asked) claims.old (reverse pending.old.items) ns) (S.image space.old) result }
 
     ensures stays { SpaceStays S.image S.files S.through S.most space.old space.new }
     ensures cause { CountsTestFaults result (S.faults space.old) (S.faults space.new) }
 {
-    let mut numbers = Walked::new(alloc);
+    let mut numbers = Walked::new(pass.alloc);
     while let Some(spot) = pending.pop() {
         push_number(&mut numbers, spot.word.value)?;
-        pass_spot(alloc, space, shape, asked, claims, pending, &spot, steps)?;
+        pass_spot(pass, space, claims, pending, &spot, steps)?;
     }
     Ok(numbers)
 }
@@ -71,14 +70,10 @@ pub fn list_xarray<S: Space, L: Ledger>(
     let mut claims = Claims::new(alloc);
     let mut pending = Vec::new(alloc);
     enter_head(alloc, space, shape, start, &mut claims, &mut pending, steps)?;
-    let asked = Asked { audit: 0, start };
-    list_numbers(
+    let pass = XaPass {
         alloc,
-        space,
-        shape,
-        &asked,
-        &mut claims,
-        &mut pending,
-        steps,
-    )
+        asked: Asked { audit: 0, start },
+        shape: *shape,
+    };
+    list_numbers(&pass, space, &mut claims, &mut pending, steps)
 }

@@ -10,6 +10,7 @@ ghost use Rattle.kc_xa.specs.Listed.Falling.{IsSound};
 use crate::entry_of;
 use crate::listed::spots::XaSpot;
 use crate::listed::steps::{enter_head, pass_spot};
+use crate::pass::XaPass;
 use kc_found::{Asked, Claims, Space, TestStop, Walked, XaEntry, XaItem, XaShape, XaWalked};
 use kc_word::{NoMemory, Steps};
 use std::alloc::Global;
@@ -42,24 +43,22 @@ fn push_pointer(items: &mut XaWalked, shape: &XaShape, spot: &XaSpot) -> Result<
 // Tests whether these numbers are the entries at positions, the last one first, with all below them, and gives the pointers among
 // them.
 fn test_numbers<S: Space, L: Ledger>(
-    alloc: Global,
+    pass: &XaPass,
     space: &mut S,
-    shape: &XaShape,
-    asked: &Asked,
     claims: &mut Claims,
     pending: &mut Vec<XaSpot>,
     numbers: &Walked,
     steps: &mut Steps<L>,
 ) -> Result<XaWalked, TestStop>
-    requires { AllByRecursion (IsSound shape.now.chunk) pending.old.items }
-    ensures test { TellsAs (λ i. listed (xa_course i shape.now asked.now) claims.old (reverse pending.old.items) numbers.now) (S.image space.old) result }
-    ensures items { IfOk result (λ items. IfSome (S.image space.old) (λ i. items ≡ items_at (xa_course i shape.now asked.now) (reverse pending.old.items) numbers.now)) }
+    requires { AllByRecursion (IsSound pass.now.shape.chunk) pending.old.items }
+    ensures test { TellsAs (λ i. listed (xa_course i pass.now.shape pass.now.asked) claims.old (reverse pending.old.items) numbers.now) (S.image space.old) result }
+    ensures items { IfOk result (λ items. IfSome (S.image space.old) (λ i. items ≡ items_at (xa_course i pass.now.shape pass.now.asked) (reverse pending.old.items) numbers.now)) }
     ensures steps { steps.new ≤ steps.old + 420 * length numbers.now }
 
     ensures stays { SpaceStays S.image S.files S.through S.most space.old space.new }
     ensures cause { CountsTestFaults result (S.faults space.old) (S.faults space.new) }
 {
-    let mut items = XaWalked::new(alloc);
+    let mut items = XaWalked::new(pass.alloc);
     for i in 0..numbers.len() {
         let number = *numbers.get(i);
         let spot = match pending.pop() {
@@ -69,8 +68,8 @@ fn test_numbers<S: Space, L: Ledger>(
         if number != spot.word.value {
             return Err(TestStop::Unfit);
         }
-        push_pointer(&mut items, shape, &spot)?;
-        pass_spot(alloc, space, shape, asked, claims, pending, &spot, steps)?;
+        push_pointer(&mut items, &pass.shape, &spot)?;
+        pass_spot(pass, space, claims, pending, &spot, steps)?;
     }
     if pending.len() == 0 {
         Ok(items)
@@ -104,17 +103,12 @@ pub fn xarray_items<S: Space, L: Ledger>(
     let mut claims = Claims::new(alloc);
     let mut pending = Vec::new(alloc);
     enter_head(alloc, space, shape, start, &mut claims, &mut pending, steps)?;
-    let asked = Asked { audit: 0, start };
-    test_numbers(
+    let pass = XaPass {
         alloc,
-        space,
-        shape,
-        &asked,
-        &mut claims,
-        &mut pending,
-        numbers,
-        steps,
-    )
+        asked: Asked { audit: 0, start },
+        shape: *shape,
+    };
+    test_numbers(&pass, space, &mut claims, &mut pending, numbers, steps)
 }
 
 /// Tests whether these numbers are the entries of the xarray at a virtual address, as `xarray_items` does.

@@ -9,6 +9,7 @@ ghost use Rattle.kc_xa.specs.Listed.Entries.{is_xarray, items_at, items_in, list
 ghost use Rattle.kc_xa.specs.Listed.Falling.{IsSound, weights, weight};
 
 use crate::listed::spots::{XaSpot, head_spot, push_slots, push_spot};
+use crate::pass::XaPass;
 use crate::{entry_of, know_chunk, open_node, read_head};
 use kc_found::{
     Asked, Claims, Space, TestStop, XaEntry, XaShape, know_most, take_word, test_stop_of,
@@ -69,20 +70,18 @@ fn is_node(kind: XaEntry) -> bool
 // What follows a position: its entry breaks no rule, and where it leads to a node, that node's words are read and taken, and its
 // slots are to be looked at next.
 pub(crate) fn pass_spot<S: Space, L: Ledger>(
-    alloc: Global,
+    pass: &XaPass,
     space: &mut S,
-    shape: &XaShape,
-    asked: &Asked,
     claims: &mut Claims,
     pending: &mut Vec<XaSpot>,
     spot: &XaSpot,
     steps: &mut Steps<L>,
 ) -> Result<(), TestStop>
-    requires spot { IsSound shape.now.chunk spot.now }
-    requires pending { AllByRecursion (IsSound shape.now.chunk) pending.old.items }
-    ensures passes { PassesAs (λ i ns. listed (xa_course i shape.now asked.now) claims.old (spot.now ∷ reverse pending.old.items) (spot.now.word.value ∷ ns)) (λ i ns. listed (xa_course i shape.now asked.now) claims.new (reverse pending.new.items) ns) (S.image space.old) result }
-    ensures next { OnOk result (IfSome (S.image space.old) (λ i. reverse pending.new.items ≡ spots_next (xa_course i shape.now asked.now) spot.now ++ reverse pending.old.items)) }
-    ensures sound { OnOk result (AllByRecursion (IsSound shape.now.chunk) pending.new.items) }
+    requires spot { IsSound pass.now.shape.chunk spot.now }
+    requires pending { AllByRecursion (IsSound pass.now.shape.chunk) pending.old.items }
+    ensures passes { PassesAs (λ i ns. listed (xa_course i pass.now.shape pass.now.asked) claims.old (spot.now ∷ reverse pending.old.items) (spot.now.word.value ∷ ns)) (λ i ns. listed (xa_course i pass.now.shape pass.now.asked) claims.new (reverse pending.new.items) ns) (S.image space.old) result }
+    ensures next { OnOk result (IfSome (S.image space.old) (λ i. reverse pending.new.items ≡ spots_next (xa_course i pass.now.shape pass.now.asked) spot.now ++ reverse pending.old.items)) }
+    ensures sound { OnOk result (AllByRecursion (IsSound pass.now.shape.chunk) pending.new.items) }
     ensures falls { OnOk result (weights pending.new.items < weight spot.now + weights pending.old.items) }
     ensures steps { steps.new ≤ steps.old + 420 }
 
@@ -92,16 +91,16 @@ pub(crate) fn pass_spot<S: Space, L: Ledger>(
     if spot.fault.is_some() {
         return Err(TestStop::Unfit);
     }
-    if !is_node(entry_of(shape, &spot.word)) {
+    if !is_node(entry_of(&pass.shape, &spot.word)) {
         return Ok(());
     }
     know_most(space);
-    know_chunk(shape);
+    know_chunk(&pass.shape);
     let node = match open_node(
-        alloc,
+        pass.alloc,
         space,
-        shape,
-        asked,
+        &pass.shape,
+        &pass.asked,
         claims,
         spot.holder,
         spot.word,
@@ -111,5 +110,5 @@ pub(crate) fn pass_spot<S: Space, L: Ledger>(
         Ok(node) => node,
         Err(stop) => return Err(test_stop_of(stop)),
     };
-    push_slots(pending, shape, &node)
+    push_slots(pending, &pass.shape, &node)
 }

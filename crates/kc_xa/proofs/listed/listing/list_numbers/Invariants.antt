@@ -7,10 +7,10 @@ use Rattle.kc_xa.proofs.listed.listing.list_numbers.Given as goal
 
 abbrev pub invariant-loop-spot : goal.invariant-loop-spot
 invariant-loop-spot g l =
-    Writes (g.S.Space.image l.fn.space) l.shape l.asked (After l.shape l.asked l.fn.claims l.fn.pending.items) l.claims l.pending.items l.numbers
+    Writes (g.S.Space.image l.fn.space) l.pass.shape l.pass.asked (After l.pass.shape l.pass.asked l.fn.claims l.fn.pending.items) l.claims l.pending.items l.numbers
     × SpaceStays g.S.Space.image g.S.Space.files g.S.Space.through g.S.Space.most l.fn.space l.space
     × (g.S.Space.faults l.space ≡ g.S.Space.faults l.fn.space)
-    × AllByRecursion (IsSound l.shape.chunk) l.pending.items
+    × AllByRecursion (IsSound l.pass.shape.chunk) l.pending.items
 
 -- what is left weighs less
 abbrev pub decreases-loop-spot : goal.decreases-loop-spot
