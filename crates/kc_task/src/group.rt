@@ -6,14 +6,14 @@ ghost use Rattle.kc_steps.specs.Chains.{WalkPays, size};
 ghost use Rattle.kc_steps.specs.TasksBy.{leader_by, passed_by, thread_by, threads_by};
 ghost use Rattle.kc_view.specs.TaskLists.{IsInside, among_checked, group_of, is_among, tgid_checked, thread_head};
 
+use crate::pass::TaskPass;
 use crate::rings::tasks_on;
 use crate::thread::check_thread;
 use kc_btf::Btf;
-use kc_found::{Asked, Rule, Space, WalkStop, Walked, broken_at, broken_field, know_most, stopped};
+use kc_found::{Rule, Space, WalkStop, Walked, broken_at, broken_field, know_most, stopped};
 use kc_steps::{Rings, check_field, read_field};
 use kc_view::{TaskShape, ThreadGroup, View};
 use kc_word::Steps;
-use std::alloc::Global;
 use std::sync::ledger::Ledger;
 
 // The head of the ring of a group's threads.
@@ -25,21 +25,22 @@ fn thread_head(shape: &TaskShape, group: &ThreadGroup) -> u64
 
 // Looks at the numbers of a leader, and gives that of its group.
 fn check_tgid<S: Space, L: Ledger>(
-    alloc: Global,
+    pass: &TaskPass,
     space: &mut S,
-    asked: &Asked,
-    shape: &TaskShape,
     leader: &View<'_>,
     steps: &mut Steps<L>,
 ) -> Result<u64, WalkStop>
-    ensures exact { WalksAs (λ n. n) (λ i. tgid_checked i asked.now shape.now leader.now.at)
+    ensures exact { WalksAs (λ n. n) (λ i. tgid_checked i pass.now.asked pass.now.shape leader.now.at)
         (S.image space.old) result }
-    ensures named { IsNamed result asked.now.audit asked.now.start }
+    ensures named { IsNamed result pass.now.asked.audit pass.now.asked.start }
     ensures steps { steps.new ≤ steps.old + 120 }
 
     ensures stays { SpaceStays S.image S.files S.through S.most space.old space.new }
     ensures cause { CountsWalkFaults result (S.faults space.old) (S.faults space.new) }
 {
+    let alloc = pass.alloc;
+    let asked = &pass.asked;
+    let shape = &pass.shape;
     let pid = read_field(alloc, space, asked, leader, &shape.pid, steps)?;
     let tgid = read_field(alloc, space, asked, leader, &shape.tgid, steps)?.value();
     if pid.value() != tgid {
@@ -50,26 +51,27 @@ fn check_tgid<S: Space, L: Ledger>(
 
 // Looks at a leader, and gives what its group shares.
 fn read_group<S: Space, L: Ledger>(
-    alloc: Global,
+    pass: &TaskPass,
     space: &mut S,
-    asked: &Asked,
     btf: &Btf,
-    shape: &TaskShape,
     leader: u64,
     steps: &mut Steps<L>,
 ) -> Result<ThreadGroup, WalkStop>
-    requires { IsInside shape.now btf.now }
-    ensures exact { WalksAs (λ g. g) (λ i. group_of i asked.now shape.now leader) (S.image space.old) result }
-    ensures named { IsNamed result asked.now.audit asked.now.start }
+    requires { IsInside pass.now.shape btf.now }
+    ensures exact { WalksAs (λ g. g) (λ i. group_of i pass.now.asked pass.now.shape leader) (S.image space.old) result }
+    ensures named { IsNamed result pass.now.asked.audit pass.now.asked.start }
     ensures steps { steps.new ≤ steps.old + 240 }
 
     ensures stays { SpaceStays S.image S.files S.through S.most space.old space.new }
     ensures cause { CountsWalkFaults result (S.faults space.old) (S.faults space.new) }
 {
+    let alloc = pass.alloc;
+    let asked = &pass.asked;
+    let shape = &pass.shape;
     let task = View::new(btf, shape.task, leader);
     let field = &shape.group_leader;
     check_field(alloc, space, asked, Rule::T1, &task, field, leader, steps)?;
-    let tgid = check_tgid(alloc, space, asked, shape, &task, steps)?;
+    let tgid = check_tgid(pass, space, &task, steps)?;
     let signal = read_field(alloc, space, asked, &task, &shape.signal, steps)?.value();
     Ok(ThreadGroup {
         leader,
@@ -87,17 +89,15 @@ fn is_among(tasks: &Walked, task: u64) -> bool
 
 // Looks at whether the leader of a group is among its threads.
 fn check_among<S: Space, L: Ledger>(
-    alloc: Global,
+    pass: &TaskPass,
     space: &mut S,
-    asked: &Asked,
-    shape: &TaskShape,
     group: &ThreadGroup,
     threads: &Walked,
     steps: &mut Steps<L>,
 ) -> Result<(), WalkStop>
-    ensures exact { WalksAs (λ _. tt) (λ i. among_checked i asked.now shape.now group.now threads.now)
+    ensures exact { WalksAs (λ _. tt) (λ i. among_checked i pass.now.asked pass.now.shape group.now threads.now)
         (S.image space.old) result }
-    ensures named { IsNamed result asked.now.audit asked.now.start }
+    ensures named { IsNamed result pass.now.asked.audit pass.now.asked.start }
     ensures steps { steps.new ≤ steps.old + 6 }
 
     ensures stays { SpaceStays S.image S.files S.through S.most space.old space.new }
@@ -107,30 +107,28 @@ fn check_among<S: Space, L: Ledger>(
     if is_among(threads, group.leader) {
         return Ok(());
     }
-    let next = thread_head(shape, group).wrapping_add(shape.list.next);
+    let next = thread_head(&pass.shape, group).wrapping_add(pass.shape.list.next);
     match space.word(next, steps) {
-        Ok(word) => Err(broken_at(alloc, asked, Rule::T7, &word, Some(group.leader))),
-        Err(stop) => Err(stopped(alloc, asked, stop, None)),
+        Ok(word) => Err(broken_at(pass.alloc, &pass.asked, Rule::T7, &word, Some(group.leader))),
+        Err(stop) => Err(stopped(pass.alloc, &pass.asked, stop, None)),
     }
 }
 
 // Looks at the threads of a group, one by one.
 fn check_all<S: Space, R: Rings, L: Ledger>(
-    alloc: Global,
+    pass: &TaskPass,
     space: &mut S,
     rings: &mut R,
-    asked: &Asked,
     btf: &Btf,
-    shape: &TaskShape,
     group: &ThreadGroup,
     threads: &Walked,
     steps: &mut Steps<L>,
 ) -> Result<(), WalkStop>
-    requires { IsInside shape.now btf.now }
+    requires { IsInside pass.now.shape btf.now }
     ensures exact { WalksAs (λ _. R.lists rings.new)
-        (λ i. passed_by (thread_by i (R.ring_by i) asked.now shape.now group.now) threads.now (R.lists rings.old))
+        (λ i. passed_by (thread_by i (R.ring_by i) pass.now.asked pass.now.shape group.now) threads.now (R.lists rings.old))
         (S.image space.old) result }
-    ensures named { IsNamed result asked.now.audit asked.now.start }
+    ensures named { IsNamed result pass.now.asked.audit pass.now.asked.start }
     ensures pays { R.paid → WalkPays result (246 * length threads.now) (246 * length threads.now) (size (R.lists rings.old))
         (size (R.lists rings.new)) steps.old steps.new }
 
@@ -140,7 +138,7 @@ fn check_all<S: Space, R: Rings, L: Ledger>(
     let mut i = 0;
     while i < threads.len() {
         let at = *threads.get(i);
-        match check_thread(alloc, space, rings, asked, btf, shape, group, at, steps) {
+        match check_thread(pass, space, rings, btf, group, at, steps) {
             Ok(()) => {}
             Err(stop) => return Err(stop),
         }
@@ -151,64 +149,49 @@ fn check_all<S: Space, R: Rings, L: Ledger>(
 
 // Looks at the threads of a group, and gives them.
 fn check_threads<S: Space, R: Rings, L: Ledger>(
-    alloc: Global,
+    pass: &TaskPass,
     space: &mut S,
     rings: &mut R,
-    asked: &Asked,
     btf: &Btf,
-    shape: &TaskShape,
     group: &ThreadGroup,
     steps: &mut Steps<L>,
 ) -> Result<Walked, WalkStop>
-    requires { IsInside shape.now btf.now }
+    requires { IsInside pass.now.shape btf.now }
     ensures exact { WalksAs (λ threads. (threads, R.lists rings.new))
-        (λ i. threads_by i (R.ring_by i) asked.now shape.now group.now (R.lists rings.old)) (S.image space.old) result }
-    ensures named { IsNamed result asked.now.audit asked.now.start }
+        (λ i. threads_by i (R.ring_by i) pass.now.asked pass.now.shape group.now (R.lists rings.old)) (S.image space.old) result }
+    ensures named { IsNamed result pass.now.asked.audit pass.now.asked.start }
     ensures pays { R.paid → WalkPays result 0 0 (size (R.lists rings.old))
         (size (R.lists rings.new)) steps.old steps.new }
 
     ensures stays { SpaceStays S.image S.files S.through S.most space.old space.new }
     ensures cause { CountsWalkFaults result (S.faults space.old) (S.faults space.new) }
 {
-    let head = thread_head(shape, group);
-    let threads = tasks_on(
-        alloc,
-        space,
-        rings,
-        asked,
-        shape,
-        head,
-        shape.thread_node,
-        steps,
-    )?;
-    check_among(alloc, space, asked, shape, group, &threads, steps)?;
-    check_all(
-        alloc, space, rings, asked, btf, shape, group, &threads, steps,
-    )?;
+    let head = thread_head(&pass.shape, group);
+    let threads = tasks_on(pass, space, rings, head, pass.shape.thread_node, steps)?;
+    check_among(pass, space, group, &threads, steps)?;
+    check_all(pass, space, rings, btf, group, &threads, steps)?;
     Ok(threads)
 }
 
 // Looks at the group of a leader, and gives its threads.
 pub(crate) fn check_leader<S: Space, R: Rings, L: Ledger>(
-    alloc: Global,
+    pass: &TaskPass,
     space: &mut S,
     rings: &mut R,
-    asked: &Asked,
     btf: &Btf,
-    shape: &TaskShape,
     leader: u64,
     steps: &mut Steps<L>,
 ) -> Result<Walked, WalkStop>
-    requires { IsInside shape.now btf.now }
+    requires { IsInside pass.now.shape btf.now }
     ensures exact { WalksAs (λ threads. (threads, R.lists rings.new))
-        (λ i. leader_by i (R.ring_by i) asked.now shape.now leader (R.lists rings.old)) (S.image space.old) result }
-    ensures named { IsNamed result asked.now.audit asked.now.start }
+        (λ i. leader_by i (R.ring_by i) pass.now.asked pass.now.shape leader (R.lists rings.old)) (S.image space.old) result }
+    ensures named { IsNamed result pass.now.asked.audit pass.now.asked.start }
     ensures pays { R.paid → WalkPays result 240 240 (size (R.lists rings.old))
         (size (R.lists rings.new)) steps.old steps.new }
 
     ensures stays { SpaceStays S.image S.files S.through S.most space.old space.new }
     ensures cause { CountsWalkFaults result (S.faults space.old) (S.faults space.new) }
 {
-    let group = read_group(alloc, space, asked, btf, shape, leader, steps)?;
-    check_threads(alloc, space, rings, asked, btf, shape, &group, steps)
+    let group = read_group(pass, space, btf, leader, steps)?;
+    check_threads(pass, space, rings, btf, &group, steps)
 }

@@ -3,6 +3,7 @@
 
 mod group;
 mod laws;
+mod pass;
 mod rings;
 mod thread;
 mod walk;

@@ -8,13 +8,13 @@ ghost use Rattle.kc_steps.specs.Chains.{WalkPays, size};
 ghost use Rattle.kc_steps.specs.TasksBy.{children_by, thread_by};
 ghost use Rattle.kc_view.specs.TaskLists.{IsInside, all_pass, end_checked, shared_checked, stack_checked};
 
+use crate::pass::TaskPass;
 use crate::rings::tasks_on;
 use kc_btf::Btf;
-use kc_found::{Asked, Rule, Space, WalkStop, Walked, broken_at, know_most, stopped};
+use kc_found::{Rule, Space, WalkStop, Walked, broken_at, know_most, stopped};
 use kc_steps::{Rings, check_field, read_field};
-use kc_view::{TaskShape, ThreadGroup, View};
+use kc_view::{ThreadGroup, View};
 use kc_word::Steps;
-use std::alloc::Global;
 use std::sync::ledger::Ledger;
 
 // The word at the end of a kernel stack.
@@ -22,25 +22,26 @@ const STACK_END: u64 = 0x57ac_6e9d;
 
 // Looks at the parent of each of these children.
 fn check_parents<S: Space, L: Ledger>(
-    alloc: Global,
+    pass: &TaskPass,
     space: &mut S,
-    asked: &Asked,
     btf: &Btf,
-    shape: &TaskShape,
     owner: u64,
     children: &Walked,
     steps: &mut Steps<L>,
 ) -> Result<(), WalkStop>
-    requires { IsInside shape.now btf.now }
+    requires { IsInside pass.now.shape btf.now }
     ensures exact { WalksAs (λ _. tt)
-        (λ i. all_pass (λ child. holds i asked.now T5 child shape.now.real_parent owner) children.now)
+        (λ i. all_pass (λ child. holds i pass.now.asked T5 child pass.now.shape.real_parent owner) children.now)
         (S.image space.old) result }
-    ensures named { IsNamed result asked.now.audit asked.now.start }
+    ensures named { IsNamed result pass.now.asked.audit pass.now.asked.start }
     ensures steps { steps.new ≤ steps.old + 60 * length children.now }
 
     ensures stays { SpaceStays S.image S.files S.through S.most space.old space.new }
     ensures cause { CountsWalkFaults result (S.faults space.old) (S.faults space.new) }
 {
+    let alloc = pass.alloc;
+    let asked = &pass.asked;
+    let shape = &pass.shape;
     let mut i = 0;
     while i < children.len() {
         let child = View::new(btf, shape.task, *children.get(i));
@@ -56,49 +57,37 @@ fn check_parents<S: Space, L: Ledger>(
 
 // Looks at the children of a task.
 fn check_children<S: Space, R: Rings, L: Ledger>(
-    alloc: Global,
+    pass: &TaskPass,
     space: &mut S,
     rings: &mut R,
-    asked: &Asked,
     btf: &Btf,
-    shape: &TaskShape,
     owner: u64,
     steps: &mut Steps<L>,
 ) -> Result<(), WalkStop>
-    requires { IsInside shape.now btf.now }
+    requires { IsInside pass.now.shape btf.now }
     ensures exact { WalksAs (λ _. R.lists rings.new)
-        (λ i. children_by i (R.ring_by i) asked.now shape.now owner (R.lists rings.old)) (S.image space.old) result }
-    ensures named { IsNamed result asked.now.audit asked.now.start }
+        (λ i. children_by i (R.ring_by i) pass.now.asked pass.now.shape owner (R.lists rings.old)) (S.image space.old) result }
+    ensures named { IsNamed result pass.now.asked.audit pass.now.asked.start }
     ensures pays { R.paid → WalkPays result 0 0 (size (R.lists rings.old))
         (size (R.lists rings.new)) steps.old steps.new }
 
     ensures stays { SpaceStays S.image S.files S.through S.most space.old space.new }
     ensures cause { CountsWalkFaults result (S.faults space.old) (S.faults space.new) }
 {
-    let head = owner.wrapping_add(shape.children);
-    let children = tasks_on(
-        alloc,
-        space,
-        rings,
-        asked,
-        shape,
-        head,
-        shape.sibling,
-        steps,
-    )?;
-    check_parents(alloc, space, asked, btf, shape, owner, &children, steps)
+    let head = owner.wrapping_add(pass.shape.children);
+    let children = tasks_on(pass, space, rings, head, pass.shape.sibling, steps)?;
+    check_parents(pass, space, btf, owner, &children, steps)
 }
 
 // Looks at the last word of a stack, unless there is no stack.
 fn check_end<S: Space, L: Ledger>(
-    alloc: Global,
+    pass: &TaskPass,
     space: &mut S,
-    asked: &Asked,
     stack: u64,
     steps: &mut Steps<L>,
 ) -> Result<(), WalkStop>
-    ensures exact { WalksAs (λ _. tt) (λ i. end_checked i asked.now stack) (S.image space.old) result }
-    ensures named { IsNamed result asked.now.audit asked.now.start }
+    ensures exact { WalksAs (λ _. tt) (λ i. end_checked i pass.now.asked stack) (S.image space.old) result }
+    ensures named { IsNamed result pass.now.asked.audit pass.now.asked.start }
     ensures steps { steps.new ≤ steps.old + 6 }
 
     ensures stays { SpaceStays S.image S.files S.through S.most space.old space.new }
@@ -110,53 +99,53 @@ fn check_end<S: Space, L: Ledger>(
     }
     let word = match space.word(stack, steps) {
         Ok(word) => word,
-        Err(stop) => return Err(stopped(alloc, asked, stop, None)),
+        Err(stop) => return Err(stopped(pass.alloc, &pass.asked, stop, None)),
     };
     if word.value != STACK_END {
-        return Err(broken_at(alloc, asked, Rule::T6, &word, Some(STACK_END)));
+        return Err(broken_at(pass.alloc, &pass.asked, Rule::T6, &word, Some(STACK_END)));
     }
     Ok(())
 }
 
 // Looks at the stack of a task.
 fn check_stack<S: Space, L: Ledger>(
-    alloc: Global,
+    pass: &TaskPass,
     space: &mut S,
-    asked: &Asked,
-    shape: &TaskShape,
     task: &View<'_>,
     steps: &mut Steps<L>,
 ) -> Result<(), WalkStop>
-    ensures exact { WalksAs (λ _. tt) (λ i. stack_checked i asked.now shape.now task.now.at)
+    ensures exact { WalksAs (λ _. tt) (λ i. stack_checked i pass.now.asked pass.now.shape task.now.at)
         (S.image space.old) result }
-    ensures named { IsNamed result asked.now.audit asked.now.start }
+    ensures named { IsNamed result pass.now.asked.audit pass.now.asked.start }
     ensures steps { steps.new ≤ steps.old + 66 }
 
     ensures stays { SpaceStays S.image S.files S.through S.most space.old space.new }
     ensures cause { CountsWalkFaults result (S.faults space.old) (S.faults space.new) }
 {
-    let stack = read_field(alloc, space, asked, task, &shape.stack, steps)?.value();
-    check_end(alloc, space, asked, stack, steps)
+    let field = &pass.shape.stack;
+    let stack = read_field(pass.alloc, space, &pass.asked, task, field, steps)?.value();
+    check_end(pass, space, stack, steps)
 }
 
 // Looks at what a thread shares with its group.
 fn check_shared<S: Space, L: Ledger>(
-    alloc: Global,
+    pass: &TaskPass,
     space: &mut S,
-    asked: &Asked,
-    shape: &TaskShape,
     group: &ThreadGroup,
     thread: &View<'_>,
     steps: &mut Steps<L>,
 ) -> Result<(), WalkStop>
-    ensures exact { WalksAs (λ _. tt) (λ i. shared_checked i asked.now shape.now group.now thread.now.at)
+    ensures exact { WalksAs (λ _. tt) (λ i. shared_checked i pass.now.asked pass.now.shape group.now thread.now.at)
         (S.image space.old) result }
-    ensures named { IsNamed result asked.now.audit asked.now.start }
+    ensures named { IsNamed result pass.now.asked.audit pass.now.asked.start }
     ensures steps { steps.new ≤ steps.old + 180 }
 
     ensures stays { SpaceStays S.image S.files S.through S.most space.old space.new }
     ensures cause { CountsWalkFaults result (S.faults space.old) (S.faults space.new) }
 {
+    let alloc = pass.alloc;
+    let asked = &pass.asked;
+    let shape = &pass.shape;
     let ThreadGroup {
         leader,
         signal,
@@ -172,28 +161,26 @@ fn check_shared<S: Space, L: Ledger>(
 
 // Looks at a thread of a group.
 pub(crate) fn check_thread<S: Space, R: Rings, L: Ledger>(
-    alloc: Global,
+    pass: &TaskPass,
     space: &mut S,
     rings: &mut R,
-    asked: &Asked,
     btf: &Btf,
-    shape: &TaskShape,
     group: &ThreadGroup,
     at: u64,
     steps: &mut Steps<L>,
 ) -> Result<(), WalkStop>
-    requires { IsInside shape.now btf.now }
+    requires { IsInside pass.now.shape btf.now }
     ensures exact { WalksAs (λ _. R.lists rings.new)
-        (λ i. thread_by i (R.ring_by i) asked.now shape.now group.now at (R.lists rings.old)) (S.image space.old) result }
-    ensures named { IsNamed result asked.now.audit asked.now.start }
+        (λ i. thread_by i (R.ring_by i) pass.now.asked pass.now.shape group.now at (R.lists rings.old)) (S.image space.old) result }
+    ensures named { IsNamed result pass.now.asked.audit pass.now.asked.start }
     ensures pays { R.paid → WalkPays result 246 246 (size (R.lists rings.old))
         (size (R.lists rings.new)) steps.old steps.new }
 
     ensures stays { SpaceStays S.image S.files S.through S.most space.old space.new }
     ensures cause { CountsWalkFaults result (S.faults space.old) (S.faults space.new) }
 {
-    let thread = View::new(btf, shape.task, at);
-    check_shared(alloc, space, asked, shape, group, &thread, steps)?;
-    check_children(alloc, space, rings, asked, btf, shape, at, steps)?;
-    check_stack(alloc, space, asked, shape, &thread, steps)
+    let thread = View::new(btf, pass.shape.task, at);
+    check_shared(pass, space, group, &thread, steps)?;
+    check_children(pass, space, rings, btf, at, steps)?;
+    check_stack(pass, space, &thread, steps)
 }

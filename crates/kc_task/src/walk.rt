@@ -9,6 +9,7 @@ ghost use Rattle.kc_steps.specs.TasksBy.{gathered_by, leader_by, tasks_all_by};
 ghost use Rattle.kc_view.specs.TaskLists.{IsInside, task_list};
 
 use crate::group::check_leader;
+use crate::pass::TaskPass;
 use crate::rings::tasks_on;
 use crate::walks::Walks;
 use kc_btf::Btf;
@@ -42,29 +43,27 @@ fn all_leaders(alloc: Global, first: u64, others: &Walked) -> Result<Walked, NoM
 
 // Looks at the group of a leader, and adds its threads.
 fn add_threads<S: Space, R: Rings, L: Ledger>(
-    alloc: Global,
+    pass: &TaskPass,
     space: &mut S,
     rings: &mut R,
-    asked: &Asked,
     btf: &Btf,
-    shape: &TaskShape,
     leader: u64,
     threads: &mut Walked,
     steps: &mut Steps<L>,
 ) -> Result<(), WalkStop>
-    requires { IsInside shape.now btf.now }
+    requires { IsInside pass.now.shape btf.now }
     ensures exact { WalksAs {B = List ℕ × List (List ℕ)} (λ _. (threads.new, R.lists rings.new))
-        (λ i. and_then (leader_by i (R.ring_by i) asked.now shape.now leader (R.lists rings.old))
+        (λ i. and_then (leader_by i (R.ring_by i) pass.now.asked pass.now.shape leader (R.lists rings.old))
         (λ r. Ok (threads.old ++ r.0, r.1)))
         (S.image space.old) result }
-    ensures named { IsNamed result asked.now.audit asked.now.start }
+    ensures named { IsNamed result pass.now.asked.audit pass.now.asked.start }
     ensures pays { R.paid → WalkPays result 240 240 (size (R.lists rings.old))
         (size (R.lists rings.new)) steps.old steps.new }
 
     ensures stays { SpaceStays S.image S.files S.through S.most space.old space.new }
     ensures cause { CountsWalkFaults result (S.faults space.old) (S.faults space.new) }
 {
-    let more = check_leader(alloc, space, rings, asked, btf, shape, leader, steps)?;
+    let more = check_leader(pass, space, rings, btf, leader, steps)?;
     match append(threads, &more) {
         Ok(()) => Ok(()),
         Err(NoMemory) => Err(WalkStop::NoMemory),
@@ -73,41 +72,29 @@ fn add_threads<S: Space, R: Rings, L: Ledger>(
 
 // Looks at the groups of these leaders, and gives their threads.
 fn walk_groups<S: Space, R: Rings, L: Ledger>(
-    alloc: Global,
+    pass: &TaskPass,
     space: &mut S,
     rings: &mut R,
-    asked: &Asked,
     btf: &Btf,
-    shape: &TaskShape,
     leaders: &Walked,
     steps: &mut Steps<L>,
 ) -> Result<Walked, WalkStop>
-    requires { IsInside shape.now btf.now }
+    requires { IsInside pass.now.shape btf.now }
     ensures exact { WalksAs (λ threads. (threads, R.lists rings.new))
-        (λ i. gathered_by (leader_by i (R.ring_by i) asked.now shape.now) [] (R.lists rings.old) leaders.now)
+        (λ i. gathered_by (leader_by i (R.ring_by i) pass.now.asked pass.now.shape) [] (R.lists rings.old) leaders.now)
         (S.image space.old) result }
-    ensures named { IsNamed result asked.now.audit asked.now.start }
+    ensures named { IsNamed result pass.now.asked.audit pass.now.asked.start }
     ensures pays { R.paid → WalkPays result (240 * length leaders.now) (240 * length leaders.now) (size (R.lists rings.old))
         (size (R.lists rings.new)) steps.old steps.new }
 
     ensures stays { SpaceStays S.image S.files S.through S.most space.old space.new }
     ensures cause { CountsWalkFaults result (S.faults space.old) (S.faults space.new) }
 {
-    let mut threads = Walked::new(alloc);
+    let mut threads = Walked::new(pass.alloc);
     let mut i = 0;
     while i < leaders.len() {
         let leader = *leaders.get(i);
-        match add_threads(
-            alloc,
-            space,
-            rings,
-            asked,
-            btf,
-            shape,
-            leader,
-            &mut threads,
-            steps,
-        ) {
+        match add_threads(pass, space, rings, btf, leader, &mut threads, steps) {
             Ok(()) => {}
             Err(stop) => return Err(stop),
         }
@@ -143,12 +130,17 @@ pub fn tasks_walk_by<S: Space, R: Rings, L: Ledger>(
     ensures cause { CountsWalkFaults result (S.faults space.old) (S.faults space.new) }
 {
     let head = asked.start.wrapping_add(shape.tasks);
-    let others = tasks_on(alloc, space, rings, asked, shape, head, shape.tasks, steps)?;
+    let pass = TaskPass {
+        alloc,
+        asked: *asked,
+        shape: *shape,
+    };
+    let others = tasks_on(&pass, space, rings, head, shape.tasks, steps)?;
     let leaders = match all_leaders(alloc, asked.start, &others) {
         Ok(leaders) => leaders,
         Err(NoMemory) => return Err(WalkStop::NoMemory),
     };
-    walk_groups(alloc, space, rings, asked, btf, shape, &leaders, steps)
+    walk_groups(&pass, space, rings, btf, &leaders, steps)
 }
 
 // The threads of the task list, whose rings are walked.

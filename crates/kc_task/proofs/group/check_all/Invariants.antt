@@ -7,8 +7,8 @@ use Rattle.kc_task.proofs.group.check_all.Given as goal
 
 abbrev pub invariant-loop-i : goal.invariant-loop-i
 invariant-loop-i g l = record {
-  same : IfSome (g.S.Space.image l.fn.space) (λ im. passed_by (thread_by im (g.R.Rings.ring_by im) l.asked l.shape l.group) l.threads (g.R.Rings.lists l.fn.rings)
-      ≡ passed_by (thread_by im (g.R.Rings.ring_by im) l.asked l.shape l.group) (drop l.i l.threads) (g.R.Rings.lists l.rings));
+  same : IfSome (g.S.Space.image l.fn.space) (λ im. passed_by (thread_by im (g.R.Rings.ring_by im) l.pass.asked l.pass.shape l.group) l.threads (g.R.Rings.lists l.fn.rings)
+      ≡ passed_by (thread_by im (g.R.Rings.ring_by im) l.pass.asked l.pass.shape l.group) (drop l.i l.threads) (g.R.Rings.lists l.rings));
   inside : l.i ≤ length l.threads;
   stays : SpaceStays g.S.Space.image g.S.Space.files g.S.Space.through g.S.Space.most l.fn.space l.space;
   pays : g.R.Rings.paid → l.steps + 1000 * size (g.R.Rings.lists l.rings) ≤ l.fn.steps + 1000 * size (g.R.Rings.lists l.fn.rings) + 246 * l.i;

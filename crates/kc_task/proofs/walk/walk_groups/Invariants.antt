@@ -8,8 +8,8 @@ use Rattle.kc_task.proofs.walk.walk_groups.Given as goal
 abbrev pub invariant-loop-i : goal.invariant-loop-i
 invariant-loop-i g l = record {
   same : IfSome (g.S.Space.image l.fn.space) (λ im.
-      gathered_by (leader_by im (g.R.Rings.ring_by im) l.asked l.shape) [] (g.R.Rings.lists l.fn.rings) l.leaders
-      ≡ gathered_by (leader_by im (g.R.Rings.ring_by im) l.asked l.shape) l.threads (g.R.Rings.lists l.rings) (drop l.i l.leaders));
+      gathered_by (leader_by im (g.R.Rings.ring_by im) l.pass.asked l.pass.shape) [] (g.R.Rings.lists l.fn.rings) l.leaders
+      ≡ gathered_by (leader_by im (g.R.Rings.ring_by im) l.pass.asked l.pass.shape) l.threads (g.R.Rings.lists l.rings) (drop l.i l.leaders));
   inside : l.i ≤ length l.leaders;
   stays : SpaceStays g.S.Space.image g.S.Space.files g.S.Space.through g.S.Space.most l.fn.space l.space;
   pays : g.R.Rings.paid → l.steps + 1000 * size (g.R.Rings.lists l.rings) ≤ l.fn.steps + 1000 * size (g.R.Rings.lists l.fn.rings) + 240 * l.i;
