@@ -2,6 +2,7 @@
 #![tactic(auto)]
 
 mod cache;
+mod cache_pass;
 mod counted;
 mod free;
 mod kept;

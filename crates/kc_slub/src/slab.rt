@@ -7,11 +7,11 @@ ghost use Rattle.kc_steps.specs.Chains.{WalkPays, size};
 ghost use Rattle.kc_steps.specs.CachesBy.{counts_by, free_by, list_by, slab_by};
 ghost use Rattle.kc_view.specs.Caches.{grid_of, is_descriptor, page_of};
 
-use kc_found::{Asked, Grid, Rule, Scalar, Space, WalkStop, broken_field};
+use crate::cache_pass::{CachePass, FreeList};
+use kc_found::{Grid, Rule, Space, WalkStop, broken_field};
 use kc_steps::{Chains, check_field, read_field};
 use kc_view::{FieldNumber, SlabObjects, SlubBases, SlubShape, View};
 use kc_word::Steps;
-use std::alloc::Global;
 use std::sync::ledger::Ledger;
 
 // A physical address has 52 bits, so the number of a page is below this one.
@@ -59,163 +59,133 @@ pub fn grid_of(
 
 // Looks at a slab's free list, which is to have so many objects.
 fn check_list<S: Space, C: Chains, L: Ledger>(
-    alloc: Global,
+    pass: &CachePass,
     space: &mut S,
     chains: &mut C,
-    asked: &Asked,
-    grid: &Grid,
-    slab: u64,
-    wanted: u64,
-    inuse: &FieldNumber,
-    first: Scalar,
+    list: &FreeList,
     steps: &mut Steps<L>,
 ) -> Result<u64, WalkStop>
-    requires { IsGrid grid.now }
+    requires { IsGrid list.now.grid }
     ensures exact { WalksAs (λ s. (s, C.lists chains.new))
-        (λ i. list_by (C.free_by i) asked.now grid.now slab wanted inuse.now first (C.lists chains.old))
+        (λ i. list_by (C.free_by i) pass.now.asked list.now.grid list.now.slab list.now.wanted list.now.inuse list.now.first (C.lists chains.old))
         (S.image space.old) result }
-    ensures named { IsNamed result asked.now.audit asked.now.start }
+    ensures named { IsNamed result pass.now.asked.audit pass.now.asked.start }
     ensures pays { C.paid → WalkPays result 0 0 (size (C.lists chains.old))
         (size (C.lists chains.new)) steps.old steps.new }
 
     ensures stays { SpaceStays S.image S.files S.through S.most space.old space.new }
     ensures cause { CountsWalkFaults result (S.faults space.old) (S.faults space.new) }
 {
-    let free = match chains.free(alloc, space, asked, grid, first, steps) {
+    let asked = &pass.asked;
+    let free = match chains.free(pass.alloc, space, asked, &list.grid, list.first, steps) {
         Ok(free) => free,
         Err(stop) => return Err(stop),
     };
+    let wanted = list.wanted;
     if free.len() as u64 != wanted {
-        return Err(broken_field(
-            alloc,
-            asked,
-            Rule::U6,
-            inuse.at,
-            &inuse.number,
-            Some(wanted),
-        ));
+        let inuse = &list.inuse;
+        let wanted = Some(wanted);
+        return Err(broken_field(pass.alloc, asked, Rule::U6, inuse.at, &inuse.number, wanted));
     }
-    Ok(slab)
+    Ok(list.slab)
 }
 
 // Looks at a slab's free list, which is to have as many objects as aren't in use.
 fn check_free<S: Space, C: Chains, L: Ledger>(
-    alloc: Global,
+    pass: &CachePass,
     space: &mut S,
     chains: &mut C,
-    asked: &Asked,
-    shape: &SlubShape,
-    bases: &SlubBases,
-    objects: &SlabObjects,
     slab: &View<'_>,
     count: u64,
     inuse: &FieldNumber,
     steps: &mut Steps<L>,
 ) -> Result<u64, WalkStop>
-    requires some { 1 ≤ objects.now.size }
-    requires inside { objects.now.offset + 8 ≤ objects.now.size }
+    requires some { 1 ≤ pass.now.objects.size }
+    requires inside { pass.now.objects.offset + 8 ≤ pass.now.objects.size }
     ensures exact { WalksAs (λ s. (s, C.lists chains.new))
-        (λ i. free_by i (C.free_by i) asked.now shape.now bases.now objects.now slab.now.at count inuse.now (C.lists chains.old))
+        (λ i. free_by i (C.free_by i) pass.now.asked pass.now.shape pass.now.bases pass.now.objects slab.now.at count inuse.now (C.lists chains.old))
         (S.image space.old) result }
-    ensures named { IsNamed result asked.now.audit asked.now.start }
+    ensures named { IsNamed result pass.now.asked.audit pass.now.asked.start }
     ensures pays { C.paid → WalkPays result 60 60 (size (C.lists chains.old))
         (size (C.lists chains.new)) steps.old steps.new }
 
     ensures stays { SpaceStays S.image S.files S.through S.most space.old space.new }
     ensures cause { CountsWalkFaults result (S.faults space.old) (S.faults space.new) }
 {
-    let first = read_field(alloc, space, asked, slab, &shape.freelist, steps)?.number;
-    if !is_descriptor(shape, bases, slab.at()) {
-        return Err(broken_field(alloc, asked, Rule::U4, slab.at(), &first, None));
+    let field = &pass.shape.freelist;
+    let first = read_field(pass.alloc, space, &pass.asked, slab, field, steps)?.number;
+    let at = slab.at();
+    if !is_descriptor(&pass.shape, &pass.bases, at) {
+        return Err(broken_field(pass.alloc, &pass.asked, Rule::U4, at, &first, None));
     }
-    let grid = grid_of(shape, bases, objects, slab.at(), count);
-    let wanted = count.saturating_sub(inuse.value());
-    check_list(
-        alloc,
-        space,
-        chains,
-        asked,
-        &grid,
-        slab.at(),
-        wanted,
-        inuse,
+    let list = FreeList {
+        slab: at,
+        grid: grid_of(&pass.shape, &pass.bases, &pass.objects, at, count),
         first,
-        steps,
-    )
+        wanted: count.saturating_sub(inuse.value()),
+        inuse: *inuse,
+    };
+    check_list(pass, space, chains, &list, steps)
 }
 
 // Looks at a slab's numbers of objects, and then at its free list.
 fn check_counts<S: Space, C: Chains, L: Ledger>(
-    alloc: Global,
+    pass: &CachePass,
     space: &mut S,
     chains: &mut C,
-    asked: &Asked,
-    shape: &SlubShape,
-    bases: &SlubBases,
-    objects: &SlabObjects,
     slab: &View<'_>,
     steps: &mut Steps<L>,
 ) -> Result<u64, WalkStop>
-    requires some { 1 ≤ objects.now.size }
-    requires inside { objects.now.offset + 8 ≤ objects.now.size }
+    requires some { 1 ≤ pass.now.objects.size }
+    requires inside { pass.now.objects.offset + 8 ≤ pass.now.objects.size }
     ensures exact { WalksAs (λ s. (s, C.lists chains.new))
-        (λ i. counts_by i (C.free_by i) asked.now shape.now bases.now objects.now slab.now.at (C.lists chains.old))
+        (λ i. counts_by i (C.free_by i) pass.now.asked pass.now.shape pass.now.bases pass.now.objects slab.now.at (C.lists chains.old))
         (S.image space.old) result }
-    ensures named { IsNamed result asked.now.audit asked.now.start }
+    ensures named { IsNamed result pass.now.asked.audit pass.now.asked.start }
     ensures pays { C.paid → WalkPays result 180 180 (size (C.lists chains.old))
         (size (C.lists chains.new)) steps.old steps.new }
 
     ensures stays { SpaceStays S.image S.files S.through S.most space.old space.new }
     ensures cause { CountsWalkFaults result (S.faults space.old) (S.faults space.new) }
 {
-    let count = read_field(alloc, space, asked, slab, &shape.objects, steps)?;
-    let inuse = read_field(alloc, space, asked, slab, &shape.inuse, steps)?;
+    let asked = &pass.asked;
+    let shape = &pass.shape;
+    let count = read_field(pass.alloc, space, asked, slab, &shape.objects, steps)?;
+    let inuse = read_field(pass.alloc, space, asked, slab, &shape.inuse, steps)?;
     let most = count.value();
     if most == 0 || most < inuse.value() {
-        return Err(broken_field(alloc, asked, Rule::U3, count.at, &count.number, None));
+        let at = count.at;
+        return Err(broken_field(pass.alloc, asked, Rule::U3, at, &count.number, None));
     }
-    check_free(
-        alloc, space, chains, asked, shape, bases, objects, slab, most, &inuse, steps,
-    )
+    check_free(pass, space, chains, slab, most, &inuse, steps)
 }
 
 // Looks at a slab, and gives its address.
 pub(crate) fn check_slab<S: Space, C: Chains, L: Ledger>(
-    alloc: Global,
+    pass: &CachePass,
     space: &mut S,
     chains: &mut C,
-    asked: &Asked,
-    shape: &SlubShape,
-    bases: &SlubBases,
-    objects: &SlabObjects,
     slab: &View<'_>,
     steps: &mut Steps<L>,
 ) -> Result<u64, WalkStop>
-    requires some { 1 ≤ objects.now.size }
-    requires inside { objects.now.offset + 8 ≤ objects.now.size }
+    requires some { 1 ≤ pass.now.objects.size }
+    requires inside { pass.now.objects.offset + 8 ≤ pass.now.objects.size }
     ensures exact { WalksAs (λ s. (s, C.lists chains.new))
-        (λ i. slab_by i (C.free_by i) asked.now shape.now bases.now objects.now slab.now.at (C.lists chains.old))
+        (λ i. slab_by i (C.free_by i) pass.now.asked pass.now.shape pass.now.bases pass.now.objects slab.now.at (C.lists chains.old))
         (S.image space.old) result }
-    ensures named { IsNamed result asked.now.audit asked.now.start }
+    ensures named { IsNamed result pass.now.asked.audit pass.now.asked.start }
     ensures pays { C.paid → WalkPays result 300 300 (size (C.lists chains.old))
         (size (C.lists chains.new)) steps.old steps.new }
 
     ensures stays { SpaceStays S.image S.files S.through S.most space.old space.new }
     ensures cause { CountsWalkFaults result (S.faults space.old) (S.faults space.new) }
 {
-    let cache = &shape.slab_cache;
-    check_field(
-        alloc,
-        space,
-        asked,
-        Rule::U1,
-        slab,
-        cache,
-        asked.start,
-        steps,
-    )?;
-    check_field(alloc, space, asked, Rule::U2, slab, &shape.frozen, 0, steps)?;
-    check_counts(
-        alloc, space, chains, asked, shape, bases, objects, slab, steps,
-    )
+    let alloc = pass.alloc;
+    let asked = &pass.asked;
+    let cache = &pass.shape.slab_cache;
+    let wanted = asked.start;
+    check_field(alloc, space, asked, Rule::U1, slab, cache, wanted, steps)?;
+    let frozen = &pass.shape.frozen;
+    check_field(alloc, space, asked, Rule::U2, slab, frozen, 0, steps)?;
+    check_counts(pass, space, chains, slab, steps)
 }

@@ -8,6 +8,7 @@ ghost use Rattle.kc_view.specs.Caches.{IsInside, cache_slabs};
 ghost use Rattle.kc_view.specs.FiniteCaches.{NoSlub, Slub};
 
 use crate::cache::{read_bases, read_objects};
+use crate::cache_pass::CachePass;
 use crate::slab::check_slab;
 use crate::walks::Walks;
 use kc_btf::Btf;
@@ -17,32 +18,28 @@ use kc_found::{
 };
 use kc_list::know_lists;
 use kc_steps::{Chains, know_chains, read_field};
-use kc_view::{SlabObjects, SlubBases, SlubShape, View};
+use kc_view::{SlubShape, View};
 use kc_word::{Bits, Steps};
 use std::alloc::Global;
 use std::sync::ledger::Ledger;
 
 // Looks at the slabs of a ring's nodes.
 fn check_slabs<S: Space, C: Chains, L: Ledger>(
-    alloc: Global,
+    pass: &CachePass,
     space: &mut S,
     chains: &mut C,
-    asked: &Asked,
     btf: &Btf,
-    shape: &SlubShape,
-    bases: &SlubBases,
-    objects: &SlabObjects,
     nodes: &Walked,
     slabs: &mut Walked,
     steps: &mut Steps<L>,
 ) -> Result<(), WalkStop>
-    requires some { 1 ≤ objects.now.size }
-    requires inside { objects.now.offset + 8 ≤ objects.now.size }
-    requires types { IsInside shape.now btf.now }
+    requires some { 1 ≤ pass.now.objects.size }
+    requires inside { pass.now.objects.offset + 8 ≤ pass.now.objects.size }
+    requires types { IsInside pass.now.shape btf.now }
     ensures exact { WalksAs (λ _. (slabs.new, C.lists chains.new))
-        (λ i. slabs_by i (C.free_by i) asked.now shape.now bases.now objects.now slabs.old (C.lists chains.old) nodes.now)
+        (λ i. slabs_by i (C.free_by i) pass.now.asked pass.now.shape pass.now.bases pass.now.objects slabs.old (C.lists chains.old) nodes.now)
         (S.image space.old) result }
-    ensures named { IsNamed result asked.now.audit asked.now.start }
+    ensures named { IsNamed result pass.now.asked.audit pass.now.asked.start }
     ensures pays { C.paid → WalkPays result (300 * length nodes.now) (300 * length nodes.now) (size (C.lists chains.old))
         (size (C.lists chains.new)) steps.old steps.new }
 
@@ -51,11 +48,9 @@ fn check_slabs<S: Space, C: Chains, L: Ledger>(
 {
     let mut i = 0;
     while i < nodes.len() {
-        let at = nodes.get(i).wrapping_sub(shape.slab_list);
-        let view = View::new(btf, shape.slab, at);
-        let slab = match check_slab(
-            alloc, space, chains, asked, shape, bases, objects, &view, steps,
-        ) {
+        let at = nodes.get(i).wrapping_sub(pass.shape.slab_list);
+        let view = View::new(btf, pass.shape.slab, at);
+        let slab = match check_slab(pass, space, chains, &view, steps) {
             Ok(slab) => slab,
             Err(stop) => return Err(stop),
         };
@@ -70,67 +65,60 @@ fn check_slabs<S: Space, C: Chains, L: Ledger>(
 
 // Looks at the partial slabs of a node, and at how many it says they are.
 fn check_knode<S: Space, C: Chains, L: Ledger>(
-    alloc: Global,
+    pass: &CachePass,
     space: &mut S,
     chains: &mut C,
-    asked: &Asked,
     btf: &Btf,
-    shape: &SlubShape,
-    bases: &SlubBases,
-    objects: &SlabObjects,
     knode: u64,
     slabs: &mut Walked,
     steps: &mut Steps<L>,
 ) -> Result<(), WalkStop>
-    requires some { 1 ≤ objects.now.size }
-    requires inside { objects.now.offset + 8 ≤ objects.now.size }
-    requires types { IsInside shape.now btf.now }
+    requires some { 1 ≤ pass.now.objects.size }
+    requires inside { pass.now.objects.offset + 8 ≤ pass.now.objects.size }
+    requires types { IsInside pass.now.shape btf.now }
     ensures exact { WalksAs (λ _. (slabs.new, C.lists chains.new))
-        (λ i. knode_by i (C.ring_by i) (C.free_by i) asked.now shape.now bases.now objects.now slabs.old knode (C.lists chains.old))
+        (λ i. knode_by i (C.ring_by i) (C.free_by i) pass.now.asked pass.now.shape pass.now.bases pass.now.objects slabs.old knode (C.lists chains.old))
         (S.image space.old) result }
-    ensures named { IsNamed result asked.now.audit asked.now.start }
+    ensures named { IsNamed result pass.now.asked.audit pass.now.asked.start }
     ensures pays { C.paid → WalkPays result 0 60 (size (C.lists chains.old))
         (size (C.lists chains.new)) steps.old steps.new }
 
     ensures stays { SpaceStays S.image S.files S.through S.most space.old space.new }
     ensures cause { CountsWalkFaults result (S.faults space.old) (S.faults space.new) }
 {
+    let asked = &pass.asked;
+    let shape = &pass.shape;
     let view = View::new(btf, shape.knode, knode);
-    let said = read_field(alloc, space, asked, &view, &shape.nr_partial, steps)?;
+    let said = read_field(pass.alloc, space, asked, &view, &shape.nr_partial, steps)?;
     let head = knode.wrapping_add(shape.partial);
-    let nodes = chains.ring(alloc, space, asked, &shape.list, head, steps)?;
-    check_slabs(
-        alloc, space, chains, asked, btf, shape, bases, objects, &nodes, slabs, steps,
-    )?;
+    let nodes = chains.ring(pass.alloc, space, asked, &shape.list, head, steps)?;
+    check_slabs(pass, space, chains, btf, &nodes, slabs, steps)?;
     let wanted = nodes.len() as u64;
     if said.value() != wanted {
-        return Err(broken_field(alloc, asked, Rule::U7, said.at, &said.number, Some(wanted)));
+        let wanted = Some(wanted);
+        return Err(broken_field(pass.alloc, asked, Rule::U7, said.at, &said.number, wanted));
     }
     Ok(())
 }
 
 // Looks at the node of a pointer of the array `node`, unless the pointer is null.
 fn check_node<S: Space, C: Chains, L: Ledger>(
-    alloc: Global,
+    pass: &CachePass,
     space: &mut S,
     chains: &mut C,
-    asked: &Asked,
     btf: &Btf,
-    shape: &SlubShape,
-    bases: &SlubBases,
-    objects: &SlabObjects,
     i: u64,
     slabs: &mut Walked,
     steps: &mut Steps<L>,
 ) -> Result<(), WalkStop>
     requires index { i < 65536 }
-    requires some { 1 ≤ objects.now.size }
-    requires inside { objects.now.offset + 8 ≤ objects.now.size }
-    requires types { IsInside shape.now btf.now }
+    requires some { 1 ≤ pass.now.objects.size }
+    requires inside { pass.now.objects.offset + 8 ≤ pass.now.objects.size }
+    requires types { IsInside pass.now.shape btf.now }
     ensures exact { WalksAs (λ _. (slabs.new, C.lists chains.new))
-        (λ im. node_by im (C.ring_by im) (C.free_by im) asked.now shape.now bases.now objects.now slabs.old i (C.lists chains.old))
+        (λ im. node_by im (C.ring_by im) (C.free_by im) pass.now.asked pass.now.shape pass.now.bases pass.now.objects slabs.old i (C.lists chains.old))
         (S.image space.old) result }
-    ensures named { IsNamed result asked.now.audit asked.now.start }
+    ensures named { IsNamed result pass.now.asked.audit pass.now.asked.start }
     ensures pays { C.paid → WalkPays result 12 72 (size (C.lists chains.old))
         (size (C.lists chains.new)) steps.old steps.new }
 
@@ -143,51 +131,44 @@ fn check_node<S: Space, C: Chains, L: Ledger>(
         signed: false,
     };
     know_most(space);
-    let at = asked.start.wrapping_add(shape.node).wrapping_add(8 * i);
+    let array = pass.asked.start.wrapping_add(pass.shape.node);
+    let at = array.wrapping_add(8 * i);
     let knode = match read_bits(space, at, bits, steps) {
         Ok(pointer) => low_word(&pointer),
-        Err(stop) => return Err(stopped(alloc, asked, stop, None)),
+        Err(stop) => return Err(stopped(pass.alloc, &pass.asked, stop, None)),
     };
     if knode == 0 {
         return Ok(());
     }
-    check_knode(
-        alloc, space, chains, asked, btf, shape, bases, objects, knode, slabs, steps,
-    )
+    check_knode(pass, space, chains, btf, knode, slabs, steps)
 }
 
 // Looks at the nodes of the cache, and gives the slabs on their lists.
 fn walk_nodes<S: Space, C: Chains, L: Ledger>(
-    alloc: Global,
+    pass: &CachePass,
     space: &mut S,
     chains: &mut C,
-    asked: &Asked,
     btf: &Btf,
-    shape: &SlubShape,
-    bases: &SlubBases,
-    objects: &SlabObjects,
     steps: &mut Steps<L>,
 ) -> Result<Walked, WalkStop>
-    requires few { bases.now.nodes ≤ 65536 }
-    requires some { 1 ≤ objects.now.size }
-    requires inside { objects.now.offset + 8 ≤ objects.now.size }
-    requires types { IsInside shape.now btf.now }
+    requires few { pass.now.bases.nodes ≤ 65536 }
+    requires some { 1 ≤ pass.now.objects.size }
+    requires inside { pass.now.objects.offset + 8 ≤ pass.now.objects.size }
+    requires types { IsInside pass.now.shape btf.now }
     ensures exact { WalksAs (λ w. (w, C.lists chains.new))
-        (λ i. nodes_by i (C.ring_by i) (C.free_by i) asked.now shape.now bases.now objects.now bases.now.nodes 0 [] (C.lists chains.old))
+        (λ i. nodes_by i (C.ring_by i) (C.free_by i) pass.now.asked pass.now.shape pass.now.bases pass.now.objects pass.now.bases.nodes 0 [] (C.lists chains.old))
         (S.image space.old) result }
-    ensures named { IsNamed result asked.now.audit asked.now.start }
-    ensures pays { C.paid → WalkPays result (12 * bases.now.nodes) (12 * bases.now.nodes + 60) (size (C.lists chains.old))
+    ensures named { IsNamed result pass.now.asked.audit pass.now.asked.start }
+    ensures pays { C.paid → WalkPays result (12 * pass.now.bases.nodes) (12 * pass.now.bases.nodes + 60) (size (C.lists chains.old))
         (size (C.lists chains.new)) steps.old steps.new }
 
     ensures stays { SpaceStays S.image S.files S.through S.most space.old space.new }
     ensures cause { CountsWalkFaults result (S.faults space.old) (S.faults space.new) }
 {
-    let mut slabs = Walked::new(alloc);
+    let mut slabs = Walked::new(pass.alloc);
     let mut i = 0;
-    while i < bases.nodes {
-        match check_node(
-            alloc, space, chains, asked, btf, shape, bases, objects, i, &mut slabs, steps,
-        ) {
+    while i < pass.bases.nodes {
+        match check_node(pass, space, chains, btf, i, &mut slabs, steps) {
             Ok(()) => {}
             Err(stop) => return Err(stop),
         }
@@ -227,9 +208,14 @@ pub fn cache_walk_by<S: Space, C: Chains, L: Ledger>(
     let bases = read_bases(alloc, space, asked, shape, steps)?;
     let view = View::new(btf, shape.cache, asked.start);
     let objects = read_objects(alloc, space, asked, shape, &view, steps)?;
-    walk_nodes(
-        alloc, space, chains, asked, btf, shape, &bases, &objects, steps,
-    )
+    let pass = CachePass {
+        alloc,
+        asked: *asked,
+        shape: *shape,
+        bases,
+        objects,
+    };
+    walk_nodes(&pass, space, chains, btf, steps)
 }
 
 // The slabs on the lists of a cache, whose chains are walked.

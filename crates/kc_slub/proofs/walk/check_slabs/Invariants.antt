@@ -8,8 +8,8 @@ use Rattle.kc_slub.proofs.walk.check_slabs.Given as goal
 abbrev pub invariant-loop-i : goal.invariant-loop-i
 invariant-loop-i g l = record {
   same : IfSome (g.S.Space.image l.fn.space) (λ im.
-      slabs_by im (g.C.Chains.free_by im) l.asked l.shape l.bases l.objects l.fn.slabs (g.C.Rings.lists l.fn.chains) l.nodes
-      ≡ slabs_by im (g.C.Chains.free_by im) l.asked l.shape l.bases l.objects l.slabs (g.C.Rings.lists l.chains) (drop l.i l.nodes));
+      slabs_by im (g.C.Chains.free_by im) l.pass.asked l.pass.shape l.pass.bases l.pass.objects l.fn.slabs (g.C.Rings.lists l.fn.chains) l.nodes
+      ≡ slabs_by im (g.C.Chains.free_by im) l.pass.asked l.pass.shape l.pass.bases l.pass.objects l.slabs (g.C.Rings.lists l.chains) (drop l.i l.nodes));
   inside : l.i ≤ length l.nodes;
   stays : SpaceStays g.S.Space.image g.S.Space.files g.S.Space.through g.S.Space.most l.fn.space l.space;
   pays : g.C.Rings.paid → l.steps + 1000 * size (g.C.Rings.lists l.chains) ≤ l.fn.steps + 1000 * size (g.C.Rings.lists l.fn.chains) + 300 * l.i;
