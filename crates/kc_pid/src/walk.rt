@@ -8,6 +8,7 @@ ghost use Rattle.kc_view.specs.PidTables.{ids_in, pid_table};
 ghost use Rattle.kc_steps.specs.Chains.{WalkPays, size};
 ghost use Rattle.kc_steps.specs.PidsBy.{pids_by};
 
+use crate::pass::PidPass;
 use crate::pid::check_pid;
 use crate::walks::Walks;
 use kc_btf::Btf;
@@ -46,10 +47,15 @@ pub fn pids_walk_by<S: Space, C: HashChains, L: Ledger>(
     ensures stays { SpaceStays S.image S.files S.through S.most space.old space.new }
     ensures cause { CountsWalkFaults result (S.faults space.old) (S.faults space.new) }
 {
+    let pass = PidPass {
+        alloc,
+        asked: *asked,
+        shape: *shape,
+    };
     let mut i = 0;
     while i < items.len() {
         let item = items.get(i);
-        match check_pid(alloc, space, chains, asked, btf, shape, item, steps) {
+        match check_pid(&pass, space, chains, btf, item, steps) {
             Ok(()) => {}
             Err(stop) => return Err(stop),
         }

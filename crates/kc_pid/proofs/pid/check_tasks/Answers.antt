@@ -6,12 +6,12 @@ use Rattle.kc_pid.proofs.pid.check_tasks.Goals as goal
 
 pub returns-in-Err-clause-exact : goal.returns-in-Err-clause-exact
 returns-in-Err-clause-exact g c =
-    pass_stop (λ (x : Unit {0}). tt) (λ (x : Unit {0}). tt) (g.S.Space.image c.args.space.now) (λ i. task_names i c.args.asked.now c.args.shape.now c.args.pid) c.args.nodes.now c.loop-i.i c.get.result.now c.in-Err.stop
+    pass_stop (λ (x : Unit {0}). tt) (λ (x : Unit {0}). tt) (g.S.Space.image c.args.space.now) (λ i. task_names i c.args.pass.now.asked c.args.pass.now.shape c.args.pid) c.args.nodes.now c.loop-i.i c.get.result.now c.in-Err.stop
     c.loop-i.invariant.same c.get.ensures (rw (c.loop-i.invariant.stays.same_image, c.new-task.ensures) at c.in-Err.ensures.exact)
 
 pub loop-i-preserved : goal.loop-i-preserved
 loop-i-preserved g c = record {
-  same = pass_go (λ (x : Unit {0}). tt) (g.S.Space.image c.args.space.now) (λ i. task_names i c.args.asked.now c.args.shape.now c.args.pid) c.args.nodes.now c.loop-i.i _ c.get.result.now tt
+  same = pass_go (λ (x : Unit {0}). tt) (g.S.Space.image c.args.space.now) (λ i. task_names i c.args.pass.now.asked c.args.pass.now.shape c.args.pid) c.args.nodes.now c.loop-i.i _ c.get.result.now tt
       (omega arith) c.loop-i.invariant.same c.get.ensures (rw (c.loop-i.invariant.stays.same_image, c.new-task.ensures) at c.in-Ok.ensures.exact);
   inside = search rules;
   stays = stays_on g.S.Space.image g.S.Space.files g.S.Space.through g.S.Space.most _ _ _ c.loop-i.invariant.stays c.in-Ok.ensures.stays;
@@ -21,7 +21,7 @@ loop-i-preserved g c = record {
 
 pub returns-clause-exact : goal.returns-clause-exact
 returns-clause-exact g c =
-    pass_end (λ (x : Unit {0}). tt) (g.S.Space.image c.args.space.now) (λ i. task_names i c.args.asked.now c.args.shape.now c.args.pid) c.args.nodes.now c.loop-i.i _ c.loop-i.invariant.same (search rules)
+    pass_end (λ (x : Unit {0}). tt) (g.S.Space.image c.args.space.now) (λ i. task_names i c.args.pass.now.asked c.args.pass.now.shape c.args.pid) c.args.nodes.now c.loop-i.i _ c.loop-i.invariant.same (search rules)
 
 pub returns-in-Err-clause-steps : goal.returns-in-Err-clause-steps
 returns-in-Err-clause-steps g c =
