@@ -10,6 +10,7 @@ mod kernel;
 mod keys;
 mod laws;
 mod page;
+mod pass;
 mod shape;
 mod slab;
 mod spot;

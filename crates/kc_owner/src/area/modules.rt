@@ -29,6 +29,14 @@ pub struct InModule {
     pub byte: u64,
 }
 
+// A search for the module that has an address: its allocator, and where the words of modules stand.
+#[derive(Drop)]
+struct ModulePass {
+    alloc: Global,
+    shape: ModuleShape,
+    address: u64,
+}
+
 // The module that has a node of the ring of modules.
 fn module_by(link: u64, node: u64) -> u64
     ensures { result ≡ task_of link node }
@@ -46,43 +54,40 @@ fn part_at(shape: &PartShape, module_va: u64, number: u8) -> u64
 
 // The byte in a part of a module's memory.
 fn in_part<S: Space, L: Ledger>(
-    alloc: Global,
+    pass: &ModulePass,
     space: &mut S,
     btf: &Btf,
-    shape: &PartShape,
-    address: u64,
     module_va: u64,
     number: u8,
     steps: &mut Steps<L>,
 ) -> Result<Option<u64>, WalkStop>
-    ensures exact { WalksAs (λ byte. byte) (λ i. in_part i shape.now address module_va number) (S.image space.old) result }
+    ensures exact { WalksAs (λ byte. byte) (λ i. in_part i pass.now.shape.parts pass.now.address module_va number) (S.image space.old) result }
     ensures stays { SpaceStays S.image S.files S.through S.most space.old space.new }
     ensures cause { CountsWalkFaults result (S.faults space.old) (S.faults space.new) }
 {
     let asked = looked_at(module_va);
+    let shape = &pass.shape.parts;
     let view = view_at(btf, part_at(shape, module_va, number));
-    let base = read_field(alloc, space, &asked, &view, &shape.base, steps)?.value();
-    let size = read_field(alloc, space, &asked, &view, &shape.size, steps)?.value();
-    Ok(byte_of(base, size, address))
+    let base = read_field(pass.alloc, space, &asked, &view, &shape.base, steps)?.value();
+    let size = read_field(pass.alloc, space, &asked, &view, &shape.size, steps)?.value();
+    Ok(byte_of(base, size, pass.address))
 }
 
 // The byte in the first part that has an address.
 fn in_parts<S: Space, L: Ledger>(
-    alloc: Global,
+    pass: &ModulePass,
     space: &mut S,
     btf: &Btf,
-    shape: &PartShape,
-    address: u64,
     module_va: u64,
     steps: &mut Steps<L>,
 ) -> Result<Option<u64>, WalkStop>
-    ensures exact { WalksAs (λ byte. byte) (λ i. first_of (in_part i shape.now address module_va) (range_with_len 0 shape.now.count)) (S.image space.old) result }
+    ensures exact { WalksAs (λ byte. byte) (λ i. first_of (in_part i pass.now.shape.parts pass.now.address module_va) (range_with_len 0 pass.now.shape.parts.count)) (S.image space.old) result }
     ensures stays { SpaceStays S.image S.files S.through S.most space.old space.new }
     ensures cause { CountsWalkFaults result (S.faults space.old) (S.faults space.new) }
 {
     let mut missed: Option<Found> = None;
-    for number in 0..shape.count {
-        let told = in_part(alloc, space, btf, shape, address, module_va, number, steps);
+    for number in 0..pass.shape.parts.count {
+        let told = in_part(pass, space, btf, module_va, number, steps);
         match pass_broken(&mut missed, told) {
             Ok(None) => {}
             Ok(Some(found)) => return Ok(Some(found)),
@@ -94,24 +99,21 @@ fn in_parts<S: Space, L: Ledger>(
 
 // A module that has an address in its memory, with its name.
 fn in_module<S: Space, L: Ledger>(
-    alloc: Global,
+    pass: &ModulePass,
     space: &mut S,
     btf: &Btf,
-    shape: &ModuleShape,
-    address: u64,
     module_va: u64,
     steps: &mut Steps<L>,
 ) -> Result<Option<InModule>, WalkStop>
-    ensures exact { WalksAs (λ found. found) (λ i. in_module i shape.now address module_va) (S.image space.old) result }
+    ensures exact { WalksAs (λ found. found) (λ i. in_module i pass.now.shape pass.now.address module_va) (S.image space.old) result }
     ensures stays { SpaceStays S.image S.files S.through S.most space.old space.new }
     ensures cause { CountsWalkFaults result (S.faults space.old) (S.faults space.new) }
 {
-    let parts = &shape.parts;
-    let Some(byte) = in_parts(alloc, space, btf, parts, address, module_va, steps)? else {
+    let Some(byte) = in_parts(pass, space, btf, module_va, steps)? else {
         return Ok(None);
     };
-    let at = module_va.wrapping_add(shape.name.byte);
-    let name = read_text(alloc, space, at, shape.name.count, steps)?;
+    let at = module_va.wrapping_add(pass.shape.name.byte);
+    let name = read_text(pass.alloc, space, at, pass.shape.name.count, steps)?;
     Ok(Some(InModule {
         at: module_va,
         name,
@@ -121,15 +123,13 @@ fn in_module<S: Space, L: Ledger>(
 
 // The first module that has an address, of those that have these nodes.
 fn in_modules<S: Space, L: Ledger>(
-    alloc: Global,
+    pass: &ModulePass,
     space: &mut S,
     btf: &Btf,
-    shape: &ModuleShape,
-    address: u64,
     nodes: &Walked,
     steps: &mut Steps<L>,
 ) -> Result<Option<InModule>, WalkStop>
-    ensures exact { WalksAs (λ found. found) (λ i. first_of (λ node. in_module i shape.now address (task_of shape.now.link node)) nodes.now) (S.image space.old) result }
+    ensures exact { WalksAs (λ found. found) (λ i. first_of (λ node. in_module i pass.now.shape pass.now.address (task_of pass.now.shape.link node)) nodes.now) (S.image space.old) result }
     ensures stays { SpaceStays S.image S.files S.through S.most space.old space.new }
     ensures cause { CountsWalkFaults result (S.faults space.old) (S.faults space.new) }
 {
@@ -137,8 +137,8 @@ fn in_modules<S: Space, L: Ledger>(
     let mut i = 0;
     while i < nodes.len() {
         let node = *nodes.get(i);
-        let module_va = module_by(shape.link, node);
-        let told = in_module(alloc, space, btf, shape, address, module_va, steps);
+        let module_va = module_by(pass.shape.link, node);
+        let told = in_module(pass, space, btf, module_va, steps);
         match pass_broken(&mut missed, told) {
             Ok(None) => {}
             Ok(Some(found)) => return Ok(Some(found)),
@@ -163,6 +163,11 @@ pub(crate) fn read_module<S: Space, L: Ledger>(
     ensures cause { CountsWalkFaults result (S.faults space.old) (S.faults space.new) }
 {
     let ring = read_ring(alloc, space, &shape.list, shape.head, steps)?;
-    let found = in_modules(alloc, space, btf, shape, address, &ring.nodes, steps);
+    let pass = ModulePass {
+        alloc,
+        shape: *shape,
+        address,
+    };
+    let found = in_modules(&pass, space, btf, &ring.nodes, steps);
     despite_any(ring.broken, found)
 }

@@ -8,6 +8,7 @@ ghost use Rattle.kc_owner.specs.Object.Slabs.{held};
 use crate::looked_at;
 use crate::object::bases::read_bases;
 use crate::object::page::{Page, read_page};
+use crate::object::pass::ObjectPass;
 use crate::object::shape::ObjectShape;
 use crate::object::slab::{Slab, slab_at};
 use kc_btf::Btf;
@@ -45,8 +46,14 @@ pub fn find_object<S: Space, L: Ledger>(
     ensures cause { CountsWalkFaults result (S.faults space.old) (S.faults space.new) }
 {
     let bases = read_bases(alloc, space, &looked_at(pa), &shape.slub, steps)?;
-    let page = read_page(alloc, space, btf, shape, &bases, pa, steps)?;
-    let slab = match slab_at(alloc, space, btf, shape, &bases, page.head, pa, steps) {
+    let pass = ObjectPass {
+        alloc,
+        shape: *shape,
+        bases,
+        pa,
+    };
+    let page = read_page(&pass, space, btf, steps)?;
+    let slab = match slab_at(&pass, space, btf, page.head, steps) {
         Ok(slab) => Ok(slab),
         Err(WalkStop::Broken(found)) => Err(found),
         Err(stop) => return Err(stop),

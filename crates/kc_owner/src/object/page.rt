@@ -4,14 +4,13 @@ ghost use Rattle.kc_memory.specs.Stays.{SpaceStays};
 ghost use Rattle.kc_found.specs.Walks.{CountsWalkFaults, WalksAs};
 ghost use Rattle.kc_owner.specs.Object.Pages.{descriptor_of, head_of, page_of};
 
-use crate::object::shape::ObjectShape;
+use crate::object::pass::ObjectPass;
 use crate::{looked_at, view_at};
 use kc_btf::Btf;
 use kc_found::{Space, WalkStop};
 use kc_steps::read_field;
 use kc_view::{SlubBases, SlubShape};
 use kc_word::Steps;
-use std::alloc::Global;
 use std::sync::ledger::Ledger;
 
 /// A page of physical memory.
@@ -46,24 +45,22 @@ fn head_of(descriptor: u64, compound: u64) -> u64
 
 // The page that holds a physical address.
 pub(crate) fn read_page<S: Space, L: Ledger>(
-    alloc: Global,
+    pass: &ObjectPass,
     space: &mut S,
     btf: &Btf,
-    shape: &ObjectShape,
-    bases: &SlubBases,
-    pa: u64,
     steps: &mut Steps<L>,
 ) -> Result<Page, WalkStop>
-    ensures exact { WalksAs (λ p. p) (λ i. page_of i shape.now bases.now pa) (S.image space.old) result }
+    ensures exact { WalksAs (λ p. p) (λ i. page_of i pass.now.shape pass.now.bases pass.now.pa) (S.image space.old) result }
     ensures steps { steps.new ≤ steps.old + 60 }
     ensures stays { SpaceStays S.image S.files S.through S.most space.old space.new }
     ensures cause { CountsWalkFaults result (S.faults space.old) (S.faults space.new) }
 {
-    let number = pa / 4096;
-    let descriptor = descriptor_of(&shape.slub, bases, number);
+    let number = pass.pa / 4096;
+    let descriptor = descriptor_of(&pass.shape.slub, &pass.bases, number);
     let asked = looked_at(descriptor);
     let view = view_at(btf, descriptor);
-    let compound = read_field(alloc, space, &asked, &view, &shape.compound_head, steps)?.value();
+    let field = &pass.shape.compound_head;
+    let compound = read_field(pass.alloc, space, &asked, &view, field, steps)?.value();
     Ok(Page {
         number,
         descriptor,

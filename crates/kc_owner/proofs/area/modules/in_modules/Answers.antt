@@ -8,7 +8,7 @@ use Rattle.kc_owner.proofs.area.modules.in_modules.Goals as goal
 
 pub returns-in-Ok-Some-clause-exact : goal.returns-in-Ok-Some-clause-exact
 returns-in-Ok-Some-clause-exact g c =
-    found (g.S.Space.image c.args.space.now) (λ i node. in_module i c.args.shape.now c.args.address (task_of c.args.shape.now.link node)) c.args.nodes.now (drop c.loop-i.i c.args.nodes.now) (drop (c.loop-i.i + 1) c.args.nodes.now) c.loop-i.missed c.pass_broken.new.missed c.get-node.result.now c.in_module-told.result c.in-Ok-Some.found
+    found (g.S.Space.image c.args.space.now) (λ i node. in_module i c.args.pass.now.shape c.args.pass.now.address (task_of c.args.pass.now.shape.link node)) c.args.nodes.now (drop c.loop-i.i c.args.nodes.now) (drop (c.loop-i.i + 1) c.args.nodes.now) c.loop-i.missed c.pass_broken.new.missed c.get-node.result.now c.in_module-told.result c.in-Ok-Some.found
     (item c.args.nodes.now c.loop-i.i c.get-node.result.now c.get-node.ensures) c.loop-i.invariant.left (rw c.module_by-module_va.ensures at (rw c.loop-i.invariant.stays.same_image at c.in_module-told.ensures.exact)) (rw c.in-Ok-Some.field-0-is at c.in-Ok-Some.ensures)
 
 pub returns-in-Ok-Some-clause-cause : goal.returns-in-Ok-Some-clause-cause
@@ -24,7 +24,7 @@ returns-in-Err-clause-cause g c =
 
 pub loop-i-preserved : goal.loop-i-preserved
 loop-i-preserved g c = record {
-  left = next (g.S.Space.image c.args.space.now) (λ i node. in_module i c.args.shape.now c.args.address (task_of c.args.shape.now.link node)) c.args.nodes.now (drop c.loop-i.i c.args.nodes.now) (drop (c.loop-i.i + 1) c.args.nodes.now) c.loop-i.missed c.pass_broken.new.missed c.get-node.result.now c.in_module-told.result
+  left = next (g.S.Space.image c.args.space.now) (λ i node. in_module i c.args.pass.now.shape c.args.pass.now.address (task_of c.args.pass.now.shape.link node)) c.args.nodes.now (drop c.loop-i.i c.args.nodes.now) (drop (c.loop-i.i + 1) c.args.nodes.now) c.loop-i.missed c.pass_broken.new.missed c.get-node.result.now c.in_module-told.result
       (item c.args.nodes.now c.loop-i.i c.get-node.result.now c.get-node.ensures) c.loop-i.invariant.left (rw c.module_by-module_va.ensures at (rw c.loop-i.invariant.stays.same_image at c.in_module-told.ensures.exact)) (rw c.in-Ok-None.field-0-is at c.in-Ok-None.ensures);
   inside = search rules;
   stays = stays_on g.S.Space.image g.S.Space.files g.S.Space.through g.S.Space.most _ _ _ c.loop-i.invariant.stays c.in_module-told.ensures.stays;
@@ -33,7 +33,7 @@ loop-i-preserved g c = record {
 
 pub returns-clause-exact : goal.returns-clause-exact
 returns-clause-exact g c =
-    done (g.S.Space.image c.args.space.now) (λ i node. in_module i c.args.shape.now c.args.address (task_of c.args.shape.now.link node)) c.args.nodes.now (drop c.loop-i.i c.args.nodes.now) c.loop-i.missed c.none_found.result
+    done (g.S.Space.image c.args.space.now) (λ i node. in_module i c.args.pass.now.shape c.args.pass.now.address (task_of c.args.pass.now.shape.link node)) c.args.nodes.now (drop c.loop-i.i c.args.nodes.now) c.loop-i.missed c.none_found.result
     (drop_of_length-le c.args.nodes.now (search rules)) c.loop-i.invariant.left c.none_found.ensures
 
 pub returns-clause-cause : goal.returns-clause-cause

@@ -7,8 +7,8 @@ use Rattle.kc_owner.proofs.area.modules.in_parts.Goals as goal
 
 pub returns-in-Ok-Some-clause-exact : goal.returns-in-Ok-Some-clause-exact
 returns-in-Ok-Some-clause-exact g c =
-    found (g.S.Space.image c.args.space.now) (λ i. in_part i c.args.shape.now c.args.address c.args.module_va) (range_with_len 0 c.args.shape.now.count) (range_with_len c.loop-number.number (c.args.shape.now.count - c.loop-number.number)) (range_with_len (c.loop-number.number + 1) (c.args.shape.now.count - (c.loop-number.number + 1))) c.loop-number.missed c.pass_broken.new.missed c.loop-number.number c.in_part-told.result c.in-Ok-Some.found
-    (numbers_on c.loop-number.number c.args.shape.now.count (omega arith)) c.loop-number.invariant.left (rw c.loop-number.invariant.stays.same_image at c.in_part-told.ensures.exact) (rw c.in-Ok-Some.field-0-is at c.in-Ok-Some.ensures)
+    found (g.S.Space.image c.args.space.now) (λ i. in_part i c.args.pass.now.shape.parts c.args.pass.now.address c.args.module_va) (range_with_len 0 c.args.pass.now.shape.parts.count) (range_with_len c.loop-number.number (c.args.pass.now.shape.parts.count - c.loop-number.number)) (range_with_len (c.loop-number.number + 1) (c.args.pass.now.shape.parts.count - (c.loop-number.number + 1))) c.loop-number.missed c.pass_broken.new.missed c.loop-number.number c.in_part-told.result c.in-Ok-Some.found
+    (numbers_on c.loop-number.number c.args.pass.now.shape.parts.count (omega arith)) c.loop-number.invariant.left (rw c.loop-number.invariant.stays.same_image at c.in_part-told.ensures.exact) (rw c.in-Ok-Some.field-0-is at c.in-Ok-Some.ensures)
 
 pub returns-in-Ok-Some-clause-cause : goal.returns-in-Ok-Some-clause-cause
 returns-in-Ok-Some-clause-cause g c =
@@ -23,16 +23,16 @@ returns-in-Err-clause-cause g c =
 
 pub loop-number-preserved : goal.loop-number-preserved
 loop-number-preserved g c = record {
-  left = next (g.S.Space.image c.args.space.now) (λ i. in_part i c.args.shape.now c.args.address c.args.module_va) (range_with_len 0 c.args.shape.now.count) (range_with_len c.loop-number.number (c.args.shape.now.count - c.loop-number.number)) (range_with_len (c.loop-number.number + 1) (c.args.shape.now.count - (c.loop-number.number + 1))) c.loop-number.missed c.pass_broken.new.missed c.loop-number.number c.in_part-told.result
-      (numbers_on c.loop-number.number c.args.shape.now.count (omega arith)) c.loop-number.invariant.left (rw c.loop-number.invariant.stays.same_image at c.in_part-told.ensures.exact) (rw c.in-Ok-None.field-0-is at c.in-Ok-None.ensures);
+  left = next (g.S.Space.image c.args.space.now) (λ i. in_part i c.args.pass.now.shape.parts c.args.pass.now.address c.args.module_va) (range_with_len 0 c.args.pass.now.shape.parts.count) (range_with_len c.loop-number.number (c.args.pass.now.shape.parts.count - c.loop-number.number)) (range_with_len (c.loop-number.number + 1) (c.args.pass.now.shape.parts.count - (c.loop-number.number + 1))) c.loop-number.missed c.pass_broken.new.missed c.loop-number.number c.in_part-told.result
+      (numbers_on c.loop-number.number c.args.pass.now.shape.parts.count (omega arith)) c.loop-number.invariant.left (rw c.loop-number.invariant.stays.same_image at c.in_part-told.ensures.exact) (rw c.in-Ok-None.field-0-is at c.in-Ok-None.ensures);
   stays = stays_on g.S.Space.image g.S.Space.files g.S.Space.through g.S.Space.most _ _ _ c.loop-number.invariant.stays c.in_part-told.ensures.stays;
   quiet = counts c.loop-number.missed c.pass_broken.new.missed c.in_part-told.result _ _ _ _ c.in-Ok-None.ensures c.loop-number.invariant.quiet c.in_part-told.ensures.cause;
 }
 
 pub returns-clause-exact : goal.returns-clause-exact
 returns-clause-exact g c =
-    done (g.S.Space.image c.args.space.now) (λ i. in_part i c.args.shape.now c.args.address c.args.module_va) (range_with_len 0 c.args.shape.now.count) (range_with_len c.loop-number.number (c.args.shape.now.count - c.loop-number.number)) c.loop-number.missed c.none_found.result
-    (no_numbers c.loop-number.number c.args.shape.now.count (omega arith)) c.loop-number.invariant.left c.none_found.ensures
+    done (g.S.Space.image c.args.space.now) (λ i. in_part i c.args.pass.now.shape.parts c.args.pass.now.address c.args.module_va) (range_with_len 0 c.args.pass.now.shape.parts.count) (range_with_len c.loop-number.number (c.args.pass.now.shape.parts.count - c.loop-number.number)) c.loop-number.missed c.none_found.result
+    (no_numbers c.loop-number.number c.args.pass.now.shape.parts.count (omega arith)) c.loop-number.invariant.left c.none_found.ensures
 
 pub returns-clause-cause : goal.returns-clause-cause
 returns-clause-cause g c = none_quiet c.loop-number.missed c.none_found.result _ _ c.none_found.ensures c.loop-number.invariant.quiet
