@@ -73,7 +73,6 @@ fn counts_at(alloc: Global, counts: &Counts, audits: &Audits) -> Result<Counts, 
 
 // What a root audit comes to, which reaches these audits.
 fn judged<S: Space, L: Ledger>(
-    alloc: Global,
     known: &Known<'_>,
     space: &mut S,
     root: &Asked,
@@ -92,12 +91,12 @@ fn judged<S: Space, L: Ledger>(
     ensures stays { SpaceStays S.image S.files S.through S.most space.old space.new }
     ensures cause { CountsFailures result (S.faults space.old) (S.faults space.new) }
 {
-    let mut counts = match no_walks(alloc, known.plan) {
+    let mut counts = match no_walks(known.alloc, known.plan) {
         Ok(counts) => counts,
         Err(NoMemory) => return Err(ReadFailed::NoMemory),
     };
-    match enter(alloc, known, space, &mut counts, root, steps) {
-        Ok(()) => match counts_at(alloc, &counts, audits) {
+    match enter(known, space, &mut counts, root, steps) {
+        Ok(()) => match counts_at(known.alloc, &counts, audits) {
             Ok(counts) => Ok(Verdict::Clean(counts)),
             Err(NoMemory) => Err(ReadFailed::NoMemory),
         },
@@ -109,7 +108,6 @@ fn judged<S: Space, L: Ledger>(
 
 // The verdict on a root audit.
 fn root_verdict<S: Space, L: Ledger>(
-    alloc: Global,
     known: &Known<'_>,
     space: &mut S,
     root: &Asked,
@@ -126,11 +124,11 @@ fn root_verdict<S: Space, L: Ledger>(
     ensures stays { SpaceStays S.image S.files S.through S.most space.old space.new }
     ensures cause { CountsFailures result (S.faults space.old) (S.faults space.new) }
 {
-    let audits = match reached_from(alloc, known.plan, root.audit) {
+    let audits = match reached_from(known.alloc, known.plan, root.audit) {
         Ok(audits) => audits,
         Err(NoMemory) => return Err(ReadFailed::NoMemory),
     };
-    let verdict = judged(alloc, known, space, root, &audits, steps)?;
+    let verdict = judged(known, space, root, &audits, steps)?;
     Ok(RootVerdict {
         root: root.audit,
         audits,
@@ -186,12 +184,11 @@ pub fn run_root<S: Space, L: Ledger>(
     ensures cause { CountsFailures result (S.faults space.old) (S.faults space.new) }
 {
     know_verdicts();
-    root_verdict(alloc, &Known { plan, btf }, space, root, steps)
+    root_verdict(&Known { alloc, plan, btf }, space, root, steps)
 }
 
 // Adds the verdict on an audit, where it is a root audit.
 fn add_root<S: Space, L: Ledger>(
-    alloc: Global,
     known: &Known<'_>,
     space: &mut S,
     verdicts: &mut Verdicts,
@@ -216,7 +213,7 @@ fn add_root<S: Space, L: Ledger>(
         audit: number,
         start: *symbol,
     };
-    let verdict = root_verdict(alloc, known, space, &root, steps)?;
+    let verdict = root_verdict(known, space, &root, steps)?;
     match verdicts.push(verdict) {
         Ok(()) => Ok(()),
         Err(NoMemory) => Err(ReadFailed::NoMemory),
@@ -254,11 +251,11 @@ pub fn run_each<S: Space, L: Ledger>(
     ensures cause { CountsFailures result (S.faults space.old) (S.faults space.new) }
 {
     know_verdicts();
-    let known = Known { plan, btf };
+    let known = Known { alloc, plan, btf };
     let mut verdicts = Verdicts::new(alloc);
     for number in 0..plan.count() {
         let start = &plan.audit(number).start;
-        add_root(alloc, &known, space, &mut verdicts, number, start, steps)?;
+        add_root(&known, space, &mut verdicts, number, start, steps)?;
     }
     Ok(verdicts)
 }

@@ -26,9 +26,10 @@ use std::sync::ledger::Ledger;
 // The number of no type: a path is followed by its offsets alone.
 const NO_TYPE: u32 = 0;
 
-// A plan, and the types that it was read with.
+// A plan, the types that it was read with, and what its audits take memory of.
 #[derive(Clone, Copy)]
 pub(crate) struct Known<'p> {
+    pub alloc: Global,
     pub plan: &'p Plan,
     pub btf: &'p Btf,
 }
@@ -36,7 +37,6 @@ pub(crate) struct Known<'p> {
 // Makes an audit, whose path is followed from a base.
 #[cycle(nested)]
 pub(crate) fn enter<S: Space, L: Ledger>(
-    alloc: Global,
     known: &Known<'_>,
     space: &mut S,
     counts: &mut Counts,
@@ -65,23 +65,22 @@ pub(crate) fn enter<S: Space, L: Ledger>(
                 audit: base.audit,
                 start: start.at(),
             };
-            look(alloc, known, space, counts, audit, &asked, steps)
+            look(known, space, counts, audit, &asked, steps)
         }
         Ok(Led::Null(place, at)) => {
             if is_optional(&audit.start) {
                 Ok(())
             } else {
-                Err(null_pointer(alloc, base, place, at))
+                Err(null_pointer(known.alloc, base, place, at))
             }
         }
-        Err(stop) => Err(stopped(alloc, base, stop, None)),
+        Err(stop) => Err(stopped(known.alloc, base, stop, None)),
     }
 }
 
 // Walks an audit from its start, and then makes the audits below its elements, one by one.
 #[cycle(nested)]
 fn look<S: Space, L: Ledger>(
-    alloc: Global,
     known: &Known<'_>,
     space: &mut S,
     counts: &mut Counts,
@@ -106,11 +105,11 @@ fn look<S: Space, L: Ledger>(
     ensures stays { SpaceStays S.image S.files S.through S.most space.old space.new }
     ensures cause { CountsWalkFaults result (S.faults space.old) (S.faults space.new) }
 {
-    let nodes = walk(alloc, known.btf, space, &audit.kind, asked, steps)?;
+    let nodes = walk(known.alloc, known.btf, space, &audit.kind, asked, steps)?;
     count_walk(counts, asked.audit, nodes.len());
     for i in 0..nodes.len() {
         let element = container_of(audit.link, *nodes.get(i));
-        look_below(alloc, known, space, counts, audit, asked, element, steps)?;
+        look_below(known, space, counts, audit, asked, element, steps)?;
     }
     Ok(())
 }
@@ -118,7 +117,6 @@ fn look<S: Space, L: Ledger>(
 // Looks at the checks of an element that an audit met from its start, and then makes the audits below it.
 #[cycle(nested)]
 fn look_below<S: Space, L: Ledger>(
-    alloc: Global,
     known: &Known<'_>,
     space: &mut S,
     counts: &mut Counts,
@@ -143,7 +141,7 @@ fn look_below<S: Space, L: Ledger>(
     ensures cause { CountsWalkFaults result (S.faults space.old) (S.faults space.new) }
 {
     look_checks(
-        alloc,
+        known.alloc,
         known.btf,
         space,
         asked,
@@ -156,7 +154,7 @@ fn look_below<S: Space, L: Ledger>(
             audit: *audit.each.get(i),
             start: element,
         };
-        enter(alloc, known, space, counts, &base, steps)?;
+        enter(known, space, counts, &base, steps)?;
     }
     Ok(())
 }

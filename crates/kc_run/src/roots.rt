@@ -23,7 +23,6 @@ use std::sync::ledger::Ledger;
 
 // Makes an audit, where it is a root audit.
 fn enter_root<S: Space, L: Ledger>(
-    alloc: Global,
     known: &Known<'_>,
     space: &mut S,
     counts: &mut Counts,
@@ -50,7 +49,7 @@ fn enter_root<S: Space, L: Ledger>(
                 audit: number,
                 start: *symbol,
             };
-            enter(alloc, known, space, counts, &base, steps)
+            enter(known, space, counts, &base, steps)
         }
         Start::From { .. } => Ok(()),
     }
@@ -58,7 +57,6 @@ fn enter_root<S: Space, L: Ledger>(
 
 // Makes the root audits, in the order of the plan.
 fn enter_roots<S: Space, L: Ledger>(
-    alloc: Global,
     known: &Known<'_>,
     space: &mut S,
     counts: &mut Counts,
@@ -77,7 +75,7 @@ fn enter_roots<S: Space, L: Ledger>(
 {
     for number in 0..known.plan.count() {
         let start = &known.plan.audit(number).start;
-        enter_root(alloc, known, space, counts, number, start, steps)?;
+        enter_root(known, space, counts, number, start, steps)?;
     }
     Ok(())
 }
@@ -114,12 +112,12 @@ pub fn run<S: Space, L: Ledger>(
     ensures cause { CountsFailures result (S.faults space.old) (S.faults space.new) }
 {
     know_verdicts();
-    let known = Known { plan, btf };
+    let known = Known { alloc, plan, btf };
     let mut counts = match no_walks(alloc, plan) {
         Ok(counts) => counts,
         Err(NoMemory) => return Err(ReadFailed::NoMemory),
     };
-    match enter_roots(alloc, &known, space, &mut counts, steps) {
+    match enter_roots(&known, space, &mut counts, steps) {
         Ok(()) => Ok(Verdict::Clean(counts)),
         Err(WalkStop::Broken(found)) => Ok(Verdict::Broken(found)),
         Err(WalkStop::Fault) => Err(ReadFailed::Fault),
