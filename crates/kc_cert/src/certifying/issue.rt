@@ -33,7 +33,6 @@ pub enum CertStop {
 
 // Makes an audit, where it is a root audit.
 fn enter_root<S: Space, L: Ledger>(
-    alloc: Global,
     known: &Planned<'_>,
     space: &mut S,
     draft: &mut Draft,
@@ -63,7 +62,7 @@ fn enter_root<S: Space, L: Ledger>(
                 audit: number,
                 start: *symbol,
             };
-            enter(alloc, known, space, draft, &base, steps)
+            enter(known, space, draft, &base, steps)
         }
         Start::From { .. } => Ok(()),
     }
@@ -71,7 +70,6 @@ fn enter_root<S: Space, L: Ledger>(
 
 // Makes the root audits, in the order of the plan.
 fn enter_roots<S: Space, L: Ledger>(
-    alloc: Global,
     known: &Planned<'_>,
     space: &mut S,
     draft: &mut Draft,
@@ -92,7 +90,7 @@ fn enter_roots<S: Space, L: Ledger>(
 {
     for number in 0..known.plan.count() {
         let start = &known.plan.audit(number).start;
-        enter_root(alloc, known, space, draft, number, start, steps)?;
+        enter_root(known, space, draft, number, start, steps)?;
     }
     Ok(())
 }
@@ -127,7 +125,7 @@ pub fn certify<S: Space, L: Ledger>(
         made: Certificate::new(alloc),
         counts,
     };
-    match enter_roots(alloc, &Planned { plan, btf }, space, &mut draft, steps) {
+    match enter_roots(&Planned { alloc, plan, btf }, space, &mut draft, steps) {
         Ok(()) => Ok(draft.made),
         Err(WalkStop::Broken(found)) => Err(CertStop::Broken(found)),
         Err(WalkStop::Fault) => Err(CertStop::Fault),

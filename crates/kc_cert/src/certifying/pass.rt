@@ -34,9 +34,10 @@ pub struct Draft {
     pub counts: Counts,
 }
 
-// A plan, and the types that it was read with.
+// A plan, the types that it was read with, and what its audits take memory of.
 #[derive(Clone, Copy)]
 pub(crate) struct Planned<'p> {
+    pub alloc: Global,
     pub plan: &'p Plan,
     pub btf: &'p Btf,
 }
@@ -61,7 +62,6 @@ fn add_step(draft: &mut Draft, asked: &Asked, lists: Lists, elements: usize) -> 
 // Makes an audit, whose path is followed from a base.
 #[cycle(collected)]
 pub(crate) fn enter<S: Space, L: Ledger>(
-    alloc: Global,
     known: &Planned<'_>,
     space: &mut S,
     draft: &mut Draft,
@@ -93,23 +93,22 @@ pub(crate) fn enter<S: Space, L: Ledger>(
                 audit: base.audit,
                 start: start.at(),
             };
-            look(alloc, known, space, draft, audit, &asked, steps)
+            look(known, space, draft, audit, &asked, steps)
         }
         Ok(Led::Null(place, at)) => {
             if is_optional(&audit.start) {
                 Ok(())
             } else {
-                Err(null_pointer(alloc, base, place, at))
+                Err(null_pointer(known.alloc, base, place, at))
             }
         }
-        Err(stop) => Err(stopped(alloc, base, stop, None)),
+        Err(stop) => Err(stopped(known.alloc, base, stop, None)),
     }
 }
 
 // Walks an audit from its start, makes the step of this walk, and then looks at its nodes.
 #[cycle(collected)]
 fn look<S: Space, L: Ledger>(
-    alloc: Global,
     known: &Planned<'_>,
     space: &mut S,
     draft: &mut Draft,
@@ -139,8 +138,8 @@ fn look<S: Space, L: Ledger>(
     ensures cause { CountsWalkFaults result (S.faults space.old) (S.faults space.new) }
 {
     know_walked();
-    let lists = collect_shape(alloc, space, known.btf, &audit.kind, asked, steps)?;
-    let nodes = match nodes_in(alloc, &audit.kind, &lists) {
+    let lists = collect_shape(known.alloc, space, known.btf, &audit.kind, asked, steps)?;
+    let nodes = match nodes_in(known.alloc, &audit.kind, &lists) {
         Ok(nodes) => nodes,
         Err(NoMemory) => return Err(WalkStop::NoMemory),
     };
@@ -148,13 +147,12 @@ fn look<S: Space, L: Ledger>(
         Ok(()) => {}
         Err(NoMemory) => return Err(WalkStop::NoMemory),
     }
-    look_nodes(alloc, known, space, draft, audit, asked, &nodes, steps)
+    look_nodes(known, space, draft, audit, asked, &nodes, steps)
 }
 
 // Looks at the elements of nodes that an audit met from its start, one by one.
 #[cycle(collected)]
 fn look_nodes<S: Space, L: Ledger>(
-    alloc: Global,
     known: &Planned<'_>,
     space: &mut S,
     draft: &mut Draft,
@@ -183,7 +181,7 @@ fn look_nodes<S: Space, L: Ledger>(
 {
     for i in 0..nodes.len() {
         let element = container_of(audit.link, *nodes.get(i));
-        look_below(alloc, known, space, draft, audit, asked, element, steps)?;
+        look_below(known, space, draft, audit, asked, element, steps)?;
     }
     Ok(())
 }
@@ -191,7 +189,6 @@ fn look_nodes<S: Space, L: Ledger>(
 // Looks at the checks of an element that an audit met from its start, and then makes the audits below it.
 #[cycle(collected)]
 fn look_below<S: Space, L: Ledger>(
-    alloc: Global,
     known: &Planned<'_>,
     space: &mut S,
     draft: &mut Draft,
@@ -219,7 +216,7 @@ fn look_below<S: Space, L: Ledger>(
     ensures cause { CountsWalkFaults result (S.faults space.old) (S.faults space.new) }
 {
     look_checks(
-        alloc,
+        known.alloc,
         known.btf,
         space,
         asked,
@@ -232,7 +229,7 @@ fn look_below<S: Space, L: Ledger>(
             audit: *audit.each.get(i),
             start: element,
         };
-        enter(alloc, known, space, draft, &base, steps)?;
+        enter(known, space, draft, &base, steps)?;
     }
     Ok(())
 }

@@ -32,7 +32,6 @@ pub enum CertAnswer {
 
 // Makes an audit, where it is a root audit.
 fn enter_root<S: Space, L: Ledger>(
-    alloc: Global,
     known: &Known<'_>,
     space: &mut S,
     cursor: &mut StepCursor,
@@ -59,7 +58,7 @@ fn enter_root<S: Space, L: Ledger>(
                 audit: number,
                 start: *symbol,
             };
-            enter(alloc, known, space, cursor, &base, steps)
+            enter(known, space, cursor, &base, steps)
         }
         Start::From { .. } => Ok(()),
     }
@@ -67,7 +66,6 @@ fn enter_root<S: Space, L: Ledger>(
 
 // Makes the root audits, in the order of the plan.
 fn enter_roots<S: Space, L: Ledger>(
-    alloc: Global,
     known: &Known<'_>,
     space: &mut S,
     cursor: &mut StepCursor,
@@ -86,7 +84,7 @@ fn enter_roots<S: Space, L: Ledger>(
 {
     for number in 0..known.plan.count() {
         let start = &known.plan.audit(number).start;
-        enter_root(alloc, known, space, cursor, number, start, steps)?;
+        enter_root(known, space, cursor, number, start, steps)?;
     }
     Ok(())
 }
@@ -145,13 +143,18 @@ pub fn recheck<S: Space, L: Ledger>(
 {
     know_walked();
     know_verdicts();
-    let known = Known { plan, btf, cert };
+    let known = Known {
+        alloc,
+        plan,
+        btf,
+        cert,
+    };
     let counts = match no_walks(alloc, plan) {
         Ok(counts) => counts,
         Err(NoMemory) => return Err(ReadFailed::NoMemory),
     };
     let mut cursor = StepCursor { at: 0, counts };
-    match enter_roots(alloc, &known, space, &mut cursor, steps) {
+    match enter_roots(&known, space, &mut cursor, steps) {
         Ok(()) => Ok(answer_by(cert, cursor)),
         Err(TestStop::Unfit) => Ok(CertAnswer::No(number_of(cert, cursor.at))),
         Err(TestStop::Fault) => Err(ReadFailed::Fault),

@@ -32,9 +32,10 @@ pub struct StepCursor {
     pub counts: Counts,
 }
 
-// A plan, the types that it was read with, and a certificate.
+// A plan, the types that it was read with, a certificate, and what its test takes memory of.
 #[derive(Clone, Copy)]
 pub(crate) struct Known<'p> {
+    pub alloc: Global,
     pub plan: &'p Plan,
     pub btf: &'p Btf,
     pub cert: &'p Certificate,
@@ -43,7 +44,6 @@ pub(crate) struct Known<'p> {
 // Makes an audit, whose path is followed from a base.
 #[cycle(nested)]
 pub(crate) fn enter<S: Space, L: Ledger>(
-    alloc: Global,
     known: &Known<'_>,
     space: &mut S,
     cursor: &mut StepCursor,
@@ -73,7 +73,7 @@ pub(crate) fn enter<S: Space, L: Ledger>(
                 audit: base.audit,
                 start: start.at(),
             };
-            look(alloc, known, space, cursor, audit, &asked, steps)
+            look(known, space, cursor, audit, &asked, steps)
         }
         Ok(Led::Null(_, _)) => {
             if is_optional(&audit.start) {
@@ -91,7 +91,6 @@ pub(crate) fn enter<S: Space, L: Ledger>(
 // whole, with the checks of all its elements, before the walks below the first.
 #[cycle(nested)]
 fn look<S: Space, L: Ledger>(
-    alloc: Global,
     known: &Known<'_>,
     space: &mut S,
     cursor: &mut StepCursor,
@@ -117,6 +116,7 @@ fn look<S: Space, L: Ledger>(
     ensures cause { CountsTestFaults result (S.faults space.old) (S.faults space.new) }
 {
     know_walked();
+    let alloc = known.alloc;
     if cursor.at >= known.cert.len() {
         return Err(TestStop::Unfit);
     }
@@ -130,7 +130,7 @@ fn look<S: Space, L: Ledger>(
     count_walk(&mut cursor.counts, asked.audit, nodes.len());
     for i in 0..nodes.len() {
         let element = container_of(audit.link, *nodes.get(i));
-        look_below(alloc, known, space, cursor, audit, asked, element, steps)?;
+        look_below(known, space, cursor, audit, asked, element, steps)?;
     }
     Ok(())
 }
@@ -138,7 +138,6 @@ fn look<S: Space, L: Ledger>(
 // Makes the audits below an element.
 #[cycle(nested)]
 fn look_below<S: Space, L: Ledger>(
-    alloc: Global,
     known: &Known<'_>,
     space: &mut S,
     cursor: &mut StepCursor,
@@ -167,7 +166,7 @@ fn look_below<S: Space, L: Ledger>(
             audit: *audit.each.get(i),
             start: element,
         };
-        enter(alloc, known, space, cursor, &base, steps)?;
+        enter(known, space, cursor, &base, steps)?;
     }
     Ok(())
 }
