@@ -3,5 +3,7 @@ mod AgreementLaws
 mod DigitLemmas
 mod HexBack
 mod IndexLemmas
+mod LaneLemmas
+mod LineLemmas
 mod ReadLemmas
 mod SpellingLaws

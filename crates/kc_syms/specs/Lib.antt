@@ -2,6 +2,7 @@ pub mod Addresses
 pub mod Agreement
 pub mod Answers
 pub mod Listed
+pub mod Reading
 pub mod Rows
 pub mod Spelling
 pub mod Symbols

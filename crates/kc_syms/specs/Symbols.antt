@@ -4,5 +4,5 @@ use Rattle.kc_syms.specs.declared.symbols.Symbols.{Symbols}
 use Rattle.kc_syms.specs.Listed.{listed}
 
 -- the addresses that the rows of a name list, in the order of the rows; none where no row has the name
-abbrev pub symbol : Symbols → List ℕ → List ℕ
+unfoldable pub symbol : Symbols → List ℕ → List ℕ
 symbol symbols name = listed symbols.index name

@@ -3,6 +3,7 @@
 
 mod fault;
 mod index;
+mod lanes;
 mod part;
 mod row;
 mod symbols;

@@ -10,8 +10,7 @@ ghost use Rattle.kc_syms.specs.Views.{row_text};
 use crate::fault::{SymFault, SymStop};
 use crate::index::{BYTES_A_ROOM, Index, add, new_index};
 use crate::part::part_of;
-use crate::row::{Row, read_row};
-use bstr::ByteSlice;
+use crate::row::{Row, read_first};
 use kc_word::know_hex;
 use std::alloc::Global;
 
@@ -40,14 +39,15 @@ impl<'a> Symbols<'a> {
         ensures spelled { IsAnswerBySpelling result (lines bytes.now) }
     {
         know_hex();
-        let mut index = new_index(alloc);
-        let room = bytes.len() / BYTES_A_ROOM;
+        let mut index = new_index(alloc, bytes.len() / BYTES_A_ROOM)?;
+        let mut rest = bytes;
         let mut number = 1;
-        for line in bytes.lines() {
-            let Some(row) = read_row(line) else {
+        while !rest.is_empty() {
+            let Some((row, behind)) = read_first(rest) else {
                 return Err(SymStop::S1(number));
             };
-            add(alloc, &mut index, row, room)?;
+            add(&mut index, row)?;
+            rest = behind;
             number += 1;
         }
         Ok(Symbols { index })
@@ -63,11 +63,12 @@ impl<'a> Symbols<'a> {
     ///
     /// `S2` where no row has the name, and `S3` where its rows have different addresses at run time: that of
     /// the first row, and that of the first row where it is another.
+    #[tactic(auto, unfolding(crate::specs::Symbols::symbol))]
     pub fn address(&self, name: &[u8], kaslr: u64) -> Result<u64, SymFault>
         ensures exact { result ≡ common_of kaslr (symbol self.now name.now) }
         ensures agrees { Agrees kaslr (symbol self.now name.now) result }
     {
-        match self.index.get(&part_of(name)) {
+        match self.index.get(usize::from(part_of(name))) {
             Some(rows) => common(rows, name, kaslr),
             None => Err(SymFault::S2),
         }

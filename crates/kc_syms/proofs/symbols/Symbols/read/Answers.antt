@@ -1,32 +1,50 @@
-use Rattle.std.proofs.Common.{Ok, Err, sym, arith}
+use Rattle.std.proofs.Common.{◌≡◌, ◌<◌, length, Ok, Err, ap, arith}
+use Rattle.std.proofs.lemmas.Bool.Decides.{nat_tests}
+use Rattle.bstr.proofs.lemmas.LengthLemmas.{length-lines}
 use Rattle.kc_syms.specs.declared.fault.SymStop.TheVariants.{S1}
 use Rattle.kc_syms.specs.Listed.{listed}
-use Rattle.kc_syms.proofs.ReadLemmas.{reads_all, reads_bad, reads_none, reads_row}
+use Rattle.kc_syms.specs.Views.{row_text}
+use Rattle.kc_syms.proofs.LineLemmas.{ends_bad, ends_whole, goes_on}
+use Rattle.kc_syms.proofs.ReadLemmas.{reads_none}
 use Rattle.kc_syms.proofs.SpellingLaws.{answers_by_spelling}
 use Rattle.kc_syms.proofs.symbols.Symbols.read.Goals as goal
 
-pub loop-line-init : goal.loop-line-init
-loop-line-init c =
-    rw (c.into_iter-line-iterator.ensures.into_iter_gives) (
-      tt,
-      tt,
-      omega (arith, c.lines-line-items.ensures.len),
-      rw (c.lines-line-items.ensures.value)
-          (reads_none (listed c.new_index-index.result) c.args.bytes.now c.new_index-index.ensures),
+pub loop-rest-init : goal.loop-rest-init
+loop-rest-init c = (
+  c.in_ok-index.ensures.parts,
+  omega (arith, length-lines c.args.bytes.now),
+  reads_none (listed c.in_ok-index.index) c.args.bytes.now c.in_ok-index.ensures.empty,
+)
+
+pub loop-rest-preserved : goal.loop-rest-preserved
+loop-rest-preserved c =
+    let shorter = ap length c.in-Some.ensures.split in (
+      c.add.ensures.parts,
+      omega (arith, shorter, c.loop-rest.invariant.1),
+      goes_on (listed c.loop-rest.index) c.loop-rest.number c.loop-rest.rest.now c.args.bytes.now c.loop-rest.invariant.2 (row_text c.in-Some.row) c.in-Some.behind.now
+          (listed c.add.new.index) c.in-Some.ensures c.in_ok-add.ensures.put,
     )
 
-pub loop-line-preserved : goal.loop-line-preserved
-loop-line-preserved c =
-    let so_far = rw c.in-Some.ensures.steps at c.loop-line.invariant in
-    (tt, tt, omega arith, reads_row _ _ c.loop-line.number c.in-Some.line.now c.next.new.self _ _ so_far.3 (sym c.in-Some-read_row.ensures) c.in_ok-add.ensures)
+pub returns-in_default-clause-exact : goal.returns-in_default-clause-exact
+returns-in_default-clause-exact c =
+    let some : 0 < length c.loop-rest.rest.now = grind (arith, nat_tests, c.is_empty.ensures, c.loop-rest-test.true) in
+    ends_bad (listed c.loop-rest.index) c.loop-rest.number c.loop-rest.rest.now c.args.bytes.now c.loop-rest.invariant.2 some c.in_default.ensures
 
 pub returns-in_default-clause-spelled : goal.returns-in_default-clause-spelled
 returns-in_default-clause-spelled c =
-    let so_far = rw c.in-Some.ensures.steps at c.loop-line.invariant in
-    let bad = reads_bad _ c.loop-line.number c.in-Some.line.now c.next.new.self _ so_far.3 (sym c.in_default.ensures) in
-    answers_by_spelling c.know_hex.ensures (Err (S1 c.loop-line.number)) c.args.bytes.now bad
+    let some : 0 < length c.loop-rest.rest.now = grind (arith, nat_tests, c.is_empty.ensures, c.loop-rest-test.true) in
+    answers_by_spelling c.know_hex.ensures (Err (S1 c.loop-rest.number)) c.args.bytes.now
+    (ends_bad (listed c.loop-rest.index) c.loop-rest.number c.loop-rest.rest.now c.args.bytes.now c.loop-rest.invariant.2 some c.in_default.ensures)
+
+pub returns-clause-exact : goal.returns-clause-exact
+unfolding Rattle.kc_syms.specs.Symbols.symbol
+returns-clause-exact c =
+    let none : length c.loop-rest.rest.now ≡ 0 = grind (arith, nat_tests, c.is_empty.ensures, c.loop-rest-test.false) in
+    ends_whole (listed c.loop-rest.index) c.loop-rest.number c.loop-rest.rest.now c.args.bytes.now c.loop-rest.invariant.2 none
 
 pub returns-clause-spelled : goal.returns-clause-spelled
+unfolding Rattle.kc_syms.specs.Symbols.symbol
 returns-clause-spelled c =
-    let so_far = rw c.in-None.ensures.steps.0 at c.loop-line.invariant in
-    answers_by_spelling c.know_hex.ensures (Ok record { index = c.loop-line.index }) c.args.bytes.now (reads_all _ c.loop-line.number _ so_far.3)
+    let none : length c.loop-rest.rest.now ≡ 0 = grind (arith, nat_tests, c.is_empty.ensures, c.loop-rest-test.false) in
+    answers_by_spelling c.know_hex.ensures (Ok record { index = c.loop-rest.index }) c.args.bytes.now
+    (ends_whole (listed c.loop-rest.index) c.loop-rest.number c.loop-rest.rest.now c.args.bytes.now c.loop-rest.invariant.2 none)
