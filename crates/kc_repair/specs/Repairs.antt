@@ -1,6 +1,6 @@
 -- Suspects that are tried one by one: what the walk that broke, and then the root audit, come to where the word of one of them holds its value.
 use denote.Enum.Bare.{sameb}
-use Rattle.std.specs.Prelude.{◌≡◌, ℕ, ◌<◌, ⊤, min, nat_eq, nat_lt, ◌⊎◌, Bool, true, false, ◌&&◌, if◌then◌else◌, is_none, not, List, [], ◌∷◌, filter, length, map, take, find, slice_get, Option, Some, None, option_map, IfSome, Result, Ok, Err}
+use Rattle.std.specs.Prelude.{◌≡◌, ℕ, ◌<◌, ⊤, min, nat_eq, nat_lt, ◌⊎◌, Bool, ◌&&◌, if◌then◌else◌, is_none, not, List, [], ◌∷◌, filter, length, map, take, find, slice_get, Option, Some, None, option_map, IfSome, Result, Ok, Err}
 use Rattle.std.specs.List.{All, list_any}
 use Rattle.kc_memory.specs.Image.{Image}
 use Rattle.kc_memory.specs.contracts.rule.Rule.{the_type}

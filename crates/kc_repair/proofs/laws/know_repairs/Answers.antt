@@ -2,7 +2,7 @@ use Rattle.std.specs.List.{filter}
 use Rattle.kc_memory.specs.Image.{Image}
 use Rattle.kc_plan.specs.Planned.{AuditAt}
 use Rattle.kc_plan.specs.Roots.{Root}
-use Rattle.std.specs.Prelude.{List, Some, None}
+use Rattle.std.specs.Prelude.{List, None}
 use Rattle.kc_repair.specs.declared.first.Breaking.{Breaking}
 use Rattle.kc_repair.specs.declared.suspect.suspect.Suspect.{Suspect}
 use Rattle.kc_repair.specs.Laws.{IsLeft}
