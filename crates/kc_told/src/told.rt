@@ -385,23 +385,30 @@ fn page_start(address: u64) -> u64
     address / 4096 * 4096
 }
 
-// What is told of an address, by its word and the words of its 4096 bytes.
+// The word that holds an address, and the words of its 4096 bytes.
+#[derive(Clone, Copy)]
+struct Around<'s> {
+    word: &'s Seen,
+    page: &'s [Seen],
+}
+
+// What is told of an address, by the words around it.
 fn tell<'m, S: Space, L: Ledger>(
     alloc: Global,
     space: &mut S,
     types: &Btf,
     shapes: &Shapes<'m>,
     address: u64,
-    word: &Seen,
-    page: &[Seen],
+    around: &Around<'_>,
     steps: &mut Steps<L>,
 ) -> Result<Told<'m>, ReadFailed>
     requires { IfSome shapes.now.words.areas.stacks (λ shape. IsInside shape.tasks types.now) }
-    ensures told { LooksAs told_view (λ image. told_by image (shapes_view shapes.now) address word.now page.now) (S.image space.old) result }
+    ensures told { LooksAs told_view (λ image. told_by image (shapes_view shapes.now) address around.now.word.now around.now.page.now) (S.image space.old) result }
     ensures stays { SpaceStays S.image S.files S.through S.most space.old space.new }
     ensures cause { CountsFailures result (S.faults space.old) (S.faults space.new) }
 {
     let words = &shapes.words;
+    let word = around.word;
     let held = tell_held(alloc, space, types, &words.objects, address, word, steps)?;
     let frame = tell_frame(alloc, space, types, &words.objects, &held, steps)?;
     let areas = tell_outside(alloc, space, types, shapes, address, &held, steps)?;
@@ -418,7 +425,7 @@ fn tell<'m, S: Space, L: Ledger>(
         kept,
         holders,
         named,
-        span: span_at(word, page),
+        span: span_at(word, around.page),
     })
 }
 
@@ -442,7 +449,11 @@ pub fn read_told<'m, S: Space, L: Ledger>(
 {
     let word = read_word(space, word_start(address), steps)?;
     let page = read_words(alloc, space, page_start(address), 512, steps)?;
-    tell(alloc, space, types, shapes, address, &word, &page, steps)
+    let around = Around {
+        word: &word,
+        page: &page,
+    };
+    tell(alloc, space, types, shapes, address, &around, steps)
 }
 
 /// What is seen of an address, with the entries on the way to it, and what is told of it. Where the entries weren't read, it reads nothing.
@@ -474,15 +485,10 @@ pub fn read_sighted<'m, S: Space, L: Ledger>(
 {
     let sight = read_sight(alloc, space, address, rules, entries, steps)?;
     let near = near_words(alloc, space, types, &shapes.words, &sight.near, steps)?;
-    let told = tell(
-        alloc,
-        space,
-        types,
-        shapes,
-        address,
-        &sight.word,
-        &sight.page,
-        steps,
-    )?;
+    let around = Around {
+        word: &sight.word,
+        page: &sight.page,
+    };
+    let told = tell(alloc, space, types, shapes, address, &around, steps)?;
     Ok(Sighted { sight, near, told })
 }

@@ -7,11 +7,11 @@ use Rattle.kc_told.proofs.told.tell.Goals as goal
 pub returns-in_err-holders-clause-told : goal.returns-in_err-holders-clause-told
 returns-in_err-holders-clause-told g c =
     let gave = err_from_is_err_and c.from_residual-in_err-holders.result c.from_residual-in_err-holders.ensures.1 in
-    told_failed told_view (λ image. told_by image (shapes_view c.args.shapes.now) c.args.address c.args.word.now c.args.page.now) (g.S.Space.image c.args.space.now)
+    told_failed told_view (λ image. told_by image (shapes_view c.args.shapes.now) c.args.address c.args.around.now.word.now c.args.around.now.page.now) (g.S.Space.image c.args.space.now)
     c.from_residual-in_err-holders.result gave.0 gave.1
 
 pub returns-in_err-named-clause-told : goal.returns-in_err-named-clause-told
 returns-in_err-named-clause-told g c =
     let gave = err_from_is_err_and c.from_residual-in_err-named.result c.from_residual-in_err-named.ensures.1 in
-    told_failed told_view (λ image. told_by image (shapes_view c.args.shapes.now) c.args.address c.args.word.now c.args.page.now) (g.S.Space.image c.args.space.now)
+    told_failed told_view (λ image. told_by image (shapes_view c.args.shapes.now) c.args.address c.args.around.now.word.now c.args.around.now.page.now) (g.S.Space.image c.args.space.now)
     c.from_residual-in_err-named.result gave.0 gave.1
