@@ -26,7 +26,7 @@ from hostile import damage as damages
 from plans.reader import TOP, Broken, Core, Info, Memory, Refused, Types, address, symbols
 from second import made
 from second.areas import shown as visible
-from second.verdict import Kernel, Run, place_line, plan_of, told, verdict
+from second.verdict import Kernel, Run, place_line, plan_of, started, told, verdict
 from second.why import Sights
 
 MOST = 4096
@@ -747,7 +747,7 @@ class Causes:
 
         def leads():
             first = walk()
-            return first, None if first == same else self.judge(root)
+            return first, None if first == same or first and changed else self.judge(root)
         for one in some:
             first, found = self.with_word(*one, leads)
             if first != same and (first and changed or found and (found[0].rule, found[0].at) != same):
@@ -755,18 +755,32 @@ class Causes:
                 break
         return len(some), more, None, then
 
+    def walk_again(self, last):
+        """What the walk of the audit that found a violation finds, from where it started; or nothing."""
+        if last is not None:
+            broken, audit = last
+            try:
+                started(broken.start, lambda: audit.walk(self.kernel, broken.start))
+            except Broken as found:
+                return found, audit
+        return None
+
     def chain(self, root, then):
-        """The words that repair together, after the first that leads to another violation; or nothing."""
-        words, old = [], []
+        """The words that repair together, after the first that leads to another violation; or nothing. What is left is what the walk of the violation before
+        finds, and else what the root audit does, which is asked after the first word."""
+        words, old, last = [], [], None
         try:
-            while then and then[2] and len(words) < MOST_WORDS:
-                place, number, (broken, audit) = then
+            while then and len(words) < MOST_WORDS:
+                place, number, _ = then
                 words.append((place, number))
                 old.append(place[2:])
                 self.put(place[2], number)
-                _, _, last, then = self.tried(root, broken, audit, [at for at, _ in old])
-                if last and len(words) < MOST_WORDS:
-                    return words + [last]
+                last = self.walk_again(last) or self.judge(root)
+                if last is None:
+                    return []
+                _, _, repaired, then = self.tried(root, *last, [at for at, _ in old])
+                if repaired and len(words) < MOST_WORDS:
+                    return words + [repaired]
             return []
         finally:
             for offset, word in reversed(old):
