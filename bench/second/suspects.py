@@ -34,6 +34,8 @@ MOST_WORDS = 8
 MORE = 64  # how many others are tried after the first that repairs
 LINKS, TREE_LINKS, NEAR = 65536, 8192, 64
 POISONS = 0xDEAD000000000100, 0xDEAD000000000122
+BESIDE = "L1", "H1", "R1", "X3", "X4", "T1", "T3", "U1", "G1", "G2"
+BITS = {"R1": ~3, "G1": 2**32 - 1}  # those that have the number
 
 # How each rule is suspected.
 WAYS = {
@@ -847,18 +849,18 @@ class Causes:
     def signs(self, broken):
         """Where the pointer that is expected stands beside its place, and whether a node has another one's bytes, or was added once more further on."""
         text = ""
-        if broken.rule in ("L1", "H1", "R1", "X3", "X4") and broken.expected:
+        if broken.rule in BESIDE and broken.expected:
             for far in (8, 16) if broken.rule == "L1" else (8, 16, -8, -16):
                 value = self.value(broken.at + far)
-                if value is not None and (value & ~3 if broken.rule == "R1" else value) == broken.expected:
+                if value is not None and value & BITS.get(broken.rule, TOP - 1) == broken.expected:
                     text += f"beside {(broken.at + far) % TOP:016x}\n"
-        if broken.rule in ("L1", "H1", "R1", "X3", "X4") and broken.expected == 0:
+        if broken.rule in BESIDE and broken.expected == 0:
             before, here, after = (self.value(broken.at + far) for far in (-8, 0, 8))
             text += f"beside {(broken.at + 8) % TOP:016x}\n" if before and before == here and after == 0 else ""
         other, node = self.copied(broken), (broken.at - 8) % TOP
         if other is None and broken.rule == "L1" and self.is_again(node, broken.expected):
             return text + f"twice {node:016x}\n"
-        other = self.copied_head(broken.at) if other is None else other
+        other = self.copied_link(broken.at) if other is None else other
         return text + (f"copy of {other:016x}\n" if other is not None else "")
 
     def is_again(self, node, above):
@@ -891,12 +893,13 @@ class Causes:
         same = [first == second is not None for first, second in zip(one, two)]
         return node != other and all(same[:3]) and (one[1] != 0 or one[2] != 0 or all(same[3:]) and 0 not in one[3:])
 
-    def copied_head(self, near):
-        """The first head of a list near an address whose pointers lead to another one, which is empty."""
+    def copied_link(self, near):
+        """The first node of a list near an address whose neighbours lead to another node, which has the same pointers."""
         for at in range(near // 8 * 8 - 512, near // 8 * 8 + 512, 8):
-            head = self.value(at)
-            if head and head != at % TOP and self.value(at + 8) == head == self.value(head) == self.value(head + 8):
-                return head
+            ahead, behind = self.value(at), self.value(at + 8)
+            other = self.value(ahead + 8) if ahead else None
+            if behind and other not in (None, at % TOP) and (self.value(other), self.value(other + 8)) == (ahead, behind) and self.value(behind) == other:
+                return other
         return None
 
     def place_lines(self, place):
