@@ -27,12 +27,13 @@ from plans.reader import TOP, Broken, Core, Info, Memory, Refused, Types, addres
 from second import made
 from second.areas import shown as visible
 from second.verdict import Kernel, Run, place_line, plan_of, started, told, verdict
-from second.why import Sights
+from second.why import Sights, meaning
 
 MOST = 4096
 MOST_WORDS = 8
 MORE = 64  # how many others are tried after the first that repairs
 LINKS, TREE_LINKS, NEAR = 65536, 8192, 64
+NODE = 69  # the words of an xarray's node up to its last slot
 POISONS = 0xDEAD000000000100, 0xDEAD000000000122
 BESIDE = "L1", "H1", "R1", "X3", "X4", "T1", "T3", "U1", "G1", "G2"
 BITS = {"R1": ~3, "G1": 2**32 - 1}  # those that have the number
@@ -120,6 +121,11 @@ def only_fits(broken, place, number):
     if broken.rule == "X5":
         return place[0] == broken.at - broken.at % 8 or place[3] % 2 == 1
     return broken.rule in ("C", "U3", "U6", "T2", "X6") or number == 0 and WAY_OF[broken.rule] in ("led", "met", "entry")
+
+
+def is_written(va, value):
+    """Whether a word is text, or one byte that the kernel fills memory with."""
+    return meaning(va, value) in ("text", "pattern")
 
 
 class Suspects:
@@ -789,9 +795,9 @@ class Causes:
                 self.put(offset, word)
 
     def led(self, place, number):
-        """A word and its other number, and what that leads to in the dump as it is, in the words of `near`."""
-        said = self.sights.why.said(place[0], number)
-        return columns(place, number) + "\n" + ("" if said == "number" else f"leads {said}\n")
+        """A word and its other number, what was written over it, and what that number leads to in the dump as it is, in the words of `near`."""
+        said, written = self.sights.why.said(place[0], number), is_written(place[0], place[3])
+        return columns(place, number) + "\n" + (self.sights.says(place[0], place[3]) if written else "") + ("" if said == "number" else f"leads {said}\n")
 
     def stand(self, root, broken, audit):
         """How many words repair of those tried: after the first that does at most MORE others, up to a second one."""
@@ -837,7 +843,7 @@ class Causes:
         broken, audit = found
         elements = Elements(self.kernel, audit, broken)
         text = f"root {self.audits[root].name}\naudit {audit.name}\nrule {broken.rule} {SENTENCES[broken.rule]}\n{elements.line()}{elements.list_lines()}{elements.by_line(self.sights.areas)}"
-        return text + "".join(map(self.place_lines, broken.places)) + self.signs(broken) + elements.number_line() + self.repair(root, broken, audit)
+        return text + "".join(map(self.place_lines, broken.places)) + self.signs(broken) + self.slot(broken) + elements.number_line() + self.repair(root, broken, audit)
 
     def value(self, at):
         """The number at an address, if it can be read."""
@@ -901,6 +907,18 @@ class Causes:
             if behind and other not in (None, at % TOP) and (self.value(other), self.value(other + 8)) == (ahead, behind) and self.value(behind) == other:
                 return other
         return None
+
+    def slot(self, broken):
+        """The first word of an xarray's node over which something was written, where the numbers of its slots are wrong."""
+        if broken.rule in ("X5", "X6"):
+            for at in range(broken.at // 8 * 8, broken.at // 8 * 8 + 8 * NODE, 8):
+                try:
+                    place = self.kernel.memory.place(at % TOP)
+                except Broken:
+                    continue
+                if is_written(place[0], place[3]):
+                    return place_line(place).replace("place", "slot", 1) + self.sights.says(place[0], place[3])
+        return ""
 
     def place_lines(self, place):
         """A word of a violation, and what lies at its address."""
