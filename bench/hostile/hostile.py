@@ -13,7 +13,7 @@ ten seconds on the clock, or --seconds where the machine has other work, and has
   physical address, and the address led there by the page tables, each read by plans/reader.py, which shares no code with kaudit;
 - where the second reader (`verdict.py`) reads the files too, with the same status and the same texts.
 
-Of kwhy the places are those of the lines `place`, `by`, `entry`, `alias`, `near`, `repair`, `fits`, `word` and `then`: each stands in the dump as it is printed,
+Of kwhy the places are those of the lines `place`, `slot`, `by`, `entry`, `alias`, `near`, `repair`, `fits`, `word` and `then`: each stands in the dump as it is printed,
 but for NEW, which is another number, and with which, of a chain with all, the second reader finds the root audit clean, with as many elements. Of an
 address and of `refs` the text is that of `why`, where it can read the files. A report that `check` refuses to print is refused by the same line, and one that it printed isn't, but where it was
 damaged since.
@@ -61,7 +61,7 @@ WHY = {
     "stopped": f"M[1-6] [0-5] {HEX}", "alias": HEX, "near": f"{HEX} ({HEX} .+|stopped M[1-6] [0-5] {HEX})", "span": f"{HEX} {HEX}",
     "words": r"0|[1-9]\d*", "repair": rf"{CHANGED}|none of (the first 4096|\d+) tried", "then": f"{CHANGED} [A-Z][1-9]? {HEX}", "clean": "",
     "rule": "[A-Z][1-9]? .+", "expected": rf"{HEX} found {HEX} bits \d+", "fits": CHANGED, "chain": "[2-8]", "word": CHANGED, "says": ".+", "slabs": ".+",
-    "by": rf"{HEX} {HEX} ({HEX}|tail) {HEX} \S+", "twice": HEX, "deleted": HEX, "beside": HEX, "copy": f"of {HEX}", "stand": r"[12] of [1-9]\d* tried", "elements": r"0|[1-9]\d*", "leads": ".+",
+    "by": rf"{HEX} {HEX} ({HEX}|tail) {HEX} \S+", "slot": rf"{HEX} {HEX} ({HEX}|tail) {HEX}", "twice": HEX, "deleted": HEX, "beside": HEX, "copy": f"of {HEX}", "stand": r"[12] of [1-9]\d* tried", "elements": r"0|[1-9]\d*", "leads": ".+",
     "flags": rf"{HEX} count -?\d+( mapcount \d+)?", "mapping": rf"{HEX} index \d+", "anonymous": rf"{HEX} index \d+", "movable": HEX, "ksm": HEX,
     "free": r"order \d+ page \d+( zone .*)?", "covers": r"page|(\d+ before and )?(object|byte \d+ to \d+ of \d+)( and \d+ after)?", "task": r"\d+ .*", "names": ".*",
 }
@@ -211,7 +211,7 @@ def placed_why(case, out):
             return "an alias leads elsewhere"
         if name == "entry":
             words = ["-", *words[1:]]
-        if name not in ("place", "by", "entry", "repair", "fits", "word", "then") or words[0] == "none":
+        if name not in ("place", "slot", "by", "entry", "repair", "fits", "word", "then") or words[0] == "none":
             continue
         va, (pa, word), origin = words[0], (int(words[k], 16) for k in (1, 3)), "tail" if words[2] == "tail" else int(words[2], 16)
         if refs:

@@ -156,7 +156,7 @@ def is_named(name, text, new):
     """Whether what kwhy prints names a damage by this way: its sign, or what a word says that was written over."""
     if name in SIGNED and re.search(f"^{SIGNED[name]} ", text, re.M):
         return True
-    said = re.finditer(rf"^place \S+ \S+ (\w{{16}}) \w{{16}}\nsays {SAYS.get(name, '-')}", text, re.M)
+    said = re.finditer(rf"^(?:place|slot|repair|fits|word) \S+ \S+ (\w{{16}}) \w{{16}}(?: \w{{16}})?\nsays {SAYS.get(name, '-')}", text, re.M)
     return any(at <= int(found[1], 16) < at + len(part) for found in said for at, part in new.items())
 
 

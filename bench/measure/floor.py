@@ -8,9 +8,9 @@ A PLAN is plans/inodes.toml as `inodes`, the same with only the page caches as `
   seeks and reads each;
 - for `inodes` and `pages`, the time of the walk alone, which is the whole less that of the same plan without what it names in
   `each`, and beside it that of `floor.c`, which makes the same walk over the mapped dump: without the test that no word is taken
-  twice, and with it.
+  twice, and with it; then both by instructions of the user's side, as callgrind counts them.
 
-It wants strace and a C compiler. The programs run by turns; each time is the least in seconds.
+It wants strace, valgrind and a C compiler. The programs run by turns; each time is the least in seconds.
 """
 import os
 import re
@@ -127,6 +127,13 @@ def reads_alone(kaudit, folder, plan, work, loop):
     print(f"{plan}: {ours:.3f} s {memory:.1f} MiB; {len(reads)} reads alone {floor:.3f} s; ratio {ours / floor:.1f}")
 
 
+def instructions(command, folder, runs=1):
+    """How many instructions of its own a command takes, by callgrind; one in C makes as many walks as `runs` says."""
+    words = ["valgrind", "--tool=callgrind", "--callgrind-out-file=/dev/null", *command]
+    run = subprocess.run(words, cwd=folder, capture_output=True, text=True, env=dict(os.environ, RUNS=str(runs)))
+    return int(re.search(r"Collected *: *(\d+)", run.stderr).group(1))
+
+
 def walk_alone(kaudit, folder, plan, work, walker):
     """The walk beside the same one in C."""
     path = files.plan_path(folder, plan + ".toml")
@@ -147,6 +154,13 @@ def walk_alone(kaudit, folder, plan, work, walker):
     print(
         f"{plan}: whole {all_of_it * 1e3:.1f} ms, start {start_of_it * 1e3:.1f} ms, walk {alone * 1e3:.1f} ms; "
         f"in C {plain * 1e3:.1f} ms, and {taken * 1e3:.1f} ms with words taken once; ratios {alone / plain:.1f} and {alone / taken:.1f}"
+    )
+    whole, before = (instructions(command, folder) for command in ([*begin, path], [*begin, start]))
+    plain, taken = ((instructions(walk, folder, 3) - instructions(walk, folder, 1)) / 2e6 for walk in walks)
+    alone = (whole - before) / 1e6
+    print(
+        f"{plan}: million instructions: whole {whole / 1e6:.0f}, start {before / 1e6:.0f}, walk {alone:.0f}; "
+        f"in C {plain:.1f}, and {taken:.1f} with words taken once; ratios {alone / plain:.1f} and {alone / taken:.1f}"
     )
 
 

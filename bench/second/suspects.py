@@ -26,14 +26,17 @@ from hostile import damage as damages
 from plans.reader import TOP, Broken, Core, Info, Memory, Refused, Types, address, symbols
 from second import made
 from second.areas import shown as visible
-from second.verdict import Kernel, Run, place_line, plan_of, told, verdict
-from second.why import Sights
+from second.verdict import Kernel, Run, place_line, plan_of, started, told, verdict
+from second.why import Sights, meaning
 
 MOST = 4096
 MOST_WORDS = 8
 MORE = 64  # how many others are tried after the first that repairs
 LINKS, TREE_LINKS, NEAR = 65536, 8192, 64
+NODE = 69  # the words of an xarray's node up to its last slot
 POISONS = 0xDEAD000000000100, 0xDEAD000000000122
+BESIDE = "L1", "H1", "R1", "X3", "X4", "T1", "T3", "U1", "G1", "G2"
+BITS = {"R1": ~3, "G1": 2**32 - 1}  # those that have the number
 
 # How each rule is suspected.
 WAYS = {
@@ -118,6 +121,11 @@ def only_fits(broken, place, number):
     if broken.rule == "X5":
         return place[0] == broken.at - broken.at % 8 or place[3] % 2 == 1
     return broken.rule in ("C", "U3", "U6", "T2", "X6") or number == 0 and WAY_OF[broken.rule] in ("led", "met", "entry")
+
+
+def is_written(va, value):
+    """Whether a word is text, or one byte that the kernel fills memory with."""
+    return meaning(va, value) in ("text", "pattern")
 
 
 class Suspects:
@@ -747,7 +755,7 @@ class Causes:
 
         def leads():
             first = walk()
-            return first, None if first == same else self.judge(root)
+            return first, None if first == same or first and changed else self.judge(root)
         for one in some:
             first, found = self.with_word(*one, leads)
             if first != same and (first and changed or found and (found[0].rule, found[0].at) != same):
@@ -755,27 +763,41 @@ class Causes:
                 break
         return len(some), more, None, then
 
+    def walk_again(self, last):
+        """What the walk of the audit that found a violation finds, from where it started; or nothing."""
+        if last is not None:
+            broken, audit = last
+            try:
+                started(broken.start, lambda: audit.walk(self.kernel, broken.start))
+            except Broken as found:
+                return found, audit
+        return None
+
     def chain(self, root, then):
-        """The words that repair together, after the first that leads to another violation; or nothing."""
-        words, old = [], []
+        """The words that repair together, after the first that leads to another violation; or nothing. What is left is what the walk of the violation before
+        finds, and else what the root audit does, which is asked after the first word."""
+        words, old, last = [], [], None
         try:
-            while then and then[2] and len(words) < MOST_WORDS:
-                place, number, (broken, audit) = then
+            while then and len(words) < MOST_WORDS:
+                place, number, _ = then
                 words.append((place, number))
                 old.append(place[2:])
                 self.put(place[2], number)
-                _, _, last, then = self.tried(root, broken, audit, [at for at, _ in old])
-                if last and len(words) < MOST_WORDS:
-                    return words + [last]
+                last = self.walk_again(last) or self.judge(root)
+                if last is None:
+                    return []
+                _, _, repaired, then = self.tried(root, *last, [at for at, _ in old])
+                if repaired and len(words) < MOST_WORDS:
+                    return words + [repaired]
             return []
         finally:
             for offset, word in reversed(old):
                 self.put(offset, word)
 
     def led(self, place, number):
-        """A word and its other number, and what that leads to in the dump as it is, in the words of `near`."""
-        said = self.sights.why.said(place[0], number)
-        return columns(place, number) + "\n" + ("" if said == "number" else f"leads {said}\n")
+        """A word and its other number, what was written over it, and what that number leads to in the dump as it is, in the words of `near`."""
+        said, written = self.sights.why.said(place[0], number), is_written(place[0], place[3])
+        return columns(place, number) + "\n" + (self.sights.says(place[0], place[3]) if written else "") + ("" if said == "number" else f"leads {said}\n")
 
     def stand(self, root, broken, audit):
         """How many words repair of those tried: after the first that does at most MORE others, up to a second one."""
@@ -821,7 +843,7 @@ class Causes:
         broken, audit = found
         elements = Elements(self.kernel, audit, broken)
         text = f"root {self.audits[root].name}\naudit {audit.name}\nrule {broken.rule} {SENTENCES[broken.rule]}\n{elements.line()}{elements.list_lines()}{elements.by_line(self.sights.areas)}"
-        return text + "".join(map(self.place_lines, broken.places)) + self.signs(broken) + elements.number_line() + self.repair(root, broken, audit)
+        return text + "".join(map(self.place_lines, broken.places)) + self.signs(broken) + self.slot(broken) + elements.number_line() + self.repair(root, broken, audit)
 
     def value(self, at):
         """The number at an address, if it can be read."""
@@ -833,18 +855,18 @@ class Causes:
     def signs(self, broken):
         """Where the pointer that is expected stands beside its place, and whether a node has another one's bytes, or was added once more further on."""
         text = ""
-        if broken.rule in ("L1", "H1", "R1", "X3", "X4") and broken.expected:
+        if broken.rule in BESIDE and broken.expected:
             for far in (8, 16) if broken.rule == "L1" else (8, 16, -8, -16):
                 value = self.value(broken.at + far)
-                if value is not None and (value & ~3 if broken.rule == "R1" else value) == broken.expected:
+                if value is not None and value & BITS.get(broken.rule, TOP - 1) == broken.expected:
                     text += f"beside {(broken.at + far) % TOP:016x}\n"
-        if broken.rule in ("L1", "H1", "R1", "X3", "X4") and broken.expected == 0:
+        if broken.rule in BESIDE and broken.expected == 0:
             before, here, after = (self.value(broken.at + far) for far in (-8, 0, 8))
             text += f"beside {(broken.at + 8) % TOP:016x}\n" if before and before == here and after == 0 else ""
         other, node = self.copied(broken), (broken.at - 8) % TOP
         if other is None and broken.rule == "L1" and self.is_again(node, broken.expected):
             return text + f"twice {node:016x}\n"
-        other = self.copied_head(broken.at) if other is None else other
+        other = self.copied_link(broken.at) if other is None else other
         return text + (f"copy of {other:016x}\n" if other is not None else "")
 
     def is_again(self, node, above):
@@ -877,13 +899,26 @@ class Causes:
         same = [first == second is not None for first, second in zip(one, two)]
         return node != other and all(same[:3]) and (one[1] != 0 or one[2] != 0 or all(same[3:]) and 0 not in one[3:])
 
-    def copied_head(self, near):
-        """The first head of a list near an address whose pointers lead to another one, which is empty."""
+    def copied_link(self, near):
+        """The first node of a list near an address whose neighbours lead to another node, which has the same pointers."""
         for at in range(near // 8 * 8 - 512, near // 8 * 8 + 512, 8):
-            head = self.value(at)
-            if head and head != at % TOP and self.value(at + 8) == head == self.value(head) == self.value(head + 8):
-                return head
+            ahead, behind = self.value(at), self.value(at + 8)
+            other = self.value(ahead + 8) if ahead else None
+            if behind and other not in (None, at % TOP) and (self.value(other), self.value(other + 8)) == (ahead, behind) and self.value(behind) == other:
+                return other
         return None
+
+    def slot(self, broken):
+        """The first word of an xarray's node over which something was written, where the numbers of its slots are wrong."""
+        if broken.rule in ("X5", "X6"):
+            for at in range(broken.at // 8 * 8, broken.at // 8 * 8 + 8 * NODE, 8):
+                try:
+                    place = self.kernel.memory.place(at % TOP)
+                except Broken:
+                    continue
+                if is_written(place[0], place[3]):
+                    return place_line(place).replace("place", "slot", 1) + self.sights.says(place[0], place[3])
+        return ""
 
     def place_lines(self, place):
         """A word of a violation, and what lies at its address."""

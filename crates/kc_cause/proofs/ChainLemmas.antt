@@ -11,18 +11,19 @@ use Rattle.kc_found.specs.declared.failed.ReadFailed.TheVariants.{Fault, NoMemor
 use Rattle.kc_found.specs.Violations.{Violation}
 use Rattle.kc_kinds.specs.declared.kind.Kind.{Kind}
 use Rattle.kc_plan.specs.Planned.{AuditAt}
-use Rattle.kc_plan.specs.Roots.{Root, root_verdict}
+use Rattle.kc_plan.specs.Roots.{Root}
 use Rattle.kc_plan.specs.Stands.{RootStands}
 use Rattle.kc_repair.specs.declared.suspect.suspect.Suspect.{Suspect}
 use Rattle.kc_repair.specs.declared.outcome.Repair.{Repair}
 use Rattle.kc_repair.specs.declared.outcome.Repair.TheVariants.{Stands, Nothing}
 use Rattle.kc_repair.specs.Laws.{IsLeft, LeftStand, LeftStandInFile, LeftWordsStand, OneMore, RepairWordsStand, RepairsStand, StandsInFile, told_suspects}
 use Rattle.kc_repair.specs.declared.first.FirstWalk.{FirstWalk}
-use Rattle.kc_repair.specs.Repairs.{StandsAs, is_apart, repair_left, repair_of, walk_of, with_suspect, with_words}
+use Rattle.kc_repair.specs.Repairs.{StandsAs, is_apart, judged, repair_left, repair_of, walk_of, with_suspect, with_words}
 use Rattle.kc_repair.specs.Suspect.Laws.{IsSuspect}
 use Rattle.kc_repair.specs.Suspect.Suspects.{suspects}
+use Rattle.kc_cause.specs.declared.chain.Left.{Left}
 use Rattle.kc_cause.specs.declared.suspected.AsRing.{AsRing}
-use Rattle.kc_cause.specs.Chained.{chain_from, chain_of, ended, leads_on, left_after, left_as, left_by, most_words}
+use Rattle.kc_cause.specs.Chained.{chain_from, chain_of, ended, leads_on, left_after, left_as, left_by, left_of, most_words}
 use Rattle.kc_cause.specs.Printed.{StandInTurn}
 use Rattle.kc_cause.specs.Suspected.{Suspected, suspected, suspected_view}
 
@@ -43,65 +44,74 @@ found-left None after (Ok x) audits root words v a ring kind w is same tells see
 found-left (Some m) after (Ok x) audits root words v a ring kind w is same tells seen_as left =
     rw is ((rw same at left) ∙ ap (λ (s : Suspected). Some (left_as m audits root words s)) (sym seen_as ∙ tells))
 
--- and with the verdict that the root audit comes to
-pub left-judged : (image after : Option Image) (audits : List AuditAt) (root : Root) (words : List Suspect) (r : Result Verdict ReadFailed) (verdict : Verdict) (left : Result (Option Repair) ReadFailed)
-    → after ≡ image → r ≡ Ok verdict → IfOk r (λ found. IfSome image (λ m. (root_verdict (with_words m words) audits root).verdict ≡ found))
-    → IfOk left (λ x. IfSome after (λ m. x ≡ left_by m audits root words verdict)) → IfOk left (λ x. IfSome image (λ m. x ≡ left_after m audits root words))
-left-judged image after audits root words r verdict (Err stop) same is exact found = tt
-left-judged None after audits root words r verdict (Ok x) same is exact found = tt
-left-judged (Some m) after audits root words r verdict (Ok x) same is exact found =
-    let comes : (root_verdict (with_words m words) audits root).verdict ≡ verdict = rw is at exact in
-    (rw same at found) ∙ ap (λ (v : Verdict). left_by m audits root words v) (sym comes)
+-- where the violation names no audit
+pub beyond-left : (image : Option Image) (audits : List AuditAt) (root : Root) (words : List Suspect) (v : Violation) (x : Option Repair)
+    → slice_get audits v.audit ≡ None → x ≡ None → IfSome image (λ m. x ≡ left_by m audits root words (Broken v))
+beyond-left None audits root words v x none is = tt
+beyond-left (Some m) audits root words v x none is = rw none is
+
+-- and with the verdict that it comes to
+pub left-judged : (image after : Option Image) (audits : List AuditAt) (root : Root) (walk : Option FirstWalk) (words : List Suspect) (r : Result Verdict ReadFailed) (verdict : Verdict) (left : Result Left ReadFailed)
+    → after ≡ image → r ≡ Ok verdict → IfOk r (λ found. IfSome image (λ m. judged (with_words m words) audits root walk None ≡ found))
+    → IfOk left (λ x. IfSome after (λ m. x ≡ left_of m audits root words verdict)) → IfOk left (λ x. IfSome image (λ m. x ≡ left_after m audits root walk words))
+left-judged image after audits root walk words r verdict (Err stop) same is exact found = tt
+left-judged None after audits root walk words r verdict (Ok x) same is exact found = tt
+left-judged (Some m) after audits root walk words r verdict (Ok x) same is exact found =
+    let comes : judged (with_words m words) audits root walk None ≡ verdict = rw is at exact in
+    (rw same at found) ∙ ap (λ (v : Verdict). left_of m audits root words v) (sym comes)
 
 -- ---- a step of the loop
 
-abbrev Ahead : Image → List AuditAt → Root → Repair → ℕ → List Suspect → Option Repair → Type 0
-Ahead m audits root first i words left = chain_from (most_words - i) m audits root words left ≡ chain_of m audits root first
+abbrev Ahead : Image → List AuditAt → Root → Repair → ℕ → List Suspect → Left → Type 0
+Ahead m audits root first i words left = chain_from (most_words - i) m audits root words left.walk left.repair ≡ chain_of m audits root first
 
 more-left : (i : ℕ) → i < 8 → 8 - i ≡ suc (8 - (i + 1))
 more-left i lt = omega arith
 
 -- where a word leads on, and where none does
-goes-on : (n : ℕ) (m : Image) (audits : List AuditAt) (root : Root) (words : List Suspect) (s : Suspect) (left : Option Repair) → leads_on left ≡ Some s
-    → chain_from (suc n) m audits root words left ≡ chain_from n m audits root (words ++ s ∷ []) (left_after m audits root (words ++ s ∷ []))
+goes-on : (n : ℕ) (m : Image) (audits : List AuditAt) (root : Root) (words : List Suspect) (s : Suspect) (walk : Option FirstWalk) (left : Option Repair) → leads_on left ≡ Some s
+    → chain_from (suc n) m audits root words walk left
+    ≡ chain_from n m audits root (words ++ s ∷ []) (left_after m audits root walk (words ++ s ∷ [])).walk (left_after m audits root walk (words ++ s ∷ [])).repair
 unfolding chain_from
-goes-on n m audits root words s None leads = absurd (let none : ⊥ = cc in none)
-goes-on n m audits root words s (Some (Stands x)) leads = absurd (let none : ⊥ = cc in none)
-goes-on n m audits root words s (Some (Nothing tried beyond None)) leads = absurd (let none : ⊥ = cc in none)
-goes-on n m audits root words s (Some (Nothing tried beyond (Some next))) leads =
+goes-on n m audits root words s walk None leads = absurd (let none : ⊥ = cc in none)
+goes-on n m audits root words s walk (Some (Stands x)) leads = absurd (let none : ⊥ = cc in none)
+goes-on n m audits root words s walk (Some (Nothing tried beyond None)) leads = absurd (let none : ⊥ = cc in none)
+goes-on n m audits root words s walk (Some (Nothing tried beyond (Some next))) leads =
     let same : next.suspect ≡ s = cc in
-    ap (λ (x : Suspect). chain_from n m audits root (words ++ x ∷ []) (left_after m audits root (words ++ x ∷ []))) same
+    ap (λ (x : Suspect). chain_from n m audits root (words ++ x ∷ []) (left_after m audits root walk (words ++ x ∷ [])).walk (left_after m audits root walk (words ++ x ∷ [])).repair) same
 
-ends-here : (n : ℕ) (m : Image) (audits : List AuditAt) (root : Root) (words : List Suspect) (left : Option Repair) → leads_on left ≡ None
-    → chain_from (suc n) m audits root words left ≡ ended words left
+ends-here : (n : ℕ) (m : Image) (audits : List AuditAt) (root : Root) (words : List Suspect) (walk : Option FirstWalk) (left : Option Repair) → leads_on left ≡ None
+    → chain_from (suc n) m audits root words walk left ≡ ended words left
 unfolding chain_from
-ends-here n m audits root words None none = refl
-ends-here n m audits root words (Some (Stands x)) none = refl
-ends-here n m audits root words (Some (Nothing tried beyond None)) none = refl
-ends-here n m audits root words (Some (Nothing tried beyond (Some next))) none = absurd (let never : ⊥ = cc in never)
+ends-here n m audits root words walk None none = refl
+ends-here n m audits root words walk (Some (Stands x)) none = refl
+ends-here n m audits root words walk (Some (Nothing tried beyond None)) none = refl
+ends-here n m audits root words walk (Some (Nothing tried beyond (Some next))) none = absurd (let never : ⊥ = cc in never)
 
-pub chain-starts : (image : Option Image) (audits : List AuditAt) (root : Root) (first : Repair) (words : List Suspect) → words ≡ [] → IfSome image (λ m. Ahead m audits root first 0 words (Some first))
+pub chain-starts : (image : Option Image) (audits : List AuditAt) (root : Root) (first : Repair) (words : List Suspect) → words ≡ []
+    → IfSome image (λ m. Ahead m audits root first 0 words (record { walk = None; repair = Some first }))
 chain-starts None audits root first words is = tt
-chain-starts (Some m) audits root first words is = ap (λ (l : List Suspect). chain_from 8 m audits root l (Some first)) is
+chain-starts (Some m) audits root first words is = ap (λ (l : List Suspect). chain_from 8 m audits root l None (Some first)) is
 
-pub chain-more : (image after : Option Image) (audits : List AuditAt) (root : Root) (first : Repair) (i : ℕ) (words new : List Suspect) (s : Suspect) (left more : Option Repair)
-    → after ≡ image → i < 8 → leads_on left ≡ Some s → new ≡ words ++ s ∷ [] → IfSome image (λ m. Ahead m audits root first i words left)
-    → IfSome after (λ m. more ≡ left_after m audits root (words ++ s ∷ [])) → IfSome image (λ m. Ahead m audits root first (i + 1) new more)
+pub chain-more : (image after : Option Image) (audits : List AuditAt) (root : Root) (first : Repair) (i : ℕ) (words new : List Suspect) (s : Suspect) (left more : Left)
+    → after ≡ image → i < 8 → leads_on left.repair ≡ Some s → new ≡ words ++ s ∷ [] → IfSome image (λ m. Ahead m audits root first i words left)
+    → IfSome after (λ m. more ≡ left_after m audits root left.walk (words ++ s ∷ [])) → IfSome image (λ m. Ahead m audits root first (i + 1) new more)
 chain-more None after audits root first i words new s left more same lt leads grows ahead found = tt
 chain-more (Some m) after audits root first i words new s left more same lt leads grows ahead found =
-    ap (λ (l : List Suspect). chain_from (8 - (i + 1)) m audits root l more) grows
-    ∙ ap (λ (r : Option Repair). chain_from (8 - (i + 1)) m audits root (words ++ s ∷ []) r) (rw same at found)
-    ∙ sym (goes-on (8 - (i + 1)) m audits root words s left leads)
-    ∙ ap (λ (n : ℕ). chain_from n m audits root words left) (sym (more-left i lt))
+    ap (λ (l : List Suspect). chain_from (8 - (i + 1)) m audits root l more.walk more.repair) grows
+    ∙ ap (λ (r : Left). chain_from (8 - (i + 1)) m audits root (words ++ s ∷ []) r.walk r.repair) (rw same at found)
+    ∙ sym (goes-on (8 - (i + 1)) m audits root words s left.walk left.repair leads)
+    ∙ ap (λ (n : ℕ). chain_from n m audits root words left.walk left.repair) (sym (more-left i lt))
     ∙ ahead
 
-pub chain-ends : (image : Option Image) (audits : List AuditAt) (root : Root) (first : Repair) (i : ℕ) (words : List Suspect) (left : Option Repair) (r : Result (Option (List Suspect)) ReadFailed)
-    → i < 8 → leads_on left ≡ None → IfSome image (λ m. Ahead m audits root first i words left) → IfOk r (λ all. all ≡ ended words left)
+pub chain-ends : (image : Option Image) (audits : List AuditAt) (root : Root) (first : Repair) (i : ℕ) (words : List Suspect) (left : Left) (r : Result (Option (List Suspect)) ReadFailed)
+    → i < 8 → leads_on left.repair ≡ None → IfSome image (λ m. Ahead m audits root first i words left) → IfOk r (λ all. all ≡ ended words left.repair)
     → IfOk r (λ all. IfSome image (λ m. all ≡ chain_of m audits root first))
 chain-ends image audits root first i words left (Err stop) lt none ahead exact = tt
 chain-ends None audits root first i words left (Ok all) lt none ahead exact = tt
 chain-ends (Some m) audits root first i words left (Ok all) lt none ahead exact =
-    exact ∙ sym (ends-here (8 - (i + 1)) m audits root words left none) ∙ ap (λ (n : ℕ). chain_from n m audits root words left) (sym (more-left i lt)) ∙ ahead
+    exact ∙ sym (ends-here (8 - (i + 1)) m audits root words left.walk left.repair none)
+    ∙ ap (λ (n : ℕ). chain_from n m audits root words left.walk left.repair) (sym (more-left i lt)) ∙ ahead
 
 -- where only memory was wanting, the count of failures is as it was
 pub only-memory : (r : Result (Option (List Suspect)) ReadFailed) (old new : ℕ) → IfErr r (λ stop. stop ≡ NoMemory) → new ≡ old → CountsFailures r old new
@@ -110,12 +120,12 @@ only-memory (Err NoMemory) old new cause same = same
 only-memory (Err Fault) old new cause same = absurd (let never : ⊥ = cc in never)
 
 -- after the last word
-past : (m : Image) (audits : List AuditAt) (root : Root) (words : List Suspect) (left : Option Repair) (n : ℕ) → n ≡ 0 → None ≡ chain_from n m audits root words left
+past : (m : Image) (audits : List AuditAt) (root : Root) (words : List Suspect) (left : Left) (n : ℕ) → n ≡ 0 → None ≡ chain_from n m audits root words left.walk left.repair
 unfolding chain_from
 past m audits root words left zero is = refl
 past m audits root words left (suc n) is = absurd (let none : ⊥ = cc in none)
 
-pub chain-long : (image : Option Image) (audits : List AuditAt) (root : Root) (first : Repair) (i : ℕ) (words : List Suspect) (left : Option Repair)
+pub chain-long : (image : Option Image) (audits : List AuditAt) (root : Root) (first : Repair) (i : ℕ) (words : List Suspect) (left : Left)
     → 8 ≤ i → IfSome image (λ m. Ahead m audits root first i words left) → IfSome image (λ m. None ≡ chain_of m audits root first)
 chain-long None audits root first i words left beyond ahead = tt
 chain-long (Some m) audits root first i words left beyond ahead = past m audits root words left (8 - i) (omega arith) ∙ ahead
@@ -163,12 +173,12 @@ pub record Ends (image : Image) (audits : List AuditAt) (root : Root) (words all
   pub there : StandInTurn image words rest
   pub stands : RootStands (with_words image all) audits root
 
-ends : KnownLeft → (n : ℕ) (image : Image) (audits : List AuditAt) (root : Root) (words all : List Suspect) (left : Option Repair) → Says image audits root words left
-    → chain_from n image audits root words left ≡ Some all → Ends image audits root words all
+ends : KnownLeft → (n : ℕ) (image : Image) (audits : List AuditAt) (root : Root) (words all : List Suspect) (walk : Option FirstWalk) (left : Option Repair) → Says image audits root words left
+    → chain_from n image audits root words walk left ≡ Some all → Ends image audits root words all
 unfolding chain_from
-ends law zero image audits root words all left says is = let none : ⊥ = cc in absurd none
-ends law (suc n) image audits root words all None says is = let none : ⊥ = cc in absurd none
-ends law (suc n) image audits root words all (Some (Stands s)) says is =
+ends law zero image audits root words all walk left says is = let none : ⊥ = cc in absurd none
+ends law (suc n) image audits root words all walk None says is = let none : ⊥ = cc in absurd none
+ends law (suc n) image audits root words all walk (Some (Stands s)) says is =
     let same : words ++ s ∷ [] ≡ all = cc in
     record {
       rest = s ∷ [];
@@ -176,11 +186,12 @@ ends law (suc n) image audits root words all (Some (Stands s)) says is =
       there = (says.0, tt);
       stands = subst (λ (i : Image). RootStands i audits root) (sym (law.one_more image words s) ∙ ap (with_words image) same) says.1;
     }
-ends law (suc n) image audits root words all (Some (Nothing tried beyond None)) says is = let none : ⊥ = cc in absurd none
-ends law (suc n) image audits root words all (Some (Nothing tried beyond (Some next))) says is =
+ends law (suc n) image audits root words all walk (Some (Nothing tried beyond None)) says is = let none : ⊥ = cc in absurd none
+ends law (suc n) image audits root words all walk (Some (Nothing tried beyond (Some next))) says is =
     let more : List Suspect = words ++ next.suspect ∷ [] in
-    let later = ends law n image audits root more all (left_after image audits root more)
-    (said-left law image audits root more (root_verdict (with_words image more) audits root).verdict) is in
+    let after : Left = left_after image audits root walk more in
+    let later = ends law n image audits root more all after.walk after.repair
+    (said-left law image audits root more (judged (with_words image more) audits root walk None)) is in
     record {
       rest = next.suspect ∷ later.rest;
       is = later.is ∙ append_assoc words (next.suspect ∷ []) later.rest;
@@ -208,7 +219,7 @@ pub chained : KnownLeft → (image : Image) (audits : List AuditAt) (root : Root
     → chain_of image audits root (repair_of image audits root kind v) ≡ Some words → Together image audits root words
 chained law image audits root kind v words is =
     let r : Repair = repair_of image audits root kind v in
-    let end = ends law most_words image audits root [] words (Some r)
+    let end = ends law most_words image audits root [] words None (Some r)
     (said-by image audits root (walk_of image audits kind v) [] (suspects image kind v) r (law.first_stand image audits root kind v)
     (first-left image (told_suspects r) (law.first_words image audits root kind v))) is in
     let there : StandInTurn image [] words = subst (λ (l : List Suspect). StandInTurn image [] l) (sym end.is) end.there in

@@ -18,7 +18,7 @@ use Rattle.kc_told.specs.Near.{lead_as}
 use Rattle.kc_repair.specs.declared.suspect.suspect.Suspect.{Suspect}
 use Rattle.kc_cause.specs.declared.judged.PlanOf.{PlanOf}
 use Rattle.kc_cause.specs.declared.repairs.Mended.{Mended}
-use Rattle.kc_cause.specs.Explained.{leads_to, mended_of, repairs_as}
+use Rattle.kc_cause.specs.Explained.{leads_over, leads_to, mended_of, repairs_as}
 use Rattle.kc_cause.specs.Judged.{over_plan}
 use Rattle.kc_cause.specs.Lines.{led_lines, mended_lines, suspect_part}
 
@@ -41,18 +41,30 @@ between_pure None old one two new first mid rest a b c = tt
 between_pure (Some m) old one two new first mid rest a b c =
     c ∙ ap (λ l. l ++ rest) (b ∙ ap (λ l. l ++ mid m) a ∙ append_assoc old first (mid m)) ∙ append_assoc old (first ++ mid m) rest ∙ ap (λ l. old ++ l) (append_assoc first (mid m) rest)
 
--- a word, and what its other number leads to
-pub led_added : (image : Option Image) (o : PlanOf) (s : Suspect) (lead : Lead) (old one two new : List ℕ)
-    → one ≡ old ++ suspect_part s → two ≡ one ++ codes "\n"
+-- two parts that are told of it
+pub after_told : {A E : Type 0} (image after : Option Image) (r : Result A E) (old mid new : List ℕ) (first rest : Image → List ℕ)
+    → after ≡ image → IfSome image (λ m. mid ≡ old ++ first m) → OnOk r (IfSome after (λ m. new ≡ mid ++ rest m)) → OnOk r (IfSome image (λ m. new ≡ old ++ (first m ++ rest m)))
+after_told image after (Err e) old mid new first rest same one two = tt
+after_told None after (Ok a) old mid new first rest same one two = tt
+after_told (Some m) after (Ok a) old mid new first rest same one two = (rw same at two) ∙ ap (λ l. l ++ rest m) one ∙ append_assoc old (first m) (rest m)
+
+-- what the other number of a word leads to
+pub lead_added : (image : Option Image) (o : PlanOf) (s : Suspect) (lead : Lead) (old new : List ℕ)
     → LooksAs (λ (l : Lead). l) (λ m. lead_as m o.shapes.words.objects o.shapes.words.cpus (meaning s.va s.value) s.value) image (Ok lead)
-    → new ≡ two ++ leads_line (image_symbols o.shapes.map) lead (meaning s.va s.value) s.value
-    → IfSome image (λ m. new ≡ old ++ led_lines (leads_to (over_plan o m)) s)
-led_added None o s lead old one two new a b told c = tt
-led_added (Some m) o s lead old one two new a b told c =
-    let line : two ≡ old ++ (suspect_part s ++ codes "\n") = b ∙ ap (λ l. l ++ codes "\n") a ∙ append_assoc old (suspect_part s) (codes "\n") in
+    → new ≡ old ++ leads_line (image_symbols o.shapes.map) lead (meaning s.va s.value) s.value
+    → IfSome image (λ m. new ≡ old ++ leads_over (over_plan o m) s)
+lead_added None o s lead old new told c = tt
+lead_added (Some m) o s lead old new told c =
     let is : lead ≡ lead_as m o.shapes.words.objects o.shapes.words.cpus (meaning s.va s.value) s.value = told in
-    c ∙ ap (λ l. two ++ leads_line (image_symbols o.shapes.map) l (meaning s.va s.value) s.value) is
-    ∙ ap (λ l. l ++ leads_to (over_plan o m) s) line ∙ append_assoc old (suspect_part s ++ codes "\n") (leads_to (over_plan o m) s)
+    c ∙ ap (λ l. old ++ leads_line (image_symbols o.shapes.map) l (meaning s.va s.value) s.value) is
+
+-- a word, and what is said of both its numbers
+pub led_added : {A E : Type 0} (image : Option Image) (r : Result A E) (s : Suspect) (old one two new : List ℕ) (leads : Image → Suspect → List ℕ)
+    → one ≡ old ++ suspect_part s → two ≡ one ++ codes "\n" → OnOk r (IfSome image (λ m. new ≡ two ++ leads m s)) → OnOk r (IfSome image (λ m. new ≡ old ++ led_lines (leads m) s))
+led_added image (Err e) s old one two new leads a b c = tt
+led_added None (Ok x) s old one two new leads a b c = tt
+led_added (Some m) (Ok x) s old one two new leads a b c =
+    c ∙ ap (λ l. l ++ leads m s) (b ∙ ap (λ l. l ++ codes "\n") a ∙ append_assoc old (suspect_part s) (codes "\n")) ∙ append_assoc old (suspect_part s ++ codes "\n") (leads m s)
 
 -- all lines, under the root audit with a number
 pub as_added : {A E : Type 0} (image after : Option Image) (r : Result A E) (o : PlanOf) (root : ℕ) (at : Option Asked) (asked : Asked) (number : ℕ) (kind : Kind) (v : Violation) (made : Result Mended ReadFailed) (mended : Mended) (old new : List ℕ)

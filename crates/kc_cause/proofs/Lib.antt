@@ -8,3 +8,4 @@ mod MendedLemmas
 mod PlannedLemmas
 mod PrintedLaws
 mod RepairLemmas
+mod WrittenLemmas

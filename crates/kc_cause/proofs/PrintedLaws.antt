@@ -36,12 +36,13 @@ use Rattle.kc_repair.specs.Suspect.Suspects.{suspects}
 use Rattle.kc_report.specs.Lines.{rule_code}
 use Rattle.kc_text.specs.Compose.{texts}
 use Rattle.kc_text.specs.Text.{hex}
-use Rattle.kc_cause.specs.Explained.{Explained, causes_text, cause_lines, explained_text, fault_lines, first_lines, found_named, found_number, changed_words, elements_told, is_broken, leads_to, mended_of, or_clean, repairs_found, root_line, shown_lines, stand_told}
+use Rattle.kc_cause.specs.Explained.{Explained, causes_text, cause_lines, explained_text, fault_lines, first_lines, found_named, found_number, changed_words, elements_told, is_broken, leads_over, leads_to, mended_of, or_clean, repairs_found, root_line, says_at, shown_lines, stand_told, written_over}
 use Rattle.kc_cause.specs.Lines.{after_lines, bytes_line, elements_lines, mended_lines, next_lines, number_of, only_fits, repair_label, repair_lines, stand_line, stand_lines, suspect_part, word_line}
-use Rattle.kc_cause.specs.Printed.{CountsAs, IsAlone, IsChained, IsExplanation, IsPart, IsPartBy, IsPartOf, IsRepaired, IsThen, IsUnrepaired, IsWhole, IsWord, LeadsAs, columns, explained_roots, walk_as}
+use Rattle.kc_cause.specs.Printed.{CountsAs, IsAlone, IsChained, IsExplanation, IsPart, IsPartBy, IsPartOf, IsRepaired, IsThen, IsUnrepaired, IsLed, IsWhole, IsWord, LeadsAs, columns, explained_roots, walk_as}
 use Rattle.kc_cause.specs.Chained.{chain_of}
 use Rattle.kc_cause.specs.Signs.{sign_lines, sign_of}
 use Rattle.kc_cause.specs.Suspected.{Suspected, suspected}
+use Rattle.kc_cause.specs.Written.{is_written}
 use Rattle.kc_cause.proofs.ChainLemmas.{Together, chained}
 
 -- ---- the lines on a repair
@@ -82,14 +83,25 @@ first_told image (Some m) tried more words n is = let same : n ≡ m = cc in rw 
 
 -- what the other number of a word leads to
 led-by : (e : Explained) (s : Suspect) (lead : Lead) (told : Bool) → lead ≡ lead_as e.image e.shapes.objects e.shapes.cpus (meaning s.va s.value) s.value
-    → LeadsAs e s (if told then codes "leads " ++ meaning_text e.symbols.image lead (meaning s.va s.value) s.value ++ codes "\n" else [])
+    → ((if told then codes "leads " ++ meaning_text e.symbols.image lead (meaning s.va s.value) s.value ++ codes "\n" else []) ≡ [])
+    ⊎ IsLed e s (if told then codes "leads " ++ meaning_text e.symbols.image lead (meaning s.va s.value) s.value ++ codes "\n" else [])
 led-by e s lead true is = inr (record { words = meaning_text e.symbols.image lead (meaning s.va s.value) s.value; near = rw is refl; line = refl })
 led-by e s lead false is = inl refl
+
+says-by : (e : Explained) (s : Suspect) (written : Bool) → ((if written then says_at e s.now (Some s.va) else []) ≡ []) ⊎ ((if written then says_at e s.now (Some s.va) else []) ≡ says_at e s.now (Some s.va))
+says-by e s true = inr refl
+says-by e s false = inl refl
 
 led-said : (e : Explained) (s : Suspect) → LeadsAs e s (leads_to e s)
 led-said e s =
     let lead : Lead = lead_as e.image e.shapes.objects e.shapes.cpus (meaning s.va s.value) s.value in
-    led-by e s lead (is_told e.symbols.image lead (meaning s.va s.value) s.value) refl
+    record {
+      old = written_over e s;
+      new = leads_over e s;
+      is = refl;
+      says = says-by e s (is_written (meaning s.va s.now));
+      leads = led-by e s lead (is_told e.symbols.image lead (meaning s.va s.value) s.value) refl;
+    }
 
 -- whether others would do as well
 number-told : (also : Bool) (other : Option Suspect) (s : Suspect) → also ≡ is_some other → number_of also ≡ length (s ∷ option_to_list other)

@@ -8,7 +8,7 @@ use Rattle.kc_found.specs.Violations.{Violation}
 use Rattle.kc_repair.specs.Suspect.Links.{node_of}
 use Rattle.kc_cause.specs.declared.signs.Sign.{Sign}
 use Rattle.kc_cause.specs.declared.signs.Sign.TheVariants.{Twice, Copied}
-use Rattle.kc_cause.specs.Signs.{beside_lines, is_of_links, is_of_list, is_of_parent, is_shared, is_some_of, list_sign, number_at, same_at, sign_lines}
+use Rattle.kc_cause.specs.Signs.{beside_lines, is_of_links, is_of_list, is_of_parent, is_some_of, list_sign, number_at, same_at, sign_lines}
 
 -- ---- by the words of a tree's nodes
 
@@ -59,21 +59,28 @@ parent_sign image v word = or_sign (below_sign image v.at (word / 4 * 4)) (above
 abbrev pub tree_sign : Image → Violation → Option Sign
 tree_sign image v = option_and_then (parent_sign image v) (number_at image v.at)
 
--- ---- by the heads of lists near a violation
+-- ---- by the nodes of lists near a violation
 
--- an empty list's head leads to itself (include/linux/list.h, `INIT_LIST_HEAD`)
-abbrev pub is_empty_head : Image → ℕ → Bool
-is_empty_head image head = is_some_of head (number_at image head) && is_some_of head (number_at image (at_offset head 8))
+-- `prev` of the words at an address, which are read as a list's node, leads to a node
+abbrev pub leads_here : Image → ℕ → Option ℕ → Bool
+leads_here image node None = false
+leads_here image node (Some prev) = is_some_of node (number_at image prev)
 
--- both pointers of a head lead to another one, which is empty: its bytes are those of the other one
-abbrev pub is_copied_head : Image → ℕ → ℕ → Bool
-is_copied_head image at head = not (head == at) && (is_shared (number_at image (at_offset at 8)) head && is_empty_head image head)
+-- Both neighbours of a list's node lead to another node, which has the same `next` and the same `prev`: its bytes are those of that one. No sound list has such
+-- a node (include/linux/list.h, `__list_add`). Of an empty list's head, which leads to itself (`INIT_LIST_HEAD`), that one is both neighbours.
+abbrev pub is_copied_link : Image → ℕ → ℕ → Bool
+is_copied_link image at other =
+    not (other == at) && (same_at image at other && (same_at image (at_offset at 8) (at_offset other 8) && leads_here image other (number_at image (at_offset at 8))))
 
-abbrev pub head_sign : Image → ℕ → ℕ → Option Sign
-head_sign image at head = if is_copied_head image at head then Some (Copied head) else None
+abbrev pub link_sign : Image → ℕ → ℕ → Option Sign
+link_sign image at other = if is_copied_link image at other then Some (Copied other) else None
+
+-- that one is the node to which the node after these words leads back
+abbrev pub next_sign : Image → ℕ → ℕ → Option Sign
+next_sign image at next = option_and_then (link_sign image at) (number_at image (at_offset next 8))
 
 abbrev pub word_sign : Image → ℕ → Option Sign
-word_sign image at = option_and_then (head_sign image at) (number_at image at)
+word_sign image at = option_and_then (next_sign image at) (number_at image at)
 
 -- the first of so many words from an address on
 unfoldable pub heads_sign : ℕ → Image → ℕ → Option Sign

@@ -3,6 +3,7 @@ use Rattle.std.specs.Prelude.{◌≡◌, ℕ, nat_eq, if◌then◌else◌, Bool,
 use Rattle.std.specs.Option.{option_map_or}
 use Rattle.kc_btf.specs.Btf.{Types}
 use Rattle.kc_memory.specs.declared.words.Place.{Place}
+use Rattle.kc_memory.specs.declared.words.VWord.{VWord}
 use Rattle.kc_memory.specs.Image.{Image}
 use Rattle.kc_syms.specs.Rows.{RowText}
 use Rattle.kc_found.specs.declared.verdict.RootVerdict.{RootVerdict}
@@ -38,6 +39,7 @@ use Rattle.kc_report.specs.Lines.{place_line}
 use Rattle.kc_told.specs.Leads.{leads_of}
 use Rattle.kc_told.specs.Objects.{Shapes, kernel_by, shapes_by, told_of}
 use Rattle.kc_sight.specs.Looks.{words}
+use Rattle.kc_sight.specs.Meanings.{meaning}
 use Rattle.kc_sight.specs.Sights.{page_start}
 use Rattle.kc_told.specs.SaysText.{says_lines}
 use Rattle.kc_told.specs.SeenText.{MapSymbols, symbols_by, told_lines}
@@ -52,6 +54,7 @@ use Rattle.kc_audit.specs.Audits.{names_of, plan_over}
 use Rattle.kc_cause.specs.Rings.{ring_lines}
 use Rattle.kc_cause.specs.Copies.{shown_signs}
 use Rattle.kc_cause.specs.Suspected.{Suspected, suspected}
+use Rattle.kc_cause.specs.Written.{is_written, slot_line, slot_of}
 use Rattle.kc_cause.specs.Lines.{bytes_line, mended_lines, named_lines, number_lines}
 
 -- what is explained: a memory that is audited, with its kernel's types, the version of a plan, the plan's audits, where the kernel has what tells
@@ -113,8 +116,19 @@ abbrev pub with_slabs : Explained → Violation → List ℕ
 with_slabs e v = listed_lines e v ++ slabs_found e v
 
 -- and all that, with what the words beside it show
+abbrev pub with_signs : Explained → Violation → List ℕ
+with_signs e v = with_slabs e v ++ shown_signs e.image v
+
+-- the first slot of an xarray's node over which something was written, with what it says
+abbrev pub slot_told : Explained → VWord → List ℕ
+slot_told e w = slot_line w ++ says_at e w.value (Some w.va)
+
+abbrev pub slot_lines : Explained → Violation → List ℕ
+slot_lines e v = option_map_or (slot_told e) (slot_of e.image v) []
+
+-- all that
 abbrev pub shown_lines : Explained → Violation → List ℕ
-shown_lines e v = with_slabs e v ++ shown_signs e.image v
+shown_lines e v = with_signs e v ++ slot_lines e v
 
 -- a violation up to its words, and the number that it expects, by the audit that found it
 abbrev pub found_named : Types → List AuditAt → Violation → List ℕ
@@ -155,9 +169,16 @@ abbrev pub mended_of : Image → List AuditAt → Root → Kind → Violation �
 mended_of image audits root kind v number =
     mended_by image audits root number (repair_of image audits root kind v) (stand_told image audits root kind v (repair_of image audits root kind v))
 
+-- what was written over the word of a suspect, where its number shows that, and how far that goes on
+abbrev pub written_over : Explained → Suspect → List ℕ
+written_over e s = if is_written (meaning s.va s.now) then says_at e s.now (Some s.va) else []
+
 -- what the number leads to that a suspect's word may have held, in the memory as it is
+abbrev pub leads_over : Explained → Suspect → List ℕ
+leads_over e s = leads_of e.symbols.image e.image e.shapes s.va s.value
+
 abbrev pub leads_to : Explained → Suspect → List ℕ
-leads_to e s = leads_of e.symbols.image e.image e.shapes s.va s.value
+leads_to e s = written_over e s ++ leads_over e s
 
 -- under the root audit with a number; the audit with another one found it
 abbrev pub repairs_as : Explained → ℕ → ℕ → Kind → Violation → List ℕ

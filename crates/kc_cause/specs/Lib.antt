@@ -11,3 +11,4 @@ pub mod Rings
 pub mod Sentences
 pub mod Signs
 pub mod Suspected
+pub mod Written

@@ -19,7 +19,7 @@ use Rattle.kc_repair.specs.Suspect.Laws.{IsSuspect}
 use Rattle.kc_report.specs.Lines.{rule_code}
 use Rattle.kc_told.specs.Near.{near_word}
 use Rattle.kc_told.specs.Text.{near_line}
-use Rattle.kc_cause.specs.Explained.{Explained, is_broken}
+use Rattle.kc_cause.specs.Explained.{Explained, is_broken, says_at}
 use Rattle.kc_cause.specs.Signs.{sign_lines, sign_of}
 use Rattle.kc_cause.specs.Suspected.{Suspected, suspected}
 
@@ -37,8 +37,13 @@ pub record IsLed (e : Explained) (s : Suspect) (said : List ℕ) : Type 0 where
   pub near : near_line e.symbols.image (near_word e.image e.shapes.objects e.shapes.cpus (Ok (as_if s))) ≡ codes "near " ++ hex s.va ++ codes " " ++ hex s.value ++ codes " " ++ words ++ codes "\n"
   pub line : said ≡ codes "leads " ++ words ++ codes "\n"
 
-abbrev pub LeadsAs : Explained → Suspect → List ℕ → Type 0
-LeadsAs e s said = (said ≡ []) ⊎ IsLed e s said
+-- Before that, what the word says that stands there, in the words of a line on a word that shows a violation, or nothing.
+pub record LeadsAs (e : Explained) (s : Suspect) (said : List ℕ) : Type 0 where
+  pub old : List ℕ
+  pub new : List ℕ
+  pub is : said ≡ old ++ new
+  pub says : (old ≡ []) ⊎ (old ≡ says_at e s.now (Some s.va))
+  pub leads : (new ≡ []) ⊎ IsLed e s new
 
 -- Under `stand`: so many words were tried, those before this one, it, and those after it. Each stands in the dump so. With none of those the root audit stands,
 -- unless the walk that found the violation breaks with it, but for the last one, where another word repairs.

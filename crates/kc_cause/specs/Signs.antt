@@ -1,10 +1,10 @@
 -- What words show of how they came to be wrong. Source: the kernel's include/linux/types.h, `struct list_head`, whose `prev` comes 8 bytes after its `next`;
 -- include/linux/list.h, `__list_add`, which writes the node's own pointers and those of its new neighbours, and `list_del`, which leaves LIST_POISON1 in `next`
 -- and LIST_POISON2 in `prev` (include/linux/poison.h; x86 adds CONFIG_ILLEGAL_POINTER_VALUE, dead000000000000).
-use Rattle.std.specs.Prelude.{ℕ, ◌*◌, ◌/◌, ◌==◌, ◌&&◌, not, Bool, true, false, if◌then◌else◌, List, [], ◌++◌, codes, length, slice_get, Option, Some, None, option_map, option_and_then}
+use Rattle.std.specs.Prelude.{ℕ, ◌*◌, ◌/◌, ◌%◌, ◌^◌, ◌==◌, ◌&&◌, not, Bool, true, false, if◌then◌else◌, List, [], ◌++◌, codes, length, slice_get, Option, Some, None, option_map, option_and_then}
 use Rattle.std.specs.Option.{option_map_or}
 use Rattle.kc_memory.specs.declared.rule.Rule.{Rule}
-use Rattle.kc_memory.specs.declared.rule.Rule.TheVariants.{L1, H1, R1, X3, X4}
+use Rattle.kc_memory.specs.declared.rule.Rule.TheVariants.{L1, H1, R1, X3, X4, T1, T3, U1, G1, G2}
 use Rattle.kc_memory.specs.declared.words.VWord.{VWord}
 use Rattle.kc_memory.specs.Image.{Image}
 use Rattle.kc_memory.specs.Translation.{vword}
@@ -79,21 +79,31 @@ is_of_links L1 = true
 is_of_links H1 = true
 is_of_links _ = false
 
--- Which rules expect a pointer in a whole word: of a tree's node one that has the colour in its lowest bits (include/linux/rbtree_augmented.h, `rb_parent`).
+-- Which rules expect a pointer in a whole word, of a tree's node one that has the colour in its lowest bits (include/linux/rbtree_augmented.h, `rb_parent`), or
+-- a process id's number, an `int` (include/linux/pid.h, `struct upid`). Not `real_parent`, which mostly stands in the next word, `parent`, too (include/linux/sched.h).
 abbrev pub is_of_pointer : Rule → Bool
 is_of_pointer L1 = true
 is_of_pointer H1 = true
 is_of_pointer R1 = true
 is_of_pointer X3 = true
 is_of_pointer X4 = true
+is_of_pointer T1 = true
+is_of_pointer T3 = true
+is_of_pointer U1 = true
+is_of_pointer G1 = true
+is_of_pointer G2 = true
 is_of_pointer _ = false
 
 abbrev pub is_of_parent : Rule → Bool
 is_of_parent R1 = true
 is_of_parent _ = false
 
+abbrev pub is_of_process : Rule → Bool
+is_of_process G1 = true
+is_of_process _ = false
+
 abbrev pub pointer_of : Rule → ℕ → ℕ
-pointer_of rule value = if is_of_parent rule then value / 4 * 4 else value
+pointer_of rule value = if is_of_parent rule then value / 4 * 4 else (if is_of_process rule then value % 2 ^ 32 else value)
 
 -- the number that is expected stands beside its place, as in an object that was moved, or where a pointer to it is off
 unfoldable pub beside_line : Image → Rule → ℕ → ℕ → List ℕ

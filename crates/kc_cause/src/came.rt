@@ -107,8 +107,12 @@ fn find_member<M: Space, L: Ledger>(
     }
 }
 
-// The four columns of a place.
-fn push_word(text: &mut Vec<u8>, word: &VWord) -> Result<(), NoMemory>
+/// Adds the four columns of a place.
+///
+/// # Errors
+///
+/// No memory was left.
+pub(crate) fn push_word(text: &mut Vec<u8>, word: &VWord) -> Result<(), NoMemory>
     ensures { OnOk result (text.new.items ≡ text.old.items ++ word_part word.now) }
 {
     push_hex(text, word.va)?;

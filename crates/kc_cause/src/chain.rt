@@ -7,9 +7,9 @@ ghost use Rattle.kc_outside.specs.Files.{content};
 ghost use Rattle.kc_phys.specs.Stored.{stored};
 ghost use Rattle.kc_mem.specs.Paged.{with_paging};
 ghost use Rattle.kc_plan.specs.Views.{plan_seen};
-ghost use Rattle.kc_repair.specs.Repairs.{NamesAudit, repair_left};
+ghost use Rattle.kc_repair.specs.Repairs.{WalkInside, repair_left};
 ghost use Rattle.kc_repair.specs.Suspect.Answers.{OnlyReadsFrames};
-ghost use Rattle.kc_cause.specs.Chained.{chain_of, ended, leads_on, left_after, left_by};
+ghost use Rattle.kc_cause.specs.Chained.{chain_of, ended, leads_on, left_after, left_by, left_of, next_walk};
 ghost use Rattle.kc_cause.specs.Judged.{FitsTogether};
 
 use crate::judged::PlanOf;
@@ -19,11 +19,23 @@ use kc_kinds::Kind;
 use kc_outside::Store;
 use kc_phys::Phys;
 use kc_question::Returned;
-use kc_repair::{Repair, Repaired, RootAudit, Suspect, Suspects, repair_left, verdict_over};
+use kc_repair::{
+    FirstWalk, Judge, Repair, Repaired, RootAudit, Suspect, Suspects, judged_over, planned_walk,
+    repair_left,
+};
 use kc_word::NoMemory;
 
 // How many words are changed at most.
 const MOST_WORDS: u32 = 8;
+
+/// What is left where some words are changed.
+#[derive(Clone, Copy)]
+pub(crate) struct Left {
+    /// The walk of the audit that finds a violation then.
+    pub walk: Option<FirstWalk>,
+    /// What repairs it.
+    pub repair: Option<Repair>,
+}
 
 // What repairs a violation of a kind of structure, that is left where some words are changed.
 fn left_as<'s, S: Store>(
@@ -74,12 +86,17 @@ fn left_found<'s, S: Store>(
 ) -> Returned<Phys<'s, S>, Result<Option<Repair>, ReadFailed>>
     requires over { FitsTogether over.now }
     requires root { root.audit < length over.now.plan.now.audits }
-    requires found { found.now.audit < length over.now.plan.now.audits }
 
     ensures exact { IfOk result.answer (λ left. IfSome (with_paging over.now.paging (stored memory.entry.segments.items memory.entry.tail (content (S.files memory.entry.store.now) Dump (S.opened memory.entry.store.now Dump))))
         (λ image. left ≡ left_by image (plan_seen over.now.plan.now) (root.audit, root.start) words.now (Broken found.now))) }
     ensures reads { OnlyReadsFrames (λ p. stored p.segments.items p.tail (content (S.files p.store.now) Dump (S.opened p.store.now Dump))) (λ p. S.files p.store.now) (λ p. p.store.ghost_name ∷ []) (λ p. S.faults p.store.now) result.answer memory.entry result.memory }
 {
+    if found.audit >= over.plan.count() {
+        return Returned {
+            memory,
+            answer: Ok(None),
+        };
+    }
     let kind = &over.plan.audit(found.audit).kind;
     let Returned { memory, answer } = as_ring_left(memory, over, words, kind, found);
     match answer {
@@ -92,7 +109,7 @@ fn left_found<'s, S: Store>(
     }
 }
 
-// The same where the root audit comes to a verdict then, if it doesn't stand.
+// The same where it comes to a verdict then, if that isn't that it stands.
 fn left_by<'s, S: Store>(
     memory: Phys<'s, S>,
     over: &PlanOf<'_>,
@@ -102,7 +119,6 @@ fn left_by<'s, S: Store>(
 ) -> Returned<Phys<'s, S>, Result<Option<Repair>, ReadFailed>>
     requires over { FitsTogether over.now }
     requires root { root.audit < length over.now.plan.now.audits }
-    requires found { NamesAudit (length over.now.plan.now.audits) verdict }
 
     ensures exact { IfOk result.answer (λ left. IfSome (with_paging over.now.paging (stored memory.entry.segments.items memory.entry.tail (content (S.files memory.entry.store.now) Dump (S.opened memory.entry.store.now Dump))))
         (λ image. left ≡ left_by image (plan_seen over.now.plan.now) (root.audit, root.start) words.now verdict)) }
@@ -117,25 +133,76 @@ fn left_by<'s, S: Store>(
     }
 }
 
-// What repairs what is left where some words are changed, if the root audit doesn't stand then.
+// The walk of the audit that finds a violation.
+fn next_walk(over: &PlanOf<'_>, root: Asked, verdict: &Verdict) -> Option<FirstWalk>
+    requires over { FitsTogether over.now }
+    ensures exact { result ≡ next_walk (plan_seen over.now.plan.now) verdict.now }
+    ensures inside { WalkInside (length over.now.types.now.records) result }
+{
+    let PlanOf { plan, types, .. } = *over;
+    match verdict {
+        Verdict::Broken(found) => planned_walk(&RootAudit { plan, types, root }, found),
+        Verdict::Clean(_) => None,
+    }
+}
+
+// What is left where some words are changed, by a walk that comes before the root audit.
 fn left_after<'s, S: Store>(
     memory: Phys<'s, S>,
     over: &PlanOf<'_>,
     root: Asked,
+    walk: &Option<FirstWalk>,
     words: &[Suspect],
-) -> Returned<Phys<'s, S>, Result<Option<Repair>, ReadFailed>>
+) -> Returned<Phys<'s, S>, Result<Left, ReadFailed>>
     requires over { FitsTogether over.now }
     requires root { root.audit < length over.now.plan.now.audits }
+    requires walk { WalkInside (length over.now.types.now.records) walk.now }
 
     ensures exact { IfOk result.answer (λ left. IfSome (with_paging over.now.paging (stored memory.entry.segments.items memory.entry.tail (content (S.files memory.entry.store.now) Dump (S.opened memory.entry.store.now Dump))))
-        (λ image. left ≡ left_after image (plan_seen over.now.plan.now) (root.audit, root.start) words.now)) }
+        (λ image. left ≡ left_after image (plan_seen over.now.plan.now) (root.audit, root.start) walk.now words.now)) }
+    ensures inside { IfOk result.answer (λ left. WalkInside (length over.now.types.now.records) left.walk) }
     ensures reads { OnlyReadsFrames (λ p. stored p.segments.items p.tail (content (S.files p.store.now) Dump (S.opened p.store.now Dump))) (λ p. S.files p.store.now) (λ p. p.store.ghost_name ∷ []) (λ p. S.faults p.store.now) result.answer memory.entry result.memory }
 {
     let PlanOf { plan, types, .. } = *over;
     let audit = RootAudit { plan, types, root };
-    let Returned { memory, answer } = verdict_over(over.alloc, memory, over.paging, &audit, words);
+    let by = Judge {
+        audit: &audit,
+        walk,
+        only: None,
+    };
+    let Returned { memory, answer } = judged_over(over.alloc, memory, over.paging, &by, words);
     match answer {
-        Ok(verdict) => left_by(memory, over, root, words, verdict),
+        Ok(verdict) => with_walk(memory, over, root, words, verdict),
+        Err(stop) => Returned {
+            memory,
+            answer: Err(stop),
+        },
+    }
+}
+
+// The same by what that comes to.
+fn with_walk<'s, S: Store>(
+    memory: Phys<'s, S>,
+    over: &PlanOf<'_>,
+    root: Asked,
+    words: &[Suspect],
+    verdict: Verdict,
+) -> Returned<Phys<'s, S>, Result<Left, ReadFailed>>
+    requires over { FitsTogether over.now }
+    requires root { root.audit < length over.now.plan.now.audits }
+
+    ensures exact { IfOk result.answer (λ left. IfSome (with_paging over.now.paging (stored memory.entry.segments.items memory.entry.tail (content (S.files memory.entry.store.now) Dump (S.opened memory.entry.store.now Dump))))
+        (λ image. left ≡ left_of image (plan_seen over.now.plan.now) (root.audit, root.start) words.now verdict)) }
+    ensures inside { IfOk result.answer (λ left. WalkInside (length over.now.types.now.records) left.walk) }
+    ensures reads { OnlyReadsFrames (λ p. stored p.segments.items p.tail (content (S.files p.store.now) Dump (S.opened p.store.now Dump))) (λ p. S.files p.store.now) (λ p. p.store.ghost_name ∷ []) (λ p. S.faults p.store.now) result.answer memory.entry result.memory }
+{
+    let walk = next_walk(over, root, &verdict);
+    let Returned { memory, answer } = left_by(memory, over, root, words, verdict);
+    match answer {
+        Ok(repair) => Returned {
+            memory,
+            answer: Ok(Left { walk, repair }),
+        },
         Err(stop) => Returned {
             memory,
             answer: Err(stop),
@@ -148,19 +215,22 @@ fn lead<'s, S: Store>(
     memory: Phys<'s, S>,
     over: &PlanOf<'_>,
     root: Asked,
+    walk: &Option<FirstWalk>,
     words: &mut Suspects,
     suspect: Suspect,
-) -> Returned<Phys<'s, S>, Result<Option<Repair>, ReadFailed>>
+) -> Returned<Phys<'s, S>, Result<Left, ReadFailed>>
     requires over { FitsTogether over.now }
     requires root { root.audit < length over.now.plan.now.audits }
+    requires walk { WalkInside (length over.now.types.now.records) walk.now }
 
     ensures words { OnOk result.answer (words.new ≡ words.old ++ suspect ∷ []) }
     ensures exact { IfOk result.answer (λ left. IfSome (with_paging over.now.paging (stored memory.entry.segments.items memory.entry.tail (content (S.files memory.entry.store.now) Dump (S.opened memory.entry.store.now Dump))))
-        (λ image. left ≡ left_after image (plan_seen over.now.plan.now) (root.audit, root.start) (words.old ++ suspect ∷ []))) }
+        (λ image. left ≡ left_after image (plan_seen over.now.plan.now) (root.audit, root.start) walk.now (words.old ++ suspect ∷ []))) }
+    ensures inside { IfOk result.answer (λ left. WalkInside (length over.now.types.now.records) left.walk) }
     ensures reads { OnlyReadsFrames (λ p. stored p.segments.items p.tail (content (S.files p.store.now) Dump (S.opened p.store.now Dump))) (λ p. S.files p.store.now) (λ p. p.store.ghost_name ∷ []) (λ p. S.faults p.store.now) result.answer memory.entry result.memory }
 {
     match words.push(suspect) {
-        Ok(()) => left_after(memory, over, root, words.as_slice()),
+        Ok(()) => left_after(memory, over, root, walk, words.as_slice()),
         Err(NoMemory) => Returned {
             memory,
             answer: Err(ReadFailed::NoMemory),
@@ -215,15 +285,18 @@ pub(crate) fn chain<'s, S: Store>(
 {
     let mut memory = memory;
     let mut words = Items::new(over.alloc);
-    let mut left = Some(first);
+    let mut left = Left {
+        walk: None,
+        repair: Some(first),
+    };
     for _i in 0..MOST_WORDS {
-        let Some(suspect) = leads_on(&left) else {
+        let Some(suspect) = leads_on(&left.repair) else {
             return Returned {
                 memory,
-                answer: ended(words, left),
+                answer: ended(words, left.repair),
             };
         };
-        let tried = lead(memory, over, root, &mut words, suspect);
+        let tried = lead(memory, over, root, &left.walk, &mut words, suspect);
         memory = tried.memory;
         match tried.answer {
             Ok(more) => left = more,

@@ -1,11 +1,10 @@
 // Whose bytes a node or an object has.
 ghost use Rattle.std.specs.Prelude.{◌≡◌, IfOk, IfSome};
 ghost use Rattle.kc_repair.specs.Suspect.Answers.{OnlyReads};
-ghost use Rattle.kc_cause.specs.Copies.{above_sign, again_of, again_sign, agree_at, below_sign, child_sign, comes_back, found_sign, has_before, has_child, has_more, has_words, head_sign, heads_sign, is_again, is_copied_head, is_copied_node, is_empty_head, links_sign, near_sign, node_sign, own_sign, parent_sign, ring_sign, tree_sign, word_sign};
+ghost use Rattle.kc_cause.specs.Copies.{above_sign, again_of, again_sign, agree_at, below_sign, child_sign, comes_back, found_sign, has_before, has_child, has_more, has_words, heads_sign, is_again, is_copied_link, is_copied_node, leads_here, link_sign, links_sign, near_sign, next_sign, node_sign, own_sign, parent_sign, ring_sign, tree_sign, word_sign};
 
 use crate::signs::{
-    Sign, holds, is_of_links, is_of_list, is_of_parent, is_shared, list_sign, read_number, same_at,
-    sign_if,
+    Sign, holds, is_of_links, is_of_list, is_of_parent, list_sign, read_number, same_at, sign_if,
 };
 use kc_found::{Found, ReadFailed, Space};
 use kc_word::Steps;
@@ -210,52 +209,72 @@ fn tree_sign<M: Space, L: Ledger>(
     }
 }
 
-// Whether a list's head leads to itself.
-fn is_empty_head<M: Space, L: Ledger>(
+// Whether `prev` of the words at an address leads to a node.
+fn leads_here<M: Space, L: Ledger>(
     memory: &mut M,
-    head: u64,
+    node: u64,
+    prev: Option<u64>,
     steps: &mut Steps<L>,
 ) -> Result<bool, ReadFailed>
-    ensures empty { IfOk result (λ is. IfSome (M.image memory.old) (λ image. is ≡ is_empty_head image head)) }
+    ensures leads { IfOk result (λ is. IfSome (M.image memory.old) (λ image. is ≡ leads_here image node prev)) }
     ensures reads { OnlyReads M.image M.files M.through M.most M.faults result memory.old memory.new }
 {
-    if !holds(memory, head, head, steps)? {
-        return Ok(false);
+    match prev {
+        Some(prev) => holds(memory, prev, node, steps),
+        None => Ok(false),
     }
-    holds(memory, head.wrapping_add(8), head, steps)
 }
 
-// Whether the words at an address are those of an empty list's head elsewhere.
-fn is_copied_head<M: Space, L: Ledger>(
+// Whether the words at an address are those of a list's node elsewhere, to which the neighbours lead.
+fn is_copied_link<M: Space, L: Ledger>(
     memory: &mut M,
     at: u64,
-    head: u64,
+    other: u64,
     steps: &mut Steps<L>,
 ) -> Result<bool, ReadFailed>
-    ensures copied { IfOk result (λ is. IfSome (M.image memory.old) (λ image. is ≡ is_copied_head image at head)) }
+    ensures copied { IfOk result (λ is. IfSome (M.image memory.old) (λ image. is ≡ is_copied_link image at other)) }
     ensures reads { OnlyReads M.image M.files M.through M.most M.faults result memory.old memory.new }
 {
-    if head == at {
+    if other == at {
         return Ok(false);
     }
-    let back = read_number(memory, at.wrapping_add(8), steps)?;
-    if !is_shared(back, head) {
+    if !same_at(memory, at, other, steps)? {
         return Ok(false);
     }
-    is_empty_head(memory, head, steps)
+    if !same_at(memory, at.wrapping_add(8), other.wrapping_add(8), steps)? {
+        return Ok(false);
+    }
+    let prev = read_number(memory, at.wrapping_add(8), steps)?;
+    leads_here(memory, other, prev, steps)
 }
 
-fn head_sign<M: Space, L: Ledger>(
+fn link_sign<M: Space, L: Ledger>(
     memory: &mut M,
     at: u64,
-    head: u64,
+    other: u64,
     steps: &mut Steps<L>,
 ) -> Result<Option<Sign>, ReadFailed>
-    ensures sign { IfOk result (λ sign. IfSome (M.image memory.old) (λ image. sign ≡ head_sign image at head)) }
+    ensures sign { IfOk result (λ sign. IfSome (M.image memory.old) (λ image. sign ≡ link_sign image at other)) }
     ensures reads { OnlyReads M.image M.files M.through M.most M.faults result memory.old memory.new }
 {
-    let copied = is_copied_head(memory, at, head, steps)?;
-    Ok(sign_if(copied, Sign::Copied(head)))
+    let copied = is_copied_link(memory, at, other, steps)?;
+    Ok(sign_if(copied, Sign::Copied(other)))
+}
+
+// By the node after these words.
+fn next_sign<M: Space, L: Ledger>(
+    memory: &mut M,
+    at: u64,
+    next: u64,
+    steps: &mut Steps<L>,
+) -> Result<Option<Sign>, ReadFailed>
+    ensures sign { IfOk result (λ sign. IfSome (M.image memory.old) (λ image. sign ≡ next_sign image at next)) }
+    ensures reads { OnlyReads M.image M.files M.through M.most M.faults result memory.old memory.new }
+{
+    match read_number(memory, next.wrapping_add(8), steps)? {
+        Some(other) => link_sign(memory, at, other, steps),
+        None => Ok(None),
+    }
 }
 
 fn word_sign<M: Space, L: Ledger>(
@@ -267,12 +286,12 @@ fn word_sign<M: Space, L: Ledger>(
     ensures reads { OnlyReads M.image M.files M.through M.most M.faults result memory.old memory.new }
 {
     match read_number(memory, at, steps)? {
-        Some(head) => head_sign(memory, at, head, steps),
+        Some(next) => next_sign(memory, at, next, steps),
         None => Ok(None),
     }
 }
 
-// The first of so many words from an address on that are those of an empty list's head elsewhere.
+// The first of so many words from an address on that are those of a list's node elsewhere.
 fn heads_sign<M: Space, L: Ledger>(
     memory: &mut M,
     first: u64,

@@ -17,6 +17,7 @@ mod sentences;
 mod signs;
 mod slabs;
 mod suspected;
+mod written;
 
 pub use files::{Asks, explain};
 pub use laws::know_causes;

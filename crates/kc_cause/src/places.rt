@@ -1,11 +1,11 @@
 // The list in which a violation lies, and the words that show it, with what is told of their addresses.
-ghost use Rattle.std.specs.Prelude.{◌≡◌, ◌<◌, ◌++◌, length, IfOk, IfSome, OnOk};
+ghost use Rattle.std.specs.Prelude.{◌≡◌, ◌<◌, ◌++◌, length, IfOk, IfSome, OnOk, Some};
 ghost use Rattle.kc_mem.specs.Paged.{with_paging};
 ghost use Rattle.kc_text.specs.Compose.{texts};
 ghost use Rattle.kc_plan.specs.Inside.{AreInside};
 ghost use Rattle.kc_repair.specs.Suspect.Answers.{OnlyReads, OnlyReadsFrames};
 ghost use Rattle.kc_sight.specs.Sights.{page_start};
-ghost use Rattle.kc_cause.specs.Explained.{listed_lines, place_told, shown_lines, with_slabs};
+ghost use Rattle.kc_cause.specs.Explained.{listed_lines, place_told, says_at, shown_lines, slot_lines, slot_told, with_signs, with_slabs};
 ghost use Rattle.kc_cause.specs.Judged.{FitsTogether, TasksAreInside, over_plan};
 ghost use Rattle.kc_found.specs.Failures.{CountsFailures};
 
@@ -13,8 +13,9 @@ use crate::judged::PlanOf;
 use crate::rings::push_ring;
 use crate::signs::push_signs;
 use crate::slabs::push_slabs;
+use crate::written::{push_slot_line, slot_of};
 use kc_found::{Found, Places, ReadFailed, Space};
-use kc_memory::{Frames, Place};
+use kc_memory::{Frames, Place, VWord};
 use kc_question::{Question, Returned, ask_over};
 use kc_report::push_place;
 use kc_sight::read_words;
@@ -28,6 +29,26 @@ fn page_start(address: u64) -> u64
     ensures { result ≡ page_start address }
 {
     address / 4096 * 4096
+}
+
+/// Adds what the word at a virtual address says by itself, and how far that goes on.
+///
+/// # Errors
+///
+/// A failed call of the store; no memory was left.
+pub(crate) fn push_says_at<M: Space, L: Ledger>(
+    text: &mut Vec<u8>,
+    over: &PlanOf<'_>,
+    memory: &mut M,
+    address: u64,
+    value: u64,
+    steps: &mut Steps<L>,
+) -> Result<(), ReadFailed>
+    ensures added { OnOk result (IfSome (M.image memory.old) (λ image. text.new.items ≡ text.old.items ++ says_at (over_plan over.now image) value (Some address))) }
+    ensures reads { OnlyReads M.image M.files M.through M.most M.faults result memory.old memory.new }
+{
+    let page = read_words(over.alloc, memory, page_start(address), 512, steps)?;
+    Ok(push_says(text, &over.shapes.map, address, value, &page)?)
 }
 
 // Adds a place, with what is told of its address.
@@ -109,6 +130,56 @@ fn push_with_slabs<M: Space, L: Ledger>(
 }
 
 // All that, and what the words beside it show.
+fn push_with_signs<M: Space, L: Ledger>(
+    text: &mut Vec<u8>,
+    over: &PlanOf<'_>,
+    memory: &mut M,
+    found: &Found,
+    steps: &mut Steps<L>,
+) -> Result<(), ReadFailed>
+    requires tasks { TasksAreInside over.now }
+    requires types { AreInside (length over.now.types.now.records) over.now.plan.now.audits }
+    requires found { found.now.audit < length over.now.plan.now.audits }
+    ensures added { OnOk result (IfSome (M.image memory.old) (λ image. text.new.items ≡ text.old.items ++ with_signs (over_plan over.now image) found.now)) }
+    ensures reads { OnlyReads M.image M.files M.through M.most M.faults result memory.old memory.new }
+{
+    push_with_slabs(text, over, memory, found, steps)?;
+    push_signs(text, memory, found, steps)
+}
+
+// Adds a slot over which something was written, with what it says.
+fn push_slot_told<M: Space, L: Ledger>(
+    text: &mut Vec<u8>,
+    over: &PlanOf<'_>,
+    memory: &mut M,
+    word: VWord,
+    steps: &mut Steps<L>,
+) -> Result<(), ReadFailed>
+    ensures added { OnOk result (IfSome (M.image memory.old) (λ image. text.new.items ≡ text.old.items ++ slot_told (over_plan over.now image) word)) }
+    ensures reads { OnlyReads M.image M.files M.through M.most M.faults result memory.old memory.new }
+{
+    push_slot_line(text, word)?;
+    push_says_at(text, over, memory, word.va, word.value, steps)
+}
+
+// The first such slot of the node that a violation is about.
+fn push_slot<M: Space, L: Ledger>(
+    text: &mut Vec<u8>,
+    over: &PlanOf<'_>,
+    memory: &mut M,
+    found: &Found,
+    steps: &mut Steps<L>,
+) -> Result<(), ReadFailed>
+    ensures added { OnOk result (IfSome (M.image memory.old) (λ image. text.new.items ≡ text.old.items ++ slot_lines (over_plan over.now image) found.now)) }
+    ensures reads { OnlyReads M.image M.files M.through M.most M.faults result memory.old memory.new }
+{
+    match slot_of(memory, found, steps)? {
+        Some(word) => push_slot_told(text, over, memory, word, steps),
+        None => Ok(()),
+    }
+}
+
+// All that.
 fn push_shown<M: Space, L: Ledger>(
     text: &mut Vec<u8>,
     over: &PlanOf<'_>,
@@ -122,8 +193,8 @@ fn push_shown<M: Space, L: Ledger>(
     ensures added { OnOk result (IfSome (M.image memory.old) (λ image. text.new.items ≡ text.old.items ++ shown_lines (over_plan over.now image) found.now)) }
     ensures reads { OnlyReads M.image M.files M.through M.most M.faults result memory.old memory.new }
 {
-    push_with_slabs(text, over, memory, found, steps)?;
-    push_signs(text, memory, found, steps)
+    push_with_signs(text, over, memory, found, steps)?;
+    push_slot(text, over, memory, found, steps)
 }
 
 // The question which lines show a violation.

@@ -9,15 +9,17 @@ ghost use Rattle.kc_plan.specs.Views.{plan_seen};
 ghost use Rattle.kc_repair.specs.Repairs.{repair_of};
 ghost use Rattle.kc_repair.specs.Suspect.Answers.{OnlyReads, OnlyReadsFrames};
 ghost use Rattle.kc_text.specs.Compose.{texts};
-ghost use Rattle.kc_cause.specs.Explained.{changed_words, elements_told, leads_to, mended_by, mended_of, repairs_as, repairs_found, stand_told};
+ghost use Rattle.kc_cause.specs.Explained.{changed_words, elements_told, leads_over, leads_to, mended_by, mended_of, repairs_as, repairs_found, stand_told, written_over};
 ghost use Rattle.kc_cause.specs.Judged.{FitsTogether, over_plan};
 ghost use Rattle.kc_cause.specs.Lines.{after_lines, chain_lines, count_line, counted_lines, elements_lines, ending_lines, led_lines, mended_lines, next_line, next_lines, none_line, number_of, one_lines, only_fits, repair_label, stand_lines, suspect_part, tried_part, word_line, worth_lines};
 ghost use Rattle.kc_found.specs.Failures.{CountsFailures};
 
 use crate::chain::chain;
 use crate::judged::PlanOf;
+use crate::places::push_says_at;
 use crate::signs::{push_sign, sign_of};
 use crate::suspected::as_ring_over;
+use crate::written::is_written;
 use kc_found::{Asked, Found, Items, ReadFailed, Rule, Space};
 use kc_kinds::Kind;
 use kc_memory::Frames;
@@ -30,6 +32,7 @@ use kc_repair::{
 };
 use kc_report::rule_code;
 use kc_run::root_at;
+use kc_sight::meaning_of;
 use kc_text::{push, push_decimal, push_hex, push_numbered};
 use kc_told::{Shapes, push_leads, read_lead};
 use kc_word::{NoMemory, Steps};
@@ -136,7 +139,57 @@ fn number_of(also: bool) -> u64
     if also { 2 } else { 1 }
 }
 
-// Adds a word that is suspected, and what its other number leads to.
+// Adds what was written over the word of a suspect, where its number shows that, and how far that goes on.
+fn push_written<M: Space, L: Ledger>(
+    text: &mut Vec<u8>,
+    over: &PlanOf<'_>,
+    memory: &mut M,
+    word: Suspect,
+    steps: &mut Steps<L>,
+) -> Result<(), ReadFailed>
+    ensures added { OnOk result (IfSome (M.image memory.old) (λ image. text.new.items ≡ text.old.items ++ written_over (over_plan over.now image) word)) }
+    ensures reads { OnlyReads M.image M.files M.through M.most M.faults result memory.old memory.new }
+{
+    if !is_written(meaning_of(word.va, word.now)) {
+        return Ok(());
+    }
+    push_says_at(text, over, memory, word.va, word.now, steps)
+}
+
+// Adds what its other number leads to.
+fn push_lead<M: Space, L: Ledger>(
+    text: &mut Vec<u8>,
+    over: &PlanOf<'_>,
+    memory: &mut M,
+    word: Suspect,
+    steps: &mut Steps<L>,
+) -> Result<(), ReadFailed>
+    ensures added { OnOk result (IfSome (M.image memory.old) (λ image. text.new.items ≡ text.old.items ++ leads_over (over_plan over.now image) word)) }
+    ensures reads { OnlyReads M.image M.files M.through M.most M.faults result memory.old memory.new }
+{
+    let Shapes { words, map } = &over.shapes;
+    let lead = read_lead(
+        over.alloc, memory, over.types, words, word.va, word.value, steps,
+    )?;
+    Ok(push_leads(text, map, &lead, word.va, word.value)?)
+}
+
+// Adds both.
+fn push_meant<M: Space, L: Ledger>(
+    text: &mut Vec<u8>,
+    over: &PlanOf<'_>,
+    memory: &mut M,
+    word: Suspect,
+    steps: &mut Steps<L>,
+) -> Result<(), ReadFailed>
+    ensures added { OnOk result (IfSome (M.image memory.old) (λ image. text.new.items ≡ text.old.items ++ leads_to (over_plan over.now image) word)) }
+    ensures reads { OnlyReads M.image M.files M.through M.most M.faults result memory.old memory.new }
+{
+    push_written(text, over, memory, word, steps)?;
+    push_lead(text, over, memory, word, steps)
+}
+
+// Adds a word that is suspected, what was written over it, and what its other number leads to.
 fn push_led<M: Space, L: Ledger>(
     text: &mut Vec<u8>,
     over: &PlanOf<'_>,
@@ -149,11 +202,7 @@ fn push_led<M: Space, L: Ledger>(
 {
     push_suspect(text, word)?;
     push(text, b"\n")?;
-    let Shapes { words, map } = &over.shapes;
-    let lead = read_lead(
-        over.alloc, memory, over.types, words, word.va, word.value, steps,
-    )?;
-    Ok(push_leads(text, map, &lead, word.va, word.value)?)
+    push_meant(text, over, memory, word, steps)
 }
 
 // One of the words that repair together.

@@ -4,7 +4,7 @@ ghost use Rattle.std.specs.Option.{option_map_or};
 ghost use Rattle.kc_text.specs.Text.{hex};
 ghost use Rattle.kc_repair.specs.Suspect.Answers.{OnlyReads};
 ghost use Rattle.kc_cause.specs.Copies.{shown_signs};
-ghost use Rattle.kc_cause.specs.Signs.{around_lines, before_lines, behind_lines, beside_line, beside_lines, is_copied, is_deleted, is_of_links, is_of_list, is_of_parent, is_of_pointer, is_shared, is_shifted, is_some_of, is_twice, led_sign, list_sign, null_lines, number_at, pointer_lines, pointer_of, prev_sign, same_at, sign_by, sign_line, sign_lines, sign_of};
+ghost use Rattle.kc_cause.specs.Signs.{around_lines, before_lines, behind_lines, beside_line, beside_lines, is_copied, is_deleted, is_of_links, is_of_list, is_of_parent, is_of_pointer, is_of_process, is_shared, is_shifted, is_some_of, is_twice, led_sign, list_sign, null_lines, number_at, pointer_lines, pointer_of, prev_sign, same_at, sign_by, sign_line, sign_lines, sign_of};
 
 use crate::copies::found_sign;
 use kc_found::{Found, ReadFailed, Rule, Space};
@@ -145,7 +145,7 @@ pub(crate) fn sign_if(shown: bool, sign: Sign) -> Option<Sign>
     if shown { Some(sign) } else { None }
 }
 
-pub(crate) fn is_shared(found: Option<u64>, number: u64) -> bool
+fn is_shared(found: Option<u64>, number: u64) -> bool
     ensures { result ≡ is_shared found number }
 {
     number != 0 && is_some_of(number, found)
@@ -246,11 +246,15 @@ pub(crate) fn is_of_list(rule: Rule) -> bool
     matches!(rule, Rule::L1)
 }
 
-// Whether a rule expects a pointer in a whole word.
+// Whether a rule expects a number that stands beside its place where an object was moved: a pointer in a whole word, or a process id's number.
 fn is_of_pointer(rule: Rule) -> bool
     ensures { result ≡ is_of_pointer rule }
 {
-    matches!(rule, Rule::L1 | Rule::H1 | Rule::R1 | Rule::X3 | Rule::X4)
+    match rule {
+        Rule::L1 | Rule::H1 | Rule::R1 | Rule::X3 | Rule::X4 => true,
+        Rule::T1 | Rule::T3 | Rule::U1 | Rule::G1 | Rule::G2 => true,
+        _ => false,
+    }
 }
 
 // Whether it is about the parent of a tree's node.
@@ -260,12 +264,22 @@ pub(crate) fn is_of_parent(rule: Rule) -> bool
     matches!(rule, Rule::R1)
 }
 
-// The pointer in a word: that to a parent has a colour in its lowest bits.
+// Whether it is about the number of a process id.
+fn is_of_process(rule: Rule) -> bool
+    ensures { result ≡ is_of_process rule }
+{
+    matches!(rule, Rule::G1)
+}
+
+// The number in a word: a pointer to a parent has a colour in its lowest bits, and of a process id's there are 32 bits.
 fn pointer_of(rule: Rule, value: u64) -> u64
     ensures { result ≡ pointer_of rule value }
 {
     if is_of_parent(rule) {
         return value / 4 * 4;
+    }
+    if is_of_process(rule) {
+        return value % (1 << 32);
     }
     value
 }

@@ -11,14 +11,13 @@ use Rattle.kc_phys.specs.Patch.Changed.{changed_all, patched_all}
 use Rattle.kc_phys.specs.Patch.Laws.{LastLiesOver}
 use Rattle.kc_mem.specs.Paged.{with_paging}
 use Rattle.kc_found.specs.declared.verdict.Verdict.{Verdict}
-use Rattle.kc_found.specs.declared.verdict.Verdict.TheVariants.{Clean, Broken}
 use Rattle.kc_found.specs.declared.failed.ReadFailed.{ReadFailed}
 use Rattle.kc_plan.specs.Planned.{AuditAt}
-use Rattle.kc_plan.specs.Roots.{FitsAmong, Root}
+use Rattle.kc_plan.specs.Roots.{Root}
 use Rattle.kc_repair.specs.declared.suspect.suspect.Suspect.{Suspect}
 use Rattle.kc_repair.specs.declared.first.FirstWalk.{FirstWalk}
 use Rattle.kc_repair.specs.declared.outcome.Breach.{Breach}
-use Rattle.kc_repair.specs.Repairs.{NamesAudit, change_of, judged, judged_with, with_suspect, with_words}
+use Rattle.kc_repair.specs.Repairs.{change_of, judged, judged_with, with_suspect, with_words}
 
 -- one word more
 pub with-one_more : LastLiesOver → (image : Image) (words : List Suspect) (s : Suspect) → with_words image (words ++ s ∷ []) ≡ with_suspect (with_words image words) s
@@ -44,11 +43,6 @@ tried law None (Ok found) audits root walk only words all s same exact = tt
 tried law (Some i) (Ok found) audits root walk only words all s same exact =
     ap (λ (m : Image). judged m audits root walk only) (sym (ap (with_words i) same ∙ with-one_more law i words s)) ∙ exact
 tried law image (Err stop) audits root walk only words all s same exact = tt
-
--- a verdict on a root audit names one of the plan
-pub names : (count : ℕ) (numbers : List ℕ) (v : Verdict) → FitsAmong count numbers v → NamesAudit count v
-names count numbers (Clean counts) fits = tt
-names count numbers (Broken v) fits = fits
 
 -- one change more
 pub changes-more : (words : List Suspect) (i : ℕ) (d : Suspect) (changes new : List Change) → i < length words → changes ≡ map change_of (take i words)

@@ -1,6 +1,6 @@
 -- Suspects that are tried one by one: what the walk that broke, and then the root audit, come to where the word of one of them holds its value.
 use denote.Enum.Bare.{sameb}
-use Rattle.std.specs.Prelude.{◌≡◌, ℕ, ◌<◌, ⊤, min, nat_eq, nat_lt, ◌⊎◌, Bool, ◌&&◌, if◌then◌else◌, is_none, not, List, [], ◌∷◌, filter, length, map, take, find, slice_get, Option, Some, None, option_map, IfSome, Result, Ok, Err}
+use Rattle.std.specs.Prelude.{◌≡◌, ℕ, min, nat_eq, nat_lt, ◌⊎◌, Bool, ◌&&◌, if◌then◌else◌, is_none, not, List, [], ◌∷◌, filter, length, map, take, find, slice_get, Option, Some, None, option_map, option_and_then, IfSome, Result, Ok, Err}
 use Rattle.std.specs.List.{All, list_any}
 use Rattle.kc_memory.specs.Image.{Image}
 use Rattle.kc_memory.specs.contracts.rule.Rule.{the_type}
@@ -95,6 +95,10 @@ walked_kind audits kind number = Some kind
 abbrev pub walk_from : List AuditAt → Kind → Violation → Option FirstWalk
 walk_from audits kind v =
     option_map (λ (walked : Kind). record { kind = walked; asked = record { audit = v.audit; start = v.start } }) (walked_kind audits kind v.audit)
+
+-- that of the audit that found it
+abbrev pub planned_walk : List AuditAt → Violation → Option FirstWalk
+planned_walk audits v = option_and_then (λ (kind : Kind). walk_from audits kind v) (planned_kind audits v.audit)
 
 abbrev pub if_finds : Option FirstWalk → Option Violation → Option FirstWalk
 if_finds walk None = None
@@ -247,8 +251,3 @@ IsSuspected image audits kind v seen = (seen.suspects ≡ suspects image kind v)
 abbrev pub IsSuspectedLeft : Image → List AuditAt → List Suspect → Kind → Violation → Suspected → Type 0
 IsSuspectedLeft image audits earlier kind v left =
     (left.suspects ≡ filter (is_apart earlier) (suspects (with_words image earlier) kind v)) × (left.breaking ≡ any_leads (breaking_of (with_words image earlier) audits kind v))
-
--- a verdict names an audit of a plan of so many
-abbrev pub NamesAudit : ℕ → Verdict → Type 0
-NamesAudit count (Clean counts) = ⊤
-NamesAudit count (Broken v) = v.audit < count

@@ -4,7 +4,7 @@ ghost use Rattle.kc_found.specs.Failures.{CountsFailures};
 ghost use Rattle.kc_kinds.specs.Inside.{KindInside};
 ghost use Rattle.kc_plan.specs.Inside.{AreInside as TypesAreInside};
 ghost use Rattle.kc_plan.specs.Views.{plan_seen};
-ghost use Rattle.kc_repair.specs.Repairs.{EndsAs, WalkInside, any_leads, breach_of, breaking_of, counted, first_found, found_by, if_finds, is_same, planned_kind, walk_from, walked_kind};
+ghost use Rattle.kc_repair.specs.Repairs.{EndsAs, WalkInside, any_leads, breach_of, breaking_of, counted, first_found, found_by, if_finds, is_same, planned_kind, planned_walk, walk_from, walked_kind};
 ghost use Rattle.kc_repair.specs.Suspect.Answers.{OnlyReads};
 
 use crate::outcome::Breach;
@@ -164,6 +164,18 @@ fn walk_from(audit: &RootAudit<'_>, kind: &Kind, found: &Found) -> Option<FirstW
                 start: found.start,
             },
         }),
+        None => None,
+    }
+}
+
+/// The walk of the audit that found a violation, from where it started; where the violation names an audit of the plan.
+pub fn planned_walk(audit: &RootAudit<'_>, found: &Found) -> Option<FirstWalk>
+    requires { TypesAreInside (length audit.now.types.now.records) audit.now.plan.now.audits }
+    ensures exact { result ≡ planned_walk (plan_seen audit.now.plan.now) found.now }
+    ensures inside { WalkInside (length audit.now.types.now.records) result }
+{
+    match planned_kind(audit, found.audit) {
+        Some(kind) => walk_from(audit, &kind, found),
         None => None,
     }
 }

@@ -13,11 +13,11 @@ mod trial;
 mod tries;
 
 pub use elements::elements_over;
-pub use first::FirstWalk;
+pub use first::{FirstWalk, planned_walk};
 pub use laws::know_repairs;
 pub use others::{Stand, stand_over};
 pub use outcome::{Breach, Next, Repair};
 pub use seeking::{repair_left, repair_over};
 pub use suspect::{Suspect, Suspects, know_suspects, suspects};
-pub use trial::{RootAudit, ask_changed, verdict_over};
+pub use trial::{Judge, RootAudit, ask_changed, judged_over};
 pub use tries::{MOST, Repaired, repair};

@@ -10,7 +10,7 @@ ghost use Rattle.kc_plan.specs.Inside.{AreInside as TypesAreInside};
 ghost use Rattle.kc_plan.specs.Roots.{root_verdict};
 ghost use Rattle.kc_plan.specs.Views.{plan_seen};
 ghost use Rattle.kc_repair.specs.Suspect.Answers.{OnlyReads, OnlyReadsFrames};
-ghost use Rattle.kc_repair.specs.Repairs.{NamesAudit, WalkInside, change_of, judged, judged_with, with_words};
+ghost use Rattle.kc_repair.specs.Repairs.{WalkInside, change_of, judged, judged_with, with_words};
 ghost use Rattle.kc_found.specs.Failures.{CountsFailures};
 
 use crate::first::{FirstWalk, counted, first_found};
@@ -62,39 +62,11 @@ fn of_root<M: Space, L: Ledger>(
 
     ensures exact { IfOk result (λ found. IfSome (M.image memory.old) (λ image.
         (root_verdict image (plan_seen audit.now.plan.now) (audit.now.root.audit, audit.now.root.start)).verdict ≡ found)) }
-    ensures fits { IfOk result (NamesAudit (length audit.now.plan.now.audits)) }
     ensures reads { OnlyReads M.image M.files M.through M.most M.faults result memory.old memory.new }
 {
     let RootAudit { plan, types, root } = audit;
     let found = run_root(alloc, plan, types, root, memory, steps)?;
     Ok(found.verdict)
-}
-
-// The question what a root audit comes to.
-#[derive(Clone, Copy)]
-struct OneRoot<'q> {
-    alloc: Global,
-    audit: &'q RootAudit<'q>,
-}
-
-impl<'q> Question for OneRoot<'q> {
-    type Answer = Result<Verdict, ReadFailed>;
-
-    ghost may = { λ of. (of.audit.now.root.audit < length of.audit.now.plan.now.audits)
-        × TypesAreInside (length of.audit.now.types.now.records) of.audit.now.plan.now.audits };
-
-    ghost says = { λ of image answer. IfOk answer (λ found.
-        (root_verdict image (plan_seen of.audit.now.plan.now) (of.audit.now.root.audit, of.audit.now.root.start)).verdict ≡ found) };
-
-    ghost leaves = { λ of answer before after. CountsFailures answer before after × IfOk answer (NamesAudit (length of.audit.now.plan.now.audits)) };
-
-    fn ask<M: Space, L: Ledger>(
-        &self,
-        memory: &mut M,
-        steps: &mut Steps<L>,
-    ) -> Result<Verdict, ReadFailed> {
-        of_root(self.alloc, self.audit, memory, steps)
-    }
 }
 
 // The question what a suspect comes to, whose word is changed.
@@ -210,33 +182,6 @@ fn ask_lent<'s, S: Store, Q: Question, K: Lent>(
     }
 }
 
-/// What a root audit comes to over the memory with some words changed, and the memory as it is, handed back. A failure is one of the
-/// store, whose count of faults then rose, or want of memory.
-pub fn verdict_over<'s, S: Store>(
-    alloc: Global,
-    memory: Phys<'s, S>,
-    paging: PageCfg,
-    audit: &RootAudit<'_>,
-    words: &[Suspect],
-) -> Returned<Phys<'s, S>, Result<Verdict, ReadFailed>>
-    requires aligned { paging.table % 4096 ≡ 0 }
-    requires small { paging.table < 2 ^ 52 }
-    requires inside { audit.now.root.audit < length audit.now.plan.now.audits }
-    requires types { TypesAreInside (length audit.now.types.now.records) audit.now.plan.now.audits }
-
-    ensures exact { IfOk result.answer (λ found. IfSome (with_paging paging (stored memory.entry.segments.items memory.entry.tail (content (S.files memory.entry.store.now) Dump (S.opened memory.entry.store.now Dump))))
-        (λ image. (root_verdict (with_words image words.now) (plan_seen audit.now.plan.now) (audit.now.root.audit, audit.now.root.start)).verdict ≡ found)) }
-    ensures fits { IfOk result.answer (NamesAudit (length audit.now.plan.now.audits)) }
-    ensures reads { OnlyReadsFrames (λ p. stored p.segments.items p.tail (content (S.files p.store.now) Dump (S.opened p.store.now Dump))) (λ p. S.files p.store.now) (λ p. p.store.ghost_name ∷ []) (λ p. S.faults p.store.now) result.answer memory.entry result.memory }
-{
-    let question = OneRoot { alloc, audit };
-    let Returned { memory, answer } = ask_changed(alloc, memory, paging, words, &question);
-    Returned {
-        memory,
-        answer: answer.unwrap_or(Err(ReadFailed::NoMemory)),
-    }
-}
-
 /// What a suspect comes to, whose word is changed after these.
 pub(crate) fn try_suspect<'s, S: Store>(
     alloc: Global,
@@ -258,7 +203,7 @@ pub(crate) fn try_suspect<'s, S: Store>(
 {
     know_changes();
     match and_one(alloc, earlier, suspect) {
-        Ok(words) => try_words(alloc, memory, paging, by, words.as_slice()),
+        Ok(words) => judged_over(alloc, memory, paging, by, words.as_slice()),
         Err(NoMemory) => Returned {
             memory,
             answer: Err(ReadFailed::NoMemory),
@@ -266,8 +211,9 @@ pub(crate) fn try_suspect<'s, S: Store>(
     }
 }
 
-// What it comes to with some words changed.
-fn try_words<'s, S: Store>(
+/// What a walk finds broken over the memory with some words changed, if it counts, and else what the root audit comes to; and the memory as it is,
+/// handed back. A failure is one of the store, whose count of faults then rose, or want of memory.
+pub fn judged_over<'s, S: Store>(
     alloc: Global,
     memory: Phys<'s, S>,
     paging: PageCfg,

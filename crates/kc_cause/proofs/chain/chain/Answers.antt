@@ -9,6 +9,7 @@ loop-i-init g c = (
   chain-starts _ (plan_seen c.args.over.now.plan.now) (c.args.root.audit, c.args.root.start) c.args.first _ c.new-words.ensures,
   record { same_image = refl; same_files = refl; same_through = refl },
   refl,
+  tt,
 )
 
 pub returns-in_default-clause-exact : goal.returns-in_default-clause-exact
@@ -19,7 +20,7 @@ returns-in_default-clause-exact g c =
 pub returns-in_default-clause-reads : goal.returns-in_default-clause-reads
 returns-in_default-clause-reads g c = record {
   stays = c.loop-i.invariant.1;
-  cause = only-memory c.ended.result _ _ c.ended.ensures.cause c.loop-i.invariant.2;
+  cause = only-memory c.ended.result _ _ c.ended.ensures.cause c.loop-i.invariant.2.0;
 }
 
 pub loop-i-preserved : goal.loop-i-preserved
@@ -32,7 +33,8 @@ loop-i-preserved g c = (
     same_files = c.lead-tried.ensures.reads.stays.same_files ∙ c.loop-i.invariant.1.same_files;
     same_through = c.lead-tried.ensures.reads.stays.same_through ∙ c.loop-i.invariant.1.same_through;
   },
-  (rw c.in-Ok.is at c.lead-tried.ensures.reads.cause) ∙ c.loop-i.invariant.2,
+  (rw c.in-Ok.is at c.lead-tried.ensures.reads.cause) ∙ c.loop-i.invariant.2.0,
+  rw c.in-Ok.is at c.lead-tried.ensures.inside,
 )
 
 pub returns-clause-exact : goal.returns-clause-exact
