@@ -904,7 +904,7 @@ class Causes:
         for at in range(near // 8 * 8 - 512, near // 8 * 8 + 512, 8):
             ahead, behind = self.value(at), self.value(at + 8)
             other = self.value(ahead + 8) if ahead else None
-            if behind and other not in (None, at % TOP) and (self.value(other), self.value(other + 8)) == (ahead, behind) and self.value(behind) == other:
+            if behind and other not in (None, at % TOP, (at + 8) % TOP, (at - 8) % TOP) and (self.value(other), self.value(other + 8)) == (ahead, behind) and self.value(behind) == other:
                 return other
         return None
 

@@ -66,11 +66,15 @@ abbrev pub leads_here : Image → ℕ → Option ℕ → Bool
 leads_here image node None = false
 leads_here image node (Some prev) = is_some_of node (number_at image prev)
 
+-- two nodes of a list that share a word say nothing of each other
+abbrev pub shares_word : ℕ → ℕ → Bool
+shares_word one other = (one == other) || ((at_offset one 8 == other) || (at_offset other 8 == one))
+
 -- Both neighbours of a list's node lead to another node, which has the same `next` and the same `prev`: its bytes are those of that one. No sound list has such
 -- a node (include/linux/list.h, `__list_add`). Of an empty list's head, which leads to itself (`INIT_LIST_HEAD`), that one is both neighbours.
 abbrev pub is_copied_link : Image → ℕ → ℕ → Bool
 is_copied_link image at other =
-    not (other == at) && (same_at image at other && (same_at image (at_offset at 8) (at_offset other 8) && leads_here image other (number_at image (at_offset at 8))))
+    not (shares_word at other) && (same_at image at other && (same_at image (at_offset at 8) (at_offset other 8) && leads_here image other (number_at image (at_offset at 8))))
 
 abbrev pub link_sign : Image → ℕ → ℕ → Option Sign
 link_sign image at other = if is_copied_link image at other then Some (Copied other) else None

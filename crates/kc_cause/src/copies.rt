@@ -1,7 +1,7 @@
 // Whose bytes a node or an object has.
 ghost use Rattle.std.specs.Prelude.{◌≡◌, IfOk, IfSome};
 ghost use Rattle.kc_repair.specs.Suspect.Answers.{OnlyReads};
-ghost use Rattle.kc_cause.specs.Copies.{above_sign, again_of, again_sign, agree_at, below_sign, child_sign, comes_back, found_sign, has_before, has_child, has_more, has_words, heads_sign, is_again, is_copied_link, is_copied_node, leads_here, link_sign, links_sign, near_sign, next_sign, node_sign, own_sign, parent_sign, ring_sign, tree_sign, word_sign};
+ghost use Rattle.kc_cause.specs.Copies.{above_sign, again_of, again_sign, agree_at, below_sign, child_sign, comes_back, found_sign, has_before, has_child, has_more, has_words, heads_sign, is_again, is_copied_link, is_copied_node, leads_here, link_sign, links_sign, near_sign, next_sign, node_sign, own_sign, parent_sign, ring_sign, shares_word, tree_sign, word_sign};
 
 use crate::signs::{
     Sign, holds, is_of_links, is_of_list, is_of_parent, list_sign, read_number, same_at, sign_if,
@@ -225,6 +225,13 @@ fn leads_here<M: Space, L: Ledger>(
     }
 }
 
+// Whether two nodes of lists share a word.
+fn shares_word(one: u64, other: u64) -> bool
+    ensures { result ≡ shares_word one other }
+{
+    one == other || one.wrapping_add(8) == other || other.wrapping_add(8) == one
+}
+
 // Whether the words at an address are those of a list's node elsewhere, to which the neighbours lead.
 fn is_copied_link<M: Space, L: Ledger>(
     memory: &mut M,
@@ -235,7 +242,7 @@ fn is_copied_link<M: Space, L: Ledger>(
     ensures copied { IfOk result (λ is. IfSome (M.image memory.old) (λ image. is ≡ is_copied_link image at other)) }
     ensures reads { OnlyReads M.image M.files M.through M.most M.faults result memory.old memory.new }
 {
-    if other == at {
+    if shares_word(at, other) {
         return Ok(false);
     }
     if !same_at(memory, at, other, steps)? {
