@@ -168,10 +168,24 @@ class Pages(Folder):
 
     def test_absent_memory_is_no_damage(self):
         self.program("kaudit", BAD.replace("rule L1", "rule M6"), 1)
+        self.program("kwhy", "root tasks\nrepair none of 65 tried")
         status, out, _ = self.triage()
         self.assertEqual(status, 0)
         self.assertIn("verdict   nothing broken was found: 1 of 2 roots are sound, 1 aren't in the dump\n", out)
         self.assertIn("  tasks (plan all.toml): rule M6 at ffff888000001008", out)
+
+    def test_a_wrong_pointer_to_absent_memory_is_damage(self):
+        self.program("kaudit", BAD.replace("rule L1", "rule M6"), 1)
+        status, out, _ = self.triage()
+        self.assertEqual(status, 1)
+        self.assertIn("verdict   broken: tasks; 1 of 2 roots are sound", out)
+        self.assertIn("repair ffff888000001008", out)
+        self.assertNotIn("NOT IN THE DUMP", out)
+
+    def test_a_word_that_only_fits_is_no_damage(self):
+        self.program("kaudit", BAD.replace("rule L1", "rule M6"), 1)
+        self.program("kwhy", CAUSE.replace("repair ", "fits "))
+        self.assertEqual(self.triage()[0], 0)
 
     def test_an_audit_that_the_map_lacks_is_left_out(self):
         self.script("kaudit", f'if grep -q threads "$5"; then echo "refused plan P9 audit 0 key root" >&2; exit 2; fi\ncat <<T\n{CLEAN}\nT\n')
