@@ -15,7 +15,7 @@ all:
 	python3 tools/build.py
 
 help:
-	@echo 'make                      proves and builds all programs: an hour or two from nothing, seconds after that'
+	@echo 'make                      proves and builds all programs: two hours of one processor from nothing, seconds after that'
 	@echo 'make quick                builds them unproved, a minute each, as build/unproved/NAME-unproved'
 	@echo 'make install PREFIX=DIR   installs what make built; with UNPROVED=1 what make quick built'
 	@echo 'make deb                  makes a Debian package of the same, in build/'

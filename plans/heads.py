@@ -4,16 +4,16 @@
 usage: heads.py DUMP BTF MAP OUT WHERE STEP COUNT KIND ELEMENT LINK [CHECK..]
 
 WHERE is the first head: an address in hex as 0x.., or a SYMBOL at which the table lies; with +BYTES, once or several times, where the head isn't
-the first. Each * before it follows a pointer: the first * the one that lies there, the next * the one that lies the first BYTES behind where that
-leads, and so on. So *SYMBOL+16 is the head 16 bytes behind where the pointer at SYMBOL leads, and **SYMBOL+8+16 follows one more, 8 bytes behind.
-A pointer inside a struct is followed by brackets: *(SYMBOL+BYTES) is where the pointer leads that lies BYTES behind SYMBOL, as
+the first. Each * before it follows a pointer: the first * the one that lies there, the next * the one that lies the first BYTES after where that
+leads, and so on. So *SYMBOL+16 is the head 16 bytes after where the pointer at SYMBOL leads, and **SYMBOL+8+16 follows one more, 8 bytes after that.
+A pointer inside a struct is followed by brackets: *(SYMBOL+BYTES) is where the pointer leads that lies BYTES after SYMBOL, as
 *(init_net+net.dev_name_head). percpu:SYMBOL, also percpu:0x.., is the copy that each processor has of it.
 The heads are STEP bytes apart and COUNT in number. Of a table of tables both are lists with commas, the outer table's first: 1536,88,16 and
 3,11,5 are heads 16 bytes apart, 5 in number, in each of 11 tables that are 88 bytes apart, and these in each of 3. Of percpu: the outermost are the
 processors, whatever their STEP is.
 BYTES and STEP may be TYPE.PATH, the byte at which that begins in its type, or TYPE, its size; a PATH of BYTES may follow pointers by ->. A COUNT may
-be a SYMBOL that is a 32-bit number, or the number of a member, as WHERE names it: SYMBOL+TYPE.PATH, as udp_table+udp_table.mask. Either has +1 behind it
-where that is a mask. With a COUNT that is too large, memory behind the table is taken for heads, and told as damage.
+be a SYMBOL that is a 32-bit number, or the number of a member, as WHERE names it: SYMBOL+TYPE.PATH, as udp_table+udp_table.mask. Either has +1 after it
+where that is a mask. With a COUNT that is too large, memory after the table is taken for heads, and reported as damage.
 KIND is ring, hlist, rbtree, cached (a tree with a struct rb_root_cached) or xarray; rbtree:KEY and cached:KEY have the KEY that the tree is sorted
 by, and rbtree:KEY! a unique one. Of an xarray LINK is -. In a CHECK {0} stands for the number, from 0, that the head has in the outermost table,
 {1} for that in the next.
@@ -56,7 +56,7 @@ def address(kernel, symbol):
 
 
 def located(kernel, text):
-    """A number of bytes, that of TYPE.PATH, or the size of TYPE: the bytes of the pointers that PATH follows, and those behind the last."""
+    """A number of bytes, that of TYPE.PATH, or the size of TYPE: the bytes of the pointers that PATH follows, and those after the last."""
     if text[:1].isdigit():
         return [], int(text, 0)
     name, _, path = text.partition(".")
@@ -76,7 +76,7 @@ def step_of(kernel, text):
 
 
 def moved(kernel, begin, text):
-    """The address BYTES behind another."""
+    """The address BYTES after another."""
     hops, step = located(kernel, text)
     for hop in hops:
         begin = word(kernel, begin + hop)
@@ -84,7 +84,7 @@ def moved(kernel, begin, text):
 
 
 def taken_apart(where):
-    """How many pointers are followed, what the first one lies at, and the BYTES behind it."""
+    """How many pointers are followed, what the first one lies at, and the BYTES after it."""
     rest = where.lstrip("*")
     stars, end = len(where) - len(rest), 0
     if rest.startswith("("):
@@ -142,7 +142,7 @@ def count_of(kernel, text):
 
 
 def heads(kernel, where, steps, counts):
-    """The addresses of the heads at run time, each behind its numbers in the tables."""
+    """The addresses of the heads at run time, each after its numbers in the tables."""
     begins = first_heads(kernel, where, counts[0])
     if "percpu:" not in where:
         begins = [begins[0] + steps[0] * number for number in range(counts[0])]
