@@ -25,16 +25,16 @@ returns-in_default-clause-reads g c = record {
 
 pub loop-i-preserved : goal.loop-i-preserved
 loop-i-preserved g c = (
-  chain-more _ _ (plan_seen c.args.over.now.plan.now) (c.args.root.audit, c.args.root.start) c.args.first c.loop-i._i c.loop-i.words _ c.in-Some.suspect c.loop-i.left c.in-Ok.more
+  rw c.in-Ok.is (chain-more _ _ (plan_seen c.args.over.now.plan.now) (c.args.root.audit, c.args.root.start) c.args.first c.loop-i._i c.loop-i.words _ c.in-Some.suspect c.loop-i.left c.in-Ok.more
       (ap (with_paging c.args.over.now.paging) c.loop-i.invariant.1.same_image) (omega arith) (sym c.in-Some.ensures) (rw c.in-Ok.is at c.lead-tried.ensures.words)
-      c.loop-i.invariant.0 (rw c.in-Ok.is at c.lead-tried.ensures.exact),
+      c.loop-i.invariant.0 (rw c.in-Ok.is at c.lead-tried.ensures.exact)),
   record {
     same_image = c.lead-tried.ensures.reads.stays.same_image ∙ c.loop-i.invariant.1.same_image;
     same_files = c.lead-tried.ensures.reads.stays.same_files ∙ c.loop-i.invariant.1.same_files;
     same_through = c.lead-tried.ensures.reads.stays.same_through ∙ c.loop-i.invariant.1.same_through;
   },
   (rw c.in-Ok.is at c.lead-tried.ensures.reads.cause) ∙ c.loop-i.invariant.2,
-  inside-left (length c.args.over.now.types.now.records) _ c.in-Ok.more c.in-Ok.is c.lead-tried.ensures.inside,
+  rw c.in-Ok.is (inside-left (length c.args.over.now.types.now.records) _ c.in-Ok.more c.in-Ok.is c.lead-tried.ensures.inside),
 )
 
 pub returns-clause-exact : goal.returns-clause-exact
