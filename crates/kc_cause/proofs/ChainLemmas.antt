@@ -18,7 +18,7 @@ use Rattle.kc_repair.specs.declared.outcome.Repair.{Repair}
 use Rattle.kc_repair.specs.declared.outcome.Repair.TheVariants.{Stands, Nothing}
 use Rattle.kc_repair.specs.Laws.{IsLeft, LeftStand, LeftStandInFile, LeftWordsStand, OneMore, RepairWordsStand, RepairsStand, StandsInFile, told_suspects}
 use Rattle.kc_repair.specs.declared.first.FirstWalk.{FirstWalk}
-use Rattle.kc_repair.specs.Repairs.{StandsAs, is_apart, judged, repair_left, repair_of, walk_of, with_suspect, with_words}
+use Rattle.kc_repair.specs.Repairs.{StandsAs, WalkInside, is_apart, judged, repair_left, repair_of, walk_of, with_suspect, with_words}
 use Rattle.kc_repair.specs.Suspect.Laws.{IsSuspect}
 use Rattle.kc_repair.specs.Suspect.Suspects.{suspects}
 use Rattle.kc_cause.specs.declared.chain.Left.{Left}
@@ -59,6 +59,11 @@ left-judged None after audits root walk words r verdict (Ok x) same is exact fou
 left-judged (Some m) after audits root walk words r verdict (Ok x) same is exact found =
     let comes : judged (with_words m words) audits root walk None ≡ verdict = rw is at exact in
     (rw same at found) ∙ ap (λ (v : Verdict). left_of m audits root words v) (sym comes)
+
+-- the walk of what is left is of a kind of the kernel's
+pub inside-left : (count : ℕ) (r : Result Left ReadFailed) (left : Left) → r ≡ Ok left → IfOk r (λ (l : Left). WalkInside count l.walk) → WalkInside count left.walk
+inside-left count (Ok found) left is inside = let same : found ≡ left = cc in subst (λ (l : Left). WalkInside count l.walk) same inside
+inside-left count (Err stop) left is inside = absurd (let never : ⊥ = cc in never)
 
 -- ---- a step of the loop
 

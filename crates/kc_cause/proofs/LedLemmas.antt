@@ -1,5 +1,5 @@
 -- Lines of a repair, one part after the other, over a memory that is told or not.
-use Rattle.std.proofs.Common.{◌≡◌, ℕ, List, ◌++◌, Option, Some, None, IfSome, Result, Ok, Err, OnOk, IfOk, sym, ap, ◌∙◌, append_assoc}
+use Rattle.std.proofs.Common.{◌≡◌, ℕ, List, ◌++◌, false, Option, Some, None, IfSome, Result, Ok, Err, OnOk, IfOk, sym, ap, ◌∙◌, append_assoc, append-nil}
 use Rattle.std.specs.Prelude.{codes, option_map}
 use Rattle.kc_memory.specs.Image.{Image}
 use Rattle.kc_found.specs.declared.asked.Asked.{Asked}
@@ -18,9 +18,10 @@ use Rattle.kc_told.specs.Near.{lead_as}
 use Rattle.kc_repair.specs.declared.suspect.suspect.Suspect.{Suspect}
 use Rattle.kc_cause.specs.declared.judged.PlanOf.{PlanOf}
 use Rattle.kc_cause.specs.declared.repairs.Mended.{Mended}
-use Rattle.kc_cause.specs.Explained.{leads_over, leads_to, mended_of, repairs_as}
+use Rattle.kc_cause.specs.Explained.{leads_over, leads_to, mended_of, repairs_as, written_over}
 use Rattle.kc_cause.specs.Judged.{over_plan}
 use Rattle.kc_cause.specs.Lines.{led_lines, mended_lines, suspect_part}
+use Rattle.kc_cause.specs.Written.{is_written}
 
 -- a part that is told of the memory after one that isn't
 pub after_pure : {A E : Type 0} (image : Option Image) (r : Result A E) (old mid new first : List ℕ) (rest : Image → List ℕ)
@@ -47,6 +48,11 @@ pub after_told : {A E : Type 0} (image after : Option Image) (r : Result A E) (o
 after_told image after (Err e) old mid new first rest same one two = tt
 after_told None after (Ok a) old mid new first rest same one two = tt
 after_told (Some m) after (Ok a) old mid new first rest same one two = (rw same at two) ∙ ap (λ l. l ++ rest m) one ∙ append_assoc old (first m) (rest m)
+
+-- where nothing shows that something was written over a word
+pub unwritten : (image : Option Image) (o : PlanOf) (s : Suspect) (old : List ℕ) → is_written (meaning s.va s.now) ≡ false → IfSome image (λ m. old ≡ old ++ written_over (over_plan o m) s)
+unwritten None o s old isnt = tt
+unwritten (Some m) o s old isnt = rw isnt (sym (append-nil old))
 
 -- what the other number of a word leads to
 pub lead_added : (image : Option Image) (o : PlanOf) (s : Suspect) (lead : Lead) (old new : List ℕ)

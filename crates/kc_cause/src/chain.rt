@@ -151,15 +151,15 @@ fn left_after<'s, S: Store>(
     memory: Phys<'s, S>,
     over: &PlanOf<'_>,
     root: Asked,
-    walk: &Option<FirstWalk>,
+    walk: Option<FirstWalk>,
     words: &[Suspect],
 ) -> Returned<Phys<'s, S>, Result<Left, ReadFailed>>
     requires over { FitsTogether over.now }
     requires root { root.audit < length over.now.plan.now.audits }
-    requires walk { WalkInside (length over.now.types.now.records) walk.now }
+    requires walk { WalkInside (length over.now.types.now.records) walk }
 
     ensures exact { IfOk result.answer (λ left. IfSome (with_paging over.now.paging (stored memory.entry.segments.items memory.entry.tail (content (S.files memory.entry.store.now) Dump (S.opened memory.entry.store.now Dump))))
-        (λ image. left ≡ left_after image (plan_seen over.now.plan.now) (root.audit, root.start) walk.now words.now)) }
+        (λ image. left ≡ left_after image (plan_seen over.now.plan.now) (root.audit, root.start) walk words.now)) }
     ensures inside { IfOk result.answer (λ left. WalkInside (length over.now.types.now.records) left.walk) }
     ensures reads { OnlyReadsFrames (λ p. stored p.segments.items p.tail (content (S.files p.store.now) Dump (S.opened p.store.now Dump))) (λ p. S.files p.store.now) (λ p. p.store.ghost_name ∷ []) (λ p. S.faults p.store.now) result.answer memory.entry result.memory }
 {
@@ -167,7 +167,7 @@ fn left_after<'s, S: Store>(
     let audit = RootAudit { plan, types, root };
     let by = Judge {
         audit: &audit,
-        walk,
+        walk: &walk,
         only: None,
     };
     let Returned { memory, answer } = judged_over(over.alloc, memory, over.paging, &by, words);
@@ -215,17 +215,17 @@ fn lead<'s, S: Store>(
     memory: Phys<'s, S>,
     over: &PlanOf<'_>,
     root: Asked,
-    walk: &Option<FirstWalk>,
+    walk: Option<FirstWalk>,
     words: &mut Suspects,
     suspect: Suspect,
 ) -> Returned<Phys<'s, S>, Result<Left, ReadFailed>>
     requires over { FitsTogether over.now }
     requires root { root.audit < length over.now.plan.now.audits }
-    requires walk { WalkInside (length over.now.types.now.records) walk.now }
+    requires walk { WalkInside (length over.now.types.now.records) walk }
 
     ensures words { OnOk result.answer (words.new ≡ words.old ++ suspect ∷ []) }
     ensures exact { IfOk result.answer (λ left. IfSome (with_paging over.now.paging (stored memory.entry.segments.items memory.entry.tail (content (S.files memory.entry.store.now) Dump (S.opened memory.entry.store.now Dump))))
-        (λ image. left ≡ left_after image (plan_seen over.now.plan.now) (root.audit, root.start) walk.now (words.old ++ suspect ∷ []))) }
+        (λ image. left ≡ left_after image (plan_seen over.now.plan.now) (root.audit, root.start) walk (words.old ++ suspect ∷ []))) }
     ensures inside { IfOk result.answer (λ left. WalkInside (length over.now.types.now.records) left.walk) }
     ensures reads { OnlyReadsFrames (λ p. stored p.segments.items p.tail (content (S.files p.store.now) Dump (S.opened p.store.now Dump))) (λ p. S.files p.store.now) (λ p. p.store.ghost_name ∷ []) (λ p. S.faults p.store.now) result.answer memory.entry result.memory }
 {
@@ -296,7 +296,7 @@ pub(crate) fn chain<'s, S: Store>(
                 answer: ended(words, left.repair),
             };
         };
-        let tried = lead(memory, over, root, &left.walk, &mut words, suspect);
+        let tried = lead(memory, over, root, left.walk, &mut words, suspect);
         memory = tried.memory;
         match tried.answer {
             Ok(more) => left = more,
