@@ -1,8 +1,8 @@
 -- One task of a list after another, and the threads that are gathered.
-use Rattle.std.proofs.Common.{◌≡◌, ℕ, suc, ◌+◌, List, [], ◌∷◌, ◌++◌, drop, take, length, Option, None, Some, refl, sym, ◌∙◌, ap, add-one, append_assoc, append-nil}
-use Rattle.std.specs.Prelude.{Result, Ok, Err, IfSome, slice_get, map, ◌≤◌, ⊤}
+use Rattle.std.proofs.Common.{◌≡◌, ℕ, suc, ◌+◌, List, [], ◌∷◌, ◌++◌, drop, take, length, Option, None, Some, refl, sym, ◌∙◌, ap, add-one}
+use Rattle.std.specs.Prelude.{Result, Ok, Err, IfSome, slice_get, map, ◌≤◌}
 use Rattle.std.proofs.lemmas.Option.{slice_get_within, get_or_from_slice_get}
-use Rattle.std.proofs.Math.Seq.{drop-cons, take-suc}
+use Rattle.std.proofs.Math.Seq.{take-suc}
 use Rattle.std.proofs.Math.ListN.{drop_of_length-le}
 use Rattle.kc_memory.specs.Image.{Image}
 use Rattle.kc_found.specs.declared.found.WalkStop.{WalkStop}

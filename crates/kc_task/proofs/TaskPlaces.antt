@@ -1,6 +1,6 @@
 -- The violations of a task list show words of the dump alone.
 use Rattle.std.proofs.Common.{ℕ, nat_eq, Bool, true, false, List, [], ◌∷◌, ◌++◌, Some, map}
-use Rattle.std.specs.Prelude.{Result, Ok, Err, not, ⊤, if◌then◌else◌}
+use Rattle.std.specs.Prelude.{Result, Ok, Err, not, if◌then◌else◌}
 use Rattle.kc_memory.specs.declared.rule.Rule.TheVariants.{T1, T2, T3, T4, T5, T6, T7}
 use Rattle.kc_memory.specs.Image.{Image}
 use Rattle.kc_memory.specs.Laws.{PlacesStand}
