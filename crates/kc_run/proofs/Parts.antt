@@ -1,5 +1,5 @@
 -- Parts of a run, one after the other, and where an audit's path leads, whatever goes along.
-use Rattle.std.proofs.Common.{◌≡◌, ℕ, ◌+◌, ◌≤◌, Bool, true, false, nat_eq, List, length, drop, slice_get, Option, Some, None, refl, sym, ◌∙◌, ap}
+use Rattle.std.proofs.Common.{◌≡◌, ℕ, ◌+◌, ◌≤◌, Bool, true, false, nat_eq, List, [], ◌∷◌, length, drop, slice_get, Option, Some, None, refl, sym, ◌∙◌, ap}
 use Rattle.std.specs.Prelude.{Result, Ok, Err}
 use Rattle.std.proofs.lemmas.List.{drop_all}
 use Rattle.kc_memory.specs.declared.space.Stop.{Stop}
@@ -90,4 +90,32 @@ begins image audits count a view to n base r is are from path leads = record {
   at = is;
   later = are;
   leads = rw (← from, ← path) (path_led image view to r leads);
+}
+
+-- what follows a run is seen of a part of a state
+pub of_part : {X Y : Type 0} (f : Y → X) (Means : Relation X) → Follows Means → Follows (λ image audits part (x y : Y) r. Means image audits part (f x) (f y) r)
+of_part f Means law = record {
+  done = λ image audits x. law.done image audits (f x);
+  goes = λ image audits p q x y z r. law.goes image audits p q (f x) (f y) (f z) r;
+  ends = λ image audits p q x y stop. law.ends image audits p q (f x) (f y) stop;
+  leads = λ image audits n a base start x y r. law.leads image audits n a base start (f x) (f y) r;
+  skips = λ image audits n a base place at x. law.skips image audits n a base place at (f x);
+  breaks = λ image audits n a base place at x stop. law.breaks image audits n a base place at (f x) stop;
+  misses = λ image audits n a base cause x stop. law.misses image audits n a base cause (f x) stop;
+  passes = λ image audits n a start element x y r. law.passes image audits n a start element (f x) (f y) r;
+  fails = λ image audits n a start element x stop. law.fails image audits n a start element (f x) stop;
+}
+
+-- and of two things
+pub of_both : {X : Type 0} (A B : Relation X) → Follows A → Follows B → Follows (λ image audits part (x y : X) r. A image audits part x y r × B image audits part x y r)
+of_both A B a b = record {
+  done = λ image audits x. (a.done image audits x, b.done image audits x);
+  goes = λ image audits p q x y z r one two. (a.goes image audits p q x y z r one.0 two.0, b.goes image audits p q x y z r one.1 two.1);
+  ends = λ image audits p q x y stop one. (a.ends image audits p q x y stop one.0, b.ends image audits p q x y stop one.1);
+  leads = λ image audits n a0 base start x y r at one. (a.leads image audits n a0 base start x y r at one.0, b.leads image audits n a0 base start x y r at one.1);
+  skips = λ image audits n a0 base place at x there may. (a.skips image audits n a0 base place at x there may, b.skips image audits n a0 base place at x there may);
+  breaks = λ image audits n a0 base place at x stop there may is. (a.breaks image audits n a0 base place at x stop there may is, b.breaks image audits n a0 base place at x stop there may is);
+  misses = λ image audits n a0 base cause x stop there is. (a.misses image audits n a0 base cause x stop there is, b.misses image audits n a0 base cause x stop there is);
+  passes = λ image audits n a0 start element x y r checks one. (a.passes image audits n a0 start element x y r checks one.0, b.passes image audits n a0 start element x y r checks one.1);
+  fails = λ image audits n a0 start element x stop checks. (a.fails image audits n a0 start element x stop checks, b.fails image audits n a0 start element x stop checks);
 }

@@ -1,5 +1,5 @@
 -- The counts of a run follow it, part by part.
-use Rattle.std.proofs.Common.{◌≡◌, ◌×◌, ℕ, ◌+◌, true, List, [], ◌∷◌, ◌++◌, length, slice_get, Option, Some, None, refl, sym, ◌∙◌, ap, arith}
+use Rattle.std.proofs.Common.{◌≡◌, ℕ, ◌+◌, true, List, [], ◌∷◌, ◌++◌, length, slice_get, Option, Some, None, refl, sym, ◌∙◌, ap, arith}
 use Rattle.std.specs.Prelude.{Result, Ok, Err}
 use Rattle.kc_memory.specs.declared.space.Stop.TheVariants as stops
 use Rattle.kc_memory.specs.Image.{Image}
@@ -20,7 +20,7 @@ use Rattle.kc_run.proofs.Counting.{tally_goes, tally_stops}
 use Rattle.kc_run.proofs.Unrolling.{unrolled}
 
 -- what is seen of parts, one after the other
-events_in : {X : Type 0} (w : World) (audits : List AuditAt) (part : X → Part) (xs : List X) → events w audits (in_order part xs) ≡ in_turn (λ x. events w audits (part x)) xs
+pub events_in : {X : Type 0} (w : World) (audits : List AuditAt) (part : X → Part) (xs : List X) → events w audits (in_order part xs) ≡ in_turn (λ x. events w audits (part x)) xs
 events_in w audits part [] = refl
 events_in w audits part (x ∷ xs) = ap (λ es. events w audits (part x) ++ es) (events_in w audits part xs)
 
