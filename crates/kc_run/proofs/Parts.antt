@@ -1,7 +1,6 @@
 -- Parts of a run, one after the other, and where an audit's path leads, whatever goes along.
-use Rattle.std.proofs.Common.{◌≡◌, ℕ, ◌+◌, ◌≤◌, Bool, true, false, nat_eq, List, [], ◌∷◌, length, drop, slice_get, Option, Some, None, refl, sym, ◌∙◌, ap}
+use Rattle.std.proofs.Common.{◌≡◌, ℕ, ◌+◌, Bool, true, false, nat_eq, List, [], ◌∷◌, drop, slice_get, Option, Some, None, refl, sym, ◌∙◌, ap}
 use Rattle.std.specs.Prelude.{Result, Ok, Err}
-use Rattle.std.proofs.lemmas.List.{drop_all}
 use Rattle.kc_memory.specs.declared.space.Stop.{Stop}
 use Rattle.kc_memory.specs.declared.space.Stop.TheVariants as stops
 use Rattle.kc_memory.specs.declared.words.Place.{Place}
@@ -21,15 +20,15 @@ use Rattle.kc_view.specs.Typed.{Typed}
 use Rattle.kc_found.specs.declared.found.WalkStop.{WalkStop}
 use Rattle.kc_plan.specs.Kept.{are_later}
 use Rattle.kc_plan.specs.Planned.{AuditAt}
-use Rattle.kc_plan.specs.Seen.{PathEnd, EndsAt, NullAt, path_end, path_of}
-use Rattle.kc_run.specs.Parts.{Begins, Follows, Part, Relation, in_order}
-use Rattle.kc_run.proofs.Going.{drop_at}
+use Rattle.kc_plan.specs.Seen.{PathEnd, EndsAt, NullAt, path_end, path_of, root_of, roots}
+use Rattle.kc_run.specs.Parts.{Begins, Enter, Follows, Part, Relation, in_order, roots_part}
+use Rattle.kc_run.proofs.Going.{drop_at, roots_at}
 
 -- what is left leads on to what the whole leads to
 abbrev pub Leads : {X : Type 0} → Relation X → Option Image → List AuditAt → Part → Part → X → X → Type 0
 Leads {X} Means image audits whole left x y = (z : X) (r : Result (Unit {0}) WalkStop) → Means image audits left y z r → Means image audits whole x z r
 
--- one thing more, or it stops, or none is left
+-- one thing more, or it stops
 pub part_goes : {X Y : Type 0} (Means : Relation X) → Follows Means → (image : Option Image) (audits : List AuditAt) (whole : Part) (part : Y → Part) (ys : List Y) (i : ℕ) (y : Y) (before now after : X) → slice_get ys i ≡ Some y →
     Leads Means image audits whole (in_order part (drop i ys)) before now → Means image audits (part y) now after (Ok tt) → Leads Means image audits whole (in_order part (drop (i + 1) ys)) before after
 part_goes Means law image audits whole part ys i y before now after is leads one z r rest =
@@ -40,9 +39,22 @@ pub part_ends : {X Y : Type 0} (Means : Relation X) → Follows Means → (image
 part_ends Means law image audits whole part ys i y before now after stop is leads one =
     leads after (Err stop) (rw (drop_at ys i y is) (law.ends image audits (part y) (in_order part (drop (i + 1) ys)) now after stop one))
 
-pub part_done : {X Y : Type 0} (Means : Relation X) → Follows Means → (image : Option Image) (audits : List AuditAt) (whole : Part) (part : Y → Part) (ys : List Y) (i : ℕ) (before now : X) → length ys ≤ i →
-    Leads Means image audits whole (in_order part (drop i ys)) before now → Means image audits whole before now (Ok tt)
-part_done Means law image audits whole part ys i before now le leads = leads now (Ok tt) (rw (drop_all i ys le) (law.done image audits now))
+-- one root audit more, or it stops, or an audit is none
+abbrev pub RootsLead : {X : Type 0} → Relation X → Option Image → List AuditAt → ℕ → X → X → Type 0
+RootsLead Means image audits i before now = Leads Means image audits (roots_part (roots 0 audits)) (roots_part (roots i (drop i audits))) before now
+
+pub root_goes : {X : Type 0} (Means : Relation X) → Follows Means → (image : Option Image) (audits : List AuditAt) (a : AuditAt) (i base : ℕ) (before now after : X) → slice_get audits i ≡ Some a → root_of i a.start ≡ (i, base) ∷ [] →
+    RootsLead Means image audits i before now → Means image audits (Enter i base) now after (Ok tt) → RootsLead Means image audits (i + 1) before after
+root_goes Means law image audits a i base before now after is root leads one z r rest =
+    leads z r (rw (roots_at audits a i is, root) (law.goes image audits (Enter i base) (roots_part (roots (i + 1) (drop (i + 1) audits))) now after z r one rest))
+
+pub root_ends : {X : Type 0} (Means : Relation X) → Follows Means → (image : Option Image) (audits : List AuditAt) (a : AuditAt) (i base : ℕ) (before now after : X) (stop : WalkStop) → slice_get audits i ≡ Some a → root_of i a.start ≡ (i, base) ∷ [] →
+    RootsLead Means image audits i before now → Means image audits (Enter i base) now after (Err stop) → Means image audits (roots_part (roots 0 audits)) before after (Err stop)
+root_ends Means law image audits a i base before now after stop is root leads one =
+    leads after (Err stop) (rw (roots_at audits a i is, root) (law.ends image audits (Enter i base) (roots_part (roots (i + 1) (drop (i + 1) audits))) now after stop one))
+
+pub root_skips : {X : Type 0} (Means : Relation X) (image : Option Image) (audits : List AuditAt) (a : AuditAt) (i : ℕ) (before now : X) → slice_get audits i ≡ Some a → root_of i a.start ≡ [] → RootsLead Means image audits i before now → RootsLead Means image audits (i + 1) before now
+root_skips Means image audits a i before now is none leads z r rest = leads z r (rw (roots_at audits a i is, none) rest)
 
 -- where a path leads, by what a view answers
 end_of : Result Led Stopped → Result PathEnd Stopped

@@ -13,8 +13,8 @@ use Rattle.kc_kinds.specs.Structures.{nodes_of}
 use Rattle.kc_plan.specs.Events.{Event, Wrong}
 use Rattle.kc_plan.specs.Kept.{are_later}
 use Rattle.kc_plan.specs.Planned.{AuditAt}
-use Rattle.kc_plan.specs.Seen.{PathEnd, NullAt, World, all_seen, checks_seen, below, entered, in_turn, null_pointer, path_end, path_of, roots, seen, walked, world}
-use Rattle.kc_run.specs.Parts.{Enter, Follows, Look, Part, Tallied, below_part, elements_part, events, in_order, roots_part}
+use Rattle.kc_plan.specs.Seen.{PathEnd, NullAt, World, all_seen, checks_seen, container_of, entered, in_turn, null_pointer, path_end, path_of, roots, seen, walked, world}
+use Rattle.kc_run.specs.Parts.{Element, Enter, Follows, Look, Part, Tallied, below_part, elements_part, events, in_order, roots_part}
 use Rattle.kc_run.specs.Tally.{TalliesAs, added, tally}
 use Rattle.kc_run.proofs.Counting.{tally_goes, tally_stops}
 use Rattle.kc_run.proofs.Unrolling.{unrolled}
@@ -32,10 +32,10 @@ by_same before after es us r same e = rw same e
 goes : (es us : List Event) (x y z : List AuditCount) (r : Result (Unit {0}) WalkStop) → tally x es ≡ Ok y → IsWalk (λ u. z) (tally y us) r → IsWalk (λ u. z) (tally x (es ++ us)) r
 goes es us x y z r one e = rw (tally_goes x y es us one) e
 
-ends : (es us : List Event) (x y z : List AuditCount) (stop : WalkStop) → IsWalk {A = Unit {0}} (λ u. y) (tally x es) (Err stop) → IsWalk {A = Unit {0}} (λ u. z) (tally x (es ++ us)) (Err stop)
-ends es us x y z (ends.Broken v) e = tally_stops x v es us e
-ends es us x y z ends.Fault e = tt
-ends es us x y z ends.NoMemory e = tt
+halts : (es us : List Event) (x y z : List AuditCount) (stop : WalkStop) → IsWalk {A = Unit {0}} (λ u. y) (tally x es) (Err stop) → IsWalk {A = Unit {0}} (λ u. z) (tally x (es ++ us)) (Err stop)
+halts es us x y z (ends.Broken v) e = tally_stops x v es us e
+halts es us x y z ends.Fault e = tt
+halts es us x y z ends.NoMemory e = tt
 
 -- a violation alone
 broken : (es : List Event) (v : Violation) (x : List AuditCount) (stop : WalkStop) → es ≡ Wrong v ∷ [] → IsBroken stop v → IsWalk {A = Unit {0}} (λ u. x) (tally x es) (Err stop)
@@ -53,30 +53,30 @@ entering i audits count n a base there is are leads =
 
 pub tallied : Follows Tallied
 tallied = record {
-  done = λ image. elim image [ None ↦ λ audits x. tt | Some i ↦ λ audits x. refl ];
-  goes = λ image. elim image [ None ↦ λ audits p q x y z r one e. tt | Some i ↦ λ audits p q x y z r one e. goes (events (world i) audits p) (events (world i) audits q) x y z r one e ];
-  ends = λ image. elim image [ None ↦ λ audits p q x y stop e. tt | Some i ↦ λ audits p q x y stop e. ends (events (world i) audits p) (events (world i) audits q) x y y stop e ];
-  leads = λ image. elim image [
+  done = elim [ None ↦ λ audits x. tt | Some i ↦ λ audits x. refl ];
+  goes = elim [ None ↦ λ audits p q x y z r one e. tt | Some i ↦ λ audits p q x y z r one e. goes (events (world i) audits p) (events (world i) audits q) x y z r one e ];
+  ends = elim [ None ↦ λ audits p q x y stop e. tt | Some i ↦ λ audits p q x y stop e. halts (events (world i) audits p) (events (world i) audits q) x y y stop e ];
+  leads = elim [
     None ↦ λ audits n a base start x y r b e. tt
     | Some i ↦ λ audits n a base start x y r b e. by_same x y _ _ r (entering i audits b.count n a base _ b.at b.later b.leads) e ];
-  skips = λ image. elim image [
+  skips = elim [
     None ↦ λ audits n a base place at x b may. tt
     | Some i ↦ λ audits n a base place at x b may. rw (entering i audits b.count n a base _ b.at b.later b.leads, may) refl ];
-  breaks = λ image. elim image [
+  breaks = elim [
     None ↦ λ audits n a base place at x stop b may e. tt
     | Some i ↦ λ audits n a base place at x stop b may e. broken _ (null_pointer (record { audit = n; start = base }) place at) x stop (rw (entering i audits b.count n a base _ b.at b.later b.leads, may) refl) e ];
-  misses = λ image. elim image [
+  misses = elim [
     None ↦ λ audits n a base cause x stop b e. tt
     | Some i ↦ λ audits n a base. elim [
       stops.Miss s ↦ λ x stop b e. broken _ (missed (record { audit = n; start = base }) None s) x stop (entering i audits b.count n a base _ b.at b.later b.leads) e
       | stops.Fault ↦ λ x stop b e. rw e tt ] ];
-  passes = λ image. elim image [
+  passes = elim [
     None ↦ λ audits n a start element x y r c e. tt
     | Some i ↦ λ audits n a start element x y r c e. goes (checks_seen (world i) (record { audit = n; start = start }) a.checks element) _ x x y r (c x)
         (by_same x y _ _ r (sym (events_in (world i) audits (λ m. Enter m element) a.each)) e) ];
-  fails = λ image. elim image [
+  fails = elim [
     None ↦ λ audits n a start element x stop c. tt
-    | Some i ↦ λ audits n a start element x stop c. ends (checks_seen (world i) (record { audit = n; start = start }) a.checks element) _ x x x stop (c x) ];
+    | Some i ↦ λ audits n a start element x stop c. halts (checks_seen (world i) (record { audit = n; start = start }) a.checks element) _ x x x stop (c x) ];
 }
 
 -- a walk, and what lies below its nodes
@@ -84,10 +84,11 @@ pub look_goes : (image : Option Image) (audits : List AuditAt) (a : AuditAt) (n 
     WalksAs (λ (ns : List ℕ). ns) (λ i. nodes_of i a.kind n start) image (Ok nodes) → Tallied image audits (elements_part n a start nodes) y z r → Tallied image audits (Look n a start) x z r
 look_goes None audits a n start size x y z nodes r sized counts is e = tt
 look_goes (Some i) audits a n start size x y z nodes r sized counts is e =
+    let element = λ (node : ℕ). events (world i) audits (Element n a start (container_of a.link node)) in
     let whole : tally x (events (world i) audits (Look n a start)) ≡ tally y (events (world i) audits (elements_part n a start nodes)) =
     ap (λ w. tally x (walked (world i) n a start (λ m base. seen (world i) audits 0 m base) w)) is
-    ∙ ap (λ cs. tally cs (in_turn _ nodes)) (sym (counts ∙ ap (added x n) sized))
-    ∙ ap (tally y) (sym (events_in (world i) audits _ nodes)) in
+    ∙ ap (λ cs. tally cs (in_turn element nodes)) (sym (counts ∙ ap (added x n) sized))
+    ∙ ap (tally y) (sym (events_in (world i) audits (λ node. Element n a start (container_of a.link node)) nodes)) in
     rw whole e
 
 -- or its stop

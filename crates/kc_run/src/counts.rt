@@ -46,11 +46,11 @@ pub fn count_walk(counts: &mut Counts, audit: u32, elements: usize)
 
 /// The counts of the walks that a run made so far.
 #[derive(Drop)]
-pub struct Counting {
+pub struct RunCounts {
     pub counts: Counts,
 }
 
-impl Recorder for Counting {
+impl Recorder for RunCounts {
     ghost Ready = { λ count x. length x.counts ≡ count };
 
     ghost Means = { λ image audits part x y r. Tallied image audits part x.counts y.counts r };

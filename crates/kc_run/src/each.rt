@@ -14,7 +14,7 @@ ghost use Rattle.kc_run.specs.Each.{AddsRoots, asked_root, root_at};
 ghost use Rattle.kc_run.specs.Tally.{counts_at};
 ghost use Rattle.kc_found.specs.Failures.{CountsFailures};
 
-use crate::counts::{Counting, no_walks};
+use crate::counts::{RunCounts, no_walks};
 use crate::laws::know_verdicts;
 use crate::nest::enter;
 use crate::recorder::Known;
@@ -96,7 +96,7 @@ fn judged<S: Space, L: Ledger>(
         Ok(counts) => counts,
         Err(NoMemory) => return Err(ReadFailed::NoMemory),
     };
-    let mut counting = Counting { counts };
+    let mut counting = RunCounts { counts };
     match enter(known, space, &mut counting, root, steps) {
         Ok(()) => match counts_at(known.alloc, &counting.counts, audits) {
             Ok(counts) => Ok(Verdict::Clean(counts)),

@@ -14,7 +14,7 @@ mod walk;
 
 pub use begin::{container_of, is_optional, null_pointer, path_of};
 pub use checks::look_checks;
-pub use counts::{Counting, count_walk, no_walks};
+pub use counts::{RunCounts, count_walk, no_walks};
 pub use each::{root_at, run_each, run_root};
 pub use kc_found::ReadFailed as RunStop;
 pub use laws::know_verdicts;

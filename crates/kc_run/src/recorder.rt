@@ -2,6 +2,7 @@
 ghost use Rattle.std.specs.Prelude.{◌<◌, ℕ, List, Option, Result, Ok, Err, IfOk, IfErr, length};
 ghost use Rattle.kc_memory.specs.Image.{Image};
 ghost use Rattle.kc_memory.specs.Stays.{SpaceStays};
+ghost use Rattle.kc_found.specs.declared.found.WalkStop.{WalkStop};
 ghost use Rattle.kc_found.specs.Walks.{CountsWalkFaults, IsNamed};
 ghost use Rattle.kc_kinds.specs.Inside.{KindInside};
 ghost use Rattle.kc_plan.specs.Planned.{AuditAt, audit_seen};

@@ -7,7 +7,7 @@ ghost use Rattle.kc_plan.specs.Verdicts.{FitsPlan, IsClean, verdict};
 ghost use Rattle.kc_plan.specs.Views.{plan_seen};
 ghost use Rattle.kc_found.specs.Failures.{CountsFailures};
 
-use crate::counts::{Counting, no_walks};
+use crate::counts::{RunCounts, no_walks};
 use crate::laws::know_verdicts;
 use crate::nest::enter_roots;
 use crate::recorder::Known;
@@ -55,7 +55,7 @@ pub fn run<S: Space, L: Ledger>(
         Ok(counts) => counts,
         Err(NoMemory) => return Err(ReadFailed::NoMemory),
     };
-    let mut counting = Counting { counts };
+    let mut counting = RunCounts { counts };
     match enter_roots(&known, space, &mut counting, steps) {
         Ok(()) => Ok(Verdict::Clean(counting.counts)),
         Err(WalkStop::Broken(found)) => Ok(Verdict::Broken(found)),

@@ -96,4 +96,4 @@ look_below-loop-i-preserved g t c = record {
 pub look_below-enter-requires : goal.look_below-enter-requires
 look_below-enter-requires g t c κs within =
     let here = between_here c.args.asked.now.audit (length c.args.known.now.plan.now.audits) c.args.audit.now.each c.loop-i.i c.get.result.now c.get.ensures c.loop-i.invariant.later in
-    (omega (arith, c.decreases, here.0, here.1), (within.0, (within.1, (here.1, (c.requires.types, c.loop-i.invariant.ready)))))
+    (omega (arith, c.decreases, here.0, here.1), (within.0, (within.1.0, (within.1.1, (here.1, (c.requires.types, c.loop-i.invariant.ready))))))

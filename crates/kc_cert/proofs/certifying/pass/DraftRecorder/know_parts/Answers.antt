@@ -1,4 +1,3 @@
-use Rattle.kc_run.specs.declared.counts.Counting.{Counting}
 use Rattle.kc_run.specs.Parts.{Tallied}
 use Rattle.kc_run.proofs.Parts.{of_both, of_part}
 use Rattle.kc_run.proofs.Tallying.{tallied}

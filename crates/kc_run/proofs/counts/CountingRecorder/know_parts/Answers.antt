@@ -1,8 +1,0 @@
-use Rattle.kc_run.specs.declared.counts.Counting.{Counting}
-use Rattle.kc_run.specs.Parts.{Tallied}
-use Rattle.kc_run.proofs.Parts.{of_part}
-use Rattle.kc_run.proofs.Tallying.{tallied}
-use Rattle.kc_run.proofs.counts.CountingRecorder.know_parts.Goals as goal
-
-pub returns : goal.returns
-returns c = of_part (λ (x : Counting). x.counts) Tallied tallied
