@@ -64,11 +64,11 @@ tallied = record {
     | Some i ↦ λ audits n a base place at x b may. rw (entering i audits b.count n a base _ b.at b.later b.leads, may) refl ];
   breaks = elim [
     None ↦ λ audits n a base place at x stop b may e. tt
-    | Some i ↦ λ audits n a base place at x stop b may e. broken _ (null_pointer (record { audit = n; start = base }) place at) x stop (rw (entering i audits b.count n a base _ b.at b.later b.leads, may) refl) e ];
+    | Some i ↦ λ audits n a base place at x stop b may e. broken (seen (world i) audits 0 n base) (null_pointer (record { audit = n; start = base }) place at) x stop (rw (entering i audits b.count n a base _ b.at b.later b.leads, may) refl) e ];
   misses = elim [
     None ↦ λ audits n a base cause x stop b e. tt
     | Some i ↦ λ audits n a base. elim [
-      stops.Miss s ↦ λ x stop b e. broken _ (missed (record { audit = n; start = base }) None s) x stop (entering i audits b.count n a base _ b.at b.later b.leads) e
+      stops.Miss s ↦ λ x stop b e. broken (seen (world i) audits 0 n base) (missed (record { audit = n; start = base }) None s) x stop (entering i audits b.count n a base _ b.at b.later b.leads) e
       | stops.Fault ↦ λ x stop b e. rw e tt ] ];
   passes = elim [
     None ↦ λ audits n a start element x y r c e. tt

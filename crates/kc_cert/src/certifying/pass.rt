@@ -1,7 +1,6 @@
 // What a certificate is made of: each walk of a run makes a step of it.
 ghost use Rattle.std.specs.Prelude.{◌≡◌, ◌<◌, ◌++◌, ◌∷◌, [], length, OnOk};
 ghost use Rattle.kc_run.specs.Tally.{added};
-ghost use Rattle.kc_cert.specs.Certifying.Certified.{Drafts};
 
 use crate::certifying::collect::collect_shape;
 use crate::{CertStep, Certificate, Lists, know_walked, nodes_in};
@@ -36,6 +35,9 @@ fn add_step(draft: &mut Draft, asked: &Asked, lists: Lists, elements: usize) -> 
 }
 
 impl Recorder for Draft {
+    ghost use Rattle.std.specs.Prelude.{◌≡◌, length};
+    ghost use Rattle.kc_cert.specs.Certifying.Certified.{Drafts};
+
     ghost Ready = { λ count x. length x.counts ≡ count };
 
     ghost Means = { Drafts };

@@ -12,5 +12,5 @@ returns-in-Ok-counts_at-clause-exact g c =
 
 pub returns-in-Err-Broken-clause-exact : goal.returns-in-Err-Broken-clause-exact
 returns-in-Err-Broken-clause-exact g c =
-    rw c.in-Err-Broken.field-0-is (root_broken _ (g.S.Space.image c.args.space.now) (plan_seen c.args.known.now.plan.now) c.args.root.now.audit c.args.root.now.start c.enter.new.recorder.counts c.in-Err-Broken.found
-    (rw (c.in-Ok.ensures, c.in-Err-Broken.field-0-is) at c.in-Err-Broken.ensures.means))
+    root_broken _ (g.S.Space.image c.args.space.now) (plan_seen c.args.known.now.plan.now) c.args.root.now.audit c.args.root.now.start c.enter.new.recorder.counts c.in-Err-Broken.found
+    (rw (c.in-Ok.ensures, c.in-Err-Broken.field-0-is) at c.in-Err-Broken.ensures.means)

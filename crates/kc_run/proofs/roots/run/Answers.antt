@@ -17,7 +17,7 @@ returns-in-Ok-enter_roots-clause-stands g c =
 
 pub returns-in-Err-Broken-clause-exact : goal.returns-in-Err-Broken-clause-exact
 returns-in-Err-Broken-clause-exact g c =
-    rw c.in-Err-Broken.field-0-is (ends_broken _ (g.S.Space.image c.args.space.now) (plan_seen c.args.plan.now) c.enter_roots.new.recorder.counts c.in-Err-Broken.found (rw (c.in-Ok.ensures, c.in-Err-Broken.field-0-is) at (all_tallied (g.S.Space.image c.args.space.now) (plan_seen c.args.plan.now) c.in-Ok.counts c.enter_roots.new.recorder.counts _ c.in-Err-Broken.ensures.means)))
+    ends_broken _ (g.S.Space.image c.args.space.now) (plan_seen c.args.plan.now) c.enter_roots.new.recorder.counts c.in-Err-Broken.found (rw (c.in-Ok.ensures, c.in-Err-Broken.field-0-is) at (all_tallied (g.S.Space.image c.args.space.now) (plan_seen c.args.plan.now) c.in-Ok.counts c.enter_roots.new.recorder.counts _ c.in-Err-Broken.ensures.means))
 
 pub returns-in-Err-Broken-clause-stands : goal.returns-in-Err-Broken-clause-stands
 returns-in-Err-Broken-clause-stands g c =
