@@ -57,26 +57,33 @@ tallied = record {
   goes = elim [ None ↦ λ audits p q x y z r one e. tt | Some i ↦ λ audits p q x y z r one e. goes (events (world i) audits p) (events (world i) audits q) x y z r one e ];
   ends = elim [ None ↦ λ audits p q x y stop e. tt | Some i ↦ λ audits p q x y stop e. halts (events (world i) audits p) (events (world i) audits q) x y y stop e ];
   leads = elim [
-    None ↦ λ audits n a base start x y r b e. tt
-    | Some i ↦ λ audits n a base start x y r b e. by_same x y _ _ r (entering i audits b.count n a base _ b.at b.later b.leads) e ];
+    | None ↦ λ audits n a base start x y r b e. tt
+    | Some i ↦ λ audits n a base start x y r b e. by_same x y _ _ r (entering i audits b.count n a base _ b.at b.later b.leads) e
+  ];
   skips = elim [
-    None ↦ λ audits n a base place at x b may. tt
-    | Some i ↦ λ audits n a base place at x b may. rw (entering i audits b.count n a base _ b.at b.later b.leads, may) refl ];
+    | None ↦ λ audits n a base place at x b may. tt
+    | Some i ↦ λ audits n a base place at x b may. rw (entering i audits b.count n a base _ b.at b.later b.leads, may) refl
+  ];
   breaks = elim [
-    None ↦ λ audits n a base place at x stop b may e. tt
-    | Some i ↦ λ audits n a base place at x stop b may e. broken (seen (world i) audits 0 n base) (null_pointer (record { audit = n; start = base }) place at) x stop (rw (entering i audits b.count n a base _ b.at b.later b.leads, may) refl) e ];
+    | None ↦ λ audits n a base place at x stop b may e. tt
+    | Some i ↦ λ audits n a base place at x stop b may e. broken (seen (world i) audits 0 n base) (null_pointer (record { audit = n; start = base }) place at) x stop (rw (entering i audits b.count n a base _ b.at b.later b.leads, may) refl) e
+  ];
   misses = elim [
-    None ↦ λ audits n a base cause x stop b e. tt
+    | None ↦ λ audits n a base cause x stop b e. tt
     | Some i ↦ λ audits n a base. elim [
-      stops.Miss s ↦ λ x stop b e. broken (seen (world i) audits 0 n base) (missed (record { audit = n; start = base }) None s) x stop (entering i audits b.count n a base _ b.at b.later b.leads) e
-      | stops.Fault ↦ λ x stop b e. rw e tt ] ];
+      | stops.Miss s ↦ λ x stop b e. broken (seen (world i) audits 0 n base) (missed (record { audit = n; start = base }) None s) x stop (entering i audits b.count n a base _ b.at b.later b.leads) e
+      | stops.Fault ↦ λ x stop b e. rw e tt
+    ]
+  ];
   passes = elim [
-    None ↦ λ audits n a start element x y r c e. tt
+    | None ↦ λ audits n a start element x y r c e. tt
     | Some i ↦ λ audits n a start element x y r c e. goes (checks_seen (world i) (record { audit = n; start = start }) a.checks element) _ x x y r (c x)
-        (by_same x y _ _ r (sym (events_in (world i) audits (λ m. Enter m element) a.each)) e) ];
+        (by_same x y _ _ r (sym (events_in (world i) audits (λ m. Enter m element) a.each)) e)
+  ];
   fails = elim [
-    None ↦ λ audits n a start element x stop c. tt
-    | Some i ↦ λ audits n a start element x stop c. halts (checks_seen (world i) (record { audit = n; start = start }) a.checks element) _ x x x stop (c x) ];
+    | None ↦ λ audits n a start element x stop c. tt
+    | Some i ↦ λ audits n a start element x stop c. halts (checks_seen (world i) (record { audit = n; start = start }) a.checks element) _ x x x stop (c x)
+  ];
 }
 
 -- a walk, and what lies below its nodes
