@@ -156,21 +156,21 @@ walked_by law (Some i) kind n start lists nodes same shape = law i kind n start 
 -- the step is added, and what lies below its nodes comes after it
 look_makes : (image : Option Image) (audits : List AuditAt) (a : AuditAt) (n start : ℕ) (lists : List (List ℕ)) (nodes : List ℕ) (before more after : Draft) (r : Result (Unit {0}) WalkStop) → nodes ≡ nodes_in a.kind lists →
     more.made ≡ before.made ++ step_of n start lists ∷ [] → more.counts ≡ added before.counts n (length nodes) → ShapesAs a.kind n start image (Ok lists) → Drafts image audits (elements_part n a start nodes) more after r → Made image audits (Look n a start) before after r
-look_makes image audits a n start lists nodes before more after (Err stop) same made counts shape d = tt
-look_makes image audits a n start lists nodes before more after (Ok u) same made counts shape d =
+look_makes image audits a n start lists nodes before more after (Err stop) same adds counts shape d = tt
+look_makes image audits a n start lists nodes before more after (Ok u) same adds counts shape d =
     let m = d.1 in
     let fit = fit_by image audits a n start lists nodes more.counts after.counts same shape (counted_all image audits (elements_part n a start nodes) more.counts after.counts d.0) in (
       step_of n start lists ∷ m.0,
-      added_on before.made (step_of n start lists ∷ []) m.0 more.made after.made made m.1,
+      added_on before.made (step_of n start lists ∷ []) m.0 more.made after.made adds m.1,
       λ rest. step_judged image audits a n start lists nodes (m.0 ++ rest) before.counts (at rest after.counts) same fit
           (subst (λ (cs : List AuditCount). JudgesAs {A = Unit {0}} (λ i. judging i audits (elements_part n a start nodes)) (at (m.0 ++ rest) cs) (at rest after.counts) image (Ok tt)) counts (m.2 rest)),
     )
 
 pub walk_drafts : ShapesAreWalked → (image : Option Image) (audits : List AuditAt) (a : AuditAt) (n start size : ℕ) (lists : List (List ℕ)) (nodes : List ℕ) (before more after : Draft) (r : Result (Unit {0}) WalkStop) → nodes ≡ nodes_in a.kind lists →
     more.made ≡ before.made ++ step_of n start lists ∷ [] → size ≡ length nodes → more.counts ≡ added before.counts n size → ShapesAs a.kind n start image (Ok lists) → Drafts image audits (elements_part n a start nodes) more after r → Drafts image audits (Look n a start) before after r
-walk_drafts law image audits a n start size lists nodes before more after r same made sized counts shape d = (
+walk_drafts law image audits a n start size lists nodes before more after r same adds sized counts shape d = (
   look_goes image audits a n start size before.counts more.counts after.counts nodes r sized counts (walked_by law image a.kind n start lists nodes same shape) d.0,
-  look_makes image audits a n start lists nodes before more after r same made (counts ∙ ap (added before.counts n) sized) shape d,
+  look_makes image audits a n start lists nodes before more after r same adds (counts ∙ ap (added before.counts n) sized) shape d,
 )
 
 pub walk_stops : (image : Option Image) (audits : List AuditAt) (a : AuditAt) (n start : ℕ) (x : Draft) (stop : WalkStop) → ShapesAs a.kind n start image (Err stop) → Drafts image audits (Look n a start) x x (Err stop)
@@ -190,7 +190,7 @@ certified_by (Some i) audits before after none zero d =
     let judge : roots_judged i audits (at (m.0 ++ []) before.counts) ≡ Ok (at [] after.counts) = sym (judging_in i audits (λ (r : ℕ × ℕ). Enter r.0 r.1) (roots 0 audits) (at (m.0 ++ []) before.counts)) ∙ m.2 [] in (
       after.counts,
       ap (answer_of after.made) (ap (roots_judged i audits) begin ∙ judge),
-      ends_clean (Some i) audits after.counts tt (subst (λ (cs : List AuditCount). tally cs (all_seen (world i) audits) ≡ Ok after.counts) zero (all_tallied (Some i) audits before.counts after.counts (Ok tt) d.0)),
+      ends_clean (Some i) audits after.counts (tt {0}) (subst (λ (cs : List AuditCount). tally cs (all_seen (world i) audits) ≡ Ok after.counts) zero (all_tallied (Some i) audits before.counts after.counts (Ok tt) d.0)),
     )
 
 pub broken_by : (image : Option Image) (audits : List AuditAt) (before after : Draft) (v : Violation) → before.counts ≡ zeros audits → Drafts image audits (roots_part (roots 0 audits)) before after (Err (ends.Broken v)) → CertifiesAs image audits (Err (Broken v))
