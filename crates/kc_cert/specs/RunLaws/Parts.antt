@@ -9,7 +9,6 @@ use Rattle.kc_layout.specs.declared.place.Located.{Located}
 use Rattle.kc_layout.specs.Views.{byte_view}
 use Rattle.kc_view.specs.declared.view.Led.TheVariants.{At, Null}
 use Rattle.kc_view.specs.Paths.{followed}
-use Rattle.kc_view.specs.Pointers.{pointer}
 use Rattle.kc_view.specs.Typed.{Typed}
 use Rattle.kc_found.specs.declared.found.WalkStop.{WalkStop}
 use Rattle.kc_found.specs.declared.verdict.AuditCount.{AuditCount}
@@ -18,7 +17,7 @@ use Rattle.kc_plan.specs.Events.{Event}
 use Rattle.kc_plan.specs.Kept.{are_later}
 use Rattle.kc_plan.specs.Planned.{AuditAt}
 use Rattle.kc_kinds.specs.Structures.{nodes_of}
-use Rattle.kc_plan.specs.Seen.{below, in_turn, is_optional, null_pointer, path_of, root_of, roots, seen, world}
+use Rattle.kc_plan.specs.Seen.{in_turn, is_optional, null_pointer, path_of, root_of, roots, seen, world}
 use Rattle.kc_run.specs.Tally.{TalliesAs}
 use Rattle.kc_run.proofs.Going as going
 

@@ -1,6 +1,6 @@
 -- What is counted of a run, and which audits an audit of a plan names.
 use Rattle.std.proofs.Common.{◌≡◌, ℕ, ◌+◌, ◌*◌, ◌<◌, ◌≤◌, true, List, ◌++◌, drop, length, slice_get, Option, Some}
-use Rattle.std.specs.Prelude.{Result, Ok, Err, IfSome}
+use Rattle.std.specs.Prelude.{Ok, Err, IfSome}
 use Rattle.kc_memory.specs.Image.{Image}
 use Rattle.kc_layout.specs.declared.place.Hops.{Hops}
 use Rattle.kc_layout.specs.HopList.{hop_list}
