@@ -1,14 +1,13 @@
 -- The nodes of a broken ring are linked.
-use Rattle.std.proofs.Common.{◌≡◌, ℕ, zero, suc, Bool, true, false, nat_eq, ◌||◌, if◌then◌else◌, List, [], ◌∷◌, ◌++◌, Option, Some, None, refl, ap, subst}
-use Rattle.std.specs.Prelude.{option_and_then, Ok}
+use Rattle.std.proofs.Common.{◌≡◌, ℕ, zero, suc, Bool, true, false, nat_eq, ◌||◌, if◌then◌else◌, List, Option, Some, None, refl, ap, subst}
+use Rattle.std.specs.Prelude.{option_and_then}
 use Rattle.std.proofs.lemmas.Bool.{eqb-true}
 use Rattle.kc_memory.specs.Image.{Image}
-use Rattle.kc_found.specs.declared.shapes.ListShape.{ListShape}
 use Rattle.kc_found.specs.Nodes.{at_offset}
 use Rattle.kc_list.specs.Listed.{last_or}
 use Rattle.kc_owner.specs.declared.ring.Ends.{Ends}
 use Rattle.kc_owner.specs.declared.ring.Way.{Way}
-use Rattle.kc_owner.specs.RingLaws.{AreLinked, AreParts, BrokenRingsPart, Leads, WholeRingsStay}
+use Rattle.kc_owner.specs.RingLaws.{AreLinked, BrokenRingsPart, Leads, WholeRingsStay}
 use Rattle.kc_owner.specs.Rings.{back_at, by_next, by_prev, most_nodes, next_in, next_of, on_node, parts_of, reached, reached_by_next, reached_by_prev, ring_by, within, word_at}
 
 pub whole_stays : WholeRingsStay

@@ -1,5 +1,5 @@
 -- What is told of an area has the address.
-use Rattle.std.proofs.Common.{◌≡◌, ℕ, ◌+◌, ◌-◌, ◌*◌, ◌<◌, Bool, true, false, ◌&&◌, nat_lt, nat_le, List, ◌∷◌, slice_get, Option, Some, None, refl, sym, subst, arith}
+use Rattle.std.proofs.Common.{◌≡◌, ℕ, ◌+◌, ◌-◌, ◌*◌, ◌<◌, Bool, true, false, ◌&&◌, nat_lt, nat_le, List, slice_get, Option, Some, None, refl, sym, subst, arith}
 use Rattle.std.specs.Prelude.{Result, Ok, Err, IfOk, IfSome, if◌then◌else◌, min, option_map}
 use Rattle.std.specs.List.{range_with_len}
 use Rattle.std.proofs.lemmas.Bool.Decides.{nat_tests}
@@ -22,7 +22,7 @@ use Rattle.kc_owner.specs.declared.area.shape.StackShape.{StackShape}
 use Rattle.kc_owner.specs.declared.area.stacks.InStack.{InStack}
 use Rattle.kc_owner.specs.Looked.{looked_at}
 use Rattle.kc_owner.specs.Firsts.{byte_of, first_of}
-use Rattle.kc_owner.specs.Area.Laws.{IsAmong, IsInModule, IsInPart, IsInProcessor, IsInStack, IsTaskOf, ModulesHold, ProcessorsHold, StacksHold}
+use Rattle.kc_owner.specs.Area.Laws.{IsInModule, IsInPart, IsInProcessor, IsInStack, IsTaskOf, ModulesHold, ProcessorsHold, StacksHold}
 use Rattle.kc_owner.specs.Area.Modules.{in_module, in_part, named}
 use Rattle.kc_owner.specs.Area.Processors.{in_processor, less}
 use Rattle.kc_owner.specs.Area.Stacks.{in_stack, leaders, led_to, owner, stack_by}

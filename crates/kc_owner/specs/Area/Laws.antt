@@ -1,5 +1,5 @@
 -- What is told of an area has the address.
-use Rattle.std.specs.Prelude.{◌≡◌, ℕ, ◌+◌, ◌*◌, ◌<◌, ◌≤◌, ◌∷◌, min, false, List, slice_get, Some, Result, Ok, Err, IfOk, IfSome}
+use Rattle.std.specs.Prelude.{◌≡◌, ℕ, ◌+◌, ◌*◌, ◌<◌, ◌≤◌, min, false, List, slice_get, Some, Result, Ok, Err, IfOk, IfSome}
 use Rattle.kc_memory.specs.declared.words.VWord.{VWord}
 use Rattle.kc_memory.specs.Bits.{Number, bits}
 use Rattle.kc_memory.specs.Image.{Image}

@@ -6,7 +6,7 @@
 use Rattle.std.specs.Prelude.{ℕ, ◌-◌, nat_le, if◌then◌else◌, codes, Option, Some, None}
 use Rattle.kc_btf.specs.Btf.{Types}
 use Rattle.kc_kinds.specs.Kernels.{Kernel, address_in}
-use Rattle.kc_kinds.specs.Members.{◌>>=◌, inner_in, scalar_in, struct_named}
+use Rattle.kc_kinds.specs.Members.{inner_in, scalar_in, struct_named}
 use Rattle.kc_kinds.specs.Ring.{list_words}
 use Rattle.kc_kinds.specs.Tasks.{task_row, task_words}
 use Rattle.kc_layout.specs.declared.place.Field.{Field}

@@ -3,7 +3,7 @@
 use Rattle.std.specs.Prelude.{codes, Option, Some, None, if◌then◌else◌}
 use Rattle.kc_kinds.specs.declared.row.Row.{Row}
 use Rattle.kc_kinds.specs.Kernels.{Kernel, address_in, are_single}
-use Rattle.kc_kinds.specs.Members.{◌>>=◌, inner_in, scalar_in, struct_named}
+use Rattle.kc_kinds.specs.Members.{inner_in, scalar_in, struct_named}
 use Rattle.kc_kinds.specs.Slabs.{slub_row, slub_words}
 use Rattle.kc_owner.specs.Kernels.{single}
 use Rattle.kc_owner.specs.declared.object.shape.ObjectShape.{ObjectShape}

@@ -1,4 +1,4 @@
-use Rattle.std.proofs.Common.{◌+◌, ◌-◌, arith, rules}
+use Rattle.std.proofs.Common.{◌+◌, ◌-◌, arith}
 use Rattle.std.specs.List.{range_with_len}
 use Rattle.kc_memory.specs.Stays.{stays_on}
 use Rattle.kc_owner.specs.Area.Processors.{in_processor}

@@ -1,4 +1,4 @@
-use Rattle.std.proofs.Common.{◌≡◌, sym, arith}
+use Rattle.std.proofs.Common.{arith}
 use Rattle.std.proofs.lemmas.Grind.{common_steps}
 use Rattle.kc_memory.specs.Stays.{stays_on}
 use Rattle.kc_owner.proofs.ObjectLemmas.KeyLemmas.{listed_next}
