@@ -107,8 +107,8 @@ def quoted(text):
 
 
 def some_audit(rng, name, nested, each):
-    kind = rng.choice(("ring", "hlist", "rbtree", "xarray", "slub", "tasks", "pids", "ring", "rbtree"))
-    usual = {"ring": ("my_ring", "link"), "hlist": ("my_hl", "hnode"), "rbtree": ("my_rb", "rb"), "xarray": ("my_xa", None),
+    kind = rng.choice(("ring", "loop", "hlist", "rbtree", "xarray", "slub", "tasks", "pids", "ring", "rbtree"))
+    usual = {"ring": ("my_ring", "link"), "loop": ("my_ring", "link"), "hlist": ("my_hl", "hnode"), "rbtree": ("my_rb", "rb"), "xarray": ("my_xa", None),
              "slub": (None, None), "tasks": ("init_task", None), "pids": ("my_idr", None)}[kind]
     odd = rng.random() < 0.08
     keys = [("name", quoted(name)), ("kind", quoted(kind))]
@@ -116,7 +116,7 @@ def some_audit(rng, name, nested, each):
         keys.append(("from", quoted(rng.choice(PATHS))))
     else:
         keys.append(("root", quoted(rng.choice(NAMES) if odd or usual[0] is None else usual[0])))
-    if kind in ("ring", "hlist", "rbtree", "xarray"):
+    if kind in ("ring", "loop", "hlist", "rbtree", "xarray"):
         keys.append(("element", quoted(rng.choice(STRUCTS) if odd else "item")))
     if usual[1]:
         keys.append(("link", quoted(rng.choice(PATHS) if odd else usual[1])))

@@ -64,7 +64,7 @@ def listened(act):
 
 def lists_of(audit, kernel, head):
     """The lists of a walk that stands."""
-    if audit.kind in ("ring", "hlist"):
+    if audit.kind in ("ring", "loop", "hlist"):
         return [[(node + audit.link) % TOP for node in audit.walk(kernel, head)]]
     if audit.kind == "rbtree":
         return [preorder(kernel, audit.shape, word(kernel, head + audit.shape["root"]))]

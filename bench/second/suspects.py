@@ -145,7 +145,7 @@ class Suspects:
 
     def offset(self, name):
         """The offset of a pointer of a ring or of a hash chain."""
-        struct = "list_head" if self.kind == "ring" else "hlist_head" if name == "first" else "hlist_node"
+        struct = "list_head" if self.kind in ("ring", "loop") else "hlist_head" if name == "first" else "hlist_node"
         return self.kernel.offset(struct, name)
 
     def all(self):
@@ -163,7 +163,7 @@ class Suspects:
     def by_met(self):
         """First the second link to a ring's node leads to the one after it, by `prev`."""
         link = self.second_link()
-        behind = self.node_behind((self.at - self.offset("next")) % TOP) if self.kind == "ring" and link is not None else None
+        behind = self.node_behind((self.at - self.offset("next")) % TOP) if self.kind in ("ring", "loop") and link is not None else None
         return ([] if behind is None else [to(link, behind)]) + list(self.led(link))
 
     def by_word(self):
@@ -201,7 +201,7 @@ class Suspects:
         return found + self.filled(self.at, pid[0] % 8, pid[1], self.expected)
 
     def by_before(self):
-        behind = self.node_behind(self.expected) if self.kind == "ring" and self.expected is not None else None
+        behind = self.node_behind(self.expected) if self.kind in ("ring", "loop") and self.expected is not None else None
         return ([] if behind is None else [to(self.expected + self.offset("next"), behind)]) + self.word()
 
     def by_pointed(self):
@@ -340,11 +340,11 @@ class Suspects:
 
     def second_link(self):
         """The second link that leads to the node with the word that is met twice."""
-        if self.kind in ("ring", "hlist"):
+        if self.kind in ("ring", "loop", "hlist"):
             following = self.offset("next")
-            first = self.start + (following if self.kind == "ring" else self.offset("first"))
+            first = self.start + (following if self.kind in ("ring", "loop") else self.offset("first"))
             link = self.link_to((self.at - following) % TOP, 1, self.chain(first, following))
-            if link is None and self.kind == "ring":
+            if link is None and self.kind in ("ring", "loop"):
                 link = self.link_to((self.at - self.offset("prev")) % TOP, 0, self.chain(first, following))
             return link
         if self.kind == "rbtree":
@@ -531,7 +531,7 @@ class Elements:
     def of_node(self, rule, kind):
         """Of a ring, a hash chain or a tree: the element whose node has the address."""
         node = None
-        if kind == "ring" and rule in ("L1", "K"):
+        if kind in ("ring", "loop") and rule in ("L1", "K"):
             node = self.before(self.kernel.offset("list_head", "prev" if rule == "L1" else "next"))
             node = None if node == self.broken.start else node
         if kind == "hlist" and rule == "H1":
@@ -674,7 +674,7 @@ class Elements:
             return bit % 8, width, 0
         if rule == "G1" and kind == "pids":
             return self.audit.shape["nr"][0] % 8, self.audit.shape["nr"][1], 0
-        words = {"ring": "L1", "hlist": "H1", "rbtree": "R1 R2 R3 R6", "xarray": "X3 X4", "slub": "L1", "tasks": "L1 T6", "pids": "H1 X3 X4"}
+        words = {"ring": "L1", "loop": "L1", "hlist": "H1", "rbtree": "R1 R2 R3 R6", "xarray": "X3 X4", "slub": "L1", "tasks": "L1 T6", "pids": "H1 X3 X4"}
         return (0, 64, 3 if rule == "R1" else 0) if rule in words[kind].split() else None
 
     def number_line(self):

@@ -474,8 +474,8 @@ def pids(kernel, start, shape):
 
 # The plan and its verdict.
 
-HEADS = {"pids": "idr", "ring": "list_head", "hlist": "hlist_head", "rbtree": "rb_root", "xarray": "xarray", "slub": "kmem_cache", "tasks": "task_struct"}
-LINKS = {"ring": "list_head", "hlist": "hlist_node", "rbtree": "rb_node"}
+HEADS = {"pids": "idr", "ring": "list_head", "loop": "list_head", "hlist": "hlist_head", "rbtree": "rb_root", "xarray": "xarray", "slub": "kmem_cache", "tasks": "task_struct"}
+LINKS = {"ring": "list_head", "loop": "list_head", "hlist": "hlist_node", "rbtree": "rb_node"}
 ELEMENTS = {"slub": "slab", "tasks": "task_struct", "pids": "pid"}
 
 
@@ -549,7 +549,7 @@ class Audit:
     def walk(self, kernel, head):
         """The elements at a head."""
         memory = kernel.memory
-        if self.kind == "ring":
+        if self.kind in ("ring", "loop"):
             nodes = kernel.ring(head)
         elif self.kind == "hlist":
             where = [kernel.offset(*of) for of in (("hlist_head", "first"), ("hlist_node", "next"), ("hlist_node", "pprev"))]

@@ -79,6 +79,7 @@ pub(crate) fn push_slabs<M: Space, L: Ledger>(
         | Kind::Rbtree(_)
         | Kind::Xarray(_)
         | Kind::Tasks(_)
-        | Kind::Pids(_) => Ok(()),
+        | Kind::Pids(_)
+        | Kind::Loop(_) => Ok(()),
     }
 }

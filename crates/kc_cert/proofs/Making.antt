@@ -140,4 +140,5 @@ shaped rings chains trees ring_walks chain_walks tree_walks arrays caches tasks 
   caches = λ shape n start ns is. caches i shape n n start ns is;
   tasks = λ shape n start ns is. tasks i shape n n start ns is;
   pids = λ shape n start ns is. pids i shape n n start ns is;
+  loops = λ shape n start ns is. (ns ∷ [], (rings i shape start ns).0 ((ring_walks i shape n start ns).1 is), refl);
 }

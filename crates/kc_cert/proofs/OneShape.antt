@@ -5,7 +5,7 @@ use Rattle.kc_memory.specs.Image.{Image}
 use Rattle.kc_found.specs.declared.asked.Asked.{Asked}
 use Rattle.kc_found.specs.Violations.{Violation}
 use Rattle.kc_kinds.specs.declared.kind.Kind.{Kind}
-use Rattle.kc_kinds.specs.declared.kind.Kind.TheVariants.{Ring, Hlist, Rbtree, Xarray, Slub, Tasks, Pids}
+use Rattle.kc_kinds.specs.declared.kind.Kind.TheVariants.{Ring, Hlist, Rbtree, Xarray, Slub, Tasks, Pids, Loop}
 use Rattle.kc_kinds.specs.Structures.{nodes_of}
 use Rattle.kc_xa.specs.Listed.Laws.{XarraysPassOnce}
 use Rattle.kc_xa.specs.Listed.Entries.{is_xarray}
@@ -55,3 +55,5 @@ shapes_once walked trees xarrays caches tasks pids i (Tasks shape) n start lists
     let asked : Asked = record { audit = n; start = start } in
     ok_is (task_lists i shape asked) lists others ((tasks i shape asked lists).0 e) ((tasks i shape asked others).0 f)
 shapes_once walked trees xarrays caches tasks pids i (Pids shape) n start lists others e f = pids i shape (record { audit = n; start = start }) lists others e f
+shapes_once walked trees xarrays caches tasks pids i (Loop shape) n start lists others e f =
+    two_are _ lists others e f (λ ns ms x y. ok_is (nodes_of i (Loop shape) n start) ns ms (walked i (Loop shape) n start (ns ∷ []) x) (walked i (Loop shape) n start (ms ∷ []) y))

@@ -17,7 +17,7 @@ use Rattle.kc_view.specs.declared.pids.PidShape.{PidShape}
 use Rattle.kc_view.specs.declared.slub.SlubShape.{SlubShape}
 use Rattle.kc_view.specs.declared.tasks.TaskShape.{TaskShape}
 use Rattle.kc_kinds.specs.declared.kind.Kind.{Kind}
-use Rattle.kc_kinds.specs.declared.kind.Kind.TheVariants.{Ring, Hlist, Rbtree, Xarray, Slub, Tasks, Pids}
+use Rattle.kc_kinds.specs.declared.kind.Kind.TheVariants.{Ring, Hlist, Rbtree, Xarray, Slub, Tasks, Pids, Loop}
 use Rattle.kc_plan.specs.Planned.{AuditAt}
 use Rattle.kc_plan.specs.Seen.{container_of}
 use Rattle.kc_element.specs.declared.element.Element.{Element}
@@ -135,6 +135,7 @@ kind_holds types a v e small (Xarray shape) is = xa_holds (find types (codes "xa
 kind_holds types a v e small (Slub shape) is = slab_holds shape v.rule v.at e small is
 kind_holds types a v e small (Tasks shape) is = task_holds shape v.rule v.at e small is
 kind_holds types a v e small (Pids shape) is = pid_holds types shape v.rule v.at e small is
+kind_holds types a v e small (Loop shape) is = ring_holds a shape v.rule v.start v.at e small is
 
 rule_holds : (types : Types) (a : AuditAt) (v : Violation) (e : Element) → v.at < 2 ^ 64 → (rule : Rule) → v.rule ≡ rule → by_rule types a v rule ≡ Some e → Holds (byte_of a rule) v.at e
 rule_holds types a v e small C same is = typed_holds a.element 0 v.at e small is

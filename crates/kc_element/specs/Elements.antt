@@ -15,7 +15,7 @@ use Rattle.kc_view.specs.declared.pids.PidShape.{PidShape}
 use Rattle.kc_view.specs.declared.slub.SlubShape.{SlubShape}
 use Rattle.kc_view.specs.declared.tasks.TaskShape.{TaskShape}
 use Rattle.kc_kinds.specs.declared.kind.Kind.{Kind}
-use Rattle.kc_kinds.specs.declared.kind.Kind.TheVariants.{Ring, Hlist, Rbtree, Xarray, Slub, Tasks, Pids}
+use Rattle.kc_kinds.specs.declared.kind.Kind.TheVariants.{Ring, Hlist, Rbtree, Xarray, Slub, Tasks, Pids, Loop}
 use Rattle.kc_plan.specs.Planned.{AuditAt}
 use Rattle.kc_plan.specs.Seen.{container_of}
 use Rattle.kc_element.specs.declared.element.Element.{Element}
@@ -116,6 +116,7 @@ in_kind types a v (Xarray shape) = xa_element types shape v.rule v.at
 in_kind types a v (Slub shape) = slab_element shape v.rule v.at
 in_kind types a v (Tasks shape) = task_element shape v.rule v.at
 in_kind types a v (Pids shape) = pid_element types shape v.rule v.at
+in_kind types a v (Loop shape) = ring_element a shape v
 
 abbrev pub kind_element : Types → AuditAt → Violation → Option Element
 kind_element types a v = in_kind types a v a.kind

@@ -23,7 +23,7 @@ use Rattle.kc_view.specs.declared.pids.PidShape.{PidShape}
 use Rattle.kc_view.specs.declared.slub.SlubShape.{SlubShape}
 use Rattle.kc_view.specs.declared.tasks.TaskShape.{TaskShape}
 use Rattle.kc_kinds.specs.declared.kind.Kind.{Kind}
-use Rattle.kc_kinds.specs.declared.kind.Kind.TheVariants.{Ring, Hlist, Rbtree, Xarray, Slub, Tasks, Pids}
+use Rattle.kc_kinds.specs.declared.kind.Kind.TheVariants.{Ring, Hlist, Rbtree, Xarray, Slub, Tasks, Pids, Loop}
 use Rattle.kc_plan.specs.Planned.{AuditAt}
 use Rattle.kc_element.specs.declared.element.Element.{Element}
 use Rattle.kc_element.specs.Elements.{element_of}
@@ -90,6 +90,7 @@ kind_byte (Xarray shape) link rule = xa_byte shape rule
 kind_byte (Slub shape) link rule = slab_byte shape rule
 kind_byte (Tasks shape) link rule = task_byte shape rule
 kind_byte (Pids shape) link rule = pid_byte shape rule
+kind_byte (Loop shape) link rule = ring_byte shape link rule
 
 -- a check is about the whole element
 abbrev pub byte_of : AuditAt → Rule → Option ℕ

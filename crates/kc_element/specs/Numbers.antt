@@ -9,7 +9,7 @@ use Rattle.kc_view.specs.declared.pids.PidShape.{PidShape}
 use Rattle.kc_view.specs.declared.slub.SlubShape.{SlubShape}
 use Rattle.kc_view.specs.declared.tasks.TaskShape.{TaskShape}
 use Rattle.kc_kinds.specs.declared.kind.Kind.{Kind}
-use Rattle.kc_kinds.specs.declared.kind.Kind.TheVariants.{Ring, Hlist, Rbtree, Xarray, Slub, Tasks, Pids}
+use Rattle.kc_kinds.specs.declared.kind.Kind.TheVariants.{Ring, Hlist, Rbtree, Xarray, Slub, Tasks, Pids, Loop}
 use Rattle.kc_element.specs.declared.number.FoundNumber.{FoundNumber}
 use Rattle.kc_element.specs.declared.number.Spot.{Spot}
 use Rattle.kc_element.specs.declared.number.Spot.TheVariants.{Word, Parent, Bits}
@@ -79,6 +79,7 @@ number_spot (Xarray shape) rule = xa_spot rule
 number_spot (Slub shape) rule = slab_spot shape rule
 number_spot (Tasks shape) rule = task_spot shape rule
 number_spot (Pids shape) rule = pid_spot shape rule
+number_spot (Loop shape) rule = ring_spot rule
 
 -- the number in some bits from one of a word on, where the word has them all
 abbrev pub bits_part : ℕ → ℕ → ℕ → ℕ → Option FoundNumber

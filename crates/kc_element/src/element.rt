@@ -196,6 +196,7 @@ fn kind_element(btf: &Btf, audit: &Audit, found: &Found) -> Option<Element>
         Kind::Slub(shape) => slab_element(shape, found.rule, found.at),
         Kind::Tasks(shape) => task_element(shape, found.rule, found.at),
         Kind::Pids(shape) => pid_element(btf, shape, found.rule, found.at),
+        Kind::Loop(shape) => ring_element(audit, *shape, found),
     }
 }
 

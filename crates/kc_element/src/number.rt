@@ -114,9 +114,9 @@ fn number_spot(kind: &Kind, rule: Rule) -> Option<Spot>
     ensures { result ≡ number_spot kind.now rule }
 {
     match kind {
-        Kind::Ring(_) if rule == Rule::L1 => Some(Spot::Word),
+        Kind::Ring(_) | Kind::Loop(_) if rule == Rule::L1 => Some(Spot::Word),
         Kind::Hlist(_) if rule == Rule::H1 => Some(Spot::Word),
-        Kind::Ring(_) | Kind::Hlist(_) => None,
+        Kind::Ring(_) | Kind::Hlist(_) | Kind::Loop(_) => None,
         Kind::Rbtree(_) => tree_spot(rule),
         Kind::Xarray(_) => xa_spot(rule),
         Kind::Slub(shape) => slab_spot(shape, rule),

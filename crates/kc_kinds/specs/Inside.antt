@@ -5,7 +5,7 @@ use Rattle.kc_view.specs.declared.pids.PidShape.{PidShape}
 use Rattle.kc_view.specs.declared.slub.SlubShape.{SlubShape}
 use Rattle.kc_view.specs.declared.tasks.TaskShape.{TaskShape}
 use Rattle.kc_kinds.specs.declared.kind.Kind.{Kind}
-use Rattle.kc_kinds.specs.declared.kind.Kind.TheVariants.{Ring, Hlist, Rbtree, Xarray, Slub, Tasks, Pids}
+use Rattle.kc_kinds.specs.declared.kind.Kind.TheVariants.{Ring, Hlist, Rbtree, Xarray, Slub, Tasks, Pids, Loop}
 
 -- those of a slab cache are
 pub record IsSlubInside (count : ℕ) (shape : SlubShape) : Type 0 where
@@ -47,3 +47,4 @@ KindInside count (Xarray shape) = ⊤
 KindInside count (Slub shape) = IsSlubInside count shape
 KindInside count (Tasks shape) = AreTasksInside count shape
 KindInside count (Pids shape) = ArePidsInside count shape
+KindInside count (Loop shape) = ⊤

@@ -4,7 +4,7 @@ use Rattle.std.specs.Prelude.{ℕ, List, Bool, true, false, codes, Option, Some,
 use Rattle.std.specs.Str.{bytes_eq}
 use Rattle.kc_btf.specs.Btf.{Types}
 use Rattle.kc_kinds.specs.declared.kind.Kind.{Kind}
-use Rattle.kc_kinds.specs.declared.kind.Kind.TheVariants.{Ring, Hlist, Rbtree, Xarray, Slub, Tasks, Pids}
+use Rattle.kc_kinds.specs.declared.kind.Kind.TheVariants.{Ring, Hlist, Rbtree, Xarray, Slub, Tasks, Pids, Loop}
 use Rattle.kc_kinds.specs.declared.kinds.Sort.{Sort}
 use Rattle.kc_kinds.specs.declared.kinds.Sort.TheVariants as sort
 use Rattle.kc_kinds.specs.declared.needs.Needs.{Needs}
@@ -12,6 +12,7 @@ use Rattle.kc_kinds.specs.declared.needs.Need.TheVariants.{Required, Allowed, Ba
 use Rattle.kc_kinds.specs.declared.row.Row.{Row}
 use Rattle.kc_kinds.specs.Hlist.{hlist_words}
 use Rattle.kc_kinds.specs.Kernels.{Kernel}
+use Rattle.kc_kinds.specs.Loops.{loop_words}
 use Rattle.kc_kinds.specs.Members.{OwnAt, struct_named}
 use Rattle.kc_kinds.specs.Pids.{pid_row, pid_words}
 use Rattle.kc_kinds.specs.Rbtree.{tree_words}
@@ -30,7 +31,8 @@ sort_of text =
     else (if bytes_eq text (codes "slub") then Some sort.Slub
     else (if bytes_eq text (codes "tasks") then Some sort.Tasks
     else (if bytes_eq text (codes "pids") then Some sort.Pids
-    else None))))))
+    else (if bytes_eq text (codes "loop") then Some sort.Loop
+    else None)))))))
 
 -- what a kind asks of the keys that aren't for all kinds
 abbrev pub needs_of : Sort → Needs
@@ -41,6 +43,7 @@ needs_of sort.Xarray = record { element = Allowed; link = Barred; tree = Barred 
 needs_of sort.Slub = record { element = Barred; link = Barred; tree = Barred }
 needs_of sort.Tasks = record { element = Barred; link = Barred; tree = Barred }
 needs_of sort.Pids = record { element = Barred; link = Barred; tree = Barred }
+needs_of sort.Loop = record { element = Required; link = Required; tree = Barred }
 
 -- what a kind needs whose head and nodes are structs with these names, and whose elements a key names
 abbrev pub keyed : Types → List ℕ → List ℕ → Row
@@ -57,6 +60,7 @@ row kernel sort.Xarray cached = keyed kernel.types (codes "xarray") (codes "xa_n
 row kernel sort.Slub cached = slub_row kernel
 row kernel sort.Tasks cached = task_row kernel.types
 row kernel sort.Pids cached = pid_row kernel.types
+row kernel sort.Loop cached = keyed kernel.types (codes "list_head") (codes "list_head")
 
 -- a kind with where its words stand
 abbrev pub shape : Kernel → Row → OwnAt → Sort → Option Kind
@@ -67,3 +71,4 @@ shape kernel needs own sort.Xarray = option_map (λ words. Xarray words) (xarray
 shape kernel needs own sort.Slub = option_map (λ words. Slub words) (slub_words kernel needs)
 shape kernel needs own sort.Tasks = option_map (λ words. Tasks words) (task_words kernel.types needs)
 shape kernel needs own sort.Pids = option_map (λ words. Pids words) (pid_words kernel.types needs)
+shape kernel needs own sort.Loop = option_map (λ words. Loop words) (loop_words kernel.types needs.node)

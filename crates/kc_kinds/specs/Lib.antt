@@ -2,6 +2,7 @@ pub mod Hlist
 pub mod Inside
 pub mod Kernels
 pub mod Kinds
+pub mod Loops
 pub mod Members
 pub mod Pids
 pub mod Rbtree

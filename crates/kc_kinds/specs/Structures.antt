@@ -18,7 +18,7 @@ use Rattle.kc_view.specs.FiniteTasks as tasks
 use Rattle.kc_view.specs.PidTables.{pid_table}
 use Rattle.kc_view.specs.TaskLists.{task_list}
 use Rattle.kc_kinds.specs.declared.kind.Kind.{Kind}
-use Rattle.kc_kinds.specs.declared.kind.Kind.TheVariants.{Ring, Hlist, Rbtree, Xarray, Slub, Tasks, Pids}
+use Rattle.kc_kinds.specs.declared.kind.Kind.TheVariants.{Ring, Hlist, Rbtree, Xarray, Slub, Tasks, Pids, Loop}
 
 -- the nodes of the structure of a kind that an audit walks from a start, or the first violation
 unfoldable pub nodes_of : Image → Kind → ℕ → ℕ → Result (List ℕ) Violation
@@ -29,6 +29,7 @@ nodes_of image (Xarray shape) audit start = entries_in (xa_judged image shape au
 nodes_of image (Slub shape) audit start = cache_slabs image shape (record { audit = audit; start = start })
 nodes_of image (Tasks shape) audit start = task_list image shape (record { audit = audit; start = start })
 nodes_of image (Pids shape) audit start = pid_table image shape (record { audit = audit; start = start })
+nodes_of image (Loop shape) audit start = ring_walk image shape audit start
 
 -- some nodes make up the structure of a kind that starts here
 unfoldable pub Holds : Image → Kind → ℕ → List ℕ → Type 0
@@ -39,3 +40,4 @@ Holds image (Xarray shape) start nodes = XArrayOf image shape start nodes
 Holds image (Slub shape) start nodes = caches.Slub image shape start nodes
 Holds image (Tasks shape) start nodes = tasks.Tasks image shape start nodes
 Holds image (Pids shape) start nodes = pids.Pids image shape start nodes
+Holds image (Loop shape) start nodes = lists.Ring (vword image) shape start nodes

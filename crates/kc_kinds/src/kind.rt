@@ -19,4 +19,6 @@ pub enum Kind {
     Tasks(TaskShape),
     /// The table of process ids (`struct idr`, `struct pid`, `struct task_struct`), whose elements are the process ids.
     Pids(PidShape),
+    /// A loop: a ring under another name (`struct list_head`).
+    Loop(ListShape),
 }

@@ -10,6 +10,7 @@ ghost use Rattle.kc_kinds.specs.Rows.{IsRow};
 use crate::hlist::hlist_words;
 use crate::kind::Kind;
 use crate::known::Known;
+use crate::loops::loop_words;
 use crate::members::struct_named;
 use crate::needs::{Need, Needs};
 use crate::pids::{pid_row, pid_words};
@@ -37,6 +38,8 @@ pub enum Sort {
     Tasks,
     /// `pids`
     Pids,
+    /// `loop`
+    Loop,
 }
 
 /// The kind with a name.
@@ -51,6 +54,7 @@ pub fn sort_of(text: &str) -> Option<Sort>
         "slub" => Some(Sort::Slub),
         "tasks" => Some(Sort::Tasks),
         "pids" => Some(Sort::Pids),
+        "loop" => Some(Sort::Loop),
         _ => None,
     }
 }
@@ -60,7 +64,7 @@ pub fn needs_of(sort: Sort) -> Needs
     ensures { result ≡ needs_of sort }
 {
     match sort {
-        Sort::Ring | Sort::Hlist => Needs {
+        Sort::Ring | Sort::Hlist | Sort::Loop => Needs {
             element: Need::Required,
             link: Need::Required,
             tree: Need::Barred,
@@ -111,6 +115,7 @@ pub fn row_of(known: &Known<'_>, sort: Sort, cached: bool) -> Row
         Sort::Slub => slub_row(known),
         Sort::Tasks => task_row(known),
         Sort::Pids => pid_row(known),
+        Sort::Loop => keyed(known, b"list_head", b"list_head"),
     }
 }
 
@@ -129,5 +134,6 @@ pub fn shape_of(known: &Known<'_>, needs: &Row, own: &Own, sort: Sort) -> Option
         Sort::Slub => Some(Kind::Slub(slub_words(known, needs)?)),
         Sort::Tasks => Some(Kind::Tasks(task_words(known, needs)?)),
         Sort::Pids => Some(Kind::Pids(pid_words(known, needs)?)),
+        Sort::Loop => Some(Kind::Loop(loop_words(btf, needs.node)?)),
     }
 }

@@ -6,6 +6,7 @@ mod hlist;
 mod kind;
 mod kinds;
 mod known;
+mod loops;
 mod members;
 mod needs;
 mod pids;

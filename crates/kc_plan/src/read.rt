@@ -147,7 +147,7 @@ fn plan_of(
 ///
 /// The plan has `version`, 1 for one verdict on all audits or 2 for one on each root audit, and `audit`, an array of tables, and may have `tail`, which is `absent` or `zero`: how the
 /// memory that a segment has and the file leaves out is read. It is absent without the key. Each audit has a `name` and a `kind` (`ring`,
-/// `hlist`, `rbtree`, `xarray`, `slub`, `tasks` or `pids`), and begins at the symbol `root`, with a `root_type` and a `root_path` where the symbol isn't the
+/// `hlist`, `rbtree`, `xarray`, `slub`, `tasks`, `pids` or `loop`), and begins at the symbol `root`, with a `root_type` and a `root_path` where the symbol isn't the
 /// head itself, or at a path `from` the element of the one audit that names it in `each`, passed over at a
 /// null pointer where it is `optional`. `element` is the type of the elements, and `link` the path in them to
 /// the node. Audits count from 0.

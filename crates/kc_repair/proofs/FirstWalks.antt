@@ -22,7 +22,7 @@ use Rattle.kc_view.specs.declared.tasks.TaskShape.{TaskShape}
 use Rattle.kc_view.specs.Caches.{cache_slabs}
 use Rattle.kc_view.specs.PidTables.{pid_table}
 use Rattle.kc_view.specs.TaskLists.{task_list}
-use Rattle.kc_kinds.specs.declared.kind.Kind.TheVariants.{Ring, Hlist, Rbtree, Xarray, Slub, Tasks, Pids}
+use Rattle.kc_kinds.specs.declared.kind.Kind.TheVariants.{Ring, Hlist, Rbtree, Xarray, Slub, Tasks, Pids, Loop}
 use Rattle.kc_kinds.specs.Structures.{nodes_of}
 use Rattle.kc_repair.specs.declared.first.FirstWalk.{FirstWalk}
 use Rattle.kc_repair.specs.Repairs.{EndsAs, WalkInside, found_by, if_finds, wrong_in}
@@ -94,6 +94,12 @@ pub pids-as : (image : Option Image) (w : FirstWalk) (shape : PidShape) (r : Res
 unfolding nodes_of
 pids-as image w shape r e kind walks end =
     found-as image w (λ m. pid_table m shape w.asked) r e (λ m. rw kind (wrong-is (pid_table m shape w.asked))) walks end
+
+pub loop-as : (image : Option Image) (w : FirstWalk) (shape : ListShape) (r : Result (List ℕ) WalkStop) (e : Result (Option Violation) ReadFailed) → w.kind ≡ Loop shape
+    → WalksAs (λ x. x) (λ m. ring_walk m shape w.asked.audit w.asked.start) image r → EndsAs r e → IfOk e (λ found. IfSome image (λ m. found_by m w ≡ found))
+unfolding nodes_of
+loop-as image w shape r e kind walks end =
+    found-as image w (λ m. ring_walk m shape w.asked.audit w.asked.start) r e (λ m. rw kind (wrong-is (ring_walk m shape w.asked.audit w.asked.start))) walks end
 
 -- the walk that is kept is of a kind of the kernel's
 pub finds-inside : (count : ℕ) (walk : Option FirstWalk) (again : Option Violation) → WalkInside count walk → WalkInside count (if_finds walk again)

@@ -77,6 +77,7 @@ fn found_by<M: Space, L: Ledger>(
             alloc, memory, types, shape, start, audit, steps,
         )),
         Kind::Pids(shape) => wrong_in(pids_walk(alloc, memory, types, shape, start, audit, steps)),
+        Kind::Loop(shape) => wrong_in(ring(alloc, memory, shape, start, audit, steps)),
     }
 }
 
@@ -145,7 +146,9 @@ fn walked_kind(audit: &RootAudit<'_>, kind: &Kind, number: u32) -> Option<Kind>
     ensures inside { IfSome result (KindInside (length audit.now.types.now.records)) }
 {
     match kind {
-        Kind::Ring(_) | Kind::Hlist(_) | Kind::Rbtree(_) | Kind::Xarray(_) => Some(*kind),
+        Kind::Ring(_) | Kind::Hlist(_) | Kind::Rbtree(_) | Kind::Xarray(_) | Kind::Loop(_) => {
+            Some(*kind)
+        }
         Kind::Slub(_) | Kind::Tasks(_) | Kind::Pids(_) => planned_kind(audit, number),
     }
 }

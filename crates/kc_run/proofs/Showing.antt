@@ -16,7 +16,7 @@ use Rattle.kc_memory.specs.Translation.{and_then}
 use Rattle.kc_found.specs.declared.asked.Asked.{Asked}
 use Rattle.kc_found.specs.Violations.{Violation}
 use Rattle.kc_kinds.specs.declared.kind.Kind.{Kind}
-use Rattle.kc_kinds.specs.declared.kind.Kind.TheVariants.{Ring, Hlist, Rbtree, Xarray, Slub, Tasks, Pids}
+use Rattle.kc_kinds.specs.declared.kind.Kind.TheVariants.{Ring, Hlist, Rbtree, Xarray, Slub, Tasks, Pids, Loop}
 use Rattle.kc_plan.specs.Checks.{checked, numbers_of, value_of, words_of}
 use Rattle.kc_plan.specs.Events.{Event, Walk, Wrong, first_wrong, verdict_of}
 use Rattle.kc_plan.specs.Planned.{AuditAt, CheckAt}
@@ -87,6 +87,7 @@ pub record PlaceLaws : Type 0 where
   pub caches : CachePlacesStand
   pub tasks : TaskPlacesStand
   pub pids : PidPlacesStand
+  pub loops : RingPlacesStand
 
 nodes_show : PlaceLaws → (image : Image) (kind : Kind) (n start : ℕ) (v : Violation) → nodes_of image kind n start ≡ Err v → AllStandIn image v.places
 unfolding nodes_of
@@ -97,6 +98,7 @@ nodes_show laws image (Xarray shape) n start v is = array_shows laws.arrays imag
 nodes_show laws image (Slub shape) n start v is = laws.caches image shape n start v is
 nodes_show laws image (Tasks shape) n start v is = laws.tasks image shape n start v is
 nodes_show laws image (Pids shape) n start v is = laws.pids image shape n start v is
+nodes_show laws image (Loop shape) n start v is = laws.loops image shape n start v is
 
 -- the numbers of fields
 NumbersShow : Image → Result (List Number) Stopped → Type 0

@@ -11,7 +11,7 @@ use Rattle.kc_found.specs.Violations.{Violation}
 use Rattle.kc_expr.specs.Values.{is_true}
 use Rattle.kc_list.specs.Laws.{HashChainsAreWalked, RingsAreWalked}
 use Rattle.kc_kinds.specs.declared.kind.Kind.{Kind}
-use Rattle.kc_kinds.specs.declared.kind.Kind.TheVariants.{Ring, Hlist, Rbtree, Xarray, Slub, Tasks, Pids}
+use Rattle.kc_kinds.specs.declared.kind.Kind.TheVariants.{Ring, Hlist, Rbtree, Xarray, Slub, Tasks, Pids, Loop}
 use Rattle.kc_plan.specs.Checks.{CheckHolds, checked, numbers_of, value_of}
 use Rattle.kc_plan.specs.Events.{Event, Walk, Wrong, first_wrong, verdict_of}
 use Rattle.kc_plan.specs.Planned.{AuditAt, CheckAt}
@@ -194,6 +194,7 @@ pub record WalkLaws : Type 0 where
   pub caches : CachesAreWalked
   pub tasks : TasksAreWalked
   pub pids : PidsAreWalked
+  pub loops : RingsAreWalked
 
 kinds_of : WalkLaws → (image : Image) → Kinds image
 unfolding nodes_of Holds
@@ -207,6 +208,7 @@ kinds_of laws image = record { sound = sound; complete = complete }
     sound (Slub shape) n start nodes is = (laws.caches image shape n start nodes).1 is
     sound (Tasks shape) n start nodes is = (laws.tasks image shape n start nodes).1 is
     sound (Pids shape) n start nodes is = (laws.pids image shape n start nodes).1 is
+    sound (Loop shape) n start nodes is = (laws.loops image shape n start nodes).1 is
 
     complete : (kind : Kind) (n start : ℕ) (nodes : List ℕ) → Holds image kind start nodes → nodes_of image kind n start ≡ Ok nodes
     complete (Ring shape) n start nodes holds = (laws.rings image shape n start nodes).0 holds
@@ -216,6 +218,7 @@ kinds_of laws image = record { sound = sound; complete = complete }
     complete (Slub shape) n start nodes holds = (laws.caches image shape n start nodes).0 holds
     complete (Tasks shape) n start nodes holds = (laws.tasks image shape n start nodes).0 holds
     complete (Pids shape) n start nodes holds = (laws.pids image shape n start nodes).0 holds
+    complete (Loop shape) n start nodes holds = (laws.loops image shape n start nodes).0 holds
 
 pub clean_where_standing : WalkLaws → CleanWhereStanding
 clean_where_standing laws image plan =

@@ -45,5 +45,6 @@ pub(crate) fn walk<S: Space, L: Ledger>(
         Kind::Slub(shape) => cache_walk(alloc, space, btf, shape, asked.start, asked.audit, steps),
         Kind::Tasks(shape) => tasks_walk(alloc, space, btf, shape, asked.start, asked.audit, steps),
         Kind::Pids(shape) => pids_walk(alloc, space, btf, shape, asked.start, asked.audit, steps),
+        Kind::Loop(shape) => ring(alloc, space, shape, asked.start, asked.audit, steps),
     }
 }

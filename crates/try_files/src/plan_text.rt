@@ -153,6 +153,7 @@ fn push_kind(text: &mut String, kind: &Kind) -> Result<(), AllocError> {
         Kind::Slub(shape) => push_slub(text, shape),
         Kind::Tasks(shape) => push_tasks(text, shape),
         Kind::Pids(shape) => push_pids(text, shape),
+        Kind::Loop(shape) => write!(text, " loop {} {}", shape.next, shape.prev),
     }
 }
 

@@ -15,7 +15,7 @@ use Rattle.kc_found.specs.Walks.{CountsWalkFaults, IsNamed, WalksAs}
 use Rattle.kc_found.specs.Violations.{Violation}
 use Rattle.kc_list.specs.Laws.{HashChainsAreWalked, RingsAreWalked}
 use Rattle.kc_kinds.specs.declared.kind.Kind.{Kind}
-use Rattle.kc_kinds.specs.declared.kind.Kind.TheVariants.{Ring, Hlist, Rbtree, Xarray, Slub, Tasks, Pids}
+use Rattle.kc_kinds.specs.declared.kind.Kind.TheVariants.{Ring, Hlist, Rbtree, Xarray, Slub, Tasks, Pids, Loop}
 use Rattle.kc_kinds.specs.Structures.{nodes_of}
 use Rattle.kc_found.specs.declared.test.TestStop.{TestStop}
 use Rattle.kc_found.specs.declared.test.TestStop.TheVariants as halts
@@ -65,6 +65,15 @@ ring_shaped test walks (Some i) shape n start (Ok ns) e = (test i shape start ns
 ring_shaped test walks (Some i) shape n start (Err (ends.Broken v)) e = e
 ring_shaped test walks (Some i) shape n start (Err ends.Fault) e = tt
 ring_shaped test walks (Some i) shape n start (Err ends.NoMemory) e = tt
+
+-- and so is that of a loop
+pub loop_shaped : RingsAreTested → RingsAreWalked → (image : Option Image) (shape : ListShape) (n start : ℕ) (w : Result (List ℕ) WalkStop) → WalksAs (λ (ns : List ℕ). ns) (λ i. ring_walk i shape n start) image w → ShapesAs (Loop shape) n start image (alone w)
+unfolding is_shape nodes_of
+loop_shaped test walks None shape n start w e = tt
+loop_shaped test walks (Some i) shape n start (Ok ns) e = (test i shape start ns).0 ((walks i shape n start ns).1 e)
+loop_shaped test walks (Some i) shape n start (Err (ends.Broken v)) e = e
+loop_shaped test walks (Some i) shape n start (Err ends.Fault) e = tt
+loop_shaped test walks (Some i) shape n start (Err ends.NoMemory) e = tt
 
 pub chain_shaped : HashChainsAreTested → HashChainsAreWalked → (image : Option Image) (shape : HShape) (n start : ℕ) (w : Result (List ℕ) WalkStop) → WalksAs (λ (ns : List ℕ). ns) (λ i. hash_walk i shape n start) image w → ShapesAs (Hlist shape) n start image (alone w)
 unfolding is_shape nodes_of

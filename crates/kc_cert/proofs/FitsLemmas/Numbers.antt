@@ -1,7 +1,7 @@
 -- Shapes have no more nodes than numbers.
 use Rattle.std.proofs.Common.{ℕ, suc, nat_eq, Bool, true, false, ◌≤◌, List, [], ◌∷◌, length, arith}
 use Rattle.std.specs.Prelude.{if◌then◌else◌}
-use Rattle.kc_kinds.specs.declared.kind.Kind.TheVariants.{Ring, Hlist, Rbtree, Xarray, Slub, Tasks, Pids}
+use Rattle.kc_kinds.specs.declared.kind.Kind.TheVariants.{Ring, Hlist, Rbtree, Xarray, Slub, Tasks, Pids, Loop}
 use Rattle.kc_xa.specs.Listed.Laws.{PointersAreFew}
 use Rattle.kc_by_lists.specs.Apart.{numbers}
 use Rattle.kc_by_lists.specs.Laws.{FewCacheNodes, FewTaskNodes}
@@ -39,3 +39,4 @@ nodes_short arrays caches tasks pids (Xarray shape) lists = let few = arrays (fi
 nodes_short arrays caches tasks pids (Slub shape) lists = let few = caches shape lists in let short = numbers_short lists in omega (arith, few, short)
 nodes_short arrays caches tasks pids (Tasks shape) lists = let few = tasks shape lists in let short = numbers_short lists in omega (arith, few, short)
 nodes_short arrays caches tasks pids (Pids shape) lists = let few = pids lists in let short = numbers_short lists in omega (arith, few, short)
+nodes_short arrays caches tasks pids (Loop shape) lists = first_short lists

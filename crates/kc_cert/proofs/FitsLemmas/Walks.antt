@@ -2,7 +2,7 @@
 use Rattle.std.proofs.Common.{[], ◌∷◌, ◌∙◌, ap}
 use Rattle.std.specs.Prelude.{Ok}
 use Rattle.kc_list.specs.Laws.{HashChainsAreWalked, RingsAreWalked}
-use Rattle.kc_kinds.specs.declared.kind.Kind.TheVariants.{Ring, Hlist, Rbtree, Xarray, Slub, Tasks, Pids}
+use Rattle.kc_kinds.specs.declared.kind.Kind.TheVariants.{Ring, Hlist, Rbtree, Xarray, Slub, Tasks, Pids, Loop}
 use Rattle.kc_found.specs.XaSites.{entries_in}
 use Rattle.kc_plan.specs.Seen.{walked}
 use Rattle.kc_kinds.specs.Structures.{nodes_of}
@@ -28,6 +28,8 @@ pub record ShapeLaws : Type 0 where
   pub caches : CacheListsGive
   pub tasks : TaskListsGive
   pub pids : PidListsGive
+  pub loops : RingsAreTested
+  pub loop_walks : RingsAreWalked
 
 pub shape_walked : ShapeLaws → ShapesAreWalked
 unfolding is_shape nodes_of
@@ -46,3 +48,6 @@ shape_walked laws i (Xarray shape) n start (ns ∷ more ∷ others) is = let non
 shape_walked laws i (Slub shape) n start lists is = laws.caches i shape n n start lists is
 shape_walked laws i (Tasks shape) n start lists is = laws.tasks i shape n n start lists is
 shape_walked laws i (Pids shape) n start lists is = laws.pids i shape n n start lists is
+shape_walked laws i (Loop shape) n start [] is = let none : ⊥ = cc in absurd none
+shape_walked laws i (Loop shape) n start (ns ∷ []) is = (laws.loop_walks i shape n start ns).0 ((laws.loops i shape start ns).1 is)
+shape_walked laws i (Loop shape) n start (ns ∷ more ∷ others) is = let none : ⊥ = cc in absurd none

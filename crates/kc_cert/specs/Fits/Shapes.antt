@@ -10,7 +10,7 @@ use Rattle.kc_by_lists.specs.Apart.{cache_nodes, task_nodes}
 use Rattle.kc_by_lists.specs.Tests.{are_cache_lists, are_task_lists}
 use Rattle.kc_by_lists.specs.Pids.Tests.{are_pid_lists, pid_nodes}
 use Rattle.kc_kinds.specs.declared.kind.Kind.{Kind}
-use Rattle.kc_kinds.specs.declared.kind.Kind.TheVariants.{Ring, Hlist, Rbtree, Xarray, Slub, Tasks, Pids}
+use Rattle.kc_kinds.specs.declared.kind.Kind.TheVariants.{Ring, Hlist, Rbtree, Xarray, Slub, Tasks, Pids, Loop}
 
 -- a single list, of which a test is true
 abbrev pub one_list : (List ℕ → Bool) → List (List ℕ) → Bool
@@ -31,6 +31,7 @@ is_shape image (Xarray shape) n start lists = one_list (is_xarray image shape st
 is_shape image (Slub shape) n start lists = are_cache_lists image shape (asked_by n start) lists
 is_shape image (Tasks shape) n start lists = are_task_lists image shape (asked_by n start) lists
 is_shape image (Pids shape) n start lists = are_pid_lists image shape (asked_by n start) lists
+is_shape image (Loop shape) n start lists = one_list (is_ring (vword image) shape start) lists
 
 abbrev pub first_list : List (List ℕ) → List ℕ
 first_list [] = []
@@ -45,3 +46,4 @@ nodes_in (Xarray shape) lists = pointers (first_list lists)
 nodes_in (Slub shape) lists = cache_nodes shape lists
 nodes_in (Tasks shape) lists = task_nodes shape lists
 nodes_in (Pids shape) lists = pid_nodes lists
+nodes_in (Loop shape) lists = first_list lists

@@ -198,5 +198,9 @@ pub(crate) fn collect_shape<S: Space, L: Ledger>(
         Kind::Slub(shape) => cache_lists(alloc, space, btf, shape, asked, steps),
         Kind::Tasks(shape) => task_lists(alloc, space, btf, shape, asked, steps),
         Kind::Pids(shape) => pid_lists(alloc, space, btf, shape, asked, steps),
+        Kind::Loop(shape) => single(
+            alloc,
+            ring(alloc, space, shape, asked.start, asked.audit, steps),
+        ),
     }
 }

@@ -65,6 +65,12 @@ pub(crate) fn test_shape<S: Space, L: Ledger>(
         Kind::Slub(shape) => test_cache(alloc, space, btf, shape, asked, lists, steps),
         Kind::Tasks(shape) => test_tasks(alloc, space, btf, shape, asked, lists, steps),
         Kind::Pids(shape) => test_pids(alloc, space, btf, shape, asked, lists, steps),
+        Kind::Loop(shape) => {
+            let [nodes] = lists.as_slice() else {
+                return Err(TestStop::Unfit);
+            };
+            test_ring(alloc, space, shape, asked.start, nodes, steps)
+        }
     }
 }
 
@@ -87,7 +93,7 @@ pub fn nodes_in(alloc: Global, kind: &Kind, lists: &Lists) -> Result<Walked, NoM
     ensures { IfOk result (λ nodes. nodes ≡ nodes_in kind.now lists.now) }
 {
     match kind {
-        Kind::Ring(_) | Kind::Hlist(_) => first_list(alloc, lists),
+        Kind::Ring(_) | Kind::Hlist(_) | Kind::Loop(_) => first_list(alloc, lists),
         Kind::Rbtree(_) => match lists.as_slice() {
             [numbers, ..] => turned(alloc, numbers),
             [] => Ok(Walked::new(alloc)),

@@ -9,7 +9,7 @@ use Rattle.kc_found.specs.declared.shapes.ListShape.{ListShape}
 use Rattle.kc_found.specs.Nodes.{at_offset}
 use Rattle.kc_found.specs.Violations.{Violation}
 use Rattle.kc_kinds.specs.declared.kind.Kind.{Kind}
-use Rattle.kc_kinds.specs.declared.kind.Kind.TheVariants.{Ring, Hlist, Rbtree, Xarray, Slub, Pids}
+use Rattle.kc_kinds.specs.declared.kind.Kind.TheVariants.{Ring, Hlist, Rbtree, Xarray, Slub, Pids, Loop}
 use Rattle.kc_rules.specs.declared.way.Way.{Way}
 use Rattle.kc_rules.specs.declared.way.Way.TheVariants.{Led, Met, Word, Byte, Bytes, Count, Member, Named, Own, Before, Pointed, Parent, Top, Colour, Balance, Entry, Free, Listed, Laid, Check, Process, Shown}
 use Rattle.kc_rules.specs.Rules.{row_of}
@@ -45,6 +45,7 @@ ring_link image s v None = chain_link image s.next (at_offset v.start s.next) (n
 -- the link that led to a word which was met before: the second that leads to its node
 abbrev pub second_link : Image → Kind → Violation → Option ℕ
 second_link image (Ring s) v = ring_link image s v (chain_link image s.next (at_offset v.start s.next) (node_of v.at s.next) 1)
+second_link image (Loop s) v = ring_link image s v (chain_link image s.next (at_offset v.start s.next) (node_of v.at s.next) 1)
 second_link image (Hlist s) v = chain_link image s.next (at_offset v.start s.first) (node_of v.at s.next) 1
 second_link image (Rbtree s) v = leading_to (node_of v.at s.parent_color) 1 (tree_links image s v.start)
 second_link image _ v = None
@@ -65,6 +66,7 @@ laid_changes kind v = shown v.places ++ bases_of kind v.start
 -- one near that points back, in an array to such a node too, and in a chain, a tree or an array perhaps nowhere. Of the lists inside slab caches and tasks no head is told.
 abbrev pub relinked : Image → Kind → Violation → ℕ → List Change
 relinked image (Ring s) v link = option_to_list (option_map (to link) (node_behind image s v.start (node_of link s.next))) ++ each link ∷ []
+relinked image (Loop s) v link = option_to_list (option_map (to link) (node_behind image s v.start (node_of link s.next))) ++ each link ∷ []
 relinked image (Hlist s) v link = hash_backs image (Hlist s) link ++ to link 0 ∷ []
 relinked image (Rbtree s) v link = tree_backs image s link ++ each link ∷ to link 0 ∷ []
 relinked image (Xarray s) v link = entry_by image (Xarray s) v link
@@ -80,6 +82,7 @@ led_by image kind v link = option_map_or (relinked image kind v) link (laid_chan
 -- it, which is met first backwards. Source: the kernel's include/linux/list.h, `__list_add`, which writes the node's own pointers and those of its new neighbours.
 abbrev pub joined_changes : Image → Kind → Violation → ℕ → List Change
 joined_changes image (Ring s) v link = option_to_list (option_map (to link) (node_behind image s v.start (node_of v.at s.next)))
+joined_changes image (Loop s) v link = option_to_list (option_map (to link) (node_behind image s v.start (node_of v.at s.next)))
 joined_changes image _ v link = []
 
 -- the link that led to a word for the second time
@@ -96,6 +99,7 @@ word_changes v = option_to_list (option_map (to v.at) v.expected)
 -- the `next` of the node that a ring's `prev` should lead to, where that one passes by a node by this word alone, or that `prev`
 abbrev pub passed_changes : Image → Kind → Violation → ℕ → List Change
 passed_changes image (Ring s) v node = option_to_list (option_map (to (at_offset node s.next)) (node_behind image s v.start node))
+passed_changes image (Loop s) v node = option_to_list (option_map (to (at_offset node s.next)) (node_behind image s v.start node))
 passed_changes image _ v node = []
 
 abbrev pub before_changes : Image → Kind → Violation → List Change

@@ -135,7 +135,7 @@ fn second_link<S: Space, L: Ledger>(
     ensures reads { OnlyReads S.image S.files S.through S.most S.faults result space.old space.new }
 {
     match kind {
-        Kind::Ring(shape) => ring_link(shape, found, space, steps),
+        Kind::Ring(shape) | Kind::Loop(shape) => ring_link(shape, found, space, steps),
         Kind::Hlist(shape) => {
             let first = found.start.wrapping_add(shape.first);
             let node = node_of(found.at, shape.next);
@@ -186,7 +186,7 @@ fn push_relinked<S: Space, L: Ledger>(
     ensures reads { OnlyReads S.image S.files S.through S.most S.faults result space.old space.new }
 {
     match kind {
-        Kind::Ring(shape) => {
+        Kind::Ring(shape) | Kind::Loop(shape) => {
             let node = node_of(link, shape.next);
             let behind = node_behind(space, shape, found.start, node, steps)?;
             push_some(changes, behind.map(|node| to(link, node)))?;
@@ -242,7 +242,7 @@ fn push_joined<S: Space, L: Ledger>(
     ensures added { OnOk result (IfSome (S.image space.old) (λ image. changes.new ≡ changes.old ++ joined_changes image kind.now found.now link)) }
     ensures reads { OnlyReads S.image S.files S.through S.most S.faults result space.old space.new }
 {
-    if let Kind::Ring(shape) = kind {
+    if let Kind::Ring(shape) | Kind::Loop(shape) = kind {
         let node = node_of(found.at, shape.next);
         let behind = node_behind(space, shape, found.start, node, steps)?;
         push_some(changes, behind.map(|node| to(link, node)))?;
@@ -303,7 +303,7 @@ fn push_passed<S: Space, L: Ledger>(
     ensures added { OnOk result (IfSome (S.image space.old) (λ image. changes.new ≡ changes.old ++ passed_changes image kind.now found.now node)) }
     ensures reads { OnlyReads S.image S.files S.through S.most S.faults result space.old space.new }
 {
-    if let Kind::Ring(shape) = kind {
+    if let Kind::Ring(shape) | Kind::Loop(shape) = kind {
         let link = node.wrapping_add(shape.next);
         let behind = node_behind(space, shape, found.start, node, steps)?;
         push_some(changes, behind.map(|node| to(link, node)))?;

@@ -83,7 +83,12 @@ pub(crate) fn push_slots<S: Space, L: Ledger>(
     let shape = match kind {
         Kind::Xarray(shape) => shape,
         Kind::Pids(pids) => &pids.xa,
-        Kind::Ring(_) | Kind::Hlist(_) | Kind::Rbtree(_) | Kind::Slub(_) | Kind::Tasks(_) => {
+        Kind::Ring(_)
+        | Kind::Hlist(_)
+        | Kind::Rbtree(_)
+        | Kind::Slub(_)
+        | Kind::Tasks(_)
+        | Kind::Loop(_) => {
             return Ok(());
         }
     };

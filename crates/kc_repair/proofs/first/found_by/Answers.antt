@@ -1,4 +1,4 @@
-use Rattle.kc_repair.proofs.FirstWalks.{array-as, cache-as, hash-as, pids-as, ring-as, tasks-as, tree-as}
+use Rattle.kc_repair.proofs.FirstWalks.{array-as, cache-as, hash-as, loop-as, pids-as, ring-as, tasks-as, tree-as}
 use Rattle.kc_repair.proofs.first.found_by.Goals as goal
 
 pub returns-in-Ring-clause-exact : goal.returns-in-Ring-clause-exact
@@ -21,3 +21,6 @@ returns-in-Tasks-clause-exact g c = tasks-as _ c.args.walk.now c.in-Tasks.shape 
 
 pub returns-in-Pids-clause-exact : goal.returns-in-Pids-clause-exact
 returns-in-Pids-clause-exact g c = pids-as _ c.args.walk.now c.in-Pids.shape c.pids_walk.result c.wrong_in-in-Pids.result c.in-Pids.is c.pids_walk.ensures.walk c.wrong_in-in-Pids.ensures
+
+pub returns-in-Loop-clause-exact : goal.returns-in-Loop-clause-exact
+returns-in-Loop-clause-exact g c = loop-as _ c.args.walk.now c.in-Loop.shape c.ring-in-Loop.result c.wrong_in-in-Loop.result c.in-Loop.is c.ring-in-Loop.ensures.walk c.wrong_in-in-Loop.ensures

@@ -12,6 +12,7 @@ returns-clause-clean c = clean_where_standing (record {
   caches = c.know_caches.ensures.walked;
   tasks = c.know_tasks.ensures.walked;
   pids = c.know_pids.ensures.walked;
+  loops = c.know_lists.ensures.rings;
 })
 
 pub returns-clause-roots : goal.returns-clause-roots
@@ -23,6 +24,7 @@ returns-clause-roots c = clean_roots_stand (record {
   caches = c.know_caches.ensures.walked;
   tasks = c.know_tasks.ensures.walked;
   pids = c.know_pids.ensures.walked;
+  loops = c.know_lists.ensures.rings;
 })
 
 pub returns-clause-first : goal.returns-clause-first
@@ -39,6 +41,7 @@ returns-clause-places c = verdicts_stand (record {
   caches = c.know_caches.ensures.places;
   tasks = c.know_tasks.ensures.places;
   pids = c.know_pids.ensures.places;
+  loops = c.know_lists.ensures.ring_places;
 })
 
 pub returns-clause-root_places : goal.returns-clause-root_places
@@ -52,4 +55,5 @@ returns-clause-root_places c = root_verdicts_stand (record {
   caches = c.know_caches.ensures.places;
   tasks = c.know_tasks.ensures.places;
   pids = c.know_pids.ensures.places;
+  loops = c.know_lists.ensures.ring_places;
 })

@@ -1,8 +1,8 @@
 use Rattle.std.proofs.Common.{◌≡◌, rules, subst, sym}
 use Rattle.kc_kinds.specs.declared.kind.Kind.{Kind}
-use Rattle.kc_kinds.specs.declared.kind.Kind.TheVariants.{Ring, Hlist}
+use Rattle.kc_kinds.specs.declared.kind.Kind.TheVariants.{Ring, Hlist, Loop}
 use Rattle.kc_cert.specs.Certifying.Certified.{ShapesAs}
-use Rattle.kc_cert.proofs.CertifyingLemmas.Shaping.{chain_shaped, ring_shaped, single_shaped}
+use Rattle.kc_cert.proofs.CertifyingLemmas.Shaping.{chain_shaped, loop_shaped, ring_shaped, single_shaped}
 use Rattle.kc_cert.proofs.certifying.collect.collect_shape.Goals as goal
 
 pub returns-in-Ring-clause-shape : goal.returns-in-Ring-clause-shape
@@ -18,3 +18,10 @@ returns-in-Hlist-clause-shape g c =
     subst (λ (kind : Kind). ShapesAs kind c.args.asked.now.audit c.args.asked.now.start (g.S.Space.image c.args.space.now) c.single-in-Hlist.result) (sym same)
     (single_shaped (Hlist c.in-Hlist.shape) c.args.asked.now.audit c.args.asked.now.start (g.S.Space.image c.args.space.now) c.hchain.result c.single-in-Hlist.result c.single-in-Hlist.ensures
     (chain_shaped c.know_listed_rings.ensures.chains c.know_lists.ensures.hash_chains (g.S.Space.image c.args.space.now) c.in-Hlist.shape c.args.asked.now.audit c.args.asked.now.start c.hchain.result c.hchain.ensures.walk))
+
+pub returns-in-Loop-clause-shape : goal.returns-in-Loop-clause-shape
+returns-in-Loop-clause-shape g c =
+    let same : c.args.kind.now ≡ Loop c.in-Loop.shape = search rules in
+    subst (λ (kind : Kind). ShapesAs kind c.args.asked.now.audit c.args.asked.now.start (g.S.Space.image c.args.space.now) c.single-in-Loop.result) (sym same)
+    (single_shaped (Loop c.in-Loop.shape) c.args.asked.now.audit c.args.asked.now.start (g.S.Space.image c.args.space.now) c.ring-in-Loop.result c.single-in-Loop.result c.single-in-Loop.ensures
+    (loop_shaped c.know_listed_rings.ensures.rings c.know_lists.ensures.rings (g.S.Space.image c.args.space.now) c.in-Loop.shape c.args.asked.now.audit c.args.asked.now.start c.ring-in-Loop.result c.ring-in-Loop.ensures.walk))

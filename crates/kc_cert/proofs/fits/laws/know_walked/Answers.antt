@@ -14,6 +14,8 @@ returns-clause-walked c = shape_walked (record {
   caches = c.know_given_lists.ensures.cache_lists;
   tasks = c.know_given_lists.ensures.task_lists;
   pids = c.know_pid_lists.ensures.lists;
+  loops = c.know_listed_rings.ensures.rings;
+  loop_walks = c.know_lists.ensures.rings;
 })
 
 pub returns-clause-long : goal.returns-clause-long
