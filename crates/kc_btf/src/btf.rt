@@ -91,6 +91,7 @@ impl Btf {
     }
 
     /// The type of a number, looked up in the table.
+    #[inline(always)]
     pub fn ty(&self, id: u32) -> TypeRef
         requires first { 0 < id }
         requires last { id ≤ length self.now.records }
@@ -180,6 +181,7 @@ ghost use Rattle.std.specs.Prelude.{◌≡◌, ◌+◌, ◌-◌, ◌^◌, ◌<�
 ghost use Rattle.std.specs.List.{before_first};
 
 // Where the record of a type lies in the file.
+#[inline(always)]
 fn place(table: &[u32], types: usize, id: u32) -> usize
     requires first { 0 < id }
     requires last { id ≤ length table.now }

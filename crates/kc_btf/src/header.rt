@@ -4,7 +4,6 @@ ghost use Rattle.kc_btf.specs.Numbers.{word};
 ghost use Rattle.kc_btf.specs.Header.{are_strings};
 
 use crate::stop::{BRule, BtfFault};
-use byteorder::{ByteOrder, LittleEndian};
 use kc_word::get_u16;
 
 /// The bytes of a header that every file has.
@@ -26,13 +25,14 @@ pub struct Header {
     pub strings_end: usize,
 }
 
-// The number of 32 bits at a place.
+// The number of 32 bits at a place. Its bytes are taken as one.
+#[inline(always)]
 #[tactic(auto, unfolding(crate::specs::Numbers::word))]
 pub(crate) fn word(bytes: &[u8], at: usize) -> u32
     requires { at + 4 ≤ length bytes.now }
     ensures { result ≡ word bytes.now at }
 {
-    LittleEndian::read_u32(&bytes[at..])
+    u32::from_le_bytes(*bytes[at..].first_chunk::<4>().unwrap())
 }
 
 impl Header {

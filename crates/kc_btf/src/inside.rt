@@ -1,6 +1,8 @@
 // Whether the names and types of the records lie inside.
-ghost use Rattle.std.specs.Prelude.{◌≡◌, ◌+◌, ◌*◌, ◌<◌, ◌≤◌, length, map, All, IsTrue, OnOk};
-ghost use Rattle.kc_btf.specs.Numbers.{words};
+ghost use Rattle.std.specs.Prelude.{◌≡◌, ◌+◌, ◌*◌, ◌<◌, ◌≤◌, ◌&&◌, length, map, All, IsTrue, OnOk};
+ghost use Rattle.kc_btf.specs.Kind.{following};
+ghost use Rattle.kc_btf.specs.Role.{is_inside};
+ghost use Rattle.kc_btf.specs.Numbers.{word, words};
 ghost use Rattle.kc_btf.specs.Records.{record_at, words_inside, refers_inside, IsRecord};
 ghost use Rattle.kc_btf.specs.Btf.{outside_fault};
 ghost use Rattle.kc_btf.specs.Answers.{FaultIs};
@@ -23,6 +25,7 @@ impl Limits {
     ghost use Rattle.kc_btf.specs.Role.{is_inside};
 
     // Whether a number lies inside.
+    #[inline(always)]
     fn admit(&self, role: Role, number: u32) -> bool
         ensures { result ≡ is_inside self.now.strings self.now.types role number }
     {
@@ -34,8 +37,68 @@ impl Limits {
     }
 }
 
-// Whether the numbers behind a record lie inside.
-fn words_inside(bytes: &[u8], at: usize, kind: Kind, count: usize, limits: &Limits) -> bool
+// Whether a name lies inside, and a type beside it.
+#[inline(always)]
+fn pair_inside(bytes: &[u8], at: usize, limits: &Limits) -> bool
+    requires { at + 8 ≤ length bytes.now }
+    ensures { result ≡ (is_inside limits.now.strings limits.now.types Role.ToName (word bytes.now at) && is_inside limits.now.strings limits.now.types Role.ToType (word bytes.now (at + 4))) }
+{
+    limits.admit(Role::ToName, word(bytes, at)) && limits.admit(Role::ToType, word(bytes, at + 4))
+}
+
+// Whether the names and types of so many members lie inside.
+fn members_inside(bytes: &[u8], at: usize, count: usize, limits: &Limits) -> bool
+    requires { at + 12 * count ≤ length bytes.now }
+    ensures { result ≡ words_inside limits.now.strings limits.now.types Kind.Struct 0 (words (3 * count) bytes.now at) }
+{
+    let mut place = at;
+    let mut left = count;
+    while left > 0 {
+        if !pair_inside(bytes, place, limits) {
+            return false;
+        }
+        place += 12;
+        left -= 1;
+    }
+    true
+}
+
+// Whether the names and types of so many parameters lie inside.
+fn parameters_inside(bytes: &[u8], at: usize, count: usize, limits: &Limits) -> bool
+    requires { at + 8 * count ≤ length bytes.now }
+    ensures { result ≡ words_inside limits.now.strings limits.now.types Kind.FuncProto 0 (words (2 * count) bytes.now at) }
+{
+    let mut place = at;
+    let mut left = count;
+    while left > 0 {
+        if !pair_inside(bytes, place, limits) {
+            return false;
+        }
+        place += 8;
+        left -= 1;
+    }
+    true
+}
+
+// Whether the names of so many values lie inside.
+fn values_inside(bytes: &[u8], at: usize, count: usize, limits: &Limits) -> bool
+    requires { at + 8 * count ≤ length bytes.now }
+    ensures { result ≡ words_inside limits.now.strings limits.now.types Kind.Enum 0 (words (2 * count) bytes.now at) }
+{
+    let mut place = at;
+    let mut left = count;
+    while left > 0 {
+        if !limits.admit(Role::ToName, word(bytes, place)) {
+            return false;
+        }
+        place += 8;
+        left -= 1;
+    }
+    true
+}
+
+// Whether so many numbers behind a record lie inside, by the role of each.
+fn numbers_inside(bytes: &[u8], at: usize, kind: Kind, count: usize, limits: &Limits) -> bool
     requires { at + 4 * count ≤ length bytes.now }
     ensures { result ≡ words_inside limits.now.strings limits.now.types kind 0 (words count bytes.now at) }
 {
@@ -48,17 +111,31 @@ fn words_inside(bytes: &[u8], at: usize, kind: Kind, count: usize, limits: &Limi
     true
 }
 
+// Whether the numbers behind a record lie inside. Most of them are of members, parameters and values.
+#[inline(always)]
+fn words_inside(bytes: &[u8], at: usize, kind: Kind, vlen: u16, limits: &Limits) -> bool
+    requires { at + 4 * following kind vlen ≤ length bytes.now }
+    ensures { result ≡ words_inside limits.now.strings limits.now.types kind 0 (words (following kind vlen) bytes.now at) }
+{
+    match kind {
+        Kind::Struct | Kind::Union => members_inside(bytes, at, usize::from(vlen), limits),
+        Kind::FuncProto => parameters_inside(bytes, at, usize::from(vlen), limits),
+        Kind::Enum => values_inside(bytes, at, usize::from(vlen), limits),
+        _ => numbers_inside(bytes, at, kind, kind.following(vlen), limits),
+    }
+}
+
 // Whether the names and types of a record lie inside.
+#[inline(always)]
 #[tactic(auto, unfolding(crate::specs::Records::refers_inside, crate::specs::Records::record_at))]
 fn refers_inside(bytes: &[u8], at: usize, limits: &Limits) -> bool
     requires { IsRecord bytes.now at }
     ensures { result ≡ refers_inside limits.now.strings limits.now.types (record_at bytes.now at) }
 {
     let kind = known_kind(bytes, at);
-    let count = kind.following(vlen_at(bytes, at));
     limits.admit(Role::ToName, word(bytes, at))
         && limits.admit(kind.rest_role(), word(bytes, at + 8))
-        && words_inside(bytes, at + RECORD, kind, count, limits)
+        && words_inside(bytes, at + RECORD, kind, vlen_at(bytes, at), limits)
 }
 
 /// Looks at the records that stand at these places behind a first one, and at the names and types that they

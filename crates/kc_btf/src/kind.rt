@@ -61,6 +61,7 @@ impl Kind {
     ghost use Rattle.kc_btf.specs.Role.{rest_role, role_of};
 
     // The kind with a number.
+    #[inline(always)]
     pub(crate) fn from_number(number: u32) -> Option<Kind>
         ensures { result ≡ kind_of number }
     {
@@ -89,6 +90,7 @@ impl Kind {
     }
 
     // How many numbers of 32 bits stand behind a record that counts `vlen` items.
+    #[inline(always)]
     pub(crate) fn following(self, vlen: u16) -> usize
         ensures { result ≡ following self vlen }
     {
@@ -103,6 +105,7 @@ impl Kind {
     }
 
     // What a record's size or type refers to.
+    #[inline(always)]
     pub(crate) fn rest_role(self) -> Role
         ensures { result ≡ rest_role self }
     {

@@ -14,6 +14,7 @@ use crate::types::{ArrayOf, IntOf, TypeRef};
 pub(crate) const RECORD: usize = 12;
 
 // The kind of a record, if its number has one.
+#[inline(always)]
 pub(crate) fn kind_at(bytes: &[u8], at: usize) -> Option<Kind>
     requires { at + 12 ≤ length bytes.now }
     ensures { result ≡ kind_of (kind_number_at bytes.now at) }
@@ -22,6 +23,7 @@ pub(crate) fn kind_at(bytes: &[u8], at: usize) -> Option<Kind>
 }
 
 // How many items a record counts.
+#[inline(always)]
 pub(crate) fn vlen_at(bytes: &[u8], at: usize) -> u16
     requires { at + 12 ≤ length bytes.now }
     ensures { result ≡ vlen_at bytes.now at }
@@ -30,6 +32,7 @@ pub(crate) fn vlen_at(bytes: &[u8], at: usize) -> u16
 }
 
 // The kind of a record that stands there.
+#[inline(always)]
 #[tactic(auto, unfolding(crate::specs::Records::record_at))]
 pub(crate) fn known_kind(bytes: &[u8], at: usize) -> Kind
     requires { IsRecord bytes.now at }
@@ -39,6 +42,7 @@ pub(crate) fn known_kind(bytes: &[u8], at: usize) -> Kind
 }
 
 // A type, without the numbers behind it.
+#[inline(always)]
 #[tactic(auto, unfolding(crate::specs::Records::record_at))]
 pub(crate) fn type_at(bytes: &[u8], at: usize, id: u32) -> TypeRef
     requires { IsRecord bytes.now at }

@@ -1,25 +1,20 @@
-use Rattle.std.proofs.Common.{◌≡◌, true, false, sym, ◌∙◌, arith, ◌-◌, ◌+◌, ◌*◌}
-use Rattle.kc_btf.specs.Numbers.{word}
-use Rattle.kc_btf.specs.Role.{is_inside, role_of}
-use Rattle.kc_btf.proofs.NumberLemmas.{inside-next, inside-not, inside-end}
+use Rattle.std.proofs.Common.{◌≡◌, ℕ, ◌*◌, List, true, ◌∙◌, arith, rules}
+use Rattle.kc_btf.specs.declared.kind.Kind.{Kind}
+use Rattle.kc_btf.specs.declared.kind.Kind.TheVariants.{Struct}
+use Rattle.kc_btf.specs.Kind.{following, is_compound}
+use Rattle.kc_btf.specs.Numbers.{words}
+use Rattle.kc_btf.specs.Records.{words_inside}
+use Rattle.kc_btf.proofs.NumberLemmas.{union-struct}
 use Rattle.kc_btf.proofs.inside.words_inside.Goals as goal
 
-pub returns-then-not-admit : goal.returns-then-not-admit
-returns-then-not-admit c =
-    let i = c.loop-index.index in
-    let l = c.args.limits.now in
-    let is : is_inside l.strings l.types (role_of c.args.kind i) (word c.args.bytes.now (c.args.at + 4 * i)) ≡ false = cc in
-    sym (inside-not l.strings l.types c.args.count i c.args.at c.args.kind c.args.bytes.now c.loop-index-test.true is) ∙ c.loop-index.invariant
+as_members : (strings types vlen at : ℕ) (bytes : List ℕ) (kind : Kind) → is_compound kind ≡ true →
+    words_inside strings types Struct 0 (words (3 * vlen) bytes at) ≡ words_inside strings types kind 0 (words (following kind vlen) bytes at)
+as_members strings types vlen at bytes kind is = grind (arith, union-struct strings types 0 (words (3 * vlen) bytes at))
 
-pub loop-index-preserved : goal.loop-index-preserved
-loop-index-preserved c =
-    let i = c.loop-index.index in
+pub returns-in-Struct : goal.returns-in-Struct
+returns-in-Struct c =
     let l = c.args.limits.now in
-    let is : is_inside l.strings l.types (role_of c.args.kind i) (word c.args.bytes.now (c.args.at + 4 * i)) ≡ true = cc in
-    sym (inside-next l.strings l.types c.args.count i c.args.at c.args.kind c.args.bytes.now c.loop-index-test.true is) ∙ c.loop-index.invariant
-
-pub returns : goal.returns
-returns c =
-    let i = c.loop-index.index in
-    let l = c.args.limits.now in
-    sym (inside-end l.strings l.types i (c.args.count - i) (c.args.at + 4 * i) c.args.kind c.args.bytes.now (omega arith)) ∙ c.loop-index.invariant
+    let bytes = c.args.bytes.now in
+    let compound : is_compound c.args.kind ≡ true = search rules in
+    let members : c.members_inside.result ≡ words_inside l.strings l.types Struct 0 (words (3 * c.args.vlen) bytes c.args.at) = cc in
+    members ∙ as_members l.strings l.types c.args.vlen c.args.at bytes c.args.kind compound

@@ -1,7 +1,7 @@
 use Rattle.std.proofs.Common.{◌≡◌, ◌+◌, ◌-◌, ◌*◌}
 use Rattle.kc_btf.specs.Numbers.{words}
 use Rattle.kc_btf.specs.Records.{words_inside}
-use Rattle.kc_btf.proofs.inside.words_inside.Given as goal
+use Rattle.kc_btf.proofs.inside.numbers_inside.Given as goal
 
 -- what the numbers that are left decide
 abbrev pub invariant-loop-index : goal.invariant-loop-index
