@@ -11,3 +11,4 @@ pub mod Stored
 pub mod Table
 pub mod Told
 pub mod Whole
+mod Near

@@ -1,5 +1,5 @@
 // An open table of blocks of words: where a block stands, and the table grown.
-ghost use Rattle.std.specs.Prelude.{◌≡◌, ◌<◌, ◌*◌, ◌+◌, ◌≢◌, List, ℕ, IfOk, IfSome};
+ghost use Rattle.std.specs.Prelude.{◌≡◌, ◌^◌, ◌<◌, ◌*◌, ◌+◌, ◌≢◌, List, ℕ, IfOk, IfSome};
 ghost use Rattle.kc_found.specs.Blocks.{first_place, first_places, with_blocks, IsSpot, IsTable};
 
 use kc_word::NoMemory;
@@ -72,6 +72,23 @@ pub(crate) fn spot_of(blocks: &[Block], number: u64) -> Spot
         }
     }
     Spot::Nowhere
+}
+
+// The same, where a place is looked at first.
+#[inline(always)]
+#[tactic(auto, using(crate::proofs::Near::near_spot))]
+pub(crate) fn spot_near(blocks: &[Block], near: usize, number: u64) -> Spot
+    requires table { IsTable blocks.now }
+    requires some { number < 2 ^ 58 }
+    ensures { IsSpot blocks.now number result }
+{
+    if near < blocks.len() {
+        let here = blocks[near].number;
+        if here == number {
+            return Spot::Here(near);
+        }
+    }
+    spot_of(blocks, number)
 }
 
 // How many blocks a table of so many places takes before it grows.

@@ -3,7 +3,7 @@ ghost use Rattle.std.specs.Prelude.{◌≡◌, ◌+◌, ◌^◌, ◌<◌, List, 
 ghost use Rattle.kc_found.specs.Taken.{is_taken, with_word};
 ghost use Rattle.kc_found.specs.Blocks.{with_blocks, IsTable, Misses};
 
-use crate::blocks::{Block, Spot, grown, more_blocks, spot_of};
+use crate::blocks::{Block, Spot, grown, more_blocks, spot_near};
 use kc_word::NoMemory;
 use std::alloc::Global;
 use std::collections::BTreeSet;
@@ -21,6 +21,8 @@ pub struct Claims {
     count: u64,
     // How many blocks more the table takes before it grows.
     room: u64,
+    // The place that is looked at first: where the last block stood.
+    near: usize,
 }
 
 impl Model for Claims {
@@ -45,6 +47,7 @@ impl Claims {
             others: BTreeSet::new(alloc),
             count: 0,
             room: 0,
+            near: 0,
         }
     }
 
@@ -77,7 +80,13 @@ impl Claims {
         let Some(count) = self.count.checked_add(1) else {
             return Err(NoMemory);
         };
-        let new = put(&mut self.blocks, &mut self.others, &mut self.room, pa)?;
+        let new = put(
+            &mut self.blocks,
+            &mut self.others,
+            &mut self.room,
+            &mut self.near,
+            pa,
+        )?;
         if new {
             self.count = count;
         }
@@ -112,6 +121,7 @@ fn put(
     blocks: &mut Vec<Block>,
     others: &mut BTreeSet<u64>,
     room: &mut u64,
+    near: &mut usize,
     pa: u64,
 ) -> Result<bool, NoMemory>
     requires { IsTable blocks.old.items }
@@ -125,7 +135,7 @@ fn put(
     if pa % 8 != 0 {
         return put_other(blocks, others, pa);
     }
-    match spot_of(blocks, number) {
+    match spot_near(blocks, *near, number) {
         Spot::Here(place) => {
             let mut words = blocks[place].words;
             if words[word] {
@@ -134,6 +144,7 @@ fn put(
             if is_other(others, pa) {
                 return Ok(false);
             }
+            *near = place;
             words[word] = true;
             blocks[place] = Block { number, words };
             Ok(true)
@@ -142,6 +153,7 @@ fn put(
             if is_other(others, pa) {
                 return Ok(false);
             }
+            *near = place;
             let mut words = [false; 8];
             words[word] = true;
             blocks[place] = Block { number, words };
