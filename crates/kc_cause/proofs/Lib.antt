@@ -8,4 +8,6 @@ mod MendedLemmas
 mod PlannedLemmas
 mod PrintedLaws
 mod RepairLemmas
+mod TopLemmas
+mod TopLoops
 mod WrittenLemmas

@@ -11,4 +11,5 @@ pub mod Rings
 pub mod Sentences
 pub mod Signs
 pub mod Suspected
+pub mod Tops
 pub mod Written

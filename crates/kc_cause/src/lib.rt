@@ -9,6 +9,7 @@ mod files;
 mod judged;
 mod laws;
 mod lines;
+mod mending;
 mod places;
 mod planned;
 mod repairs;
@@ -17,6 +18,7 @@ mod sentences;
 mod signs;
 mod slabs;
 mod suspected;
+mod tops;
 mod written;
 
 pub use files::{Asks, explain};

@@ -4,6 +4,7 @@ mod Changing
 mod Counts
 mod Determined
 mod FirstWalks
+mod Giving
 mod Left
 mod Parts
 mod Standing

@@ -1,4 +1,5 @@
 pub mod Elements
+pub mod Given
 pub mod Laws
 pub mod Others
 pub mod Repairs

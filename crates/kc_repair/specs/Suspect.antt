@@ -10,4 +10,5 @@ pub mod Links
 pub mod NodeBytes
 pub mod Slots
 pub mod Suspects
+pub mod Tops
 pub mod Trees
