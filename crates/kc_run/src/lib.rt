@@ -9,7 +9,7 @@ mod entries;
 mod laws;
 mod nest;
 mod roots;
-mod walk;
+mod walks;
 
 pub use begin::{container_of, is_optional, null_pointer, path_of};
 pub use checks::look_checks;
@@ -18,3 +18,4 @@ pub use each::{root_at, run_each, run_root};
 pub use kc_found::ReadFailed as RunStop;
 pub use laws::know_verdicts;
 pub use roots::run;
+pub use walks::walk;

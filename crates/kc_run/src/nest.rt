@@ -14,7 +14,7 @@ ghost use Rattle.kc_run.specs.Tally.{NamesBelow, TalliesAs};
 use crate::begin::{container_of, is_optional, null_pointer, path_of};
 use crate::checks::look_checks;
 use crate::counts::count_walk;
-use crate::walk::walk;
+use crate::walks::walk;
 use kc_btf::Btf;
 use kc_found::{Asked, Counts, Space, WalkStop, stopped};
 use kc_plan::{Audit, Plan};

@@ -18,9 +18,13 @@ use kc_word::Steps;
 use std::alloc::Global;
 use std::sync::ledger::Ledger;
 
-// The nodes of a structure, or its first violation.
+/// The nodes of a structure, or its first violation.
+///
+/// # Errors
+///
+/// The structure is broken; a failed call of the store; no memory was left.
 #[tactic(auto, unfolding(kc_kinds::specs::Structures::nodes_of))]
-pub(crate) fn walk<S: Space, L: Ledger>(
+pub fn walk<S: Space, L: Ledger>(
     alloc: Global,
     btf: &Btf,
     space: &mut S,
