@@ -13,7 +13,7 @@ ghost use Rattle.kc_run.specs.Tally.{NamesBelow, TalliesAs, added};
 ghost use Rattle.kc_cert.specs.Certifying.Certified.{Makes};
 ghost use Rattle.kc_cert.specs.Rechecking.Certificates.{below_judged, judged, nodes_judged, walk_judged};
 
-use crate::certifying::collect::collect_shape;
+use crate::shapes::collect_shape;
 use crate::{CertStep, Certificate, Lists, know_walked, nodes_in};
 use kc_btf::Btf;
 use kc_found::{Asked, Counts, Space, WalkStop, Walked, stopped};
