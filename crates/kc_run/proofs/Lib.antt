@@ -3,8 +3,10 @@ mod Checking
 pub mod Counting
 pub mod Few
 pub mod Going
+pub mod Parts
 mod RootLaws
 mod Rows
 mod Showing
 mod Standing
+pub mod Tallying
 pub mod Unrolling
