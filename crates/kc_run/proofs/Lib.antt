@@ -3,6 +3,7 @@ mod Checking
 pub mod Counting
 pub mod Few
 pub mod Going
+mod Kinds
 pub mod Parts
 mod RootLaws
 mod Rows

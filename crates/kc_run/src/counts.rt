@@ -5,7 +5,7 @@ ghost use Rattle.kc_run.specs.Parts.{Tallied};
 ghost use Rattle.kc_run.specs.Tally.{added, zeros};
 
 use crate::recorder::{Known, Recorder};
-use crate::walk::walk;
+use crate::walks::walk;
 use kc_found::{Asked, AuditCount, Counts, Space, WalkStop, Walked};
 use kc_plan::{Audit, Plan};
 use kc_word::{NoMemory, Steps};

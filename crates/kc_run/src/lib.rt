@@ -10,7 +10,7 @@ mod laws;
 mod nest;
 mod recorder;
 mod roots;
-mod walk;
+mod walks;
 
 pub use begin::{container_of, is_optional, null_pointer, path_of};
 pub use checks::look_checks;
@@ -21,3 +21,4 @@ pub use laws::know_verdicts;
 pub use nest::enter_roots;
 pub use recorder::{Known, Recorder};
 pub use roots::run;
+pub use walks::walk;

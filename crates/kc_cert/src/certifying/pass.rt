@@ -2,7 +2,7 @@
 ghost use Rattle.std.specs.Prelude.{◌≡◌, ◌<◌, ◌++◌, ◌∷◌, [], length, OnOk};
 ghost use Rattle.kc_run.specs.Tally.{added};
 
-use crate::certifying::collect::collect_shape;
+use crate::shapes::collect_shape;
 use crate::{CertStep, Certificate, Lists, know_walked, nodes_in};
 use kc_found::{Asked, Counts, Space, WalkStop, Walked};
 use kc_plan::Audit;

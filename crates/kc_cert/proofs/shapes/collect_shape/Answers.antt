@@ -3,7 +3,7 @@ use Rattle.kc_kinds.specs.declared.kind.Kind.{Kind}
 use Rattle.kc_kinds.specs.declared.kind.Kind.TheVariants.{Ring, Hlist}
 use Rattle.kc_cert.specs.Certifying.Certified.{ShapesAs}
 use Rattle.kc_cert.proofs.CertifyingLemmas.Shaping.{chain_shaped, ring_shaped, single_shaped}
-use Rattle.kc_cert.proofs.certifying.collect.collect_shape.Goals as goal
+use Rattle.kc_cert.proofs.shapes.collect_shape.Goals as goal
 
 pub returns-in-Ring-clause-shape : goal.returns-in-Ring-clause-shape
 returns-in-Ring-clause-shape g c =

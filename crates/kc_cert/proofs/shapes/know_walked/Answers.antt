@@ -1,6 +1,6 @@
 use Rattle.kc_cert.proofs.FitsLemmas.Walks.{shape_walked}
 use Rattle.kc_cert.proofs.FitsLemmas.Numbers.{nodes_short}
-use Rattle.kc_cert.proofs.fits.laws.know_walked.Goals as goal
+use Rattle.kc_cert.proofs.shapes.know_walked.Goals as goal
 
 pub returns-clause-walked : goal.returns-clause-walked
 returns-clause-walked c = shape_walked (record {

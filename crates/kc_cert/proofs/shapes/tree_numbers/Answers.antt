@@ -1,6 +1,6 @@
 use Rattle.std.proofs.Common.{rules, ◌≡◌, Err}
 use Rattle.kc_cert.proofs.CertifyingLemmas.Shaping.{tree_gone, tree_shaped, tree_stops}
-use Rattle.kc_cert.proofs.certifying.collect.tree_numbers.Goals as goal
+use Rattle.kc_cert.proofs.shapes.tree_numbers.Goals as goal
 
 pub returns-in_err-nodes-clause-shape : goal.returns-in_err-nodes-clause-shape
 returns-in_err-nodes-clause-shape g c =

@@ -1,6 +1,6 @@
 use Rattle.std.proofs.Common.{rules, ◌≡◌, Err}
 use Rattle.kc_cert.proofs.CertifyingLemmas.Shaping.{tasks_shaped, tasks_stop}
-use Rattle.kc_cert.proofs.certifying.collect.task_lists.Goals as goal
+use Rattle.kc_cert.proofs.shapes.task_lists.Goals as goal
 
 pub returns-clause-shape : goal.returns-clause-shape
 returns-clause-shape g c =

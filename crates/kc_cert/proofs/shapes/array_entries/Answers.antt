@@ -1,7 +1,7 @@
 use Rattle.std.proofs.Common.{List, rules, ◌≡◌, Err}
 use Rattle.kc_found.specs.declared.xarrays.XaItem.{XaItem}
 use Rattle.kc_cert.proofs.CertifyingLemmas.Shaping.{array_gone, array_shaped, array_stops}
-use Rattle.kc_cert.proofs.certifying.collect.array_entries.Goals as goal
+use Rattle.kc_cert.proofs.shapes.array_entries.Goals as goal
 
 pub returns-in_err-xa_walk-clause-shape : goal.returns-in_err-xa_walk-clause-shape
 returns-in_err-xa_walk-clause-shape g c =

@@ -1,5 +1,5 @@
 use Rattle.kc_cert.proofs.CertifyingLemmas.Shaping.{pids_shaped}
-use Rattle.kc_cert.proofs.certifying.collect.pid_lists.Goals as goal
+use Rattle.kc_cert.proofs.shapes.pid_lists.Goals as goal
 
 pub returns-clause-shape : goal.returns-clause-shape
 returns-clause-shape g c =

@@ -1,6 +1,6 @@
 use Rattle.std.proofs.Common.{rules, ◌≡◌, Err}
 use Rattle.kc_cert.proofs.CertifyingLemmas.Shaping.{cache_shaped, cache_stops}
-use Rattle.kc_cert.proofs.certifying.collect.cache_lists.Goals as goal
+use Rattle.kc_cert.proofs.shapes.cache_lists.Goals as goal
 
 pub returns-clause-shape : goal.returns-clause-shape
 returns-clause-shape g c =
