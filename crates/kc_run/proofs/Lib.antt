@@ -3,7 +3,7 @@ mod Checking
 pub mod Counting
 pub mod Few
 pub mod Going
-mod Kinds
+mod KindLaws
 pub mod Parts
 mod RootLaws
 mod Rows

@@ -1,4 +1,4 @@
-use Rattle.kc_run.proofs.Kinds.{kind_places_stand, kinds_are_walked}
+use Rattle.kc_run.proofs.KindLaws.{kind_places_stand, kinds_are_walked}
 use Rattle.kc_run.proofs.walks.know_walks.Goals as goal
 
 pub returns-clause-walked : goal.returns-clause-walked
