@@ -1,5 +1,5 @@
 -- A clean dump has a certificate, where the walks of its plan's kinds have shapes.
-use Rattle.std.proofs.Common.{◌≡◌, ℕ, suc, nat_eq, Bool, true, false, ◌&&◌, List, [], ◌∷◌, ◌++◌, length, Some, None, refl, sym, ◌∙◌, ap, eq-eqb, append_assoc}
+use Rattle.std.proofs.Common.{◌≡◌, ℕ, suc, nat_eq, Bool, true, false, List, [], ◌∷◌, ◌++◌, length, Some, None, refl, sym, ◌∙◌, ap, append_assoc}
 use Rattle.std.specs.Prelude.{Result, Ok, Err, is_none, if◌then◌else◌}
 use Rattle.kc_memory.specs.Image.{Image}
 use Rattle.kc_memory.specs.Stopped.{Stopped}
@@ -13,13 +13,13 @@ use Rattle.kc_found.specs.Violations.{Violation}
 use Rattle.kc_list.specs.Laws.{HashChainsAreWalked, RingsAreWalked}
 use Rattle.kc_rb.specs.Laws.{TreesAreWalked}
 use Rattle.kc_kinds.specs.declared.kind.Kind.TheVariants.{Ring, Hlist, Rbtree, Xarray, Slub, Tasks, Pids}
-use Rattle.kc_plan.specs.Events.{Event, Walk, Wrong, first_wrong}
+use Rattle.kc_plan.specs.Events.{Event, Wrong, first_wrong}
 use Rattle.kc_plan.specs.Planned.{AuditAt}
 use Rattle.kc_plan.specs.Seen.{PathEnd, EndsAt, NullAt, at_element, below, checks_seen, container_of, entered, in_turn, is_optional, null_pointer, path_end, path_of, roots, seen, walked, world}
 use Rattle.kc_kinds.specs.Structures.{nodes_of}
 use Rattle.kc_plan.specs.Verdicts.{verdict}
 use Rattle.kc_run.specs.Tally.{added, tally, zeros}
-use Rattle.kc_cert.specs.RunLaws.Runs.{ends_broken, ends_clean}
+use Rattle.kc_run.proofs.Counting.{ends_broken, ends_clean}
 use Rattle.kc_cert.specs.declared.text.certificate.CertStep.{CertStep}
 use Rattle.kc_cert.specs.Fits.Fits.{all_hold, checks_hold, fits}
 use Rattle.kc_cert.specs.Rechecking.Certificates.{Judge, Judged, after_walk, answer_of, at, below_judged, each_judged, entry_judged, judged, nodes_judged, walk_judged}

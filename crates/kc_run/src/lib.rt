@@ -8,14 +8,17 @@ mod each;
 mod entries;
 mod laws;
 mod nest;
+mod recorder;
 mod roots;
 mod walks;
 
 pub use begin::{container_of, is_optional, null_pointer, path_of};
 pub use checks::look_checks;
-pub use counts::{count_walk, no_walks};
+pub use counts::{RunCounts, count_walk, no_walks};
 pub use each::{root_at, run_each, run_root};
 pub use kc_found::ReadFailed as RunStop;
 pub use laws::know_verdicts;
+pub use nest::enter_roots;
+pub use recorder::{Known, Recorder};
 pub use roots::run;
 pub use walks::walk;
