@@ -30,7 +30,7 @@ counted image shape slab = do
   u ← read_field image (looked_at slab) slab shape.inuse
   f ← read_field image (looked_at slab) slab shape.frozen
   unless (nat_eq (value_of n) 0 || nat_lt (value_of n) (value_of u)) (breaks_at (looked_at slab) U3 n None)
-    (Ok (record { objects = value_of n; inuse = u; frozen = not (nat_eq (value_of f) 0) }))
+      (Ok (record { objects = value_of n; inuse = u; frozen = not (nat_eq (value_of f) 0) }))
 
 -- the objects of its own free list
 abbrev pub own_list : Image → SlubShape → Grid → ℕ → Result (List ℕ) Violation
@@ -43,7 +43,7 @@ abbrev pub free_of : Image → SlubShape → Grid → ℕ → SlabCounted → Re
 free_of image shape grid slab n = do
   os ← own_list image shape grid slab
   unless (not (nat_eq (length os) (n.objects - value_of n.inuse))) (breaks_at (looked_at slab) U6 n.inuse (Some (n.objects - value_of n.inuse)))
-    (Ok (record { objects = n.objects; free = length os; frozen = n.frozen; guarded = false }))
+      (Ok (record { objects = n.objects; free = length os; frozen = n.frozen; guarded = false }))
 
 -- a slab of the cache that a number of its descriptor names: U4 of the descriptor, and then the counts and the list
 abbrev pub slab_free : Image → SlubShape → SlubBases → SlabObjects → ℕ → FieldNumber → Result SlabFree Violation
