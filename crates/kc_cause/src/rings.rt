@@ -242,8 +242,6 @@ pub(crate) fn push_ring<M: Space, L: Ledger>(
     match kind {
         Kind::Tasks(shape) => push_task_ring(text, over, memory, shape, found, steps),
         Kind::Slub(shape) => push_cache_ring(text, over, memory, shape, found, steps),
-        Kind::Ring(_) | Kind::Hlist(_) | Kind::Rbtree(_) | Kind::Xarray(_) | Kind::Pids(_) => Ok(
-            (),
-        ),
+        _ => Ok(()),
     }
 }

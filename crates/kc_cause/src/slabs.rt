@@ -74,11 +74,6 @@ pub(crate) fn push_slabs<M: Space, L: Ledger>(
 {
     match kind {
         Kind::Slub(_) => push_slabs_of(text, over, memory, found.start, steps),
-        Kind::Ring(_)
-        | Kind::Hlist(_)
-        | Kind::Rbtree(_)
-        | Kind::Xarray(_)
-        | Kind::Tasks(_)
-        | Kind::Pids(_) => Ok(()),
+        _ => Ok(()),
     }
 }

@@ -128,9 +128,7 @@ impl<'q> Question for Suspecting<'q> {
         match kind {
             Kind::Tasks(shape) => in_tasks(over, memory, kind, shape, found, steps),
             Kind::Slub(shape) => in_cache(over, memory, kind, shape, found, steps),
-            Kind::Ring(_) | Kind::Hlist(_) | Kind::Rbtree(_) | Kind::Xarray(_) | Kind::Pids(_) => {
-                Ok(None)
-            }
+            _ => Ok(None),
         }
     }
 }

@@ -1,5 +1,5 @@
 -- A clean dump has a certificate, where the walks of its plan's kinds have shapes.
-use Rattle.std.proofs.Common.{◌≡◌, ℕ, suc, nat_eq, Bool, true, false, ◌&&◌, List, [], ◌∷◌, ◌++◌, length, Some, None, refl, sym, ◌∙◌, ap, eq-eqb, append_assoc}
+use Rattle.std.proofs.Common.{◌≡◌, ℕ, suc, nat_eq, Bool, true, false, List, [], ◌∷◌, ◌++◌, length, Some, None, refl, sym, ◌∙◌, ap, append_assoc}
 use Rattle.std.specs.Prelude.{Result, Ok, Err, is_none, if◌then◌else◌}
 use Rattle.kc_memory.specs.Image.{Image}
 use Rattle.kc_memory.specs.Stopped.{Stopped}
@@ -12,14 +12,14 @@ use Rattle.kc_found.specs.Trials.{and_then}
 use Rattle.kc_found.specs.Violations.{Violation}
 use Rattle.kc_list.specs.Laws.{HashChainsAreWalked, RingsAreWalked}
 use Rattle.kc_rb.specs.Laws.{TreesAreWalked}
-use Rattle.kc_kinds.specs.declared.kind.Kind.TheVariants.{Xarray}
-use Rattle.kc_plan.specs.Events.{Event, Walk, Wrong, first_wrong}
+use Rattle.kc_kinds.specs.declared.kind.Kind.TheVariants.{Ring, Hlist, Rbtree, Xarray, Slub, Tasks, Pids}
+use Rattle.kc_plan.specs.Events.{Event, Wrong, first_wrong}
 use Rattle.kc_plan.specs.Planned.{AuditAt}
 use Rattle.kc_plan.specs.Seen.{PathEnd, EndsAt, NullAt, at_element, below, checks_seen, container_of, entered, in_turn, is_optional, null_pointer, path_end, path_of, roots, seen, walked, world}
 use Rattle.kc_kinds.specs.Structures.{nodes_of}
 use Rattle.kc_plan.specs.Verdicts.{verdict}
 use Rattle.kc_run.specs.Tally.{added, tally, zeros}
-use Rattle.kc_cert.specs.RunLaws.Runs.{ends_broken, ends_clean}
+use Rattle.kc_run.proofs.Counting.{ends_broken, ends_clean}
 use Rattle.kc_cert.specs.declared.text.certificate.CertStep.{CertStep}
 use Rattle.kc_cert.specs.Fits.Fits.{all_hold, checks_hold, fits}
 use Rattle.kc_cert.specs.Rechecking.Certificates.{Judge, Judged, after_walk, answer_of, at, below_judged, each_judged, entry_judged, judged, nodes_judged, walk_judged}
@@ -132,12 +132,12 @@ array_shaped i shape n start nodes (Err v) law e = let none : ⊥ = cc in absurd
 
 pub shaped : RingsAreTested → HashChainsAreTested → TreesPass → RingsAreWalked → HashChainsAreWalked → TreesAreWalked → WalksPass → CachesHaveLists → TasksHaveLists → PidsHaveLists → ShapedKinds
 unfolding is_shape nodes_of
-shaped rings chains trees ring_walks chain_walks tree_walks arrays caches tasks pids i = record {
-  rings = λ shape n start ns is. (ns ∷ [], (rings i shape start ns).0 ((ring_walks i shape n start ns).1 is), refl);
-  chains = λ shape n start ns is. (ns ∷ [], (chains i shape start ns).0 ((chain_walks i shape n start ns).1 is), refl);
-  trees = λ shape n start ns is. let t : RbTree (reads_of i) shape start ns = (tree_walks i shape n start ns).1 is in let r = trees i shape start ns t in (pre t.tree ∷ [], r.0, r.1);
-  arrays = λ shape n start ns is. array_shaped i shape n start ns (xa_judged i shape n start) (λ items e. arrays i shape n start items e) is;
-  caches = λ shape n start ns is. caches i shape n n start ns is;
-  tasks = λ shape n start ns is. tasks i shape n n start ns is;
-  pids = λ shape n start ns is. pids i shape n n start ns is;
-}
+shaped rings chains trees ring_walks chain_walks tree_walks arrays caches tasks pids i (Ring shape) n start ns is = (ns ∷ [], (rings i shape start ns).0 ((ring_walks i shape n start ns).1 is), refl)
+shaped rings chains trees ring_walks chain_walks tree_walks arrays caches tasks pids i (Hlist shape) n start ns is = (ns ∷ [], (chains i shape start ns).0 ((chain_walks i shape n start ns).1 is), refl)
+shaped rings chains trees ring_walks chain_walks tree_walks arrays caches tasks pids i (Rbtree shape) n start ns is =
+    let t : RbTree (reads_of i) shape start ns = (tree_walks i shape n start ns).1 is in
+    let r = trees i shape start ns t in (pre t.tree ∷ [], r.0, r.1)
+shaped rings chains trees ring_walks chain_walks tree_walks arrays caches tasks pids i (Xarray shape) n start ns is = array_shaped i shape n start ns (xa_judged i shape n start) (λ items e. arrays i shape n start items e) is
+shaped rings chains trees ring_walks chain_walks tree_walks arrays caches tasks pids i (Slub shape) n start ns is = caches i shape n n start ns is
+shaped rings chains trees ring_walks chain_walks tree_walks arrays caches tasks pids i (Tasks shape) n start ns is = tasks i shape n n start ns is
+shaped rings chains trees ring_walks chain_walks tree_walks arrays caches tasks pids i (Pids shape) n start ns is = pids i shape n n start ns is

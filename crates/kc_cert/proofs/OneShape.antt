@@ -1,10 +1,8 @@
 -- No structure has two shapes.
-use Rattle.std.proofs.Common.{◌≡◌, ℕ, Bool, true, List, [], ◌∷◌, refl, sym, ◌∙◌, ap, subst}
+use Rattle.std.proofs.Common.{◌≡◌, ℕ, Bool, true, List, [], ◌∷◌, refl, sym, ◌∙◌, ap}
 use Rattle.std.specs.Prelude.{Result, Ok, Err}
-use Rattle.kc_memory.specs.Image.{Image}
 use Rattle.kc_found.specs.declared.asked.Asked.{Asked}
 use Rattle.kc_found.specs.Violations.{Violation}
-use Rattle.kc_kinds.specs.declared.kind.Kind.{Kind}
 use Rattle.kc_kinds.specs.declared.kind.Kind.TheVariants.{Ring, Hlist, Rbtree, Xarray, Slub, Tasks, Pids}
 use Rattle.kc_kinds.specs.Structures.{nodes_of}
 use Rattle.kc_xa.specs.Listed.Laws.{XarraysPassOnce}
@@ -16,7 +14,7 @@ use Rattle.kc_rb.specs.Listed.Trees.{is_tree}
 use Rattle.kc_steps.specs.CachesBy.{cache_lists}
 use Rattle.kc_steps.specs.TasksBy.{task_lists}
 use Rattle.kc_cert.specs.Fits.Walked.{ShapesAreWalked}
-use Rattle.kc_cert.specs.Fits.Shapes.{is_shape, nodes_in, one_list}
+use Rattle.kc_cert.specs.Fits.Shapes.{is_shape, one_list}
 use Rattle.kc_cert.specs.Single.{ShapesAreOne}
 
 -- what came, where something did

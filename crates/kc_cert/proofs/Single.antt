@@ -1,5 +1,5 @@
 -- No two certificates fit one dump.
-use Rattle.std.proofs.Common.{◌≡◌, ℕ, zero, suc, Bool, true, false, ◌&&◌, nat_eq, List, [], ◌∷◌, ◌++◌, length, refl, sym, ◌∙◌, ap, subst, append_assoc}
+use Rattle.std.proofs.Common.{◌≡◌, ℕ, suc, Bool, true, false, ◌&&◌, nat_eq, List, [], ◌∷◌, ◌++◌, length, refl, sym, ◌∙◌, ap, subst, append_assoc}
 use Rattle.std.specs.Prelude.{Result, Ok, Err, if◌then◌else◌}
 use Rattle.std.proofs.lemmas.Bool.{and_parts, eqb-true}
 use Rattle.kc_memory.specs.Image.{Image}
@@ -9,10 +9,10 @@ use Rattle.kc_found.specs.Trials.{ok_after}
 use Rattle.kc_plan.specs.Planned.{AuditAt}
 use Rattle.kc_plan.specs.Seen.{PathEnd, EndsAt, NullAt, container_of, is_optional, path_end, path_of, roots}
 use Rattle.kc_run.specs.Tally.{added, zeros}
-use Rattle.kc_cert.specs.declared.rechecking.against.CertAnswer.TheVariants.{Yes, No}
+use Rattle.kc_cert.specs.declared.rechecking.against.CertAnswer.TheVariants.{Yes}
 use Rattle.kc_cert.specs.declared.text.certificate.CertStep.{CertStep}
 use Rattle.kc_cert.specs.Fits.Fits.{all_hold, fits}
-use Rattle.kc_cert.specs.Rechecking.Certificates.{Judge, Judged, Progress, after_walk, answer, answer_by, answer_of, below_judged, each_judged, entry_judged, judged, nodes_judged, roots_judged, walk_judged}
+use Rattle.kc_cert.specs.Rechecking.Certificates.{Judge, Judged, Progress, after_walk, answer_by, answer_of, below_judged, each_judged, entry_judged, judged, nodes_judged, roots_judged, walk_judged}
 use Rattle.kc_cert.specs.Single.{CertificatesAreOne, ShapesAreOne}
 use Rattle.kc_cert.specs.Fits.Shapes.{is_shape, nodes_in}
 

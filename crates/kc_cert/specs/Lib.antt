@@ -1,6 +1,5 @@
 pub mod Complete
 pub mod Single
-pub mod RunLaws
 pub mod Text
 pub mod Fits
 pub mod Rechecking

@@ -1,6 +1,5 @@
 //! The certificate of a clean dump: the walks of a plan's audits, in their order, with the shapes of what they met.
 
-mod collect;
 mod issue;
 mod pass;
 

@@ -2,9 +2,5 @@
 //! certificate's, so what is read of the dump is paid by the lists; nothing is searched.
 
 mod fits;
-mod laws;
-mod shape;
 
 pub use fits::test_step;
-pub use laws::know_walked;
-pub use shape::nodes_in;

@@ -2,11 +2,7 @@
 ghost use Rattle.kc_cert.specs.Complete.{CleanIsCertified, ShapedKinds};
 ghost use Rattle.kc_cert.specs.Single.{CertificatesAreOne, ShapesAreOne};
 
-use crate::know_walked;
-use kc_by_lists::{know_given_lists, know_pid_lists};
-use kc_list::{know_listed_rings, know_lists};
-use kc_rb::{know_listed_trees, know_trees};
-use kc_xa::know_entries;
+use crate::shapes::know_kinds;
 
 /// Does nothing. A clean dump has a certificate, with the counts of its verdict, where what is walked of its plan's kinds has
 /// shapes; what is walked of each kind has.
@@ -14,13 +10,7 @@ pub fn know_complete()
     ensures complete { CleanIsCertified }
     ensures kinds { ShapedKinds }
 {
-    know_entries();
-    know_given_lists();
-    know_pid_lists();
-    know_listed_rings();
-    know_listed_trees();
-    know_lists();
-    know_trees();
+    know_kinds();
 }
 
 /// Does nothing. A structure has one shape, and so a clean dump one certificate.
@@ -28,9 +18,5 @@ pub fn know_single()
     ensures shapes { ShapesAreOne }
     ensures certificates { CertificatesAreOne }
 {
-    know_walked();
-    know_listed_trees();
-    know_entries();
-    know_given_lists();
-    know_pid_lists();
+    know_kinds();
 }

@@ -21,8 +21,9 @@ use Rattle.kc_kinds.specs.declared.kind.Kind.TheVariants.{Ring, Hlist, Rbtree, X
 use Rattle.kc_plan.specs.Planned.{AuditAt}
 use Rattle.kc_plan.specs.Seen.{container_of}
 use Rattle.kc_element.specs.declared.element.Element.{Element}
-use Rattle.kc_element.specs.Elements.{at_field, by_rule, hash_at, in_kind, node_element, pid_element, ring_node, slab_element, task_element, tree_at, typed_at, xa_offset}
-use Rattle.kc_element.specs.Laws.{ElementsHold, LiesIn, byte_of, first_byte, hash_byte, kind_byte, pid_byte, ring_byte, slab_byte, task_byte, tree_byte, xa_byte}
+use Rattle.kc_element.specs.Elements.{by_rule}
+use Rattle.kc_element.specs.Kinds.{at_field, first_byte, hash_at, hash_byte, in_kind, kind_byte, node_element, pid_byte, pid_element, ring_byte, ring_node, slab_byte, slab_element, task_byte, task_element, tree_at, tree_byte, typed_at, xa_byte, xa_offset}
+use Rattle.kc_element.specs.Laws.{ElementsHold, LiesIn, byte_of}
 
 -- an address lies at such a byte of an element, where there is one
 abbrev Holds : Option ℕ → ℕ → Element → Type 0

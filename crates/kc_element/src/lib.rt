@@ -4,6 +4,7 @@
 
 mod confirmed;
 mod element;
+mod kinds;
 mod laws;
 mod number;
 

@@ -1,12 +1,10 @@
 // The number that stands where another is expected.
 ghost use Rattle.std.specs.Prelude.{◌≡◌, ◌≤◌, ◌<◌, ◌^◌, ◌/◌, ◌%◌};
-ghost use Rattle.kc_element.specs.Numbers.{bits_part, differing, field_spot, number_spot, part_in, part_of, pid_spot, slab_spot, task_spot, tree_spot, word_at, xa_spot};
+ghost use Rattle.kc_element.specs.Numbers.{bits_part, differing, part_in, part_of, word_at};
 
+use crate::kinds::number_spot;
 use kc_found::{Found, Places};
 use kc_kinds::Kind;
-use kc_layout::Field;
-use kc_memory::Rule;
-use kc_view::{PidShape, SlubShape, TaskShape};
 
 /// What stands where a number is expected.
 #[derive(Clone, Copy, Debug, PartialEq, Eq)]
@@ -35,94 +33,6 @@ pub(crate) enum Spot {
     Parent,
     // It has so many bits, from a bit of the byte at the violation's address on.
     Bits { bit: u8, width: u8 },
-}
-
-// Where the number of a field stands.
-fn field_spot(field: &Field) -> Spot
-    ensures { result ≡ field_spot field.now }
-{
-    Spot::Bits {
-        bit: (field.bits.bit % 8) as u8,
-        width: field.bits.width,
-    }
-}
-
-// What a rule of a red-black tree is about.
-fn tree_spot(rule: Rule) -> Option<Spot>
-    ensures { result ≡ tree_spot rule }
-{
-    match rule {
-        Rule::R1 => Some(Spot::Parent),
-        Rule::R2 | Rule::R3 | Rule::R6 => Some(Spot::Word),
-        _ => None,
-    }
-}
-
-// What a rule of an xarray is about.
-fn xa_spot(rule: Rule) -> Option<Spot>
-    ensures { result ≡ xa_spot rule }
-{
-    match rule {
-        Rule::X1 | Rule::X2 | Rule::X5 | Rule::X6 => Some(Spot::Bits { bit: 0, width: 8 }),
-        Rule::X3 | Rule::X4 => Some(Spot::Word),
-        _ => None,
-    }
-}
-
-// What a rule of a slab cache is about.
-fn slab_spot(shape: &SlubShape, rule: Rule) -> Option<Spot>
-    ensures { result ≡ slab_spot shape.now rule }
-{
-    match rule {
-        Rule::L1 => Some(Spot::Word),
-        Rule::U1 => Some(field_spot(&shape.slab_cache)),
-        Rule::U2 => Some(field_spot(&shape.frozen)),
-        Rule::U7 => Some(field_spot(&shape.nr_partial)),
-        _ => None,
-    }
-}
-
-// What a rule of tasks is about.
-fn task_spot(shape: &TaskShape, rule: Rule) -> Option<Spot>
-    ensures { result ≡ task_spot shape.now rule }
-{
-    match rule {
-        Rule::L1 | Rule::T6 => Some(Spot::Word),
-        Rule::T1 => Some(field_spot(&shape.group_leader)),
-        Rule::T2 => Some(field_spot(&shape.pid)),
-        Rule::T3 => Some(field_spot(&shape.signal)),
-        Rule::T4 => Some(field_spot(&shape.tgid)),
-        Rule::T5 => Some(field_spot(&shape.real_parent)),
-        _ => None,
-    }
-}
-
-// What a rule of process ids is about.
-fn pid_spot(shape: &PidShape, rule: Rule) -> Option<Spot>
-    ensures { result ≡ pid_spot shape.now rule }
-{
-    match rule {
-        Rule::H1 => Some(Spot::Word),
-        Rule::G1 => Some(field_spot(&shape.nr)),
-        Rule::G2 => Some(field_spot(&shape.thread_pid)),
-        _ => xa_spot(rule),
-    }
-}
-
-// What a rule is about that asks for a number, by the kind of the audit.
-fn number_spot(kind: &Kind, rule: Rule) -> Option<Spot>
-    ensures { result ≡ number_spot kind.now rule }
-{
-    match kind {
-        Kind::Ring(_) if rule == Rule::L1 => Some(Spot::Word),
-        Kind::Hlist(_) if rule == Rule::H1 => Some(Spot::Word),
-        Kind::Ring(_) | Kind::Hlist(_) => None,
-        Kind::Rbtree(_) => tree_spot(rule),
-        Kind::Xarray(_) => xa_spot(rule),
-        Kind::Slub(shape) => slab_spot(shape, rule),
-        Kind::Tasks(shape) => task_spot(shape, rule),
-        Kind::Pids(shape) => pid_spot(shape, rule),
-    }
 }
 
 // So many bits of a word, from one on.

@@ -9,6 +9,7 @@ pub mod Modules
 pub mod Marked
 pub mod Places
 pub mod Reading
+pub mod RowLaws
 pub mod Symbols
 pub mod Tables
 pub mod Types

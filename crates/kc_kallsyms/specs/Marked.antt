@@ -1,5 +1,5 @@
 -- The first symbols of some names.
-use Rattle.std.specs.Prelude.{◌≡◌, ℕ, List, [], codes, Option, Some, None, refl}
+use Rattle.std.specs.Prelude.{◌≡◌, ℕ, List, codes, Option}
 use Rattle.std.specs.Option.{option_or}
 use Rattle.kc_kallsyms.specs.declared.fault.ModuleList.{ModuleList}
 use Rattle.kc_kallsyms.specs.declared.fault.ModuleList.TheVariants.{Loaded, Typed}
@@ -23,10 +23,3 @@ pub record MarksFrom (first now : Marks) (symbols : List Symbol) : Type 0 where
 abbrev pub head_in : Marks → ModuleList → Option ℕ
 head_in marks Loaded = marks.loaded
 head_in marks Typed = marks.typed
-
-as_known : (known : Option ℕ) → known ≡ option_or known None
-as_known None = refl
-as_known (Some n) = refl
-
-pub marks_none : (rows : Marks) → MarksFrom rows rows []
-marks_none rows = record { text = as_known rows.text; processors = as_known rows.processors; start = as_known rows.start; end = as_known rows.end; loaded = as_known rows.loaded; typed = as_known rows.typed }

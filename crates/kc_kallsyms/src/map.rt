@@ -1,7 +1,8 @@
 // The rows of a map.
 ghost use Rattle.std.specs.Prelude.{◌≡◌, ◌++◌, OnOk};
-ghost use Rattle.kc_kallsyms.specs.Lined.{LinesFrom, lines_none};
+ghost use Rattle.kc_kallsyms.specs.Lined.{LinesFrom};
 ghost use Rattle.kc_kallsyms.specs.Map.{line};
+ghost use Rattle.kc_kallsyms.specs.RowLaws.{lines_none};
 ghost use Rattle.kc_kallsyms.specs.Views.{symbol_view};
 
 use crate::frame::RowFrame;

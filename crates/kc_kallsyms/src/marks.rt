@@ -2,7 +2,8 @@
 ghost use Rattle.std.specs.Prelude.{◌≡◌, ◌++◌, ◌∷◌, [], codes};
 ghost use Rattle.std.specs.Option.{option_or};
 ghost use Rattle.kc_kallsyms.specs.Addresses.{offset_of};
-ghost use Rattle.kc_kallsyms.specs.Marked.{MarksFrom, head_in, marks_none};
+ghost use Rattle.kc_kallsyms.specs.Marked.{MarksFrom, head_in};
+ghost use Rattle.kc_kallsyms.specs.RowLaws.{marks_none};
 ghost use Rattle.kc_kallsyms.specs.Views.{symbol_view};
 
 use crate::fault::ModuleList;

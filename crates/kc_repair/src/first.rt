@@ -10,15 +10,10 @@ ghost use Rattle.kc_repair.specs.Suspect.Answers.{OnlyReads};
 use crate::outcome::Breach;
 use crate::trial::RootAudit;
 use kc_btf::Btf;
-use kc_found::{Asked, Found, ReadFailed, Space, WalkStop};
+use kc_found::{Asked, Found, ReadFailed, Space, WalkStop, Walked};
 use kc_kinds::Kind;
-use kc_list::{hchain, ring};
-use kc_pid::pids_walk;
-use kc_rb::rb_walk;
-use kc_slub::cache_walk;
-use kc_task::tasks_walk;
+use kc_run::walk;
 use kc_word::Steps;
-use kc_xa::xa_walk;
 use std::alloc::Global;
 use std::sync::ledger::Ledger;
 
@@ -43,7 +38,7 @@ pub struct Breaking {
 }
 
 // What a walk found broken.
-fn wrong_in<T: Drop>(walked: Result<T, WalkStop>) -> Result<Option<Found>, ReadFailed>
+fn wrong_in(walked: Result<Walked, WalkStop>) -> Result<Option<Found>, ReadFailed>
     ensures { EndsAs walked result }
 {
     match walked {
@@ -59,25 +54,14 @@ fn found_by<M: Space, L: Ledger>(
     alloc: Global,
     types: &Btf,
     memory: &mut M,
-    walk: &FirstWalk,
+    first: &FirstWalk,
     steps: &mut Steps<L>,
 ) -> Result<Option<Found>, ReadFailed>
-    requires { KindInside (length types.now.records) walk.now.kind }
-    ensures exact { IfOk result (λ found. IfSome (M.image memory.old) (λ image. found_by image walk.now ≡ found)) }
+    requires { KindInside (length types.now.records) first.now.kind }
+    ensures exact { IfOk result (λ found. IfSome (M.image memory.old) (λ image. found_by image first.now ≡ found)) }
     ensures reads { OnlyReads M.image M.files M.through M.most M.faults result memory.old memory.new }
 {
-    let Asked { audit, start } = walk.asked;
-    match &walk.kind {
-        Kind::Ring(shape) => wrong_in(ring(alloc, memory, shape, start, audit, steps)),
-        Kind::Hlist(shape) => wrong_in(hchain(alloc, memory, shape, start, audit, steps)),
-        Kind::Rbtree(shape) => wrong_in(rb_walk(alloc, memory, shape, start, audit, steps)),
-        Kind::Xarray(shape) => wrong_in(xa_walk(alloc, memory, shape, start, audit, steps)),
-        Kind::Slub(shape) => wrong_in(cache_walk(alloc, memory, types, shape, start, audit, steps)),
-        Kind::Tasks(shape) => wrong_in(tasks_walk(
-            alloc, memory, types, shape, start, audit, steps,
-        )),
-        Kind::Pids(shape) => wrong_in(pids_walk(alloc, memory, types, shape, start, audit, steps)),
-    }
+    wrong_in(walk(alloc, types, memory, &first.kind, &first.asked, steps))
 }
 
 /// What a walk finds broken, where one is made.
@@ -145,8 +129,8 @@ fn walked_kind(audit: &RootAudit<'_>, kind: &Kind, number: u32) -> Option<Kind>
     ensures inside { IfSome result (KindInside (length audit.now.types.now.records)) }
 {
     match kind {
-        Kind::Ring(_) | Kind::Hlist(_) | Kind::Rbtree(_) | Kind::Xarray(_) => Some(*kind),
         Kind::Slub(_) | Kind::Tasks(_) | Kind::Pids(_) => planned_kind(audit, number),
+        _ => Some(*kind),
     }
 }
 

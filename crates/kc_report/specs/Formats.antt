@@ -1,4 +1,4 @@
--- The formats of a report's lines.
+-- The formats of a report's lines. In a `do` block each line is a text, or a value with its text; the last one is a value's.
 use Rattle.std.specs.Prelude.{◌≡◌, ℕ, zero, suc, ◌⊎◌, Bool, true, false, nat_lt, List, [], ◌∷◌, length, codes, All, Option, Some, None, Result, Ok, Err, IsTrue}
 use Rattle.std.proofs.Common.{inl, inr}
 use Rattle.kc_memory.specs.declared.rule.Rule.{Rule}
@@ -14,7 +14,7 @@ use Rattle.kc_text.specs.Format.{Format}
 use Rattle.kc_text.specs.Text.{hex}
 use Rattle.kc_text.specs.Reading.{and_then}
 use Rattle.kc_text.specs.Readers.{literal, name_and, decimal_and, decimal_below, hex16, digit_from}
-use Rattle.kc_text.specs.Compose.{both, mapped, nothing, either, after, followed, lines, texts}
+use Rattle.kc_text.specs.Compose.{both as ◌>>=◌, after as ◌>>◌, mapped, nothing, either, after, followed, lines, texts}
 use Rattle.kc_report.specs.IsReport.{Keeps, report_text}
 use Rattle.kc_report.specs.Lines.{address_text, origin_text, place_line}
 use Rattle.kc_report.specs.Report.{AuditLine, BrokenLines, IsNumber, IsOrigin, IsStopNumber, IsLine, IsShown, IsBroken, stop_levels, is_stop_at}
@@ -22,10 +22,16 @@ use Rattle.kc_report.specs.ReportText.{audit_line, expected_text, stop_lines, br
 use Rattle.kc_report.specs.Roots.{RootLines, KeepsResult, IsRoot, IsEach, result_text, root_text, each_text}
 
 abbrev pub line_of : List ℕ × (ℕ × ℕ) → AuditLine
-line_of p = record { name = p.0; walks = p.1.0; elements = p.1.1 }
+line_of (name, (walks, elements)) = record { name = name; walks = walks; elements = elements }
 
 abbrev pub line_parts : Format (List ℕ × (ℕ × ℕ))
-line_parts = after (codes "audit ") (both (name_and 32) (λ _. after (codes "walks ") (both (decimal_and 32) (λ _. after (codes "elements ") (decimal_and 10)))))
+line_parts = do
+  codes "audit "
+  name ← name_and 32
+  codes "walks "
+  walks ← decimal_and 32
+  codes "elements "
+  decimal_and 10
 
 abbrev pub line_format : Format AuditLine
 line_format = mapped line_of IsLine audit_line line_parts
@@ -60,18 +66,28 @@ abbrev pub origin_format : Format Origin
 origin_format = mapped origin_of IsOrigin origin_text offset_format
 
 abbrev pub place_of : Option ℕ × (ℕ × (Origin × ℕ)) → Place
-place_of p = record { va = p.0; pa = p.1.0; off = p.1.1.0; value = p.1.1.1 }
+place_of (va, (pa, (off, value))) = record { va = va; pa = pa; off = off; value = value }
 
 abbrev pub place_parts : Format (Option ℕ × (ℕ × (Origin × ℕ)))
-place_parts =
-    after (codes "place ") (both address_format (λ _.
-    after (codes " ") (both hex16 (λ _. after (codes " ") (both origin_format (λ _. after (codes " ") (followed hex16 (codes "\n"))))))))
+place_parts = do
+  codes "place "
+  va ← address_format
+  codes " "
+  pa ← hex16
+  codes " "
+  off ← origin_format
+  codes " "
+  followed hex16 (codes "\n")
 
 abbrev pub place_format : Format Place
 place_format = mapped place_of IsShown place_line place_parts
 
 abbrev pub stop_parts : ℕ × ℕ → Format (ℕ × ℕ)
-stop_parts levels = after (codes "stop ") (both (digit_from levels.0 levels.1) (λ _. after (codes " ") (followed hex16 (codes "\n"))))
+stop_parts levels = do
+  codes "stop "
+  level ← digit_from levels.0 levels.1
+  codes " "
+  followed hex16 (codes "\n")
 
 -- a stop of one of these levels, or where there are none nothing
 abbrev pub stop_format : Option (ℕ × ℕ) → Format (Option (ℕ × ℕ))
@@ -87,24 +103,30 @@ abbrev pub Parts : Type 0
 Parts = List ℕ × (ℕ × (Rule × (ℕ × (Option ℕ × (Option (ℕ × ℕ) × List Place)))))
 
 abbrev pub broken_of : Parts → BrokenLines
-broken_of p = record {
-  audit = p.0;
-  start = p.1.0;
-  rule = p.1.1.0;
-  at = p.1.1.1.0;
-  expected = p.1.1.1.1.0;
-  stop = p.1.1.1.1.1.0;
-  places = p.1.1.1.1.1.1;
+broken_of (audit, (start, (rule, (at, (expected, (stop, places)))))) = record {
+  audit = audit;
+  start = start;
+  rule = rule;
+  at = at;
+  expected = expected;
+  stop = stop;
+  places = places;
 }
 
 abbrev pub broken_parts : Bool → Format Parts
-broken_parts more =
-    after (codes "broken\naudit ") (both (name_and 10) (λ _.
-    after (codes "start ") (both (followed hex16 (codes "\n")) (λ _.
-    after (codes "rule ") (both (followed rule_format (codes "\n")) (λ rule.
-    after (codes "at ") (both (followed hex16 (codes "\n")) (λ _.
-    after (codes "expected ") (both (followed expected_format (codes "\n")) (λ _.
-    both (stop_format (stop_levels rule)) (λ _. lines (end_of more) place_format)))))))))))
+broken_parts more = do
+  codes "broken\naudit "
+  audit ← name_and 10
+  codes "start "
+  start ← followed hex16 (codes "\n")
+  codes "rule "
+  rule ← followed rule_format (codes "\n")
+  codes "at "
+  at ← followed hex16 (codes "\n")
+  codes "expected "
+  expected ← followed expected_format (codes "\n")
+  stop ← stop_format (stop_levels rule)
+  lines (end_of more) place_format
 
 abbrev pub broken_format : Bool → Format BrokenLines
 broken_format more = mapped broken_of IsBroken broken_lines (broken_parts more)
@@ -121,10 +143,16 @@ abbrev pub result_format : Bool → Format RootResult
 result_format more = mapped result_of KeepsResult result_text (either (clean_format more) (broken_format more))
 
 abbrev pub root_of : List ℕ × RootResult → RootLines
-root_of p = record { name = p.0; verdict = p.1 }
+root_of (name, verdict) = record { name = name; verdict = verdict }
+
+abbrev pub root_parts : Bool → Format (List ℕ × RootResult)
+root_parts more = do
+  codes "root "
+  name ← name_and 32
+  result_format more
 
 abbrev pub root_format : Bool → Format RootLines
-root_format more = mapped root_of IsRoot root_text (after (codes "root ") (both (name_and 32) (λ _. result_format more)))
+root_format more = mapped root_of IsRoot root_text (root_parts more)
 
 -- so many roots, to the end of the bytes
 abbrev pub read_end : List ℕ → Result (List RootLines × List ℕ) (List ℕ)
@@ -144,7 +172,10 @@ roots_format many = record {
 }
 
 abbrev pub each_format : Format (List RootLines)
-each_format = mapped (λ p. p.1) IsEach each_text (after (codes "roots ") (both (decimal_below 257 10) roots_format))
+each_format = mapped (λ p. p.1) IsEach each_text do
+  codes "roots "
+  many ← decimal_below 257 10
+  roots_format many
 
 -- a report of each of its forms
 abbrev pub report_from : RootResult ⊎ List RootLines → Report

@@ -15,8 +15,6 @@ use Rattle.kc_view.specs.Typed.{bytes_on}
 use Rattle.kc_memory.specs.Translation.{and_then}
 use Rattle.kc_found.specs.declared.asked.Asked.{Asked}
 use Rattle.kc_found.specs.Violations.{Violation}
-use Rattle.kc_kinds.specs.declared.kind.Kind.{Kind}
-use Rattle.kc_kinds.specs.declared.kind.Kind.TheVariants.{Ring, Hlist, Rbtree, Xarray, Slub, Tasks, Pids}
 use Rattle.kc_plan.specs.Checks.{checked, numbers_of, value_of, words_of}
 use Rattle.kc_plan.specs.Events.{Event, Walk, Wrong, first_wrong, verdict_of}
 use Rattle.kc_plan.specs.Planned.{AuditAt, CheckAt}
@@ -24,14 +22,7 @@ use Rattle.kc_kinds.specs.Structures.{nodes_of}
 use Rattle.kc_plan.specs.Seen.{PathEnd, EndsAt, NullAt, world, path_end, path_of, is_optional, unless_null, container_of, in_turn, below, checks_seen, number_at, at_element, walked, entered, seen, roots, all_seen}
 use Rattle.kc_plan.specs.Roots.{reached_from, root_seen, verdict_among}
 use Rattle.kc_plan.specs.Verdicts.{verdict_places}
-use Rattle.kc_list.specs.Laws.{HashPlacesStand, RingPlacesStand}
-use Rattle.kc_pid.specs.Laws.{PidPlacesStand}
-use Rattle.kc_rb.specs.Laws.{TreePlacesStand}
-use Rattle.kc_slub.specs.Laws.{CachePlacesStand}
-use Rattle.kc_task.specs.Laws.{TaskPlacesStand}
-use Rattle.kc_xa.specs.Laws.{XarrayPlacesStand}
-use Rattle.kc_run.specs.Laws.{RootVerdictsStand, VerdictsStand}
-use Rattle.kc_run.proofs.Arrays.{array_shows}
+use Rattle.kc_run.specs.Laws.{KindPlacesStand, RootVerdictsStand, VerdictsStand}
 
 -- the violations that are seen do
 AllSeen : Image → List Event → Type 0
@@ -76,27 +67,11 @@ end_stands numbers image at (offset ∷ offsets) byte =
     on_stands image (bytes_on at offset) (pointer image at offset) (λ next. path_end image next offsets byte)
     (numbers image (bytes_on at offset) 0 64 false) (λ next. end_stands numbers image next offsets byte)
 
--- what numbers, fields and the walks of each kind show
+-- what numbers, fields and walks show
 pub record PlaceLaws : Type 0 where
   pub numbers : NumbersStand
   pub values : ValuesStand
-  pub rings : RingPlacesStand
-  pub chains : HashPlacesStand
-  pub trees : TreePlacesStand
-  pub arrays : XarrayPlacesStand
-  pub caches : CachePlacesStand
-  pub tasks : TaskPlacesStand
-  pub pids : PidPlacesStand
-
-nodes_show : PlaceLaws → (image : Image) (kind : Kind) (n start : ℕ) (v : Violation) → nodes_of image kind n start ≡ Err v → AllStandIn image v.places
-unfolding nodes_of
-nodes_show laws image (Ring shape) n start v is = laws.rings image shape n start v is
-nodes_show laws image (Hlist shape) n start v is = laws.chains image shape n start v is
-nodes_show laws image (Rbtree shape) n start v is = laws.trees image shape n start v is
-nodes_show laws image (Xarray shape) n start v is = array_shows laws.arrays image shape n start v is
-nodes_show laws image (Slub shape) n start v is = laws.caches image shape n start v is
-nodes_show laws image (Tasks shape) n start v is = laws.tasks image shape n start v is
-nodes_show laws image (Pids shape) n start v is = laws.pids image shape n start v is
+  pub kinds : KindPlacesStand
 
 -- the numbers of fields
 NumbersShow : Image → Result (List Number) Stopped → Type 0
@@ -145,7 +120,7 @@ unfolding AllSeen EndStands
 entered_shows laws image n a go base (Err s) here further = (here, tt)
 entered_shows laws image n a go base (Ok (NullAt place at)) here further = one_of image (is_optional a.start) [] _ tt ((here, tt), tt)
 entered_shows laws image n a go base (Ok (EndsAt start)) here further =
-    walked_shows laws.values image n a start go (nodes_of image a.kind n start) (nodes_show laws image a.kind n start) further
+    walked_shows laws.values image n a start go (nodes_of image a.kind n start) (laws.kinds image a.kind n start) further
 
 seen_shows : PlaceLaws → (image : Image) (audits : List AuditAt) (k m base : ℕ) → AllSeen image (seen (world image) audits k m base)
 unfolding AllSeen seen

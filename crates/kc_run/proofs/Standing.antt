@@ -9,9 +9,7 @@ use Rattle.kc_found.specs.declared.asked.Asked.{Asked}
 use Rattle.kc_found.specs.declared.verdict.Verdict.{Verdict}
 use Rattle.kc_found.specs.Violations.{Violation}
 use Rattle.kc_expr.specs.Values.{is_true}
-use Rattle.kc_list.specs.Laws.{HashChainsAreWalked, RingsAreWalked}
 use Rattle.kc_kinds.specs.declared.kind.Kind.{Kind}
-use Rattle.kc_kinds.specs.declared.kind.Kind.TheVariants.{Ring, Hlist, Rbtree, Xarray, Slub, Tasks, Pids}
 use Rattle.kc_plan.specs.Checks.{CheckHolds, checked, numbers_of, value_of}
 use Rattle.kc_plan.specs.Events.{Event, Walk, Wrong, first_wrong, verdict_of}
 use Rattle.kc_plan.specs.Planned.{AuditAt, CheckAt}
@@ -20,13 +18,7 @@ use Rattle.kc_plan.specs.Seen.{PathEnd, EndsAt, NullAt, world, path_end, path_of
 use Rattle.kc_plan.specs.Stands.{ElementStands, WalkStands, EnterStands, PlanStands, Stands}
 use Rattle.kc_plan.specs.Roots.{reached_from, root_seen, verdict_among}
 use Rattle.kc_plan.specs.Verdicts.{IsClean, verdict}
-use Rattle.kc_pid.specs.Laws.{PidsAreWalked}
-use Rattle.kc_rb.specs.Laws.{TreesAreWalked}
-use Rattle.kc_slub.specs.Laws.{CachesAreWalked}
-use Rattle.kc_task.specs.Laws.{TasksAreWalked}
-use Rattle.kc_xa.specs.Laws.{XarraysAreWalked}
-use Rattle.kc_run.specs.Laws.{CleanRootsStand, CleanWhereStanding}
-use Rattle.kc_run.proofs.Arrays.{array_complete, array_sound}
+use Rattle.kc_run.specs.Laws.{CleanRootsStand, CleanWhereStanding, KindsAreWalked}
 
 -- no violation is seen
 NoneWrong : List Event → Type 0
@@ -59,6 +51,12 @@ turn_clean see P (x ∷ xs) go s = none_whole (see x) (in_turn see xs) (go x s.0
 record Kinds (image : Image) : Type 0 where
   sound : (kind : Kind) (n start : ℕ) (nodes : List ℕ) → nodes_of image kind n start ≡ Ok nodes → Holds image kind start nodes
   complete : (kind : Kind) (n start : ℕ) (nodes : List ℕ) → Holds image kind start nodes → nodes_of image kind n start ≡ Ok nodes
+
+kinds_of : KindsAreWalked → (image : Image) → Kinds image
+kinds_of law image = record {
+  sound = λ kind n start nodes is. (law image kind n start nodes).1 is;
+  complete = λ kind n start nodes holds. (law image kind n start nodes).0 holds;
+}
 
 -- what is seen from an address, and that it stands there
 abbrev Going : Type 0
@@ -185,50 +183,18 @@ is_among_none numbers all [] c = tt
 is_among_none numbers all (Walk m size ∷ es) c = is_among_none numbers all es c
 is_among_none numbers all (Wrong v ∷ es) c = absurd c
 
--- the law of each kind
-pub record WalkLaws : Type 0 where
-  pub rings : RingsAreWalked
-  pub chains : HashChainsAreWalked
-  pub trees : TreesAreWalked
-  pub arrays : XarraysAreWalked
-  pub caches : CachesAreWalked
-  pub tasks : TasksAreWalked
-  pub pids : PidsAreWalked
-
-kinds_of : WalkLaws → (image : Image) → Kinds image
-unfolding nodes_of Holds
-kinds_of laws image = record { sound = sound; complete = complete }
-  where
-    sound : (kind : Kind) (n start : ℕ) (nodes : List ℕ) → nodes_of image kind n start ≡ Ok nodes → Holds image kind start nodes
-    sound (Ring shape) n start nodes is = (laws.rings image shape n start nodes).1 is
-    sound (Hlist shape) n start nodes is = (laws.chains image shape n start nodes).1 is
-    sound (Rbtree shape) n start nodes is = (laws.trees image shape n start nodes).1 is
-    sound (Xarray shape) n start nodes is = array_sound laws.arrays image shape n start nodes is
-    sound (Slub shape) n start nodes is = (laws.caches image shape n start nodes).1 is
-    sound (Tasks shape) n start nodes is = (laws.tasks image shape n start nodes).1 is
-    sound (Pids shape) n start nodes is = (laws.pids image shape n start nodes).1 is
-
-    complete : (kind : Kind) (n start : ℕ) (nodes : List ℕ) → Holds image kind start nodes → nodes_of image kind n start ≡ Ok nodes
-    complete (Ring shape) n start nodes holds = (laws.rings image shape n start nodes).0 holds
-    complete (Hlist shape) n start nodes holds = (laws.chains image shape n start nodes).0 holds
-    complete (Rbtree shape) n start nodes holds = (laws.trees image shape n start nodes).0 holds
-    complete (Xarray shape) n start nodes holds = array_complete laws.arrays image shape n start nodes holds
-    complete (Slub shape) n start nodes holds = (laws.caches image shape n start nodes).0 holds
-    complete (Tasks shape) n start nodes holds = (laws.tasks image shape n start nodes).0 holds
-    complete (Pids shape) n start nodes holds = (laws.pids image shape n start nodes).0 holds
-
-pub clean_where_standing : WalkLaws → CleanWhereStanding
-clean_where_standing laws image plan =
-    let kinds = kinds_of laws image in
+pub clean_where_standing : KindsAreWalked → CleanWhereStanding
+clean_where_standing law image plan =
+    let kinds = kinds_of law image in
     let see = λ (r : ℕ × ℕ). seen (world image) plan 0 r.0 r.1 in
     let Stand = λ (r : ℕ × ℕ). Stands image plan 0 r.0 r.1 in (
       λ c. turn_stands see Stand (roots 0 plan) (λ r d. clean_stands image plan 0 r.0 r.1 kinds d) (none_is (length plan) (all_seen (world image) plan) (all_seen (world image) plan) c),
       λ s. is_none (length plan) (all_seen (world image) plan) (all_seen (world image) plan) (turn_clean see Stand (roots 0 plan) (λ r d. stands_clean image plan 0 r.0 r.1 kinds d) s),
     )
 
-pub clean_roots_stand : WalkLaws → CleanRootsStand
-clean_roots_stand laws image audits r =
-    let kinds = kinds_of laws image in
+pub clean_roots_stand : KindsAreWalked → CleanRootsStand
+clean_roots_stand law image audits r =
+    let kinds = kinds_of law image in
     let es = root_seen (world image) audits r in (
       λ c. clean_stands image audits 0 r.0 r.1 kinds (among_is (reached_from r.0 audits) es es c),
       λ s. is_among_none (reached_from r.0 audits) es es (stands_clean image audits 0 r.0 r.1 kinds s),

@@ -14,9 +14,10 @@ ghost use Rattle.kc_run.specs.Each.{AddsRoots, asked_root, root_at};
 ghost use Rattle.kc_run.specs.Tally.{counts_at};
 ghost use Rattle.kc_found.specs.Failures.{CountsFailures};
 
-use crate::counts::no_walks;
+use crate::counts::{RunCounts, no_walks};
 use crate::laws::know_verdicts;
-use crate::nest::{Known, enter};
+use crate::nest::enter;
+use crate::recorder::Known;
 use kc_btf::Btf;
 use kc_found::{
     Asked, Audits, Counts, ReadFailed, RootVerdict, Space, Verdict, Verdicts, WalkStop,
@@ -91,12 +92,13 @@ fn judged<S: Space, L: Ledger>(
     ensures stays { SpaceStays S.image S.files S.through S.most space.old space.new }
     ensures cause { CountsFailures result (S.faults space.old) (S.faults space.new) }
 {
-    let mut counts = match no_walks(known.alloc, known.plan) {
+    let counts = match no_walks(known.alloc, known.plan) {
         Ok(counts) => counts,
         Err(NoMemory) => return Err(ReadFailed::NoMemory),
     };
-    match enter(known, space, &mut counts, root, steps) {
-        Ok(()) => match counts_at(known.alloc, &counts, audits) {
+    let mut counting = RunCounts { counts };
+    match enter(known, space, &mut counting, root, steps) {
+        Ok(()) => match counts_at(known.alloc, &counting.counts, audits) {
             Ok(counts) => Ok(Verdict::Clean(counts)),
             Err(NoMemory) => Err(ReadFailed::NoMemory),
         },

@@ -1,61 +1,50 @@
-// Audits, and those below their elements.
-ghost use Rattle.std.specs.Prelude.{◌≡◌, ◌<◌, length, IsTrue};
+// Audits, and those below their elements, whatever goes along with them.
+ghost use Rattle.std.specs.Prelude.{◌<◌, length, IsTrue};
 ghost use Rattle.kc_memory.specs.Stays.{SpaceStays};
 ghost use Rattle.kc_found.specs.Walks.{CountsWalkFaults};
 ghost use Rattle.kc_kinds.specs.Inside.{KindInside};
 ghost use Rattle.kc_plan.specs.Inside.{AreInside};
 ghost use Rattle.kc_plan.specs.Kept.{are_between};
-ghost use Rattle.kc_kinds.specs.Structures.{nodes_of};
-ghost use Rattle.kc_plan.specs.Seen.{at_element, seen, walked, world};
 ghost use Rattle.kc_plan.specs.Planned.{audit_seen};
+ghost use Rattle.kc_plan.specs.Seen.{roots};
 ghost use Rattle.kc_plan.specs.Views.{plan_seen};
-ghost use Rattle.kc_run.specs.Tally.{NamesBelow, TalliesAs};
+ghost use Rattle.kc_run.specs.Parts.{Element, Enter, Look, roots_part};
+ghost use Rattle.kc_run.specs.Tally.{NamesBelow};
 
 use crate::begin::{container_of, is_optional, null_pointer, path_of};
 use crate::checks::look_checks;
-use crate::counts::count_walk;
-use crate::walk::walk;
-use kc_btf::Btf;
-use kc_found::{Asked, Counts, Space, WalkStop, stopped};
-use kc_plan::{Audit, Plan};
+use crate::recorder::{Known, Recorder};
+use kc_found::{Asked, Space, WalkStop, stopped};
+use kc_plan::{Audit, Start};
 use kc_view::{Led, View};
 use kc_word::Steps;
-use std::alloc::Global;
 use std::sync::ledger::Ledger;
 
 // The number of no type: a path is followed by its offsets alone.
 const NO_TYPE: u32 = 0;
 
-// A plan, the types that it was read with, and what its audits take memory of.
-#[derive(Clone, Copy)]
-pub(crate) struct Known<'p> {
-    pub alloc: Global,
-    pub plan: &'p Plan,
-    pub btf: &'p Btf,
-}
-
 // Makes an audit, whose path is followed from a base.
 #[cycle(nested)]
-pub(crate) fn enter<S: Space, L: Ledger>(
+pub(crate) fn enter<R: Recorder, S: Space, L: Ledger>(
     known: &Known<'_>,
     space: &mut S,
-    counts: &mut Counts,
+    recorder: &mut R,
     base: &Asked,
     steps: &mut Steps<L>,
 ) -> Result<(), WalkStop>
     requires inside { base.now.audit < length known.now.plan.now.audits }
     requires types { AreInside (length known.now.btf.now.records) known.now.plan.now.audits }
-    requires counted { length counts.old ≡ length known.now.plan.now.audits }
+    requires ready { R.Ready (length known.now.plan.now.audits) recorder.old }
 
-    ensures tally { TalliesAs
-        (λ image. seen (world image) (plan_seen known.now.plan.now) 0 base.now.audit base.now.start)
-        counts.old counts.new (S.image space.old) result }
-    ensures size { length counts.new ≡ length counts.old }
+    ensures means { R.Means (S.image space.old) (plan_seen known.now.plan.now)
+        (Enter base.now.audit base.now.start) recorder.old recorder.new result }
+    ensures ready { R.Ready (length known.now.plan.now.audits) recorder.new }
     ensures named { NamesBelow result (length known.now.plan.now.audits) }
 
     ensures stays { SpaceStays S.image S.files S.through S.most space.old space.new }
     ensures cause { CountsWalkFaults result (S.faults space.old) (S.faults space.new) }
 {
+    R::know_parts();
     let audit = known.plan.audit(base.audit);
     let to = path_of(&audit.start);
     let view = View::new(known.btf, NO_TYPE, base.start);
@@ -65,7 +54,7 @@ pub(crate) fn enter<S: Space, L: Ledger>(
                 audit: base.audit,
                 start: start.at(),
             };
-            look(known, space, counts, audit, &asked, steps)
+            look(known, space, recorder, audit, &asked, steps)
         }
         Ok(Led::Null(place, at)) => {
             if is_optional(&audit.start) {
@@ -80,46 +69,43 @@ pub(crate) fn enter<S: Space, L: Ledger>(
 
 // Walks an audit from its start, and then makes the audits below its elements, one by one.
 #[cycle(nested)]
-fn look<S: Space, L: Ledger>(
+fn look<R: Recorder, S: Space, L: Ledger>(
     known: &Known<'_>,
     space: &mut S,
-    counts: &mut Counts,
+    recorder: &mut R,
     audit: &Audit,
     asked: &Asked,
     steps: &mut Steps<L>,
 ) -> Result<(), WalkStop>
     requires inside { asked.now.audit < length known.now.plan.now.audits }
     requires types { AreInside (length known.now.btf.now.records) known.now.plan.now.audits }
-    requires counted { length counts.old ≡ length known.now.plan.now.audits }
+    requires ready { R.Ready (length known.now.plan.now.audits) recorder.old }
     requires later { IsTrue (are_between asked.now.audit (length known.now.plan.now.audits) audit.now.each) }
     requires kind { KindInside (length known.now.btf.now.records) audit.now.kind }
 
-    ensures tally { TalliesAs
-        (λ image. walked (world image) asked.now.audit (audit_seen audit.now) asked.now.start
-        (λ m base. seen (world image) (plan_seen known.now.plan.now) 0 m base)
-        (nodes_of image audit.now.kind asked.now.audit asked.now.start))
-        counts.old counts.new (S.image space.old) result }
-    ensures size { length counts.new ≡ length counts.old }
+    ensures means { R.Means (S.image space.old) (plan_seen known.now.plan.now)
+        (Look asked.now.audit (audit_seen audit.now) asked.now.start) recorder.old recorder.new result }
+    ensures ready { R.Ready (length known.now.plan.now.audits) recorder.new }
     ensures named { NamesBelow result (length known.now.plan.now.audits) }
 
     ensures stays { SpaceStays S.image S.files S.through S.most space.old space.new }
     ensures cause { CountsWalkFaults result (S.faults space.old) (S.faults space.new) }
 {
-    let nodes = walk(known.alloc, known.btf, space, &audit.kind, asked, steps)?;
-    count_walk(counts, asked.audit, nodes.len());
+    R::know_parts();
+    let nodes = recorder.walk(known, space, audit, asked, steps)?;
     for i in 0..nodes.len() {
         let element = container_of(audit.link, *nodes.get(i));
-        look_below(known, space, counts, audit, asked, element, steps)?;
+        look_below(known, space, recorder, audit, asked, element, steps)?;
     }
     Ok(())
 }
 
 // Looks at the checks of an element that an audit met from its start, and then makes the audits below it.
 #[cycle(nested)]
-fn look_below<S: Space, L: Ledger>(
+fn look_below<R: Recorder, S: Space, L: Ledger>(
     known: &Known<'_>,
     space: &mut S,
-    counts: &mut Counts,
+    recorder: &mut R,
     audit: &Audit,
     asked: &Asked,
     element: u64,
@@ -127,19 +113,18 @@ fn look_below<S: Space, L: Ledger>(
 ) -> Result<(), WalkStop>
     requires inside { asked.now.audit < length known.now.plan.now.audits }
     requires types { AreInside (length known.now.btf.now.records) known.now.plan.now.audits }
-    requires counted { length counts.old ≡ length known.now.plan.now.audits }
+    requires ready { R.Ready (length known.now.plan.now.audits) recorder.old }
     requires later { IsTrue (are_between asked.now.audit (length known.now.plan.now.audits) audit.now.each) }
 
-    ensures tally { TalliesAs
-        (λ image. at_element (world image) asked.now.audit (audit_seen audit.now) asked.now.start
-        (λ m base. seen (world image) (plan_seen known.now.plan.now) 0 m base) element)
-        counts.old counts.new (S.image space.old) result }
-    ensures size { length counts.new ≡ length counts.old }
+    ensures means { R.Means (S.image space.old) (plan_seen known.now.plan.now)
+        (Element asked.now.audit (audit_seen audit.now) asked.now.start element) recorder.old recorder.new result }
+    ensures ready { R.Ready (length known.now.plan.now.audits) recorder.new }
     ensures named { NamesBelow result (length known.now.plan.now.audits) }
 
     ensures stays { SpaceStays S.image S.files S.through S.most space.old space.new }
     ensures cause { CountsWalkFaults result (S.faults space.old) (S.faults space.new) }
 {
+    R::know_parts();
     look_checks(
         known.alloc,
         known.btf,
@@ -154,7 +139,43 @@ fn look_below<S: Space, L: Ledger>(
             audit: *audit.each.get(i),
             start: element,
         };
-        enter(known, space, counts, &base, steps)?;
+        enter(known, space, recorder, &base, steps)?;
+    }
+    Ok(())
+}
+
+/// Makes the root audits of a plan, in its order, and all below their elements.
+///
+/// # Errors
+///
+/// The first violation, a failure of the space, whose count of faults then rose, or out of memory.
+pub fn enter_roots<R: Recorder, S: Space, L: Ledger>(
+    known: &Known<'_>,
+    space: &mut S,
+    recorder: &mut R,
+    steps: &mut Steps<L>,
+) -> Result<(), WalkStop>
+    requires types { AreInside (length known.now.btf.now.records) known.now.plan.now.audits }
+    requires ready { R.Ready (length known.now.plan.now.audits) recorder.old }
+
+    ensures means { R.Means (S.image space.old) (plan_seen known.now.plan.now)
+        (roots_part (roots 0 (plan_seen known.now.plan.now))) recorder.old recorder.new result }
+    ensures ready { R.Ready (length known.now.plan.now.audits) recorder.new }
+    ensures named { NamesBelow result (length known.now.plan.now.audits) }
+
+    ensures stays { SpaceStays S.image S.files S.through S.most space.old space.new }
+    ensures cause { CountsWalkFaults result (S.faults space.old) (S.faults space.new) }
+{
+    R::know_parts();
+    for number in 0..known.plan.count() {
+        let Start::Root { symbol, .. } = &known.plan.audit(number).start else {
+            continue;
+        };
+        let base = Asked {
+            audit: number,
+            start: *symbol,
+        };
+        enter(known, space, recorder, &base, steps)?;
     }
     Ok(())
 }

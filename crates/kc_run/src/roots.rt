@@ -1,84 +1,22 @@
 // All audits of a plan.
-ghost use Rattle.std.specs.Prelude.{◌≡◌, ◌<◌, ◌↔◌, length, IfOk, IfSome};
+ghost use Rattle.std.specs.Prelude.{◌≡◌, ◌↔◌, length, IfOk, IfSome};
 ghost use Rattle.kc_memory.specs.Stays.{SpaceStays};
-ghost use Rattle.kc_found.specs.Walks.{CountsWalkFaults};
 ghost use Rattle.kc_plan.specs.Inside.{AreInside};
-ghost use Rattle.kc_plan.specs.Seen.{all_seen, in_turn, root_of, seen, world};
 ghost use Rattle.kc_plan.specs.Stands.{PlanStands};
 ghost use Rattle.kc_plan.specs.Verdicts.{FitsPlan, IsClean, verdict};
-ghost use Rattle.kc_plan.specs.Planned.{start_seen};
 ghost use Rattle.kc_plan.specs.Views.{plan_seen};
-ghost use Rattle.kc_run.specs.Tally.{NamesBelow, TalliesAs};
 ghost use Rattle.kc_found.specs.Failures.{CountsFailures};
 
-use crate::counts::no_walks;
+use crate::counts::{RunCounts, no_walks};
 use crate::laws::know_verdicts;
-use crate::nest::{Known, enter};
+use crate::nest::enter_roots;
+use crate::recorder::Known;
 use kc_btf::Btf;
-use kc_found::{Asked, Counts, ReadFailed, Space, Verdict, WalkStop};
-use kc_plan::{Plan, Start};
+use kc_found::{ReadFailed, Space, Verdict, WalkStop};
+use kc_plan::Plan;
 use kc_word::{NoMemory, Steps};
 use std::alloc::Global;
 use std::sync::ledger::Ledger;
-
-// Makes an audit, where it is a root audit.
-fn enter_root<S: Space, L: Ledger>(
-    known: &Known<'_>,
-    space: &mut S,
-    counts: &mut Counts,
-    number: u32,
-    start: &Start,
-    steps: &mut Steps<L>,
-) -> Result<(), WalkStop>
-    requires inside { number < length known.now.plan.now.audits }
-    requires types { AreInside (length known.now.btf.now.records) known.now.plan.now.audits }
-    requires counted { length counts.old ≡ length known.now.plan.now.audits }
-
-    ensures tally { TalliesAs
-        (λ image. in_turn (λ r. seen (world image) (plan_seen known.now.plan.now) 0 r.0 r.1) (root_of number (start_seen start.now)))
-        counts.old counts.new (S.image space.old) result }
-    ensures size { length counts.new ≡ length counts.old }
-    ensures named { NamesBelow result (length known.now.plan.now.audits) }
-
-    ensures stays { SpaceStays S.image S.files S.through S.most space.old space.new }
-    ensures cause { CountsWalkFaults result (S.faults space.old) (S.faults space.new) }
-{
-    match start {
-        Start::Root { symbol, .. } => {
-            let base = Asked {
-                audit: number,
-                start: *symbol,
-            };
-            enter(known, space, counts, &base, steps)
-        }
-        Start::From { .. } => Ok(()),
-    }
-}
-
-// Makes the root audits, in the order of the plan.
-fn enter_roots<S: Space, L: Ledger>(
-    known: &Known<'_>,
-    space: &mut S,
-    counts: &mut Counts,
-    steps: &mut Steps<L>,
-) -> Result<(), WalkStop>
-    requires types { AreInside (length known.now.btf.now.records) known.now.plan.now.audits }
-    requires counted { length counts.old ≡ length known.now.plan.now.audits }
-
-    ensures tally { TalliesAs (λ image. all_seen (world image) (plan_seen known.now.plan.now))
-        counts.old counts.new (S.image space.old) result }
-    ensures size { length counts.new ≡ length counts.old }
-    ensures named { NamesBelow result (length known.now.plan.now.audits) }
-
-    ensures stays { SpaceStays S.image S.files S.through S.most space.old space.new }
-    ensures cause { CountsWalkFaults result (S.faults space.old) (S.faults space.new) }
-{
-    for number in 0..known.plan.count() {
-        let start = &known.plan.audit(number).start;
-        enter_root(known, space, counts, number, start, steps)?;
-    }
-    Ok(())
-}
 
 /// The verdict on a plan over the types that it was read with: the first violation, or where there is none how often
 /// each audit walked, and how many elements it met.
@@ -113,12 +51,13 @@ pub fn run<S: Space, L: Ledger>(
 {
     know_verdicts();
     let known = Known { alloc, plan, btf };
-    let mut counts = match no_walks(alloc, plan) {
+    let counts = match no_walks(alloc, plan) {
         Ok(counts) => counts,
         Err(NoMemory) => return Err(ReadFailed::NoMemory),
     };
-    match enter_roots(&known, space, &mut counts, steps) {
-        Ok(()) => Ok(Verdict::Clean(counts)),
+    let mut counting = RunCounts { counts };
+    match enter_roots(&known, space, &mut counting, steps) {
+        Ok(()) => Ok(Verdict::Clean(counting.counts)),
         Err(WalkStop::Broken(found)) => Ok(Verdict::Broken(found)),
         Err(WalkStop::Fault) => Err(ReadFailed::Fault),
         Err(WalkStop::NoMemory) => Err(ReadFailed::NoMemory),

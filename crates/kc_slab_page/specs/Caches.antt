@@ -8,7 +8,7 @@ use Rattle.kc_memory.specs.Image.{Image}
 use Rattle.kc_view.specs.declared.slub.SlabObjects.{SlabObjects}
 use Rattle.kc_view.specs.declared.slub.SlubBases.{SlubBases}
 use Rattle.kc_view.specs.Caches.{objects_of}
-use Rattle.kc_found.specs.Trials.{and_then}
+use Rattle.kc_found.specs.Trials.{and_then as ◌>>=◌}
 use Rattle.kc_found.specs.Violations.{Violation}
 use Rattle.kc_owner.specs.Known.{known}
 use Rattle.kc_owner.specs.Looked.{looked_at}
@@ -81,6 +81,6 @@ caches_by image shape wanted b ring = record {
 
 -- those of the ring of all caches that are wanted, also where it is broken
 abbrev pub caches_in : Image → PageShape → Option (List ℕ) → Result Caches Violation
-caches_in image shape wanted =
-    and_then (bases_at image (looked_at shape.objects.caches) shape.objects.slub) (λ b.
-    Ok (caches_by image shape wanted b (ring_nodes image shape.objects.slub.list shape.objects.caches)))
+caches_in image shape wanted = do
+  b ← bases_at image (looked_at shape.objects.caches) shape.objects.slub
+  Ok (caches_by image shape wanted b (ring_nodes image shape.objects.slub.list shape.objects.caches))

@@ -9,7 +9,7 @@ use Rattle.kc_view.specs.declared.slub.SlubBases.{SlubBases}
 use Rattle.kc_view.specs.declared.slub.SlubShape.{SlubShape}
 use Rattle.kc_view.specs.Caches.{grid_of}
 use Rattle.kc_found.specs.declared.free.Grid.{Grid}
-use Rattle.kc_found.specs.Trials.{and_then}
+use Rattle.kc_found.specs.Trials.{and_then as ◌>>=◌}
 use Rattle.kc_found.specs.Violations.{Violation}
 use Rattle.kc_owner.specs.Looked.{looked_at}
 use Rattle.kc_guard.specs.declared.guards.GuardRun.{GuardRun}
@@ -27,7 +27,9 @@ is_guarded runs o f = not (nat_eq (length runs) 0) && (not f.frozen && nat_le (o
 
 -- the first that isn't as it has to be, where the objects of the slab's own list are free
 abbrev pub guards_checked : Image → SlubShape → Grid → ℕ → List GuardRun → Result (Option Spoiled) Violation
-guards_checked image shape grid slab runs = and_then (own_list image shape grid slab) (λ os. objects_checked image (looked_at slab) runs grid os)
+guards_checked image shape grid slab runs = do
+  os ← own_list image shape grid slab
+  objects_checked image (looked_at slab) runs grid os
 
 -- what a slab is whose list is whole
 abbrev pub guarded_by : SlabFree → Result (Option Spoiled) Violation → SlabState

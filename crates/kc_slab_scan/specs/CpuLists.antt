@@ -18,7 +18,7 @@ use Rattle.kc_found.specs.declared.free.Grid.{Grid}
 use Rattle.kc_found.specs.FreeLists.{free_list}
 use Rattle.kc_found.specs.Nodes.{at_offset, readable}
 use Rattle.kc_found.specs.Taken.{is_taken, with_word}
-use Rattle.kc_found.specs.Trials.{and_then}
+use Rattle.kc_found.specs.Trials.{and_then as ◌>>=◌}
 use Rattle.kc_found.specs.Violations.{Violation, breaks_field}
 use Rattle.kc_owner.specs.Looked.{looked_at}
 use Rattle.kc_slab_page.specs.Slabs.{counted, own_list}
@@ -58,17 +58,18 @@ own_or_none image shape grid slab = or_none (own_list image shape grid slab)
 
 -- over where the slab's objects lie
 abbrev pub apart : Image → SlubShape → Grid → ℕ → Asked → FieldNumber → Result ℕ Violation
-apart image shape grid slab asked first =
-    and_then (free_list image grid first.number asked) (λ theirs.
-    and_then {B = ℕ} (Ok (own_or_none image shape grid slab)) (λ own. lists_apart asked first own theirs))
+apart image shape grid slab asked first = do
+  theirs ← free_list image grid first.number asked
+  own ← Ok (own_or_none image shape grid slab)
+  lists_apart asked first own theirs
 
 -- the list of a slab that a processor names: U1 and U4 of the slab, U3 of its counts, and then the list
 abbrev pub cpu_list : Image → SlubShape → SlubBases → SlabObjects → ℕ → ℕ → FieldNumber → Asked → FieldNumber → Result ℕ Violation
-cpu_list image shape b o cache slab led asked first =
-    and_then (holds image (looked_at slab) U1 slab shape.slab_cache cache) (λ _.
-    unless (not (is_descriptor shape b slab)) (breaks_field asked U4 slab led.number None)
-    (and_then (counted image shape slab) (λ n.
-    apart image shape (grid_of shape b o slab n.objects) slab asked first)))
+cpu_list image shape b o cache slab led asked first = do
+  _ ← holds image (looked_at slab) U1 slab shape.slab_cache cache
+  unless (not (is_descriptor shape b slab)) (breaks_field asked U4 slab led.number None) do
+    n ← counted image shape slab
+    apart image shape (grid_of shape b o slab n.objects) slab asked first
 
 -- what a processor has, by its first violation
 abbrev pub seen_with : ℕ → Result ℕ Violation → CpuSeen

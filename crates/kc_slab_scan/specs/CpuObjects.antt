@@ -6,7 +6,7 @@ use Rattle.kc_memory.specs.Image.{Image}
 use Rattle.kc_view.specs.Fields.{read_field, value_of}
 use Rattle.kc_found.specs.FreeLists.{free_list}
 use Rattle.kc_found.specs.Nodes.{at_offset}
-use Rattle.kc_found.specs.Trials.{and_then}
+use Rattle.kc_found.specs.Trials.{and_then as ◌>>=◌}
 use Rattle.kc_found.specs.Violations.{Violation}
 use Rattle.kc_owner.specs.Looked.{looked_at}
 use Rattle.kc_slab_scan.specs.declared.cpus.Cpu.{Cpu}
@@ -22,20 +22,22 @@ spot_in cpu object objects =
 
 -- in the list that the processor's words at an address lead to
 abbrev pub spot_by : Image → CpuShape → SlabObject → ℕ → ℕ → Result (Option CpuSpot) Violation
-spot_by image c o cpu at =
-    and_then (read_field image (looked_at at) at c.freelist) (λ first.
-    and_then (free_list image o.grid first.number (looked_at at)) (λ objects. Ok (spot_in cpu o.object objects)))
+spot_by image c o cpu at = do
+  first ← read_field image (looked_at at) at c.freelist
+  objects ← free_list image o.grid first.number (looked_at at)
+  Ok (spot_in cpu o.object objects)
 
 -- which is of the object's slab where the processor owns that
 abbrev pub spot_at : Image → CpuShape → SlabObject → ℕ → ℕ → Result (Option CpuSpot) Violation
-spot_at image c o cpu at =
-    and_then (read_field image (looked_at at) at c.slab) (λ s.
-    if nat_eq (value_of s) o.slab then spot_by image c o cpu at else Ok None)
+spot_at image c o cpu at = do
+  s ← read_field image (looked_at at) at c.slab
+  if nat_eq (value_of s) o.slab then spot_by image c o cpu at else Ok None
 
 -- of one processor
 abbrev pub cpu_spot : Image → CpuShape → SlabObject → Cpu → Result (Option CpuSpot) Violation
-cpu_spot image c o cpu =
-    and_then (read_field image (looked_at o.cache) o.cache c.cpu_slab) (λ base. spot_at image c o cpu.number (at_offset (value_of base) cpu.offset))
+cpu_spot image c o cpu = do
+  base ← read_field image (looked_at o.cache) o.cache c.cpu_slab
+  spot_at image c o cpu.number (at_offset (value_of base) cpu.offset)
 
 -- of the first of these processors whose list has the object
 abbrev pub or_later : Option CpuSpot → Result (Option CpuSpot) Violation → Result (Option CpuSpot) Violation
@@ -44,8 +46,12 @@ or_later (Some spot) later = Ok (Some spot)
 
 unfoldable pub spot_from : Image → CpuShape → SlabObject → List Cpu → Result (Option CpuSpot) Violation
 spot_from image c o [] = Ok None
-spot_from image c o (cpu ∷ cpus) = and_then (cpu_spot image c o cpu) (λ spot. or_later spot (spot_from image c o cpus))
+spot_from image c o (cpu ∷ cpus) = do
+  spot ← cpu_spot image c o cpu
+  or_later spot (spot_from image c o cpus)
 
 -- of all that there may be
 abbrev pub object_spot : Image → CpuShape → SlabObject → Result (Option CpuSpot) Violation
-object_spot image c o = and_then (cpus_in image c) (λ cpus. spot_from image c o cpus)
+object_spot image c o = do
+  cpus ← cpus_in image c
+  spot_from image c o cpus

@@ -1,7 +1,7 @@
 -- What is seen of a dump's slabs.
 use Rattle.std.specs.Prelude.{ℕ, List, length, Option, Some, None, Result, Ok, Err}
 use Rattle.kc_memory.specs.Image.{Image}
-use Rattle.kc_found.specs.Trials.{and_then}
+use Rattle.kc_found.specs.Trials.{and_then as ◌>>=◌}
 use Rattle.kc_found.specs.Violations.{Violation}
 use Rattle.kc_slab_page.specs.declared.shape.PageShape.{PageShape}
 use Rattle.kc_slab_page.specs.Caches.{Caches, caches_in, caches_view}
@@ -16,8 +16,9 @@ use Rattle.kc_slabs.specs.declared.looking.SlabsSeen.{SlabsSeen}
 
 -- what processors have of some caches
 abbrev pub owned_in : Image → PageShape → CpuShape → Caches → Result CpusSeen Violation
-owned_in image shape c caches =
-    and_then (cpus_in image c) (λ cpus. Ok (record { count = length cpus; scan = cpus_scanned image c shape.objects caches cpus }))
+owned_in image shape c caches = do
+  cpus ← cpus_in image c
+  Ok (record { count = length cpus; scan = cpus_scanned image c shape.objects caches cpus })
 
 -- where the kernel has the words that tell it
 abbrev pub owned_by : Image → PageShape → Caches → Option CpuShape → Option (Result CpusSeen Violation)
@@ -39,6 +40,6 @@ told_view (Err v) = Err v
 
 -- of a memory and these page frames, or why the caches can't be told
 abbrev pub seen_in : Image → SlabShapes → Option (List ℕ) → List ℕ → Result Seen Violation
-seen_in image shapes wanted frames =
-    and_then (caches_in image shapes.pages wanted) (λ c.
-    Ok (record { caches = c; scan = scanned image shapes.pages c frames; cpus = owned_by image shapes.pages c shapes.cpus }))
+seen_in image shapes wanted frames = do
+  c ← caches_in image shapes.pages wanted
+  Ok (record { caches = c; scan = scanned image shapes.pages c frames; cpus = owned_by image shapes.pages c shapes.cpus })

@@ -9,7 +9,7 @@ use Rattle.kc_notes.specs.declared.info.Info.{Info}
 use Rattle.kc_syms.specs.Rows.{RowText, addresses}
 use Rattle.kc_found.specs.declared.free.Grid.{Grid}
 use Rattle.kc_found.specs.Nodes.{at_offset}
-use Rattle.kc_found.specs.Trials.{and_then}
+use Rattle.kc_found.specs.Trials.{and_then as ◌>>=◌}
 use Rattle.kc_found.specs.Violations.{Violation}
 use Rattle.kc_kinds.specs.Kernels.{Kernel}
 use Rattle.kc_owner.specs.declared.area.areas.Areas.{Areas}
@@ -85,7 +85,9 @@ abbrev pub held_by : Image → Option PageWords → ℕ → Result VWord Stopped
 held_by image None address word = None
 held_by image (Some words) address (Err s) = None
 held_by image (Some words) address (Ok w) =
-    Some (and_then (held image words.objects ((w.pa + address % 8) % 2 ^ 64)) (λ h. Ok (marked_held image words.mark h)))
+    Some do
+      h ← held image words.objects ((w.pa + address % 8) % 2 ^ 64)
+      Ok (marked_held image words.mark h)
 
 -- a slab holds it
 abbrev pub is_slab_told : Result (Option Slab) Violation → Bool

@@ -4,7 +4,6 @@ use Rattle.std.specs.Prelude.{Ok}
 use Rattle.kc_list.specs.Laws.{HashChainsAreWalked, RingsAreWalked}
 use Rattle.kc_kinds.specs.declared.kind.Kind.TheVariants.{Ring, Hlist, Rbtree, Xarray, Slub, Tasks, Pids}
 use Rattle.kc_found.specs.XaSites.{entries_in}
-use Rattle.kc_plan.specs.Seen.{walked}
 use Rattle.kc_kinds.specs.Structures.{nodes_of}
 use Rattle.kc_list.specs.ListedLaws.{HashChainsAreTested, RingsAreTested}
 use Rattle.kc_rb.specs.Listed.Laws.{OnlyTreesPass}

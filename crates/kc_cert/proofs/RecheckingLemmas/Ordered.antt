@@ -2,7 +2,7 @@
 use Rattle.std.proofs.Common.{◌≡◌, ℕ, zero, suc, Bool, true, false, ◌&&◌, nat_eq, List, [], ◌∷◌, ◌++◌, length, drop, slice_get, Some, refl, sym, ◌∙◌, ap, subst, append_assoc, append-nil}
 use Rattle.std.specs.Prelude.{Result, Ok, Err, if◌then◌else◌}
 use Rattle.std.specs.List.{AllZip}
-use Rattle.std.proofs.lemmas.Bool.{and_from, and_parts, eqb-true}
+use Rattle.std.proofs.lemmas.Bool.{and_parts, eqb-true}
 use Rattle.kc_memory.specs.Image.{Image}
 use Rattle.kc_memory.specs.Stopped.{Stopped}
 use Rattle.kc_found.specs.declared.verdict.AuditCount.{AuditCount}
@@ -10,13 +10,13 @@ use Rattle.kc_found.specs.Trials.{and_then, ok_after}
 use Rattle.kc_kinds.specs.Structures.{nodes_of}
 use Rattle.kc_plan.specs.Events.{Event, Walk}
 use Rattle.kc_plan.specs.Planned.{AuditAt}
-use Rattle.kc_plan.specs.Seen.{PathEnd, EndsAt, NullAt, all_seen, at_element, below, checks_seen, container_of, entered, in_turn, is_optional, path_end, path_of, roots, seen, walked, world}
+use Rattle.kc_plan.specs.Seen.{PathEnd, EndsAt, NullAt, all_seen, at_element, below, container_of, entered, in_turn, is_optional, path_end, path_of, roots, seen, walked, world}
 use Rattle.kc_run.specs.Tally.{zeros}
 use Rattle.kc_cert.specs.declared.text.certificate.CertStep.{CertStep}
 use Rattle.kc_cert.specs.Fits.Fits.{all_hold, checks_hold, fits}
 use Rattle.kc_cert.specs.Fits.Shapes.{is_shape, nodes_in}
 use Rattle.kc_cert.specs.Fits.Walked.{ShapesAreWalked}
-use Rattle.kc_cert.specs.Rechecking.Certificates.{Judge, Judged, Progress, after_walk, below_judged, each_judged, entry_judged, judged, nodes_judged, roots_judged, walk_judged}
+use Rattle.kc_cert.specs.Rechecking.Certificates.{Judge, Progress, after_walk, below_judged, each_judged, entry_judged, judged, nodes_judged, roots_judged, walk_judged}
 use Rattle.kc_cert.specs.Rechecking.Laws.{IsWalk, StepsAreWalks}
 use Rattle.kc_cert.proofs.RecheckingLemmas.Right.{checks_none, fits_parts, none_of}
 use Rattle.kc_cert.proofs.Single.{answered, if_ok}

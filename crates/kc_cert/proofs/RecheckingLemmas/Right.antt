@@ -21,7 +21,7 @@ use Rattle.kc_kinds.specs.Structures.{nodes_of}
 use Rattle.kc_plan.specs.Verdicts.{IsClean, verdict}
 use Rattle.kc_run.specs.Laws.{CleanWhereStanding}
 use Rattle.kc_run.specs.Tally.{tally, zeros}
-use Rattle.kc_cert.specs.RunLaws.Runs.{ends_clean, tally_goes}
+use Rattle.kc_run.proofs.Counting.{ends_clean, tally_goes}
 use Rattle.kc_cert.specs.declared.text.certificate.CertStep.{CertStep}
 use Rattle.kc_cert.specs.declared.rechecking.against.CertAnswer.{CertAnswer}
 use Rattle.kc_cert.specs.declared.rechecking.against.CertAnswer.TheVariants.{Yes, No}

@@ -9,7 +9,7 @@ use Rattle.kc_found.specs.Trials.{and_then}
 use Rattle.kc_plan.specs.Kept.{are_between, are_later}
 use Rattle.kc_plan.specs.Planned.{AuditAt}
 use Rattle.kc_plan.specs.Seen.{PathEnd, EndsAt, NullAt, container_of, path_end, path_of}
-use Rattle.kc_cert.specs.RunLaws.Runs.{between_at}
+use Rattle.kc_run.proofs.Unrolling.{between_at}
 use Rattle.kc_cert.specs.declared.text.certificate.CertStep.{CertStep}
 use Rattle.kc_cert.specs.Fits.Shapes.{nodes_in}
 use Rattle.kc_cert.specs.Fits.Fits.{fits}

@@ -10,13 +10,14 @@ use Rattle.kc_kinds.specs.declared.kind.Kind.{Kind}
 use Rattle.kc_plan.specs.Planned.{AuditAt}
 use Rattle.kc_kinds.specs.Structures.{nodes_of}
 use Rattle.kc_plan.specs.Verdicts.{verdict}
+use Rattle.kc_run.specs.Parts.{Relation, Tallied}
 use Rattle.kc_cert.specs.declared.rechecking.against.CertAnswer.TheVariants.{Yes}
 use Rattle.kc_cert.specs.declared.text.certificate.CertStep.{CertStep}
 use Rattle.kc_cert.specs.declared.certifying.issue.CertStop.{CertStop}
 use Rattle.kc_cert.specs.declared.certifying.issue.CertStop.TheVariants.{Broken, Fault, NoMemory}
 use Rattle.kc_cert.specs.declared.certifying.pass.Draft.{Draft}
 use Rattle.kc_cert.specs.Rechecking.Answers.{JudgesAs}
-use Rattle.kc_cert.specs.Rechecking.Certificates.{Judge, answer, at}
+use Rattle.kc_cert.specs.Rechecking.Certificates.{Judge, answer, at, judging}
 use Rattle.kc_cert.specs.Fits.Shapes.{is_shape}
 
 -- a certificate of a clean dump: all its steps fit, with the counts of the verdict
@@ -71,3 +72,10 @@ abbrev pub Makes : {A I : Type 0} → (I → Judge) → Draft → Draft → Opti
 Makes {A} judge before after image (Ok x) =
     (more : List CertStep) × (after.made ≡ before.made ++ more) × ((rest : List CertStep) → JudgesAs {A = A} judge (at (more ++ rest) before.counts) (at rest after.counts) image (Ok x))
 Makes judge before after image (Err stop) = ⊤
+
+-- what a part of a run makes of a draft: its steps, and the counts of their walks
+abbrev pub Made : Relation Draft
+Made image audits part before after r = Makes (λ i. judging i audits part) before after image r
+
+abbrev pub Drafts : Relation Draft
+Drafts image audits part before after r = Tallied image audits part before.counts after.counts r × Made image audits part before after r

@@ -1,6 +1,5 @@
 -- What the answers of a recheck and of its parts say.
 use Rattle.std.specs.Prelude.{◌≡◌, ℕ, ◌+◌, ◌*◌, ◌≤◌, List, drop, Option, Some, None, Result, Ok, Err, ⊤}
-use Rattle.kc_outside.specs.Counts.{Rose}
 use Rattle.kc_memory.specs.Image.{Image}
 use Rattle.kc_found.specs.declared.verdict.Verdict.TheVariants.{Clean}
 use Rattle.kc_found.specs.declared.test.TestStop.{TestStop}
@@ -11,8 +10,6 @@ use Rattle.kc_plan.specs.Verdicts.{verdict}
 use Rattle.kc_cert.specs.declared.rechecking.against.CertAnswer.{CertAnswer}
 use Rattle.kc_cert.specs.declared.rechecking.against.CertAnswer.TheVariants.{Yes, No}
 use Rattle.kc_cert.specs.declared.text.certificate.CertStep.{CertStep}
-use Rattle.kc_found.specs.declared.failed.ReadFailed.{ReadFailed}
-use Rattle.kc_found.specs.declared.failed.ReadFailed.TheVariants as stops
 use Rattle.kc_cert.specs.declared.rechecking.nest.StepCursor.{StepCursor}
 use Rattle.kc_cert.specs.Rechecking.Certificates.{Judge, Progress}
 

@@ -6,6 +6,7 @@ use Rattle.kc_found.specs.declared.verdict.AuditCount.{AuditCount}
 use Rattle.kc_found.specs.Trials.{and_then}
 use Rattle.kc_plan.specs.Planned.{AuditAt}
 use Rattle.kc_plan.specs.Seen.{PathEnd, EndsAt, NullAt, container_of, is_optional, path_end, path_of, roots}
+use Rattle.kc_run.specs.Parts.{Part, Done, Then, Enter, Look, Element}
 use Rattle.kc_run.specs.Tally.{added, zeros}
 use Rattle.kc_cert.specs.declared.text.certificate.CertStep.{CertStep}
 use Rattle.kc_cert.specs.declared.rechecking.against.CertAnswer.{CertAnswer}
@@ -64,6 +65,14 @@ judged image [] k m base p = Ok p
 judged image (a ∷ later) k m base p =
     if nat_eq m k then entry_judged image k a (λ n element. judged image later (suc k) n element) (path_end image base (path_of a.start).hops (path_of a.start).byte) p
     else judged image later (suc k) m base p
+
+-- what a part of a run takes
+abbrev pub judging : Image → List AuditAt → Part → Judge
+judging image audits Done p = Ok p
+judging image audits (Then a b) p = and_then (judging image audits a p) (judging image audits b)
+judging image audits (Enter n base) p = judged image audits 0 n base p
+judging image audits (Look n a start) p = walk_judged image n a start (λ m base. judged image audits 0 m base) p.counts p.left
+judging image audits (Element n a start element) p = below_judged a (λ m base. judged image audits 0 m base) element p
 
 -- all root audits
 abbrev pub roots_judged : Image → List AuditAt → Judge

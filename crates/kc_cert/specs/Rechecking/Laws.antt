@@ -1,5 +1,5 @@
 -- What the answer on a certificate says of the dump.
-use Rattle.std.specs.Prelude.{◌≡◌, ℕ, true, List, length, slice_get, Some}
+use Rattle.std.specs.Prelude.{◌≡◌, true, List, length, slice_get, Some}
 use Rattle.std.specs.List.{AllZip}
 use Rattle.kc_memory.specs.Image.{Image}
 use Rattle.kc_found.specs.declared.verdict.AuditCount.{AuditCount}

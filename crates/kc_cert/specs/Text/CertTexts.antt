@@ -2,7 +2,7 @@
 use Rattle.std.specs.Prelude.{◌≡◌, ◌↔◌, ℕ, ◌-◌, ◌<◌, ◌^◌, List, ◌++◌, codes, decimal, length, Result, Ok, Err, ⊤}
 use Rattle.kc_text.specs.Format.{Format, IsPlace}
 use Rattle.kc_text.specs.Readers.{decimal_below, hex16}
-use Rattle.kc_text.specs.Compose.{both, mapped, after, followed}
+use Rattle.kc_text.specs.Compose.{both as ◌>>=◌, after as ◌>>◌, mapped, after, followed}
 use Rattle.kc_text.specs.Text.{hex}
 use Rattle.kc_cert.specs.declared.text.certificate.CertStep.{CertStep}
 use Rattle.kc_cert.specs.declared.text.read.CertRead.{CertRead}
@@ -61,13 +61,16 @@ abbrev pub Parts : Type 0
 Parts = ℕ × (ℕ × List (List ℕ))
 
 abbrev pub step_of : Parts → CertStep
-step_of p = record { audit = p.0; start = p.1.0; lists = p.1.1 }
+step_of (audit, (start, lists)) = record { audit = audit; start = start; lists = lists }
 
 abbrev pub step_parts : Format Parts
-step_parts =
-    after (codes "step ") (both (decimal_below (2 ^ 32) 32) (λ _.
-    after (codes "start ") (both (followed hex16 (codes " ")) (λ _.
-    after (codes "lists ") (counted list_format)))))
+step_parts = do
+  codes "step "
+  audit ← decimal_below (2 ^ 32) 32
+  codes "start "
+  start ← followed hex16 (codes " ")
+  codes "lists "
+  counted list_format
 
 abbrev pub step_format : Format CertStep
 step_format = mapped step_of IsStep step_text step_parts

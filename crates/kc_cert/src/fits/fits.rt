@@ -9,7 +9,7 @@ ghost use Rattle.kc_cert.specs.Fits.Size.{lists_size};
 ghost use Rattle.kc_cert.specs.Fits.Shapes.{nodes_in};
 
 use crate::CertStep;
-use crate::fits::shape::test_shape;
+use crate::shapes::test_shape;
 use kc_btf::Btf;
 use kc_found::{Asked, Space, TestStop, WalkStop, Walked};
 use kc_plan::Audit;

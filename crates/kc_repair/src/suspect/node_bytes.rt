@@ -235,9 +235,7 @@ pub(crate) fn push_first_word<S: Space, L: Ledger>(
     let shape = match kind {
         Kind::Xarray(shape) => shape,
         Kind::Pids(pids) => &pids.xa,
-        Kind::Ring(_) | Kind::Hlist(_) | Kind::Rbtree(_) | Kind::Slub(_) | Kind::Tasks(_) => {
-            return Ok(());
-        }
+        _ => return Ok(()),
     };
     let node = node_of(found.at, shape.shift);
     let bytes = read_bytes(alloc, shape, node, space, steps)?;

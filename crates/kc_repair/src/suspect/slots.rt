@@ -83,9 +83,7 @@ pub(crate) fn push_slots<S: Space, L: Ledger>(
     let shape = match kind {
         Kind::Xarray(shape) => shape,
         Kind::Pids(pids) => &pids.xa,
-        Kind::Ring(_) | Kind::Hlist(_) | Kind::Rbtree(_) | Kind::Slub(_) | Kind::Tasks(_) => {
-            return Ok(());
-        }
+        _ => return Ok(()),
     };
     let node = node_of(found.at, shape.count);
     push_all_emptied(changes, shape, node, space, steps)

@@ -4,26 +4,10 @@ use Rattle.kc_run.proofs.Standing.{clean_roots_stand, clean_where_standing}
 use Rattle.kc_run.proofs.laws.know_verdicts.Goals as goal
 
 pub returns-clause-clean : goal.returns-clause-clean
-returns-clause-clean c = clean_where_standing (record {
-  rings = c.know_lists.ensures.rings;
-  chains = c.know_lists.ensures.hash_chains;
-  trees = c.know_trees.ensures.trees;
-  arrays = c.know_xarrays.ensures.walked;
-  caches = c.know_caches.ensures.walked;
-  tasks = c.know_tasks.ensures.walked;
-  pids = c.know_pids.ensures.walked;
-})
+returns-clause-clean c = clean_where_standing c.know_walks.ensures.walked
 
 pub returns-clause-roots : goal.returns-clause-roots
-returns-clause-roots c = clean_roots_stand (record {
-  rings = c.know_lists.ensures.rings;
-  chains = c.know_lists.ensures.hash_chains;
-  trees = c.know_trees.ensures.trees;
-  arrays = c.know_xarrays.ensures.walked;
-  caches = c.know_caches.ensures.walked;
-  tasks = c.know_tasks.ensures.walked;
-  pids = c.know_pids.ensures.walked;
-})
+returns-clause-roots c = clean_roots_stand c.know_walks.ensures.walked
 
 pub returns-clause-first : goal.returns-clause-first
 returns-clause-first c = first_of_roots
@@ -32,24 +16,12 @@ pub returns-clause-places : goal.returns-clause-places
 returns-clause-places c = verdicts_stand (record {
   numbers = c.know_numbers.ensures.stand;
   values = c.know_values.ensures.values;
-  rings = c.know_lists.ensures.ring_places;
-  chains = c.know_lists.ensures.hash_places;
-  trees = c.know_trees.ensures.places;
-  arrays = c.know_xarrays.ensures.places;
-  caches = c.know_caches.ensures.places;
-  tasks = c.know_tasks.ensures.places;
-  pids = c.know_pids.ensures.places;
+  kinds = c.know_walks.ensures.places;
 })
 
 pub returns-clause-root_places : goal.returns-clause-root_places
 returns-clause-root_places c = root_verdicts_stand (record {
   numbers = c.know_numbers.ensures.stand;
   values = c.know_values.ensures.values;
-  rings = c.know_lists.ensures.ring_places;
-  chains = c.know_lists.ensures.hash_places;
-  trees = c.know_trees.ensures.places;
-  arrays = c.know_xarrays.ensures.places;
-  caches = c.know_caches.ensures.places;
-  tasks = c.know_tasks.ensures.places;
-  pids = c.know_pids.ensures.places;
+  kinds = c.know_walks.ensures.places;
 })

@@ -4,8 +4,8 @@ use Rattle.kc_cert.proofs.certifying.issue.certify.Goals as goal
 
 pub returns-in-Ok-enter_roots-clause-exact : goal.returns-in-Ok-enter_roots-clause-exact
 returns-in-Ok-enter_roots-clause-exact g c =
-    certified_by (g.S.Space.image c.args.space.now) (plan_seen c.args.plan.now) (record { made = c.new.result; counts = c.in-Ok.counts }) c.enter_roots.new.draft c.in-Ok-enter_roots.field-0 c.new.ensures c.in-Ok.ensures c.in-Ok-enter_roots.ensures.tally c.in-Ok-enter_roots.ensures.makes
+    certified_by (g.S.Space.image c.args.space.now) (plan_seen c.args.plan.now) (record { made = c.new.result; counts = c.in-Ok.counts }) c.enter_roots.new.recorder c.new.ensures c.in-Ok.ensures c.in-Ok-enter_roots.ensures.means
 
 pub returns-in-Err-Broken-clause-exact : goal.returns-in-Err-Broken-clause-exact
 returns-in-Err-Broken-clause-exact g c =
-    broken_by _ (g.S.Space.image c.args.space.now) (plan_seen c.args.plan.now) c.in-Ok.counts c.enter_roots.new.draft.counts c.in-Err-Broken.found c.in-Ok.ensures (rw c.in-Err-Broken.field-0-is at c.in-Err-Broken.ensures.tally)
+    broken_by (g.S.Space.image c.args.space.now) (plan_seen c.args.plan.now) (record { made = c.new.result; counts = c.in-Ok.counts }) c.enter_roots.new.recorder c.in-Err-Broken.found c.in-Ok.ensures (rw c.in-Err-Broken.field-0-is at c.in-Err-Broken.ensures.means)

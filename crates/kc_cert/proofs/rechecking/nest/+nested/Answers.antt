@@ -6,7 +6,7 @@ use Rattle.kc_memory.specs.Stays.{stays_on}
 use Rattle.kc_view.specs.Typed.{Typed}
 use Rattle.kc_plan.specs.Planned.{audit_seen}
 use Rattle.kc_plan.specs.Views.{plan_seen}
-use Rattle.kc_cert.specs.RunLaws.Runs.{between_goes, between_here}
+use Rattle.kc_run.proofs.Going.{between_goes, between_here}
 use Rattle.kc_cert.specs.Rechecking.Answers.{progress}
 use Rattle.kc_cert.proofs.RecheckingLemmas.Few.{each_few}
 use Rattle.kc_cert.proofs.RecheckingLemmas.Judging.{elements_judged, enter_breaks, enter_goes, enter_misses, enter_skips, looked, node_judged, step_goes, step_halts, turn_goes, turn_halts, under}

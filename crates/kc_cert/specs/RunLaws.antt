@@ -1,3 +1,0 @@
--- Laws of the runs of plans, which are proved in kc_run.
-pub mod Parts
-pub mod Runs
