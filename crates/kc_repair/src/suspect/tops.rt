@@ -69,9 +69,7 @@ fn top_change<S: Space, L: Ledger>(
             let array = found.start.wrapping_add(pids.idr_rt);
             top_of(space, &pids.xa, array, node, steps)
         }
-        Kind::Ring(_) | Kind::Hlist(_) | Kind::Rbtree(_) | Kind::Slub(_) | Kind::Tasks(_) => {
-            Ok(None)
-        }
+        _ => Ok(None),
     }
 }
 
@@ -136,8 +134,6 @@ pub fn has_top<S: Space, L: Ledger>(
             let array = found.start.wrapping_add(pids.idr_rt);
             leads_to_top(space, &pids.xa, array, steps)
         }
-        Kind::Ring(_) | Kind::Hlist(_) | Kind::Rbtree(_) | Kind::Slub(_) | Kind::Tasks(_) => {
-            Ok(true)
-        }
+        _ => Ok(true),
     }
 }
