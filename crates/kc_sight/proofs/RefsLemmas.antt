@@ -1,3 +1,4 @@
 pub mod BlockLemmas
 pub mod StoreLemmas
 pub mod WritingLemmas
+pub mod NearLemmas

@@ -1,7 +1,7 @@
 -- The words of a block are the file's.
-use Rattle.std.proofs.Common.{◌≡◌, ℕ, zero, suc, [], ◌∷◌, ◌++◌, ◌+◌, ◌-◌, ◌*◌, ◌<◌, ◌≤◌, List, length, get_or, map, take, drop, Option, Some, None, option_map, option_to_list, append-nil, add-one, subst, refl, sym, ap, ◌∙◌, arith}
+use Rattle.std.proofs.Common.{◌≡◌, true, ℕ, zero, suc, [], ◌∷◌, ◌++◌, ◌+◌, ◌-◌, ◌*◌, ◌<◌, ◌≤◌, List, length, get_or, map, take, drop, Option, Some, None, option_map, option_to_list, append-nil, add-one, subst, refl, sym, ap, ◌∙◌, arith}
 use Rattle.std.specs.List.{filter_map, range_with_len}
-use Rattle.std.proofs.lemmas.List.{append_assoc, drop_all, get_or-take, get_or-drop}
+use Rattle.std.proofs.lemmas.List.{append_assoc, drop-drop, drop_all, get_or-take, get_or-drop, length-drop, take_all}
 use Rattle.std.proofs.lemmas.List.Elements.{filter_map-append}
 use Rattle.std.proofs.lemmas.List.FromFn.{map-range_with_len_more}
 use Rattle.byteorder.specs.Endian.{little_from, little_number}
@@ -10,8 +10,9 @@ use Rattle.kc_sight.specs.declared.refs.place.FoundWord.{FoundWord}
 use Rattle.kc_sight.specs.declared.refs.place.WordPlace.{WordPlace}
 use Rattle.kc_sight.specs.declared.refs.sought.Writing.{Writing}
 use Rattle.kc_sight.specs.Refs.Stops.{Told}
-use Rattle.kc_sight.specs.Refs.Holding.{found_at, found_by, found_from, in_block, in_segment, in_segments, place, places}
-use Rattle.kc_sight.specs.Refs.Writings.{Sought, writing}
+use Rattle.kc_sight.specs.Refs.Holding.{found_at, found_by, found_from, in_block, in_segment, in_segments, place, places, word_count}
+use Rattle.kc_sight.specs.Refs.Writings.{NoneHolds, Sought, is_near, writing}
+use Rattle.kc_sight.proofs.RefsLemmas.NearLemmas.{nearer}
 
 -- numbers of the same bytes are the same
 same_number : (n i : ℕ) (xs ys : List ℕ) → ((k : ℕ) → k < i + n → get_or xs k 0 ≡ get_or ys k 0) → little_from i n xs ≡ little_from i n ys
@@ -144,3 +145,42 @@ pub told_none : (content : Option (List ℕ)) (sought : Sought) (segments : List
     → Told content (λ bytes. now ++ in_segments sought bytes segments ≡ in_segments sought bytes segments)
 told_none None sought segments now none = tt
 told_none (Some bytes) sought segments now none = ap (λ (l : List FoundWord). l ++ in_segments sought bytes segments) none
+
+-- the words up to one, and so many from there on, of a block that begins with them
+pub group_more : (sought : Sought) (block : List ℕ) (s : Segment) (first k n last : ℕ) → k + n ≡ last
+    → in_block sought block s first k ++ in_block sought (drop (8 * k) block) s (first + k) n ≡ in_block sought block s first last
+group_more sought block s first k zero last is =
+    append-nil (in_block sought block s first k) ∙ ap (in_block sought block s first) (omega (arith, is))
+group_more sought block s first k (suc n) last is =
+    let there : 8 * k + 8 * n ≡ 8 * (k + n) = omega arith in
+    let at : first + k + n ≡ first + (k + n) = omega arith in
+    ap (λ (m : ℕ). in_block sought block s first k ++ in_block sought (drop (8 * k) block) s (first + k) m) (sym (add-one n))
+    ∙ ap (λ (l : List FoundWord). in_block sought block s first k ++ l) (more sought (drop (8 * k) block) s (first + k) n)
+    ∙ sym (append_assoc (in_block sought block s first k) (in_block sought (drop (8 * k) block) s (first + k) n) (option_to_list (found_by sought (little_number 8 (drop (8 * n) (drop (8 * k) block))) (place s (first + k + n)))))
+    ∙ ap (λ (l : List FoundWord). l ++ option_to_list (found_by sought (little_number 8 (drop (8 * n) (drop (8 * k) block))) (place s (first + k + n)))) (group_more sought block s first k n (k + n) refl)
+    ∙ ap (λ (l : List ℕ). in_block sought block s first (k + n) ++ option_to_list (found_by sought (little_number 8 l) (place s (first + k + n)))) (drop-drop (8 * n) (8 * k) block ∙ ap (λ (m : ℕ). drop m block) there)
+    ∙ ap (λ (m : ℕ). in_block sought block s first (k + n) ++ option_to_list (found_by sought (little_number 8 (drop (8 * (k + n)) block)) (place s m))) at
+    ∙ sym (more sought block s first (k + n))
+    ∙ ap (in_block sought block s first) (omega (arith, is))
+
+whole : (bytes : List ℕ) (i : ℕ) → take (length bytes - i) (drop i bytes) ≡ drop i bytes
+whole bytes i = take_all (length bytes - i) (drop i bytes) (omega (arith, length-drop i bytes))
+
+pub group_next : (sought : Sought) (block : List ℕ) (s : Segment) (first k n : ℕ) (old now new : List FoundWord) → now ≡ old ++ in_block sought block s first k
+    → new ≡ now ++ in_block sought (take (length block - 8 * k) (drop (8 * k) block)) s (first + k) n → new ≡ old ++ in_block sought block s first (k + n)
+group_next sought block s first k n old now new before found =
+    found
+    ∙ ap (λ (l : List ℕ). now ++ in_block sought l s (first + k) n) (whole block (8 * k))
+    ∙ ap (λ (l : List FoundWord). l ++ in_block sought (drop (8 * k) block) s (first + k) n) before
+    ∙ append_assoc old (in_block sought block s first k) (in_block sought (drop (8 * k) block) s (first + k) n)
+    ∙ ap (λ (l : List FoundWord). old ++ l) (group_more sought block s first k n (k + n) refl)
+
+-- none is found among words near the direct map's beginning that don't hold the value
+pub none_in : (sought : Sought) (words : List ℕ) (s : Segment) (first n : ℕ) → is_near sought.direct (s.paddr + s.filesz) ≡ true → first + n ≤ word_count s → NoneHolds sought words n
+    → in_block sought words s first n ≡ []
+none_in sought words s first zero near below none = refl
+none_in sought words s first (suc n) near below none =
+    let inside : (place s (first + n)).pa < s.paddr + s.filesz = omega (arith, below) in
+    ap (in_block sought words s first) (sym (add-one n))
+    ∙ passed sought words s first n (none n (place s (first + n)).pa (omega arith) (nearer sought.direct (place s (first + n)).pa (s.paddr + s.filesz) near inside))
+    ∙ none_in sought words s first n near (omega (arith, below)) (λ k pa lt close. none k pa (omega (arith, lt)) close)

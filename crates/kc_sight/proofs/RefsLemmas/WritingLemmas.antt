@@ -12,7 +12,7 @@ use Rattle.kc_sight.specs.declared.refs.sought.Writing.TheVariants.{Encoded}
 use Rattle.kc_sight.specs.Refs.Writings.{Sought, has_bit, is_among, is_encoded}
 
 -- the word, the number that encodes and the value tell each other
-xor_back : (w r s : ℕ) → bit_xor (bit_xor w (bit_xor (bit_xor w r) s)) s ≡ r
+pub xor_back : (w r s : ℕ) → bit_xor (bit_xor w (bit_xor (bit_xor w r) s)) s ≡ r
 xor_back w r s =
     ap (λ (x : ℕ). bit_xor x s) (sym (xor_assoc w (bit_xor w r) s) ∙ ap (λ (x : ℕ). bit_xor x s) (sym (xor_assoc w w r) ∙ ap (λ (x : ℕ). bit_xor x r) (xor_self w) ∙ xor_zero_l r))
     ∙ xor_assoc r s s ∙ ap (bit_xor r) (xor_self s) ∙ xor_zero_r r

@@ -1,7 +1,8 @@
 -- How a word holds a value. Source: the kernel's mm/slub.c, `freelist_ptr_encode` (CONFIG_SLAB_FREELIST_HARDENED); objects are reached by the direct map
 -- (Documentation/arch/x86/x86_64/mm.rst).
-use Rattle.std.specs.Prelude.{ℕ, ◌+◌, ◌%◌, ◌^◌, Bool, false, nat_eq, if◌then◌else◌, List, get_or, Option, Some, option_map}
+use Rattle.std.specs.Prelude.{◌≡◌, ℕ, ◌+◌, ◌*◌, ◌%◌, ◌^◌, ◌<◌, Bool, true, false, nat_eq, nat_lt, if◌then◌else◌, List, ◌∷◌, map, drop, get_or, Option, Some, None, option_map}
 use Rattle.std.specs.List.{find, list_any}
+use Rattle.byteorder.specs.Endian.{little_number}
 use Rattle.kc_found.specs.FreeLists.{decoded}
 use Rattle.kc_sight.specs.declared.refs.sought.Writing.{Writing}
 use Rattle.kc_sight.specs.declared.refs.sought.Writing.TheVariants.{Plain, Encoded}
@@ -26,3 +27,15 @@ is_among random randoms = list_any (λ one. nat_eq one random) randoms
 
 abbrev pub has_bit : List Bool → ℕ → Bool
 has_bit filter random = get_or filter (random % 65536) false
+
+-- the words that hold a value where the direct map begins: it, and it encoded with each of these random numbers
+abbrev pub codes : ℕ → ℕ → List ℕ → List ℕ
+codes value direct randoms = value ∷ map (λ r. decoded value r direct) randoms
+
+-- the addresses at which the direct map has the physical ones below an end have the upper 16 bits of its first one
+abbrev pub is_near : ℕ → ℕ → Bool
+is_near direct end = nat_lt (direct % 2 ^ 48 + end) (2 ^ 48)
+
+-- none of so many words holds the value, at a physical address with such an address
+abbrev pub NoneHolds : Sought → List ℕ → ℕ → Type 0
+NoneHolds s bytes n = (k pa : ℕ) → k < n → is_near s.direct pa ≡ true → writing s (little_number 8 (drop (8 * k) bytes)) pa ≡ None

@@ -1,5 +1,5 @@
 // The search for words that hold what is looked for.
-ghost use Rattle.std.specs.Prelude.{◌≡◌, ◌+◌, ◌*◌, ◌≤◌, ◌<◌, ◌++◌, length, drop, take, vec_len, IsSome, IfOk, OnOk};
+ghost use Rattle.std.specs.Prelude.{◌≡◌, ◌+◌, ◌*◌, ◌≤◌, ◌<◌, ◌++◌, length, drop, take, vec_len, IsSome, IsTrue, IfOk, OnOk};
 ghost use Rattle.std.specs.List.{All};
 ghost use Rattle.std.specs.Option.{ForSome};
 ghost use Rattle.kc_outside.specs.declared.store.Slot.TheVariants.{Dump};
@@ -8,10 +8,11 @@ ghost use Rattle.kc_outside.specs.Files.{HasPart, content};
 ghost use Rattle.kc_elf.specs.Stays.{StoreStays};
 ghost use Rattle.kc_sight.specs.Refs.Holding.{IsAddressed, IsInside, in_block, in_segment, in_segments, place, skipped, word_count};
 ghost use Rattle.kc_sight.specs.Refs.Stops.{Told};
+ghost use Rattle.kc_sight.specs.Refs.Writings.{is_near};
 ghost use Rattle.kc_found.specs.Failures.{CountsFailures};
 
 use crate::refs::place::{FoundWord, WordPlace};
-use crate::refs::sought::Sought;
+use crate::refs::sought::{GROUP, Sought};
 use byteorder::{ByteOrder, LittleEndian};
 use kc_found::ReadFailed;
 use kc_outside::{Slot, Store};
@@ -53,7 +54,7 @@ fn place(segment: &Segment, k: u64) -> WordPlace
     }
 }
 
-// Adds those of some words that hold what is looked for; the bytes of the block are theirs.
+// Adds those of some words that hold what is looked for, one by one.
 fn add_words(
     block: &[u8],
     segment: &Segment,
@@ -81,6 +82,76 @@ fn add_words(
         }
     }
     Ok(())
+}
+
+// Adds those of at most eight words near the direct map's beginning. Nearly always none of the eight can hold what is looked for.
+fn add_group(
+    words: &[u8],
+    segment: &Segment,
+    first: u64,
+    count: u64,
+    sought: &Sought,
+    found: &mut Vec<FoundWord>,
+) -> Result<(), NoMemory>
+    requires addressed { IsAddressed segment.now }
+    requires inside { segment.now.offset + segment.now.filesz < 18446744073709551616 }
+    requires near { IsTrue (is_near sought.now.direct (segment.now.paddr + segment.now.filesz)) }
+    requires below { first + count ≤ word_count segment.now }
+    requires room { 8 * count ≤ length words.now }
+    ensures { OnOk result (found.new.items ≡ found.old.items ++ in_block sought.now words.now segment.now first count) }
+{
+    if count == GROUP && !sought.may_hold(words) {
+        return Ok(());
+    }
+    add_words(words, segment, first, count, sought, found)
+}
+
+// Adds those of some words near the direct map's beginning, eight at a time.
+fn add_groups(
+    block: &[u8],
+    segment: &Segment,
+    first: u64,
+    count: u64,
+    sought: &Sought,
+    found: &mut Vec<FoundWord>,
+) -> Result<(), NoMemory>
+    requires addressed { IsAddressed segment.now }
+    requires inside { segment.now.offset + segment.now.filesz < 18446744073709551616 }
+    requires near { IsTrue (is_near sought.now.direct (segment.now.paddr + segment.now.filesz)) }
+    requires below { first + count ≤ word_count segment.now }
+    requires room { 8 * count ≤ length block.now }
+    ensures { OnOk result (found.new.items ≡ found.old.items ++ in_block sought.now block.now segment.now first count) }
+{
+    let mut k = 0;
+    while k < count {
+        let some = GROUP.min(count - k);
+        let words = &block[(WORD_BYTES * k) as usize..];
+        add_group(words, segment, first + k, some, sought, found)?;
+        k += some;
+    }
+    Ok(())
+}
+
+// Adds those of some words, wherever they stand; the bytes of the block are theirs.
+fn add_block(
+    block: &[u8],
+    segment: &Segment,
+    first: u64,
+    count: u64,
+    sought: &Sought,
+    found: &mut Vec<FoundWord>,
+) -> Result<(), NoMemory>
+    requires addressed { IsAddressed segment.now }
+    requires inside { segment.now.offset + segment.now.filesz < 18446744073709551616 }
+    requires below { first + count ≤ word_count segment.now }
+    requires room { 8 * count ≤ length block.now }
+    ensures { OnOk result (found.new.items ≡ found.old.items ++ in_block sought.now block.now segment.now first count) }
+{
+    if sought.is_near(segment.paddr.saturating_add(segment.filesz)) {
+        add_groups(block, segment, first, count, sought, found)
+    } else {
+        add_words(block, segment, first, count, sought, found)
+    }
 }
 
 // Reads so many words of a segment into a block, from one on.
@@ -141,7 +212,7 @@ fn search_segment<S: Store>(
     while first < words {
         let count = BLOCK_WORDS.min(words - first);
         read_words(store, segment, first, count, block)?;
-        add_words(block, segment, first, count, sought, found)?;
+        add_block(block, segment, first, count, sought, found)?;
         first += count;
     }
     Ok(())

@@ -1,7 +1,8 @@
 // What is looked for.
-ghost use Rattle.std.specs.Prelude.{◌≡◌, ◌%◌, false, get_or, vec_len, IsTrue, IfOk};
+ghost use Rattle.std.specs.Prelude.{◌≡◌, ◌+◌, ◌%◌, ◌≤◌, ◌<◌, drop, false, get_or, length, vec_len, IsTrue, IfOk};
 ghost use Rattle.std.specs.List.{list_all};
-ghost use Rattle.kc_sight.specs.Refs.Writings.{has_bit, is_among, writing};
+ghost use Rattle.byteorder.specs.Endian.{little_number};
+ghost use Rattle.kc_sight.specs.Refs.Writings.{NoneHolds, codes, has_bit, is_among, is_near, writing};
 
 use kc_found::decode;
 use kc_word::NoMemory;
@@ -17,8 +18,16 @@ pub enum Writing {
     Encoded(u64),
 }
 
-// How many bits the filter has.
+// How many bits a filter has.
 const FILTER: usize = 65_536;
+
+// Addresses that are the same but for their lowest 48 bits are within so many bytes.
+const NEAR: u64 = 0x1_0000_0000_0000;
+
+const WORD_BYTES: usize = 8;
+
+/// How many words are looked at together.
+pub(crate) const GROUP: u64 = 8;
 
 /// A value that is looked for, as it is and as an encoded free pointer.
 #[derive(Drop)]
@@ -26,10 +35,14 @@ pub struct Sought {
     value: u64,
     direct: u64,
     randoms: Vec<u64>,
-    // Whether one of the random numbers has these lowest 16 bits. Nearly every word is told by it alone.
+    // Whether one of the random numbers has these lowest 16 bits.
     filter: Vec<bool>,
+    // Whether a word with these lowest 16 bits may hold the value near the direct map's beginning. Nearly every word is told by it alone.
+    near: Vec<bool>,
     ghost size: { vec_len filter ≡ 65536 },
     ghost law: { IsTrue (list_all (has_bit filter.items) randoms.items) },
+    ghost near_size: { vec_len near ≡ 65536 },
+    ghost near_law: { IsTrue (list_all (has_bit near.items) (codes value direct randoms.items)) },
 }
 
 impl Model for Sought {
@@ -65,6 +78,28 @@ fn set_bits(filter: &mut Vec<bool>, randoms: &[u64])
     }
 }
 
+// The words that hold a value where the direct map begins.
+fn codes(alloc: Global, value: u64, direct: u64, randoms: &[u64]) -> Result<Vec<u64>, NoMemory>
+    ensures { IfOk result (λ words. words.items ≡ codes value direct randoms.now) }
+{
+    let mut words = Vec::new(alloc);
+    words.push(value)?;
+    for random in randoms {
+        words.push(decode(value, *random, direct))?;
+    }
+    Ok(words)
+}
+
+// The lowest 16 bits of the word that begins at a byte. Its bytes are taken as one.
+#[inline(always)]
+fn low_bits(bytes: &[u8], at: usize) -> usize
+    requires { at + 8 ≤ length bytes.now }
+    ensures low { result ≡ little_number 8 (drop at bytes.now) % 65536 }
+    ensures below { result < 65536 }
+{
+    bit_of(u64::from_le_bytes(*bytes[at..].first_chunk::<8>().unwrap()))
+}
+
 impl Sought {
     /// A value that is looked for: as it is, and as a free pointer in an object of a slab cache that has one of these random numbers.
     /// Where a free pointer stands is an address in the direct map, which begins at the virtual address `direct`.
@@ -77,12 +112,34 @@ impl Sought {
     {
         let mut filter = no_bits(alloc)?;
         set_bits(&mut filter, &randoms);
+        let mut near = no_bits(alloc)?;
+        set_bits(&mut near, &codes(alloc, value, direct, &randoms)?);
         Ok(Sought {
             value,
             direct,
             randoms,
             filter,
+            near,
         })
+    }
+
+    // Whether all words before a physical address stand near the direct map's beginning: at addresses with its upper 16 bits.
+    pub(crate) fn is_near(&self, end: u64) -> bool
+        ensures { result ≡ is_near self.now.direct end }
+    {
+        end < NEAR - self.direct % NEAR
+    }
+
+    // Whether one of eight words near the direct map's beginning may hold the value.
+    pub(crate) fn may_hold(&self, bytes: &[u8]) -> bool
+        requires { 64 ≤ length bytes.now }
+        ensures { result ≡ false → NoneHolds self.now bytes.now 8 }
+    {
+        let mut may = false;
+        for k in 0..GROUP as usize {
+            may = may | self.near[low_bits(bytes, WORD_BYTES * k)];
+        }
+        may
     }
 
     // How a word at a physical address holds the value, where it does.
