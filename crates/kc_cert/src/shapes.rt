@@ -164,7 +164,7 @@ fn tree_numbers<S: Space, L: Ledger>(
     }
 }
 
-// The entries of an xarray, after it was walked.
+// The entries of an xarray. It is walked only where it has no list of them, for the violation.
 fn array_entries<S: Space, L: Ledger>(
     alloc: Global,
     space: &mut S,
@@ -179,10 +179,12 @@ fn array_entries<S: Space, L: Ledger>(
     ensures cause { CountsWalkFaults result (S.faults space.old) (S.faults space.new) }
 {
     know_entries();
-    xa_walk(alloc, space, shape, asked.start, asked.audit, steps)?;
     match list_xarray(alloc, space, shape, asked.start, steps) {
         Ok(numbers) => Ok(numbers),
-        Err(TestStop::Unfit) => Err(gone(alloc, asked, Rule::X1)),
+        Err(TestStop::Unfit) => {
+            xa_walk(alloc, space, shape, asked.start, asked.audit, steps)?;
+            Err(gone(alloc, asked, Rule::X1))
+        }
         Err(TestStop::Fault) => Err(WalkStop::Fault),
         Err(TestStop::NoMemory) => Err(WalkStop::NoMemory),
     }

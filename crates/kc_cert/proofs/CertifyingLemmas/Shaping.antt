@@ -96,7 +96,7 @@ pub tree_gone : (image now : Option Image) (shape : RbShape) (n start : ℕ) (no
 tree_gone image now shape n start nodes halt stop same is t e =
     gone_by image shape n start nodes stop t (subst (λ m. CollectsTree shape start nodes m (Err halts.Unfit)) same (subst (λ h. CollectsTree shape start nodes now (Err h)) is e))
 
--- an xarray's entries, after it was walked
+-- an xarray's entries
 pub array_stops : (view : List XaItem → List XaItem) (image : Option Image) (shape : XaLayout) (n start : ℕ) (stop : WalkStop) → WalksAs view (λ i. xa_judged i shape n start) image (Err stop) → ShapesAs (Xarray shape) n start image (Err stop)
 unfolding nodes_of
 array_stops view None shape n start stop e = tt
@@ -115,10 +115,10 @@ none_listed law (Some i) shape n start items stop w e =
     let p = law i shape n start items w in
     let none : ⊥ = let no = e p.0 in let yes = p.1 in cc in absurd none
 
-pub array_gone : WalksPass → (image now : Option Image) (shape : XaLayout) (n start : ℕ) (items : List XaItem) (halt : TestStop) (stop : WalkStop) → now ≡ image → halt ≡ halts.Unfit → WalksAs (λ (is : List XaItem). is) (λ i. xa_judged i shape n start) image (Ok items) → ListsAs (λ i ms. is_xarray i shape start ms) now (Err halt) →
+pub array_gone : WalksPass → (image now : Option Image) (shape : XaLayout) (n start : ℕ) (items : List XaItem) (halt : TestStop) (stop : WalkStop) → now ≡ image → halt ≡ halts.Unfit → ListsAs (λ i ms. is_xarray i shape start ms) image (Err halt) → WalksAs (λ (is : List XaItem). is) (λ i. xa_judged i shape n start) now (Ok items) →
     ShapesAs (Xarray shape) n start image (Err stop)
-array_gone law image now shape n start items halt stop same is w e =
-    none_listed law image shape n start items stop w (subst (λ m. ListsAs (λ i ms. is_xarray i shape start ms) m (Err halts.Unfit)) same (subst (λ h. ListsAs (λ i ms. is_xarray i shape start ms) now (Err h)) is e))
+array_gone law image now shape n start items halt stop same is e w =
+    none_listed law image shape n start items stop (subst (λ m. WalksAs (λ (is : List XaItem). is) (λ i. xa_judged i shape n start) m (Ok items)) same w) (subst (λ h. ListsAs (λ i ms. is_xarray i shape start ms) image (Err h)) is e)
 
 -- the lists of a slab cache, and of tasks
 alone_ends : {A : Type 0} (r : Came A) (v : Violation) → r ≡ Err v → and_then r (λ p. Ok p.0) ≡ Err v
