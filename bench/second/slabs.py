@@ -240,18 +240,6 @@ class Slabs:
             self.guard(base, size, objects, free, runs)
         return objects, free, frozen, guarded
 
-    def objects(self):
-        """The objects of the caches' slabs, free or in use, one page after the other."""
-        for number in frames(self.kernel.memory.core):
-            slab = (self.bases[0] + self.page * number) % TOP
-            cache = self.word(slab + self.kernel.byte("slab", "slab_cache"))
-            if cache not in self.caches or self.fenced(slab, number):
-                continue
-            mark, laid = self.value(slab, "page", self.field), self.caches[cache][1]
-            count, used, frozen = (self.value(slab, "slab", name) for name in ("objects", "inuse", "frozen"))
-            if None not in (mark, laid, count, used, frozen) and self.marked(mark) and used <= count:
-                yield from ((self.bases[1] + 4096 * number + laid[3] + laid[0] * k) % TOP for k in range(count))
-
     def owned(self, cache, at, laid):
         """What a processor has of a cache: the slab that it names, and the objects of its list; or none of either."""
         kernel = self.kernel

@@ -23,10 +23,9 @@ import time
 import files
 import timer
 from hostile import damage as damages
-from plans.reader import TOP, Broken, Core, Info, Memory, Refused, Types, address, symbols, vmcoreinfo
+from plans.reader import TOP, Broken, Core, Info, Memory, Refused, Types, address, symbols
 from second import made
 from second.areas import shown as visible
-from second.slabs import Slabs
 from second.verdict import Kernel, Run, place_line, plan_of, started, told, verdict
 from second.why import Sights, meaning
 
@@ -403,16 +402,6 @@ class Suspects:
     def head_backs(self):
         return self.entry_backs(self.array() + self.audit.shape["head"]) if self.kind in ("xarray", "pids") else []
 
-    def is_top(self, node):
-        """Whether a node points back to the xarray, and has no parent."""
-        words = [self.read((node + self.audit.shape[name]) % TOP) for name in ("array", "parent")]
-        return None not in words and [word[3] for word in words] == [self.array(), 0]
-
-    def head(self):
-        """The place of an xarray's head that leads to no such node, or nothing."""
-        head = self.read((self.array() + self.audit.shape["head"]) % TOP) if self.kind in ("xarray", "pids") else None
-        return None if head is None or head[2] == "tail" or self.is_top((head[3] - 2) % TOP) else head
-
     def emptied(self):
         """The slots of a node that lead nowhere, each as null."""
         shape, found = self.audit.shape, []
@@ -751,24 +740,13 @@ class Causes:
             return None
         return breaks if breaks() == (broken.rule, broken.at) else None
 
-    def tops(self, broken, audit):
-        """The head of an xarray, as one that leads to each object of the cache of all nodes that can be its top one."""
-        of = Suspects(self.kernel, audit, broken)
-        head = of.head()
-        try:
-            nodes = [] if head is None else Slabs(self.kernel, vmcoreinfo(self.core), b"radix_tree_node").objects()
-            return [(head, (node + 2) % TOP) for node in nodes if of.is_top(node)]
-        except (Broken, Refused, KeyError, TypeError):
-            return []
-
-    def tried(self, root, broken, audit, changed, given=None):
+    def tried(self, root, broken, audit, changed):
         """How many words are tried, whether there are more, the one that repairs, and else the first that leads to another violation, and to which one. The
         words that are changed so far aren't tried. One repairs where the walk that finds the violation stands, and the root audit does; one leads elsewhere
-        where that walk doesn't find the same again, and the root audit finds another. Where words are changed already, it is enough that the walk does. Others
-        than the suspects may be given."""
+        where that walk doesn't find the same again, and the root audit finds another. Where words are changed already, it is enough that the walk does."""
         of, same = Suspects(self.kernel, audit, broken), (broken.rule, broken.at)
         walk = self.own_walk(audit, broken, of) or (lambda: None)
-        suspects = (one for one in (of.all() if given is None else given) if all(abs(one[0][2] - at) >= 8 for at in changed))
+        suspects = (one for one in of.all() if all(abs(one[0][2] - at) >= 8 for at in changed))
         some = list(itertools.islice(suspects, MOST))
         for one in some:
             if self.with_word(*one, lambda: not walk() and self.judge(root) is None):
@@ -821,12 +799,12 @@ class Causes:
         said, written = self.sights.why.said(place[0], number), is_written(place[0], place[3])
         return columns(place, number) + "\n" + (self.sights.says(place[0], place[3]) if written else "") + ("" if said == "number" else f"leads {said}\n")
 
-    def stand(self, root, broken, audit, given):
-        """How many words repair of those tried: after the first that does at most MORE others, up to a second one. Others than the suspects may be given."""
+    def stand(self, root, broken, audit):
+        """How many words repair of those tried: after the first that does at most MORE others, up to a second one."""
         of = Suspects(self.kernel, audit, broken)
         walk = self.own_walk(audit, broken, of) or (lambda: None)
         repairing, tried, left = 0, 0, None
-        for one in of.all() if given is None else given:
+        for one in of.all():
             if repairing == 2 or left == 0:
                 break
             tried, left = tried + 1, None if left is None else left - 1
@@ -848,14 +826,10 @@ class Causes:
         return f"elements {run.elements[self.audits.index(audit)]}\n"
 
     def repair(self, root, broken, audit):
-        """The lines of the repair. Where no word repairs, or one that leads nowhere, other heads of an xarray are tried before those that are suspected."""
+        """The lines of the repair."""
         tried, more, last, then = self.tried(root, broken, audit, [])
-        tops, given = self.tops(broken, audit) if last is None or last[1] == 0 else [], None
-        if tops:
-            given = tops + list(Suspects(self.kernel, audit, broken).all())
-            tried, more, last, then = self.tried(root, broken, audit, [], given)
         if last:
-            return f"{'fits' if only_fits(broken, *last) else 'repair'} {self.led(*last)}{self.stand(root, broken, audit, given)}{self.elements(root, audit, [last])}"
+            return f"{'fits' if only_fits(broken, *last) else 'repair'} {self.led(*last)}{self.stand(root, broken, audit)}{self.elements(root, audit, [last])}"
         text, words = f"repair none of {'the first ' * more}{tried} tried\n", self.chain(root, then)
         if words:
             return text + f"chain {len(words)}\n" + "".join(f"word {self.led(*word)}" for word in words) + chain_sign(words) + self.elements(root, audit, words)

@@ -16,10 +16,9 @@ use Rattle.kc_plan.specs.Stands.{RootStands}
 use Rattle.kc_repair.specs.declared.suspect.suspect.Suspect.{Suspect}
 use Rattle.kc_repair.specs.declared.outcome.Repair.{Repair}
 use Rattle.kc_repair.specs.declared.outcome.Repair.TheVariants.{Stands, Nothing}
-use Rattle.kc_repair.specs.Given.{repair_given}
-use Rattle.kc_repair.specs.Laws.{GivenStand, GivenWordsStand, IsLeft, LeftStand, LeftStandInFile, LeftWordsStand, OneMore, StandsInFile, told_suspects}
+use Rattle.kc_repair.specs.Laws.{IsLeft, LeftStand, LeftStandInFile, LeftWordsStand, OneMore, RepairWordsStand, RepairsStand, StandsInFile, told_suspects}
 use Rattle.kc_repair.specs.declared.first.FirstWalk.{FirstWalk}
-use Rattle.kc_repair.specs.Repairs.{StandsAs, WalkInside, is_apart, judged, repair_left, walk_of, with_suspect, with_words}
+use Rattle.kc_repair.specs.Repairs.{StandsAs, WalkInside, is_apart, judged, repair_left, repair_of, walk_of, with_suspect, with_words}
 use Rattle.kc_repair.specs.Suspect.Laws.{IsSuspect}
 use Rattle.kc_repair.specs.Suspect.Suspects.{suspects}
 use Rattle.kc_cause.specs.declared.chain.Left.{Left}
@@ -140,8 +139,8 @@ chain-long (Some m) audits root first i words left beyond ahead = past m audits 
 
 -- what is known of repairs that are left
 pub record KnownLeft : Type 0 where
-  pub first_stand : GivenStand
-  pub first_words : GivenWordsStand
+  pub first_stand : RepairsStand
+  pub first_words : RepairWordsStand
   pub stand : LeftStand
   pub words : LeftWordsStand
   pub in_file : LeftStandInFile
@@ -221,12 +220,12 @@ pub record Together (image : Image) (audits : List AuditAt) (root : Root) (words
   pub in_file : AllByRecursion (StandsInFile image) words
   pub stands : RootStands (with_words image words) audits root
 
-pub chained : KnownLeft → (image : Image) (audits : List AuditAt) (root : Root) (kind : Kind) (v : Violation) (xs : List Suspect) → AllByRecursion (IsSuspect image) xs → (words : List Suspect)
-    → chain_of image audits root (repair_given image audits root kind v xs) ≡ Some words → Together image audits root words
-chained law image audits root kind v xs suspected words is =
-    let r : Repair = repair_given image audits root kind v xs in
+pub chained : KnownLeft → (image : Image) (audits : List AuditAt) (root : Root) (kind : Kind) (v : Violation) (words : List Suspect)
+    → chain_of image audits root (repair_of image audits root kind v) ≡ Some words → Together image audits root words
+chained law image audits root kind v words is =
+    let r : Repair = repair_of image audits root kind v in
     let end = ends law most_words image audits root [] words None (Some r)
-    (said-by image audits root (walk_of image audits kind v) [] xs r (law.first_stand image audits root kind v xs)
-    (first-left image (told_suspects r) (law.first_words image audits root kind v xs suspected))) is in
+    (said-by image audits root (walk_of image audits kind v) [] (suspects image kind v) r (law.first_stand image audits root kind v)
+    (first-left image (told_suspects r) (law.first_words image audits root kind v))) is in
     let there : StandInTurn image [] words = subst (λ (l : List Suspect). StandInTurn image [] l) (sym end.is) end.there in
     record { there = there; in_file = all-in_file law.in_file image [] words there; stands = end.stands }

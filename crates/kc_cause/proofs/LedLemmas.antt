@@ -17,7 +17,7 @@ use Rattle.kc_told.specs.Leads.{leads_line}
 use Rattle.kc_told.specs.Near.{lead_as}
 use Rattle.kc_repair.specs.declared.suspect.suspect.Suspect.{Suspect}
 use Rattle.kc_cause.specs.declared.judged.PlanOf.{PlanOf}
-use Rattle.kc_cause.specs.declared.mending.Mended.{Mended}
+use Rattle.kc_cause.specs.declared.repairs.Mended.{Mended}
 use Rattle.kc_cause.specs.Explained.{leads_over, leads_to, mended_of, repairs_as, written_over}
 use Rattle.kc_cause.specs.Judged.{over_plan}
 use Rattle.kc_cause.specs.Lines.{led_lines, mended_lines, suspect_part}
@@ -75,12 +75,12 @@ led_added (Some m) (Ok x) s old one two new leads a b c =
 -- all lines, under the root audit with a number
 pub as_added : {A E : Type 0} (image after : Option Image) (r : Result A E) (o : PlanOf) (root : ℕ) (at : Option Asked) (asked : Asked) (number : ℕ) (kind : Kind) (v : Violation) (made : Result Mended ReadFailed) (mended : Mended) (old new : List ℕ)
     → after ≡ image → option_map asked_root at ≡ root_at root (plan_seen o.plan.now) → at ≡ Some asked → made ≡ Ok mended
-    → IfOk made (λ x. IfSome image (λ m. x ≡ mended_of (over_plan o m) (asked.audit, asked.start) kind v number))
+    → IfOk made (λ x. IfSome image (λ m. x ≡ mended_of m (plan_seen o.plan.now) (asked.audit, asked.start) kind v number))
     → OnOk r (IfSome after (λ m. new ≡ old ++ mended_lines (leads_to (over_plan o m)) v mended))
     → OnOk r (IfSome image (λ m. new ≡ old ++ repairs_as (over_plan o m) root number kind v))
 as_added image after (Err e) o root at asked number kind v made mended old new same rooted is answer exact added = tt
 as_added None after (Ok a) o root at asked number kind v made mended old new same rooted is answer exact added = tt
 as_added (Some m) after (Ok a) o root at asked number kind v made mended old new same rooted is answer exact added =
     let found : root_at root (plan_seen o.plan.now) ≡ Some (asked.audit, asked.start) = sym rooted ∙ ap (option_map asked_root) is in
-    let whole : mended ≡ mended_of (over_plan o m) (asked.audit, asked.start) kind v number = rw answer at exact in
+    let whole : mended ≡ mended_of m (plan_seen o.plan.now) (asked.audit, asked.start) kind v number = rw answer at exact in
     rw found ((rw same at added) ∙ ap (λ (x : Mended). old ++ mended_lines (leads_to (over_plan o m)) v x) whole)

@@ -8,6 +8,4 @@ mod MendedLemmas
 mod PlannedLemmas
 mod PrintedLaws
 mod RepairLemmas
-mod TopLemmas
-mod TopLoops
 mod WrittenLemmas

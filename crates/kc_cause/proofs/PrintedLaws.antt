@@ -18,24 +18,25 @@ use Rattle.kc_repair.specs.declared.suspect.suspect.Suspect.{Suspect}
 use Rattle.kc_repair.specs.declared.outcome.Next.{Next}
 use Rattle.kc_repair.specs.declared.outcome.Repair.{Repair}
 use Rattle.kc_repair.specs.declared.outcome.Repair.TheVariants.{Stands, Nothing}
-use Rattle.kc_repair.specs.Laws.{ComesThen, ElementsAreCounted, GivenAreExact, GivenNextsAreOfRoot, GivenOthersStand, GivenStand, GivenWordsStand, IsStand, LeftStand, LeftStandInFile, LeftWordsStand, OneMore, TopsStand, told_suspects}
+use Rattle.kc_repair.specs.Laws.{ComesThen, ElementsAreCounted, IsStand, LeftStand, LeftStandInFile, LeftWordsStand, NextsAreOfRoot, OneMore, OthersStand, RepairWordsStand, RepairsAreExact, RepairsStand, told_suspects}
 use Rattle.kc_repair.specs.declared.others.Stand.{Stand}
 use Rattle.kc_repair.specs.Elements.{elements_with}
-use Rattle.kc_repair.specs.Given.{repair_given, stand_among, stand_given, tried_given}
+use Rattle.kc_repair.specs.Others.{stand_of}
 use Rattle.kc_sight.specs.Meanings.{meaning}
 use Rattle.kc_told.specs.declared.near.Lead.{Lead}
 use Rattle.kc_told.specs.Leads.{is_told}
 use Rattle.kc_told.specs.Near.{lead_as}
 use Rattle.kc_told.specs.Text.{meaning_text}
 use Rattle.kc_repair.specs.declared.first.FirstWalk.{FirstWalk}
-use Rattle.kc_cause.specs.declared.mending.Mended.{Mended}
+use Rattle.kc_cause.specs.declared.repairs.Mended.{Mended}
 use Rattle.kc_repair.specs.declared.first.Breaking.{Breaking}
-use Rattle.kc_repair.specs.Repairs.{IsRepairBy, StandsAs, breaking_of, most, walk_of, with_suspect, with_words}
+use Rattle.kc_repair.specs.Repairs.{IsRepairBy, StandsAs, breaking_of, most, repair_of, walk_of, with_suspect, with_words}
 use Rattle.kc_repair.specs.Suspect.Laws.{IsSuspect, SuspectsStand}
+use Rattle.kc_repair.specs.Suspect.Suspects.{suspects}
 use Rattle.kc_report.specs.Lines.{rule_code}
 use Rattle.kc_text.specs.Compose.{texts}
 use Rattle.kc_text.specs.Text.{hex}
-use Rattle.kc_cause.specs.Explained.{Explained, causes_text, cause_lines, explained_text, fault_lines, first_lines, found_named, found_number, changed_words, elements_told, is_broken, leads_over, leads_to, mended_by, mended_of, or_clean, repairs_found, root_line, says_at, shown_lines, words_for, written_over}
+use Rattle.kc_cause.specs.Explained.{Explained, causes_text, cause_lines, explained_text, fault_lines, first_lines, found_named, found_number, changed_words, elements_told, is_broken, leads_over, leads_to, mended_of, or_clean, repairs_found, root_line, says_at, shown_lines, stand_told, written_over}
 use Rattle.kc_cause.specs.Lines.{after_lines, bytes_line, elements_lines, mended_lines, next_lines, number_of, only_fits, repair_label, repair_lines, stand_line, stand_lines, suspect_part, word_line}
 use Rattle.kc_cause.specs.Printed.{CountsAs, IsAlone, IsChained, IsExplanation, IsPart, IsPartBy, IsPartOf, IsRepaired, IsThen, IsUnrepaired, IsLed, IsWhole, IsWord, LeadsAs, columns, explained_roots, walk_as}
 use Rattle.kc_cause.specs.Chained.{chain_of}
@@ -43,7 +44,6 @@ use Rattle.kc_cause.specs.Signs.{sign_lines, sign_of}
 use Rattle.kc_cause.specs.Suspected.{Suspected, suspected}
 use Rattle.kc_cause.specs.Written.{is_written}
 use Rattle.kc_cause.proofs.ChainLemmas.{Together, chained}
-use Rattle.kc_cause.proofs.TopLemmas.{words-stand}
 
 -- ---- the lines on a repair
 
@@ -220,47 +220,41 @@ repair_said law e root breaking of number m (Nothing tried more next) v by = inr
 
 -- what is known of repairs
 pub record Known : Type 0 where
-  pub exact : GivenAreExact
-  pub nexts : GivenNextsAreOfRoot
-  pub stand : GivenStand
-  pub words : GivenWordsStand
+  pub exact : RepairsAreExact
+  pub nexts : NextsAreOfRoot
+  pub stand : RepairsStand
+  pub words : RepairWordsStand
   pub suspects : SuspectsStand
-  pub tops : TopsStand
   pub left : LeftStand
   pub left_words : LeftWordsStand
   pub in_file : LeftStandInFile
   pub one_more : OneMore
-  pub others : GivenOthersStand
+  pub others : OthersStand
   pub elements : ElementsAreCounted
 
-stood : Known → (e : Explained) (root : Root) (kind : Kind) (v : Violation) (xs : List Suspect) (r : Repair) (s : Suspect) → AllByRecursion (IsSuspect e.image) xs → repair_given e.image e.audits root kind v xs ≡ r → r ≡ Stands s
-    → (stand : Stand) × (stand_among e.image e.audits root (walk_of e.image e.audits kind v) xs r ≡ Some stand) × IsStand e.image e.audits root (walk_of e.image e.audits kind v) s stand
-stood law e root kind v xs r s there is stands =
-    (stand_given e.image e.audits root kind v xs, ap (stand_among e.image e.audits root (walk_of e.image e.audits kind v) xs) stands, law.others e.image e.audits root kind v xs s there (is ∙ stands))
+stood : Known → (e : Explained) (root : Root) (kind : Kind) (v : Violation) (number : ℕ) (r : Repair) (s : Suspect) → repair_of e.image e.audits root kind v ≡ r → r ≡ Stands s
+    → (stand : Stand) × (stand_told e.image e.audits root kind v r ≡ Some stand) × IsStand e.image e.audits root (walk_of e.image e.audits kind v) s stand
+stood law e root kind v number r s is stands =
+    (stand_of e.image e.audits root kind v, ap (stand_told e.image e.audits root kind v) stands, law.others e.image e.audits root kind v s (is ∙ stands))
 
--- of the words that are tried
-words_said : Known → (e : Explained) (root : Root) (number : ℕ) (kind : Kind) (v : Violation) (xs : List Suspect) → AllByRecursion (IsSuspect e.image) xs
-    → IsSaid e root (walk_of e.image e.audits kind v) number (mended_lines (leads_to e) v (mended_by e.image e.audits root number (tried_given e.image e.audits root kind v xs)))
-words_said law e root number kind v xs there =
-    repair_said law.elements e root (breaking_of e.image e.audits kind v) xs number (mended_by e.image e.audits root number (tried_given e.image e.audits root kind v xs)) (repair_given e.image e.audits root kind v xs) v
+kind_said : Known → (e : Explained) (root : Root) (number : ℕ) (kind : Kind) (v : Violation)
+    → IsSaid e root (walk_of e.image e.audits kind v) number (mended_lines (leads_to e) v (mended_of e.image e.audits root kind v number))
+kind_said law e root number kind v =
+    repair_said law.elements e root (breaking_of e.image e.audits kind v) (suspects e.image kind v) number (mended_of e.image e.audits root kind v number) (repair_of e.image e.audits root kind v) v
     (record {
-      all = there;
-      is = law.exact e.image e.audits root kind v xs;
-      stands = law.stand e.image e.audits root kind v xs;
-      told = law.words e.image e.audits root kind v xs there;
-      comes = law.nexts e.image e.audits root kind v xs;
+      all = law.suspects e.image kind v;
+      is = law.exact e.image e.audits root kind v;
+      stands = law.stand e.image e.audits root kind v;
+      told = law.words e.image e.audits root kind v;
+      comes = law.nexts e.image e.audits root kind v;
       chained = λ all is.
-          chained (record { first_stand = law.stand; first_words = law.words; stand = law.left; words = law.left_words; in_file = law.in_file; one_more = law.one_more }) e.image e.audits root kind v xs there all is;
-      alone = λ s is. stood law e root kind v xs (repair_given e.image e.audits root kind v xs) s there refl is;
+          chained (record { first_stand = law.stand; first_words = law.words; stand = law.left; words = law.left_words; in_file = law.in_file; one_more = law.one_more }) e.image e.audits root kind v all is;
+      alone = λ s is. stood law e root kind v number (repair_of e.image e.audits root kind v) s refl is;
       counted = refl;
     })
 
-kind_said : Known → (e : Explained) (root : Root) (number : ℕ) (kind : Kind) (v : Violation)
-    → IsSaid e root (walk_of e.image e.audits kind v) number (mended_lines (leads_to e) v (mended_of e root kind v number))
-kind_said law e root number kind v = words_said law e root number kind v (words_for e root kind v) (words-stand law.tops law.suspects e root kind v)
-
 root_said : Known → (e : Explained) (number : ℕ) (at : Option Root) (root : Root) (s : Suspected) → at ≡ Some root
-    → IsSaid e root (walk_as e s) number (option_map_or (λ (r : Root). mended_lines (leads_to e) s.violation (mended_of e r s.kind s.violation number)) at [])
+    → IsSaid e root (walk_as e s) number (option_map_or (λ (r : Root). mended_lines (leads_to e) s.violation (mended_of e.image e.audits r s.kind s.violation number)) at [])
 root_said law e number at root s is = rw is (kind_said law e root number s.kind s.violation)
 
 audit_said : Known → (e : Explained) (number : ℕ) (root : Root) (v : Violation) (audit : Option AuditAt) → root_at number e.audits ≡ Some root → slice_get e.audits v.audit ≡ audit

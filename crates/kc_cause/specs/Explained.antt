@@ -1,5 +1,5 @@
 -- What the report of a dump is explained by: the verdict on each root audit, the words that show it, and the word that repairs it.
-use Rattle.std.specs.Prelude.{◌≡◌, ℕ, ◌==◌, nat_eq, true, if◌then◌else◌, Bool, List, [], ◌∷◌, ◌++◌, codes, bytes_eq, find, is_some, slice_get, Option, Some, None}
+use Rattle.std.specs.Prelude.{◌≡◌, ℕ, nat_eq, if◌then◌else◌, Bool, List, [], ◌∷◌, ◌++◌, codes, bytes_eq, find, is_some, slice_get, Option, Some, None}
 use Rattle.std.specs.Option.{option_map_or}
 use Rattle.kc_btf.specs.Btf.{Types}
 use Rattle.kc_memory.specs.declared.words.Place.{Place}
@@ -16,12 +16,10 @@ use Rattle.kc_repair.specs.declared.outcome.Repair.{Repair}
 use Rattle.kc_repair.specs.declared.outcome.Repair.TheVariants.{Stands, Nothing}
 use Rattle.kc_repair.specs.declared.others.Stand.{Stand}
 use Rattle.kc_repair.specs.declared.suspect.suspect.Suspect.{Suspect}
-use Rattle.kc_repair.specs.declared.given.Tried.{Tried}
 use Rattle.kc_repair.specs.Elements.{elements_with}
-use Rattle.kc_repair.specs.Given.{tried_given}
+use Rattle.kc_repair.specs.Others.{stand_of}
 use Rattle.kc_repair.specs.Repairs.{repair_of}
-use Rattle.kc_repair.specs.Suspect.Suspects.{suspects}
-use Rattle.kc_cause.specs.declared.mending.Mended.{Mended}
+use Rattle.kc_cause.specs.declared.repairs.Mended.{Mended}
 use Rattle.kc_cause.specs.Chained.{chain_of}
 use Rattle.kc_report.specs.declared.report.Report.{Report}
 use Rattle.kc_report.specs.Copies.{report_each, report_of}
@@ -56,7 +54,6 @@ use Rattle.kc_audit.specs.Audits.{names_of, plan_over}
 use Rattle.kc_cause.specs.Rings.{ring_lines}
 use Rattle.kc_cause.specs.Copies.{shown_signs}
 use Rattle.kc_cause.specs.Suspected.{Suspected, suspected}
-use Rattle.kc_cause.specs.Tops.{tops_of}
 use Rattle.kc_cause.specs.Written.{is_written, slot_line, slot_of}
 use Rattle.kc_cause.specs.Lines.{bytes_line, mended_lines, named_lines, number_lines}
 
@@ -140,6 +137,11 @@ found_named types audits v = option_map_or (λ (a : AuditAt). named_lines types 
 abbrev pub found_number : List AuditAt → Violation → List ℕ
 found_number audits v = option_map_or (λ (a : AuditAt). number_lines a.kind v) (slice_get audits v.audit) []
 
+-- whether others would do as well as the word that repairs, where one does
+abbrev pub stand_told : Image → List AuditAt → Root → Kind → Violation → Repair → Option Stand
+stand_told image audits root kind v (Stands s) = Some (stand_of image audits root kind v)
+stand_told image audits root kind v (Nothing tried more next) = None
+
 -- the words that are changed: the one that repairs, or those that do together
 abbrev pub changed_words : Repair → Option (List Suspect) → Option (List Suspect)
 changed_words (Stands s) words = Some (s ∷ [])
@@ -159,27 +161,13 @@ mended_with image audits root number repair stand words = record {
   elements = elements_told image audits root number (changed_words repair words);
 }
 
-abbrev pub mended_by : Image → List AuditAt → Root → ℕ → Tried → Mended
-mended_by image audits root number t = mended_with image audits root number t.repair t.stand (chain_of image audits root t.repair)
+abbrev pub mended_by : Image → List AuditAt → Root → ℕ → Repair → Option Stand → Mended
+mended_by image audits root number repair stand = mended_with image audits root number repair stand (chain_of image audits root repair)
 
--- no word repairs, or one that leads nowhere, which drops what it led to
-abbrev pub is_open : Repair → Bool
-is_open (Stands s) = s.value == 0
-is_open (Nothing tried more next) = true
-
--- The words that are tried for a violation of a kind of structure that a root audit found: those that it suspects, and where that is so, before them heads
--- that may have stood where the xarray in which it lies has its own.
-abbrev pub words_for : Explained → Root → Kind → Violation → List Suspect
-words_for e root kind v =
-    if is_open (repair_of e.image e.audits root kind v) then tops_of e.image kind v e.frames e.slabs ++ suspects e.image kind v
-    else suspects e.image kind v
-
--- what repairs it: a word, and else words that do together
-abbrev pub answer_of : Explained → Root → Kind → Violation → Tried
-answer_of e root kind v = tried_given e.image e.audits root kind v (words_for e root kind v)
-
-abbrev pub mended_of : Explained → Root → Kind → Violation → ℕ → Mended
-mended_of e root kind v number = mended_by e.image e.audits root number (answer_of e root kind v)
+-- what repairs a violation of a kind of structure that a root audit found: a word, and else words that do together
+abbrev pub mended_of : Image → List AuditAt → Root → Kind → Violation → ℕ → Mended
+mended_of image audits root kind v number =
+    mended_by image audits root number (repair_of image audits root kind v) (stand_told image audits root kind v (repair_of image audits root kind v))
 
 -- what was written over the word of a suspect, where its number shows that, and how far that goes on
 abbrev pub written_over : Explained → Suspect → List ℕ
@@ -195,7 +183,7 @@ leads_to e s = written_over e s ++ leads_over e s
 -- under the root audit with a number; the audit with another one found it
 abbrev pub repairs_as : Explained → ℕ → ℕ → Kind → Violation → List ℕ
 repairs_as e root number kind v =
-    option_map_or (λ (r : Root). mended_lines (leads_to e) v (mended_of e r kind v number)) (root_at root e.audits) []
+    option_map_or (λ (r : Root). mended_lines (leads_to e) v (mended_of e.image e.audits r kind v number)) (root_at root e.audits) []
 
 -- of one as it is suspected, by the audit that found it
 abbrev pub repairs_of : Explained → ℕ → ℕ → Suspected → List ℕ

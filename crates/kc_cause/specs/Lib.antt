@@ -11,5 +11,4 @@ pub mod Rings
 pub mod Sentences
 pub mod Signs
 pub mod Suspected
-pub mod Tops
 pub mod Written

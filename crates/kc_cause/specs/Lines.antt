@@ -23,7 +23,7 @@ use Rattle.kc_repair.specs.declared.outcome.Next.{Next}
 use Rattle.kc_repair.specs.declared.outcome.Repair.{Repair}
 use Rattle.kc_repair.specs.declared.outcome.Repair.TheVariants.{Stands, Nothing}
 use Rattle.kc_repair.specs.declared.others.Stand.{Stand}
-use Rattle.kc_cause.specs.declared.mending.Mended.{Mended}
+use Rattle.kc_cause.specs.declared.repairs.Mended.{Mended}
 use Rattle.kc_cause.specs.Sentences.{sentence}
 use Rattle.kc_cause.specs.Signs.{sign_lines, sign_of}
 

@@ -10,9 +10,8 @@ ghost use Rattle.kc_cause.specs.Judged.{FitsTogether, over_plan};
 
 use crate::judged::PlanOf;
 use crate::lines::{push_line, push_named, push_number};
-use crate::mending::Repairable;
 use crate::places::push_shown_over;
-use crate::repairs::push_repairs;
+use crate::repairs::{Repairable, push_repairs};
 use kc_found::{Found, ReadFailed, RootVerdict, Verdict, Verdicts};
 use kc_question::Returned;
 use kc_text::push;

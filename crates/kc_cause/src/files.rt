@@ -24,8 +24,8 @@ ghost use Rattle.kc_cause.specs.Judged.{Compares, FitsJudged, FitsTogether, Judg
 
 use crate::explained::explained_text;
 use crate::judged::{Judged, PlanOf, judge_over, report_text};
-use crate::mending::Repairable;
 use crate::planned::{KernelRead, Planned, find_plan};
+use crate::repairs::Repairable;
 use kc_audit::names_of;
 use kc_command::{
     Answer, Halt, KernelFiles, Refusal, ReportFault, VIEW_HEADERS, paging_by, read_map, read_noted,

@@ -9,7 +9,6 @@ mod files;
 mod judged;
 mod laws;
 mod lines;
-mod mending;
 mod places;
 mod planned;
 mod repairs;
@@ -18,7 +17,6 @@ mod sentences;
 mod signs;
 mod slabs;
 mod suspected;
-mod tops;
 mod written;
 
 pub use files::{Asks, explain};

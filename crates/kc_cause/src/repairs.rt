@@ -1,30 +1,42 @@
-// The lines of what repairs a violation.
-ghost use Rattle.std.specs.Prelude.{◌≡◌, ◌++◌, ◌<◌, ⊤, length, OnOk, IfOk, IfSome};
+// What repairs a violation, and its lines.
+ghost use Rattle.std.specs.Prelude.{◌≡◌, ◌∷◌, [], ◌++◌, ◌<◌, ⊤, length, OnOk, IfOk, IfSome};
+ghost use Rattle.kc_outside.specs.declared.store.Slot.TheVariants.{Dump};
+ghost use Rattle.kc_outside.specs.Files.{content};
+ghost use Rattle.kc_phys.specs.Stored.{stored};
+ghost use Rattle.kc_memory.specs.Stays.{FramesStay};
 ghost use Rattle.kc_mem.specs.Paged.{with_paging};
+ghost use Rattle.kc_plan.specs.Views.{plan_seen};
+ghost use Rattle.kc_repair.specs.Repairs.{repair_of};
 ghost use Rattle.kc_repair.specs.Suspect.Answers.{OnlyReads, OnlyReadsFrames};
 ghost use Rattle.kc_text.specs.Compose.{texts};
-ghost use Rattle.kc_cause.specs.Explained.{leads_over, leads_to, repairs_as, repairs_found, written_over};
+ghost use Rattle.kc_cause.specs.Explained.{changed_words, elements_told, leads_over, leads_to, mended_by, mended_of, repairs_as, repairs_found, stand_told, written_over};
 ghost use Rattle.kc_cause.specs.Judged.{FitsTogether, over_plan};
 ghost use Rattle.kc_cause.specs.Lines.{after_lines, chain_lines, count_line, counted_lines, elements_lines, ending_lines, led_lines, mended_lines, next_line, next_lines, none_line, number_of, one_lines, only_fits, repair_label, stand_lines, suspect_part, tried_part, word_line, worth_lines};
 ghost use Rattle.kc_found.specs.Failures.{CountsFailures};
 
+use crate::chain::chain;
 use crate::judged::PlanOf;
-use crate::mending::{Mended, Repairable};
 use crate::places::push_says_at;
 use crate::signs::{push_sign, sign_of};
 use crate::suspected::as_ring_over;
 use crate::written::is_written;
-use kc_found::{Found, ReadFailed, Rule, Space};
+use kc_found::{Asked, Found, Items, ReadFailed, Rule, Space};
 use kc_kinds::Kind;
 use kc_memory::Frames;
+use kc_outside::Store;
+use kc_phys::Phys;
 use kc_question::{Question, Returned, ask_over};
-use kc_repair::{Next, Repair, Stand, Suspect, Suspects};
+use kc_repair::{
+    Next, Repair, Repaired, RootAudit, Stand, Suspect, Suspects, elements_over, repair_over,
+    stand_over,
+};
 use kc_report::rule_code;
 use kc_run::root_at;
 use kc_sight::meaning_of;
 use kc_text::{push, push_decimal, push_hex, push_numbered};
 use kc_told::{Shapes, push_leads, read_lead};
 use kc_word::{NoMemory, Steps};
+use std::alloc::Global;
 use std::sync::ledger::Ledger;
 
 // Adds a word that is suspected: the four columns of a place, and the number that it may have held.
@@ -406,6 +418,269 @@ fn push_repair_over<F: Frames>(
         Err(stop) => Err(stop),
     };
     Returned { memory, answer }
+}
+
+/// What repairs a violation.
+#[derive(Drop)]
+pub(crate) struct Mended {
+    /// One word, or none.
+    pub repair: Repair,
+    /// Words that repair together, where there are such.
+    pub words: Option<Suspects>,
+    /// Where one word repairs, whether others would do as well.
+    pub stand: Option<Stand>,
+    /// How many elements the audit that found the violation meets with the word, or with the words; where that is told.
+    pub elements: Option<u64>,
+}
+
+// Whether others would do as well as the word that repairs, where one does.
+fn stand_after<'s, S: Store>(
+    memory: Phys<'s, S>,
+    over: &PlanOf<'_>,
+    root: Asked,
+    kind: &Kind,
+    found: &Found,
+    repair: Repair,
+) -> Returned<Phys<'s, S>, Result<Option<Stand>, ReadFailed>>
+    requires over { FitsTogether over.now }
+    requires root { root.audit < length over.now.plan.now.audits }
+
+    ensures exact { IfOk result.answer (λ stand. IfSome (with_paging over.now.paging (stored memory.entry.segments.items memory.entry.tail (content (S.files memory.entry.store.now) Dump (S.opened memory.entry.store.now Dump))))
+        (λ image. repair_of image (plan_seen over.now.plan.now) (root.audit, root.start) kind.now found.now ≡ repair
+        → stand ≡ stand_told image (plan_seen over.now.plan.now) (root.audit, root.start) kind.now found.now repair)) }
+    ensures reads { OnlyReadsFrames (λ p. stored p.segments.items p.tail (content (S.files p.store.now) Dump (S.opened p.store.now Dump))) (λ p. S.files p.store.now) (λ p. p.store.ghost_name ∷ []) (λ p. S.faults p.store.now) result.answer memory.entry result.memory }
+{
+    let PlanOf { plan, types, .. } = *over;
+    let audit = RootAudit { plan, types, root };
+    let Repair::Stands(first) = repair else {
+        return Returned {
+            memory,
+            answer: Ok(None),
+        };
+    };
+    let Returned { memory, answer } = stand_over(
+        over.alloc,
+        memory,
+        over.paging,
+        &audit,
+        kind,
+        found,
+        first,
+    );
+    match answer {
+        Ok(stand) => Returned {
+            memory,
+            answer: Ok(Some(stand)),
+        },
+        Err(stop) => Returned {
+            memory,
+            answer: Err(stop),
+        },
+    }
+}
+
+// The words that are changed for a repair: the one, or those that repair together.
+fn changed_words(
+    alloc: Global,
+    repair: Repair,
+    words: &Option<Suspects>,
+) -> Result<Option<Suspects>, NoMemory>
+    ensures { IfOk result (λ changed. changed ≡ changed_words repair words.now) }
+{
+    match (repair, words) {
+        (Repair::Stands(word), _) => {
+            let mut changed = Items::new(alloc);
+            changed.push(word)?;
+            Ok(Some(changed))
+        }
+        (Repair::Nothing { .. }, Some(words)) => {
+            let changed = Items::of_slice(alloc, words.as_slice())?;
+            Ok(Some(changed))
+        }
+        (Repair::Nothing { .. }, None) => Ok(None),
+    }
+}
+
+// How many elements the audit with a number meets with some words, where there are such.
+fn elements_after<'s, S: Store>(
+    memory: Phys<'s, S>,
+    over: &PlanOf<'_>,
+    root: Asked,
+    number: u32,
+    changed: Option<Suspects>,
+) -> Returned<Phys<'s, S>, Result<Option<u64>, ReadFailed>>
+    requires over { FitsTogether over.now }
+    requires root { root.audit < length over.now.plan.now.audits }
+
+    ensures exact { IfOk result.answer (λ elements. IfSome (with_paging over.now.paging (stored memory.entry.segments.items memory.entry.tail (content (S.files memory.entry.store.now) Dump (S.opened memory.entry.store.now Dump))))
+        (λ image. elements ≡ elements_told image (plan_seen over.now.plan.now) (root.audit, root.start) number changed)) }
+    ensures reads { OnlyReadsFrames (λ p. stored p.segments.items p.tail (content (S.files p.store.now) Dump (S.opened p.store.now Dump))) (λ p. S.files p.store.now) (λ p. p.store.ghost_name ∷ []) (λ p. S.faults p.store.now) result.answer memory.entry result.memory }
+{
+    let PlanOf { plan, types, .. } = *over;
+    let audit = RootAudit { plan, types, root };
+    match changed {
+        Some(words) => elements_over(
+            over.alloc,
+            memory,
+            over.paging,
+            &audit,
+            words.as_slice(),
+            number,
+        ),
+        None => Returned {
+            memory,
+            answer: Ok(None),
+        },
+    }
+}
+
+// The same with what a violation is answered by.
+fn elements_with<'s, S: Store>(
+    memory: Phys<'s, S>,
+    over: &PlanOf<'_>,
+    root: Asked,
+    number: u32,
+    repair: Repair,
+    words: &Option<Suspects>,
+) -> Returned<Phys<'s, S>, Result<Option<u64>, ReadFailed>>
+    requires over { FitsTogether over.now }
+    requires root { root.audit < length over.now.plan.now.audits }
+
+    ensures exact { IfOk result.answer (λ elements. IfSome (with_paging over.now.paging (stored memory.entry.segments.items memory.entry.tail (content (S.files memory.entry.store.now) Dump (S.opened memory.entry.store.now Dump))))
+        (λ image. elements ≡ elements_told image (plan_seen over.now.plan.now) (root.audit, root.start) number (changed_words repair words.now))) }
+    ensures reads { OnlyReadsFrames (λ p. stored p.segments.items p.tail (content (S.files p.store.now) Dump (S.opened p.store.now Dump))) (λ p. S.files p.store.now) (λ p. p.store.ghost_name ∷ []) (λ p. S.faults p.store.now) result.answer memory.entry result.memory }
+{
+    match changed_words(over.alloc, repair, words) {
+        Ok(changed) => elements_after(memory, over, root, number, changed),
+        Err(NoMemory) => Returned {
+            memory,
+            answer: Err(ReadFailed::NoMemory),
+        },
+    }
+}
+
+// What is said of an answer, and the words that repair together after it, by whether others would do as well.
+fn with_words<'s, S: Store>(
+    memory: Phys<'s, S>,
+    over: &PlanOf<'_>,
+    root: Asked,
+    number: u32,
+    repair: Repair,
+    stand: Option<Stand>,
+) -> Returned<Phys<'s, S>, Result<Mended, ReadFailed>>
+    requires over { FitsTogether over.now }
+    requires root { root.audit < length over.now.plan.now.audits }
+
+    ensures exact { IfOk result.answer (λ mended. IfSome (with_paging over.now.paging (stored memory.entry.segments.items memory.entry.tail (content (S.files memory.entry.store.now) Dump (S.opened memory.entry.store.now Dump))))
+        (λ image. mended ≡ mended_by image (plan_seen over.now.plan.now) (root.audit, root.start) number repair stand)) }
+    ensures reads { OnlyReadsFrames (λ p. stored p.segments.items p.tail (content (S.files p.store.now) Dump (S.opened p.store.now Dump))) (λ p. S.files p.store.now) (λ p. p.store.ghost_name ∷ []) (λ p. S.faults p.store.now) result.answer memory.entry result.memory }
+{
+    let Returned { memory, answer } = chain(memory, over, root, repair);
+    let words = match answer {
+        Ok(words) => words,
+        Err(stop) => {
+            return Returned {
+                memory,
+                answer: Err(stop),
+            };
+        }
+    };
+    let Returned { memory, answer } = elements_with(memory, over, root, number, repair, &words);
+    match answer {
+        Ok(elements) => Returned {
+            memory,
+            answer: Ok(Mended {
+                repair,
+                words,
+                stand,
+                elements,
+            }),
+        },
+        Err(stop) => Returned {
+            memory,
+            answer: Err(stop),
+        },
+    }
+}
+
+// All that is said of an answer.
+fn with_all<'s, S: Store>(
+    memory: Phys<'s, S>,
+    over: &PlanOf<'_>,
+    root: Asked,
+    kind: &Kind,
+    found: &Found,
+    number: u32,
+    repair: Repair,
+) -> Returned<Phys<'s, S>, Result<Mended, ReadFailed>>
+    requires over { FitsTogether over.now }
+    requires root { root.audit < length over.now.plan.now.audits }
+
+    ensures exact { IfOk result.answer (λ mended. IfSome (with_paging over.now.paging (stored memory.entry.segments.items memory.entry.tail (content (S.files memory.entry.store.now) Dump (S.opened memory.entry.store.now Dump))))
+        (λ image. repair_of image (plan_seen over.now.plan.now) (root.audit, root.start) kind.now found.now ≡ repair
+        → mended ≡ mended_of image (plan_seen over.now.plan.now) (root.audit, root.start) kind.now found.now number)) }
+    ensures reads { OnlyReadsFrames (λ p. stored p.segments.items p.tail (content (S.files p.store.now) Dump (S.opened p.store.now Dump))) (λ p. S.files p.store.now) (λ p. p.store.ghost_name ∷ []) (λ p. S.faults p.store.now) result.answer memory.entry result.memory }
+{
+    let Returned { memory, answer } = stand_after(memory, over, root, kind, found, repair);
+    match answer {
+        Ok(stand) => with_words(memory, over, root, number, repair, stand),
+        Err(stop) => Returned {
+            memory,
+            answer: Err(stop),
+        },
+    }
+}
+
+/// A physical memory over which repairs are tried.
+pub(crate) trait Repairable: Frames {
+    /// What repairs a violation that a root audit found, in an audit of this kind, and the memory; the elements are those of the audit with this
+    /// number. It fails where reading the dump does, whose count of faults then rose, or where no memory was left.
+    fn repair(
+        self,
+        over: &PlanOf<'_>,
+        root: Asked,
+        kind: &Kind,
+        found: &Found,
+        number: u32,
+    ) -> Returned<Self, Result<Mended, ReadFailed>>
+    where
+        Self: Sized,
+        requires over { FitsTogether over.now }
+        requires root { root.audit < length over.now.plan.now.audits }
+
+        ensures exact { IfOk result.answer (λ mended. IfSome (with_paging over.now.paging (Self.image self))
+            (λ image. mended ≡ mended_of image (plan_seen over.now.plan.now) (root.audit, root.start) kind.now found.now number)) }
+        ensures stays { FramesStay Self.image Self.files Self.through self result.memory }
+        ensures cause { CountsFailures result.answer (Self.faults self) (Self.faults result.memory) };
+}
+
+impl<'s, S: Store> Repairable for Phys<'s, S> {
+    fn repair(
+        self,
+        over: &PlanOf<'_>,
+        root: Asked,
+        kind: &Kind,
+        found: &Found,
+        number: u32,
+    ) -> Returned<Self, Result<Mended, ReadFailed>> {
+        let PlanOf { plan, types, .. } = *over;
+        let audit = RootAudit { plan, types, root };
+        let Repaired { memory, repair } = repair_over(
+            over.alloc,
+            self,
+            over.paging,
+            &audit,
+            kind,
+            found,
+        );
+        match repair {
+            Ok(repair) => with_all(memory, over, root, kind, found, number, repair),
+            Err(stop) => Returned {
+                memory,
+                answer: Err(stop),
+            },
+        }
+    }
 }
 
 // Adds the lines of what repairs a violation of a kind of structure under the root audit with a number, which the audit with another one found.

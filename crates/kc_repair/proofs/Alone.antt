@@ -1,24 +1,19 @@
 -- What a word that repairs is worth: whether it is alone, and the elements that are counted with it.
 use Rattle.std.proofs.Common.{◌≡◌, ℕ, zero, suc, nat_eq, Bool, true, false, if◌then◌else◌, List, [], ◌∷◌, ◌++◌, take, find, slice_get, Option, Some, None, refl, ap}
 use Rattle.std.specs.Prelude.{IfSome}
-use Rattle.std.specs.List.{AllByRecursion}
 use Rattle.std.proofs.lemmas.Bool.{eqb-true}
 use Rattle.kc_memory.specs.Image.{Image}
 use Rattle.kc_found.specs.declared.verdict.AuditCount.{AuditCount}
 use Rattle.kc_found.specs.declared.verdict.Verdict.{Verdict}
 use Rattle.kc_found.specs.declared.verdict.Verdict.TheVariants.{Clean, Broken}
-use Rattle.kc_found.specs.Violations.{Violation}
-use Rattle.kc_kinds.specs.declared.kind.Kind.{Kind}
 use Rattle.kc_plan.specs.Planned.{AuditAt}
 use Rattle.kc_plan.specs.Roots.{Root, root_verdict}
 use Rattle.kc_plan.specs.Stands.{RootStands}
 use Rattle.kc_run.specs.Laws.{CleanRootsStand}
 use Rattle.kc_repair.specs.declared.suspect.suspect.Suspect.{Suspect}
 use Rattle.kc_repair.specs.declared.first.FirstWalk.{FirstWalk}
-use Rattle.kc_repair.specs.declared.outcome.Repair.TheVariants.{Stands}
 use Rattle.kc_repair.specs.Elements.{elements_by, elements_in}
-use Rattle.kc_repair.specs.Given.{repair_given, stand_given}
-use Rattle.kc_repair.specs.Laws.{ElementsAreCounted, FailsWith, GivenOthersStand, IsStand, OthersStand}
+use Rattle.kc_repair.specs.Laws.{ElementsAreCounted, FailsWith, OthersStand}
 use Rattle.kc_repair.specs.Repairs.{breach_of, first_found, judged_with, most, repairs, walk_of, with_suspect, with_words}
 use Rattle.kc_repair.specs.Suspect.Laws.{IsSuspect, SuspectsStand}
 use Rattle.kc_repair.specs.Suspect.Suspects.{suspects}
@@ -40,14 +35,12 @@ some-so : (P Q : Suspect → Type 0) (o : Option Suspect) → ((x : Suspect) →
 some-so P Q None so holds = tt
 some-so P Q (Some x) so holds = so x holds
 
--- of some suspects
-others-among : CleanRootsStand → (image : Image) (audits : List AuditAt) (root : Root) (kind : Kind) (v : Violation) (xs : List Suspect) (s : Suspect) → AllByRecursion (IsSuspect image) xs
-    → repair_given image audits root kind v xs ≡ Stands s → IsStand image audits root (walk_of image audits kind v) s (stand_given image audits root kind v xs)
-others-among law image audits root kind v xs s there is =
+pub others-stand : CleanRootsStand → SuspectsStand → OthersStand
+others-stand law suspected image audits root kind v s is =
     let walk : Option FirstWalk = walk_of image audits kind v in
     let passes : Suspect → Bool = repairs (judged_with image audits root walk None) in
-    let found : find passes (take most xs) ≡ Some s = first-of (judged_with image audits root walk (Some (breach_of v))) (breach_of v) xs (find passes (take most xs)) s is in
-    let t = tried-parts passes (IsSuspect image) xs s there (of-front passes most xs s found) in
+    let found : find passes (take most (suspects image kind v)) ≡ Some s = first-of (judged_with image audits root walk (Some (breach_of v))) (breach_of v) (suspects image kind v) (find passes (take most (suspects image kind v))) s is in
+    let t = tried-parts passes (IsSuspect image) (suspects image kind v) s (suspected image kind v) (of-front passes most (suspects image kind v) s found) in
     record {
       before = t.before;
       after = t.after;
@@ -58,12 +51,6 @@ others-among law image audits root kind v xs s there is =
       two = t.two;
       number = t.number;
     }
-
-pub others-stand : CleanRootsStand → SuspectsStand → OthersStand
-others-stand law suspected image audits root kind v s is = others-among law image audits root kind v (suspects image kind v) s (suspected image kind v) is
-
-pub given-others : CleanRootsStand → GivenOthersStand
-given-others law image audits root kind v given s there is = others-among law image audits root kind v given s there is
 
 -- ---- the elements
 

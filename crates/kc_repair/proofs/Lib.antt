@@ -4,7 +4,6 @@ mod Changing
 mod Counts
 mod Determined
 mod FirstWalks
-mod Giving
 mod Left
 mod Parts
 mod Standing

@@ -13,12 +13,10 @@ use Rattle.kc_plan.specs.Stands.{RootStands}
 use Rattle.kc_repair.specs.declared.first.FirstWalk.{FirstWalk}
 use Rattle.kc_repair.specs.declared.others.Stand.{Stand}
 use Rattle.kc_repair.specs.Elements.{elements_with}
-use Rattle.kc_repair.specs.Given.{repair_given, stand_given}
 use Rattle.kc_repair.specs.Others.{stand_of}
 use Rattle.kc_repair.specs.declared.suspect.suspect.Suspect.{Suspect}
 use Rattle.kc_repair.specs.Suspect.Laws.{IsSuspect}
 use Rattle.kc_repair.specs.Suspect.Suspects.{suspects}
-use Rattle.kc_repair.specs.Suspect.Tops.{top_suspects}
 use Rattle.kc_repair.specs.declared.outcome.Next.{Next}
 use Rattle.kc_repair.specs.declared.outcome.Repair.{Repair}
 use Rattle.kc_repair.specs.declared.outcome.Repair.TheVariants.{Stands, Nothing}
@@ -91,31 +89,6 @@ LeftStandInFile = (image : Image) (earlier : List Suspect) (s : Suspect) → IsL
 abbrev pub OneMore : Type 0
 OneMore = (image : Image) (words : List Suspect) (s : Suspect) → with_words image (words ++ s ∷ []) ≡ with_suspect (with_words image words) s
 
--- The same of suspects that are given.
-abbrev pub GivenStand : Type 0
-GivenStand =
-    (image : Image) (audits : List AuditAt) (root : Root) (kind : Kind) (v : Violation) (given : List Suspect)
-    → StandsAs image audits root (walk_of image audits kind v) given (repair_given image audits root kind v given)
-
-abbrev pub GivenAreExact : Type 0
-GivenAreExact =
-    (image : Image) (audits : List AuditAt) (root : Root) (kind : Kind) (v : Violation) (given : List Suspect)
-    → IsRepairBy image audits root (breaking_of image audits kind v) given (repair_given image audits root kind v given)
-
-abbrev pub GivenNextsAreOfRoot : Type 0
-GivenNextsAreOfRoot =
-    (image : Image) (audits : List AuditAt) (root : Root) (kind : Kind) (v : Violation) (given : List Suspect) (tried : ℕ) (more : Bool) (n : Next)
-    → repair_given image audits root kind v given ≡ Nothing tried more (Some n) → ComesThen image audits root n
-
-abbrev pub GivenWordsStand : Type 0
-GivenWordsStand =
-    (image : Image) (audits : List AuditAt) (root : Root) (kind : Kind) (v : Violation) (given : List Suspect)
-    → AllByRecursion (IsSuspect image) given → AllByRecursion (IsSuspect image) (told_suspects (repair_given image audits root kind v given))
-
--- a head that may lead to a node is such a word of the dump
-abbrev pub TopsStand : Type 0
-TopsStand = (image : Image) (kind : Kind) (v : Violation) (node : ℕ) → AllByRecursion (IsSuspect image) (top_suspects image kind v node)
-
 -- with a word the structures don't stand, unless the walk that comes first breaks with it
 abbrev pub FailsWith : Image → List AuditAt → Root → Option FirstWalk → Suspect → Type 0
 FailsWith image audits root walk s = RootStands (with_suspect image s) audits root → WalkBreaks (with_suspect image s) walk
@@ -136,13 +109,6 @@ abbrev pub OthersStand : Type 0
 OthersStand =
     (image : Image) (audits : List AuditAt) (root : Root) (kind : Kind) (v : Violation) (s : Suspect)
     → repair_of image audits root kind v ≡ Stands s → IsStand image audits root (walk_of image audits kind v) s (stand_of image audits root kind v)
-
--- and of suspects that are given
-abbrev pub GivenOthersStand : Type 0
-GivenOthersStand =
-    (image : Image) (audits : List AuditAt) (root : Root) (kind : Kind) (v : Violation) (given : List Suspect) (s : Suspect)
-    → AllByRecursion (IsSuspect image) given → repair_given image audits root kind v given ≡ Stands s
-    → IsStand image audits root (walk_of image audits kind v) s (stand_given image audits root kind v given)
 
 -- the root audit is clean with some words changed, and counts so many elements of the audit with a number
 pub record IsCounted (image : Image) (audits : List AuditAt) (root : Root) (words : List Suspect) (number n : ℕ) : Type 0 where

@@ -1,5 +1,4 @@
 pub mod Elements
-pub mod Given
 pub mod Laws
 pub mod Others
 pub mod Repairs

@@ -10,5 +10,4 @@ pub mod Links
 pub mod NodeBytes
 pub mod Slots
 pub mod Suspects
-pub mod Tops
 pub mod Trees

@@ -1,5 +1,5 @@
 // What the definitions say.
-ghost use Rattle.kc_repair.specs.Laws.{ElementsAreCounted, GivenAreExact, GivenNextsAreOfRoot, GivenOthersStand, GivenStand, GivenWordsStand, LeftStand, LeftStandInFile, LeftWordsStand, NextsAreOfRoot, OneMore, OthersStand, RepairWordsStand, RepairsAreExact, RepairsStand, TopsStand};
+ghost use Rattle.kc_repair.specs.Laws.{ElementsAreCounted, LeftStand, LeftStandInFile, LeftWordsStand, NextsAreOfRoot, OneMore, OthersStand, RepairWordsStand, RepairsAreExact, RepairsStand};
 
 use crate::know_suspects;
 use kc_found::know_places;
@@ -13,7 +13,6 @@ use kc_run::know_verdicts;
 /// word stands at its physical address and offset in the dump as it is, too.
 /// Beside a word that repairs so many others were tried as are told: with none of them the structures stand, but for the last one, where another word
 /// repairs. The elements that are told are counted by the clean verdict of the root audit with these words.
-/// All that holds of suspects that are given, too, and a head that may lead to a node is one.
 pub fn know_repairs()
     ensures stand { RepairsStand }
     ensures exact { RepairsAreExact }
@@ -25,12 +24,6 @@ pub fn know_repairs()
     ensures one_more { OneMore }
     ensures others { OthersStand }
     ensures elements { ElementsAreCounted }
-    ensures given { GivenStand }
-    ensures given_exact { GivenAreExact }
-    ensures given_nexts { GivenNextsAreOfRoot }
-    ensures given_words { GivenWordsStand }
-    ensures given_others { GivenOthersStand }
-    ensures tops { TopsStand }
 {
     know_changes();
     know_places();

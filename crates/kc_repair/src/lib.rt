@@ -4,7 +4,6 @@
 
 mod elements;
 mod first;
-mod given;
 mod laws;
 mod others;
 mod outcome;
@@ -15,11 +14,10 @@ mod tries;
 
 pub use elements::elements_over;
 pub use first::{FirstWalk, planned_walk};
-pub use given::{Tried, try_given};
 pub use laws::know_repairs;
 pub use others::{Stand, stand_over};
 pub use outcome::{Breach, Next, Repair};
 pub use seeking::{repair_left, repair_over};
-pub use suspect::{Suspect, Suspects, has_top, know_suspects, push_top_node, suspects};
+pub use suspect::{Suspect, Suspects, know_suspects, suspects};
 pub use trial::{Judge, RootAudit, ask_changed, judged_over};
 pub use tries::{MOST, Repaired, repair};

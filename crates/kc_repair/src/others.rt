@@ -77,8 +77,8 @@ fn up_to_found(found: Option<Suspect>, suspects: &[Suspect]) -> usize
     }
 }
 
-/// Tries those that come after the first that repairs.
-pub(crate) fn try_others<'s, S: Store>(
+// Tries those that come after the first that repairs.
+fn try_others<'s, S: Store>(
     alloc: Global,
     memory: Phys<'s, S>,
     paging: PageCfg,

@@ -15,11 +15,9 @@ mod rules;
 mod slots;
 mod suspect;
 mod suspecting;
-mod tops;
 mod trees;
 mod words;
 
 pub use laws::know_suspects;
 pub use suspect::{Suspect, Suspects};
 pub use suspecting::suspects;
-pub use tops::{has_top, push_top_node};

@@ -11,7 +11,6 @@ use Rattle.kc_memory.specs.Places.{AllStandIn, places_of}
 use Rattle.kc_memory.specs.Stopped.{Stopped}
 use Rattle.kc_memory.specs.Translation.{vword}
 use Rattle.kc_found.specs.Nodes.{readable}
-use Rattle.kc_repair.specs.declared.suspect.change.Change.{Change}
 use Rattle.kc_repair.specs.declared.suspect.change.How.{How}
 use Rattle.kc_repair.specs.declared.suspect.suspect.Suspect.{Suspect}
 use Rattle.kc_repair.specs.Suspect.Changes.{made, made_of, numbers, suspect_in, suspect_of}
@@ -47,10 +46,6 @@ seen_stands : (image : Image) (r : Result VWord Stopped) (how : How) → AllStan
 seen_stands image (Err s) how stand = tt
 seen_stands image (Ok w) how stand = each_stands image (suspect_of w) (word_stands image w stand.0.virtually) (numbers how w.value)
 
--- what changes make
-pub made_stand : PlacesStand → (image : Image) (cs : List Change) → AllByRecursion (IsSuspect image) (flat_map (made image) cs)
-made_stand law image cs = each_stands image (made image) (λ c. seen_stands image (vword image c.at) c.how (law image c.at)) cs
-
 pub suspects_stand : PlacesStand → SuspectsStand
 unfolding suspects
-suspects_stand law image kind v = made_stand law image (changes image kind v)
+suspects_stand law image kind v = each_stands image (made image) (λ c. seen_stands image (vword image c.at) c.how (law image c.at)) (changes image kind v)

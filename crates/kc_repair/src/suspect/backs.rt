@@ -39,8 +39,8 @@ fn named_by(coloured: bool, value: u64) -> u64
     value
 }
 
-/// Whether a node points back.
-pub(crate) fn points_back<S: Space, L: Ledger>(
+// Whether a node points back.
+fn points_back<S: Space, L: Ledger>(
     space: &mut S,
     back: Back,
     node: u64,
@@ -198,8 +198,8 @@ pub(crate) fn push_child_backs<S: Space, L: Ledger>(
     push_backs_at(changes, back, right, space, steps)
 }
 
-/// By which word an xarray's node points back.
-pub(crate) fn of_array(shape: &XaShape, array: u64) -> Back
+// By which word an xarray's node points back.
+fn of_array(shape: &XaShape, array: u64) -> Back
     ensures { result ≡ of_array shape.now array }
 {
     Back {

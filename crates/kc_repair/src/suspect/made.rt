@@ -102,8 +102,8 @@ fn push_word(suspects: &mut Suspects, word: &VWord, how: How) -> Result<(), NoMe
     }
 }
 
-/// Adds what a change makes, where its word can be read.
-pub(crate) fn push_made<S: Space, L: Ledger>(
+// Adds what a change makes, where its word can be read.
+fn push_made<S: Space, L: Ledger>(
     suspects: &mut Suspects,
     space: &mut S,
     change: Change,

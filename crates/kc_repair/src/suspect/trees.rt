@@ -66,8 +66,8 @@ fn push_upper<S: Space, L: Ledger>(
     )
 }
 
-/// Whether the link at an address leads to a node.
-pub(crate) fn leads_to<S: Space, L: Ledger>(
+// Whether the link at an address leads to a node.
+fn leads_to<S: Space, L: Ledger>(
     node: u64,
     at: u64,
     space: &mut S,

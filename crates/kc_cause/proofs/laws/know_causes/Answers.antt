@@ -39,17 +39,16 @@ returns c = record {
   repairs = c.know_repairs.ensures.stand;
   repair_words = c.know_repairs.ensures.words;
   text = explanations_hold (record {
-    exact = c.know_repairs.ensures.given_exact;
-    nexts = c.know_repairs.ensures.given_nexts;
-    stand = c.know_repairs.ensures.given;
-    words = c.know_repairs.ensures.given_words;
+    exact = c.know_repairs.ensures.exact;
+    nexts = c.know_repairs.ensures.nexts;
+    stand = c.know_repairs.ensures.stand;
+    words = c.know_repairs.ensures.words;
     suspects = c.know_suspects.ensures;
-    tops = c.know_repairs.ensures.tops;
     left = c.know_repairs.ensures.left;
     left_words = c.know_repairs.ensures.left_words;
     in_file = c.know_repairs.ensures.in_file;
     one_more = c.know_repairs.ensures.one_more;
-    others = c.know_repairs.ensures.given_others;
+    others = c.know_repairs.ensures.others;
     elements = c.know_repairs.ensures.elements;
   });
 }

@@ -5,16 +5,13 @@ use Rattle.kc_plan.specs.Roots.{Root}
 use Rattle.std.specs.Prelude.{List, None}
 use Rattle.kc_repair.specs.declared.first.Breaking.{Breaking}
 use Rattle.kc_repair.specs.declared.suspect.suspect.Suspect.{Suspect}
-use Rattle.kc_repair.specs.Given.{repair_given}
 use Rattle.kc_repair.specs.Laws.{IsLeft}
 use Rattle.kc_repair.specs.Suspect.Laws.{IsSuspect}
 use Rattle.kc_repair.specs.Suspect.Suspects.{suspects}
-use Rattle.kc_repair.specs.Suspect.Tops.{top_changes}
 use Rattle.kc_repair.specs.Repairs.{IsRepairBy, any_leads, breach_of, breaking_of, is_apart, judged_with, repair_left, repair_of, repair_with, walk_of, with_words}
-use Rattle.kc_repair.proofs.Alone.{elements-counted, given-others, others-stand}
+use Rattle.kc_repair.proofs.Alone.{elements-counted, others-stand}
 use Rattle.kc_repair.proofs.Changing.{all-kept, with-one_more}
 use Rattle.kc_repair.proofs.Determined.{gives}
-use Rattle.kc_repair.proofs.SuspectLemmas.StandLaws.{made_stand}
 use Rattle.kc_repair.proofs.Standing.{nexts_of_root, stands_as}
 use Rattle.kc_repair.proofs.Told.{all_told}
 use Rattle.kc_repair.proofs.Unchanged.{left-stand_in_file}
@@ -41,15 +38,6 @@ returns c = record {
       (c.know_suspects.ensures (with_words image earlier) kind v));
   in_file = left-stand_in_file c.know_places.ensures;
   others = others-stand c.know_verdicts.ensures.roots c.know_suspects.ensures;
-  given = λ image audits root kind v xs.
-      stands_as c.know_verdicts.ensures.roots image audits root (breaking_of image audits kind v) xs (repair_given image audits root kind v xs) (given image audits root (breaking_of image audits kind v) xs);
-  given_exact = λ image audits root kind v xs. given image audits root (breaking_of image audits kind v) xs;
-  given_nexts = λ image audits root kind v xs tried more n is. nexts_of_root image audits root (breach_of v) (walk_of image audits kind v) xs tried more n is;
-  given_words = λ image audits root kind v xs there.
-      let of : Breaking = breaking_of image audits kind v in
-      all_told (IsSuspect image) (judged_with image audits root of.walk None) (judged_with image audits root of.walk of.only) of.found xs there;
-  given_others = given-others c.know_verdicts.ensures.roots;
-  tops = λ image kind v node. made_stand c.know_places.ensures image (top_changes image kind v node);
   elements = elements-counted;
   one_more = with-one_more c.know_changes.ensures.last;
   words = λ image audits root kind v.

@@ -15,7 +15,7 @@ loop-first-preserved g c =
     record {
       within = grind (arith, common_steps);
       length = grind (arith, common_steps);
-      found = told_more _ c.args.sought.now c.read_words.new.block c.args.segment.now c.loop-first.first c.min-count.result (c.loop-first.first + c.min-count.result) c.args.found.now.items c.loop-first.found.items c.add_words.new.found.items refl part c.loop-first.invariant.found c.in_ok-add_words.ensures;
+      found = told_more _ c.args.sought.now c.read_words.new.block c.args.segment.now c.loop-first.first c.min-count.result (c.loop-first.first + c.min-count.result) c.args.found.now.items c.loop-first.found.items c.add_block.new.found.items refl part c.loop-first.invariant.found c.in_ok-add_block.ensures;
       stays = stays;
       quiet = grind (arith, common_steps);
     }

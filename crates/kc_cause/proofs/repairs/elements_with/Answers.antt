@@ -1,6 +1,6 @@
 use Rattle.kc_plan.specs.Views.{plan_seen}
 use Rattle.kc_cause.proofs.MendedLemmas.{elements-changed}
-use Rattle.kc_cause.proofs.mending.elements_with.Goals as goal
+use Rattle.kc_cause.proofs.repairs.elements_with.Goals as goal
 
 pub returns-in-Ok-clause-exact : goal.returns-in-Ok-clause-exact
 returns-in-Ok-clause-exact g c =
