@@ -8,6 +8,7 @@ mod MendedLemmas
 mod PlannedLemmas
 mod PrintedLaws
 mod RepairLemmas
+mod TopAnswers
 mod TopLemmas
 mod TopLoops
 mod WrittenLemmas

@@ -15,7 +15,7 @@ use Rattle.kc_repair.specs.declared.others.Stand.{Stand}
 use Rattle.kc_repair.specs.declared.outcome.Next.{Next}
 use Rattle.kc_repair.specs.declared.outcome.Repair.{Repair}
 use Rattle.kc_repair.specs.declared.outcome.Repair.TheVariants.{Stands, Nothing}
-use Rattle.kc_repair.specs.Given.{stand_among, tried_given}
+use Rattle.kc_repair.specs.Given.{stand_among, tried_by, tried_given}
 use Rattle.kc_repair.specs.Others.{stand_of}
 use Rattle.kc_repair.specs.Repairs.{repair_of, walk_of}
 use Rattle.kc_repair.specs.Suspect.Suspects.{suspects}
@@ -50,7 +50,12 @@ own_of m audits root kind v = tried_given m audits root kind v (suspects m kind 
 
 own-as : (m : Image) (audits : List AuditAt) (root : Root) (kind : Kind) (v : Violation) (repair : Repair) → repair_of m audits root kind v ≡ repair
     → record { repair = repair; stand = stand_among m audits root (walk_of m audits kind v) (suspects m kind v) repair } ≡ own_of m audits root kind v
+unfolding tried_by
 own-as m audits root kind v repair is = sym (ap (λ (r : Repair). record { repair = r; stand = stand_among m audits root (walk_of m audits kind v) (suspects m kind v) r }) is)
+
+own-repair : (m : Image) (audits : List AuditAt) (root : Root) (kind : Kind) (v : Violation) → (own_of m audits root kind v).repair ≡ repair_of m audits root kind v
+unfolding tried_by
+own-repair m audits root kind v = refl
 
 pub own-stands : (image : Option Image) (audits : List AuditAt) (root : Root) (kind : Kind) (v : Violation) (repair : Repair) (first : Suspect) (r : Result Stand ReadFailed) (stand : Stand)
     → repair ≡ Stands first → r ≡ Ok stand → IfOk r (λ s. IfSome image (λ m. repair_of m audits root kind v ≡ Stands first → s ≡ stand_of m audits root kind v))
@@ -117,7 +122,7 @@ words_by open m kind v frames shapes = if open then tops_of m kind v frames shap
 answer-by : (o : PlanOf) (m : Image) (root : Root) (kind : Kind) (v : Violation) (own y : Tried) (open : Bool) → is_open own.repair ≡ open → own ≡ own_of m (plan_seen o.plan.now) root kind v
     → y ≡ tried_given m (plan_seen o.plan.now) root kind v (words_by open m kind v (frames_of o.runs.now) o.slabs) → y ≡ answer_of (over_plan o m) root kind v
 answer-by o m root kind v own y open opens is told =
-    let same : open ≡ is_open (repair_of m (plan_seen o.plan.now) root kind v) = sym opens ∙ ap (λ (t : Tried). is_open t.repair) is in
+    let same : open ≡ is_open (repair_of m (plan_seen o.plan.now) root kind v) = sym opens ∙ ap (λ (t : Tried). is_open t.repair) is ∙ ap is_open (own-repair m (plan_seen o.plan.now) root kind v) in
     told ∙ ap (λ (b : Bool). tried_given m (plan_seen o.plan.now) root kind v (words_by b m kind v (frames_of o.runs.now) o.slabs)) same
 
 pub open-told : (image : Option Image) (o : PlanOf) (root : Root) (kind : Kind) (v : Violation) (own : Tried) (t : Result Tried ReadFailed) → is_open own.repair ≡ true

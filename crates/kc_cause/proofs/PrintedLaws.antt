@@ -21,7 +21,8 @@ use Rattle.kc_repair.specs.declared.outcome.Repair.TheVariants.{Stands, Nothing}
 use Rattle.kc_repair.specs.Laws.{ComesThen, ElementsAreCounted, GivenAreExact, GivenNextsAreOfRoot, GivenOthersStand, GivenStand, GivenWordsStand, IsStand, LeftStand, LeftStandInFile, LeftWordsStand, OneMore, TopsStand, told_suspects}
 use Rattle.kc_repair.specs.declared.others.Stand.{Stand}
 use Rattle.kc_repair.specs.Elements.{elements_with}
-use Rattle.kc_repair.specs.Given.{repair_given, stand_among, stand_given, tried_given}
+use Rattle.kc_repair.specs.declared.given.Tried.{Tried}
+use Rattle.kc_repair.specs.Given.{repair_given, stand_among, stand_given, tried_by, tried_given}
 use Rattle.kc_sight.specs.Meanings.{meaning}
 use Rattle.kc_told.specs.declared.near.Lead.{Lead}
 use Rattle.kc_told.specs.Leads.{is_told}
@@ -238,11 +239,21 @@ stood : Known → (e : Explained) (root : Root) (kind : Kind) (v : Violation) (x
 stood law e root kind v xs r s there is stands =
     (stand_given e.image e.audits root kind v xs, ap (stand_among e.image e.audits root (walk_of e.image e.audits kind v) xs) stands, law.others e.image e.audits root kind v xs s there (is ∙ stands))
 
--- of the words that are tried
+-- what comes of some words
+abbrev given_as : Explained → Root → Kind → Violation → List Suspect → Tried
+given_as e root kind v xs = record {
+  repair = repair_given e.image e.audits root kind v xs;
+  stand = stand_among e.image e.audits root (walk_of e.image e.audits kind v) xs (repair_given e.image e.audits root kind v xs);
+}
+
+given_is : (e : Explained) (root : Root) (kind : Kind) (v : Violation) (xs : List Suspect) → given_as e root kind v xs ≡ tried_given e.image e.audits root kind v xs
+unfolding tried_by
+given_is e root kind v xs = refl
+
 words_said : Known → (e : Explained) (root : Root) (number : ℕ) (kind : Kind) (v : Violation) (xs : List Suspect) → AllByRecursion (IsSuspect e.image) xs
-    → IsSaid e root (walk_of e.image e.audits kind v) number (mended_lines (leads_to e) v (mended_by e.image e.audits root number (tried_given e.image e.audits root kind v xs)))
+    → IsSaid e root (walk_of e.image e.audits kind v) number (mended_lines (leads_to e) v (mended_by e.image e.audits root number (given_as e root kind v xs)))
 words_said law e root number kind v xs there =
-    repair_said law.elements e root (breaking_of e.image e.audits kind v) xs number (mended_by e.image e.audits root number (tried_given e.image e.audits root kind v xs)) (repair_given e.image e.audits root kind v xs) v
+    repair_said law.elements e root (breaking_of e.image e.audits kind v) xs number (mended_by e.image e.audits root number (given_as e root kind v xs)) (repair_given e.image e.audits root kind v xs) v
     (record {
       all = there;
       is = law.exact e.image e.audits root kind v xs;
@@ -257,7 +268,9 @@ words_said law e root number kind v xs there =
 
 kind_said : Known → (e : Explained) (root : Root) (number : ℕ) (kind : Kind) (v : Violation)
     → IsSaid e root (walk_of e.image e.audits kind v) number (mended_lines (leads_to e) v (mended_of e root kind v number))
-kind_said law e root number kind v = words_said law e root number kind v (words_for e root kind v) (words-stand law.tops law.suspects e root kind v)
+kind_said law e root number kind v =
+    subst (λ (t : Tried). IsSaid e root (walk_of e.image e.audits kind v) number (mended_lines (leads_to e) v (mended_by e.image e.audits root number t))) (given_is e root kind v (words_for e root kind v))
+    (words_said law e root number kind v (words_for e root kind v) (words-stand law.tops law.suspects e root kind v))
 
 root_said : Known → (e : Explained) (number : ℕ) (at : Option Root) (root : Root) (s : Suspected) → at ≡ Some root
     → IsSaid e root (walk_as e s) number (option_map_or (λ (r : Root). mended_lines (leads_to e) s.violation (mended_of e r s.kind s.violation number)) at [])

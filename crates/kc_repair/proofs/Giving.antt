@@ -1,5 +1,5 @@
 -- What comes of suspects that are given.
-use Rattle.std.proofs.Common.{◌≡◌, ℕ, List, take, find, Option, Some, None, Result, Ok, Err, sym, ap, ◌∙◌}
+use Rattle.std.proofs.Common.{◌≡◌, ℕ, Bool, List, take, find, Option, Some, None, Result, Ok, Err, sym, ap, ◌∙◌}
 use Rattle.std.specs.Prelude.{IfOk, IfSome}
 use Rattle.std.specs.Result.{result_unwrap_or}
 use Rattle.kc_word.specs.declared.memory.NoMemory.{NoMemory as NoRoom}
@@ -14,8 +14,9 @@ use Rattle.kc_plan.specs.Roots.{Root}
 use Rattle.kc_repair.specs.declared.first.Breaking.{Breaking}
 use Rattle.kc_repair.specs.declared.given.Tried.{Tried}
 use Rattle.kc_repair.specs.declared.others.Stand.{Stand}
+use Rattle.kc_repair.specs.declared.outcome.Next.{Next}
 use Rattle.kc_repair.specs.declared.outcome.Repair.{Repair}
-use Rattle.kc_repair.specs.declared.outcome.Repair.TheVariants.{Stands}
+use Rattle.kc_repair.specs.declared.outcome.Repair.TheVariants.{Stands, Nothing}
 use Rattle.kc_repair.specs.declared.suspect.suspect.Suspect.{Suspect}
 use Rattle.kc_repair.specs.Given.{stand_among, tried_by, tried_given}
 use Rattle.kc_repair.specs.Others.{stand_by}
@@ -25,6 +26,7 @@ use Rattle.kc_repair.proofs.Beside.{first-of}
 -- the answer, by which repairs
 tried-as : (m : Image) (audits : List AuditAt) (root : Root) (breaking : Breaking) (xs : List Suspect) (repair : Repair) → repair_with m audits root breaking xs ≡ repair
     → record { repair = repair; stand = stand_among m audits root breaking.walk xs repair } ≡ tried_by m audits root breaking xs
+unfolding tried_by
 tried-as m audits root breaking xs repair is = sym (ap (λ (r : Repair). record { repair = r; stand = stand_among m audits root breaking.walk xs r }) is)
 
 -- where one does
@@ -40,6 +42,13 @@ stands-among (Some m) audits root breaking xs repair first r stand one is told =
     let same : stand ≡ stand_by (repairs (judged_with m audits root breaking.walk None)) xs = (rw is at told) found in
     ap (λ (a : Repair). record { repair = a; stand = Some stand }) one ∙ ap (λ (s : Stand). record { repair = Stands first; stand = Some s }) same
     ∙ tried-as m audits root breaking xs (Stands first) (answer ∙ one)
+
+-- and where none does
+pub none-among : (image : Option Image) (audits : List AuditAt) (root : Root) (breaking : Breaking) (xs : List Suspect) (repair : Repair) (tried : ℕ) (more : Bool) (next : Option Next) → repair ≡ Nothing tried more next
+    → IfSome image (λ m. repair_with m audits root breaking xs ≡ repair → record { repair = repair; stand = None } ≡ tried_by m audits root breaking xs)
+none-among None audits root breaking xs repair tried more next none = tt
+none-among (Some m) audits root breaking xs repair tried more next none =
+    λ answer. ap (λ (a : Repair). record { repair = a; stand = None }) none ∙ tried-as m audits root breaking xs (Nothing tried more next) (answer ∙ none)
 
 -- by the walk that finds the violation
 pub tried-breaking : (image after : Option Image) (audits : List AuditAt) (root : Root) (breaking : Breaking) (xs : List Suspect) (r : Result Repair ReadFailed) (repair : Repair) (t : Result Tried ReadFailed)

@@ -21,7 +21,7 @@ stand_among image audits root walk given (Stands s) = Some (stand_by (repairs (j
 stand_among image audits root walk given (Nothing tried more next) = None
 
 -- what comes of them
-abbrev pub tried_by : Image → List AuditAt → Root → Breaking → List Suspect → Tried
+unfoldable pub tried_by : Image → List AuditAt → Root → Breaking → List Suspect → Tried
 tried_by image audits root breaking given = record {
   repair = repair_with image audits root breaking given;
   stand = stand_among image audits root breaking.walk given (repair_with image audits root breaking given);

@@ -84,35 +84,37 @@ fn with_stand<'s, S: Store>(
         → tried ≡ tried_by image (plan_seen audit.now.plan.now) (audit.now.root.audit, audit.now.root.start) breaking.now suspects.now)) }
     ensures reads { OnlyReadsFrames (λ p. stored p.segments.items p.tail (content (S.files p.store.now) Dump (S.opened p.store.now Dump))) (λ p. S.files p.store.now) (λ p. p.store.ghost_name ∷ []) (λ p. S.faults p.store.now) result.answer memory.entry result.memory }
 {
-    let Repair::Stands(first) = repair else {
-        return Returned {
+    match repair {
+        Repair::Stands(first) => {
+            let Returned { memory, answer } = try_others(
+                alloc,
+                memory,
+                paging,
+                audit,
+                &breaking.walk,
+                first,
+                suspects,
+            );
+            match answer {
+                Ok(stand) => Returned {
+                    memory,
+                    answer: Ok(Tried {
+                        repair,
+                        stand: Some(stand),
+                    }),
+                },
+                Err(stop) => Returned {
+                    memory,
+                    answer: Err(stop),
+                },
+            }
+        }
+        Repair::Nothing { .. } => Returned {
             memory,
             answer: Ok(Tried {
                 repair,
                 stand: None,
             }),
-        };
-    };
-    let Returned { memory, answer } = try_others(
-        alloc,
-        memory,
-        paging,
-        audit,
-        &breaking.walk,
-        first,
-        suspects,
-    );
-    match answer {
-        Ok(stand) => Returned {
-            memory,
-            answer: Ok(Tried {
-                repair,
-                stand: Some(stand),
-            }),
-        },
-        Err(stop) => Returned {
-            memory,
-            answer: Err(stop),
         },
     }
 }
