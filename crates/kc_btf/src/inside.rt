@@ -9,7 +9,7 @@ ghost use Rattle.kc_btf.specs.Answers.{FaultIs};
 
 use crate::header::word;
 use crate::kind::{Kind, Role};
-use crate::record::{RECORD, known_kind, vlen_at};
+use crate::record::{RECORD, head_at};
 use crate::stop::{BRule, BtfFault};
 
 /// How far names and types reach.
@@ -26,8 +26,8 @@ impl Limits {
 
     // Whether a number lies inside.
     #[inline(always)]
-    fn admit(&self, role: Role, number: u32) -> bool
-        ensures { result ≡ is_inside self.now.strings self.now.types role number }
+    fn admit(self, role: Role, number: u32) -> bool
+        ensures { result ≡ is_inside self.strings self.types role number }
     {
         match role {
             Role::ToName => (number as usize) < self.strings,
@@ -39,17 +39,18 @@ impl Limits {
 
 // Whether a name lies inside, and a type beside it.
 #[inline(always)]
-fn pair_inside(bytes: &[u8], at: usize, limits: &Limits) -> bool
+fn pair_inside(bytes: &[u8], at: usize, limits: Limits) -> bool
     requires { at + 8 ≤ length bytes.now }
-    ensures { result ≡ (is_inside limits.now.strings limits.now.types Role.ToName (word bytes.now at) && is_inside limits.now.strings limits.now.types Role.ToType (word bytes.now (at + 4))) }
+    ensures { result ≡ (is_inside limits.strings limits.types Role.ToName (word bytes.now at) && is_inside limits.strings limits.types Role.ToType (word bytes.now (at + 4))) }
 {
-    limits.admit(Role::ToName, word(bytes, at)) && limits.admit(Role::ToType, word(bytes, at + 4))
+    let pair = &bytes[at..at + 8];
+    limits.admit(Role::ToName, word(pair, 0)) && limits.admit(Role::ToType, word(pair, 4))
 }
 
 // Whether the names and types of so many members lie inside.
-fn members_inside(bytes: &[u8], at: usize, count: usize, limits: &Limits) -> bool
+fn members_inside(bytes: &[u8], at: usize, count: usize, limits: Limits) -> bool
     requires { at + 12 * count ≤ length bytes.now }
-    ensures { result ≡ words_inside limits.now.strings limits.now.types Kind.Struct 0 (words (3 * count) bytes.now at) }
+    ensures { result ≡ words_inside limits.strings limits.types Kind.Struct 0 (words (3 * count) bytes.now at) }
 {
     let mut place = at;
     let mut left = count;
@@ -64,9 +65,9 @@ fn members_inside(bytes: &[u8], at: usize, count: usize, limits: &Limits) -> boo
 }
 
 // Whether the names and types of so many parameters lie inside.
-fn parameters_inside(bytes: &[u8], at: usize, count: usize, limits: &Limits) -> bool
+fn parameters_inside(bytes: &[u8], at: usize, count: usize, limits: Limits) -> bool
     requires { at + 8 * count ≤ length bytes.now }
-    ensures { result ≡ words_inside limits.now.strings limits.now.types Kind.FuncProto 0 (words (2 * count) bytes.now at) }
+    ensures { result ≡ words_inside limits.strings limits.types Kind.FuncProto 0 (words (2 * count) bytes.now at) }
 {
     let mut place = at;
     let mut left = count;
@@ -81,9 +82,9 @@ fn parameters_inside(bytes: &[u8], at: usize, count: usize, limits: &Limits) -> 
 }
 
 // Whether the names of so many values lie inside.
-fn values_inside(bytes: &[u8], at: usize, count: usize, limits: &Limits) -> bool
+fn values_inside(bytes: &[u8], at: usize, count: usize, limits: Limits) -> bool
     requires { at + 8 * count ≤ length bytes.now }
-    ensures { result ≡ words_inside limits.now.strings limits.now.types Kind.Enum 0 (words (2 * count) bytes.now at) }
+    ensures { result ≡ words_inside limits.strings limits.types Kind.Enum 0 (words (2 * count) bytes.now at) }
 {
     let mut place = at;
     let mut left = count;
@@ -98,9 +99,9 @@ fn values_inside(bytes: &[u8], at: usize, count: usize, limits: &Limits) -> bool
 }
 
 // Whether so many numbers behind a record lie inside, by the role of each.
-fn numbers_inside(bytes: &[u8], at: usize, kind: Kind, count: usize, limits: &Limits) -> bool
+fn numbers_inside(bytes: &[u8], at: usize, kind: Kind, count: usize, limits: Limits) -> bool
     requires { at + 4 * count ≤ length bytes.now }
-    ensures { result ≡ words_inside limits.now.strings limits.now.types kind 0 (words count bytes.now at) }
+    ensures { result ≡ words_inside limits.strings limits.types kind 0 (words count bytes.now at) }
 {
     for index in 0..count {
         let number = word(bytes, at + 4 * index);
@@ -113,29 +114,36 @@ fn numbers_inside(bytes: &[u8], at: usize, kind: Kind, count: usize, limits: &Li
 
 // Whether the numbers behind a record lie inside. Most of them are of members, parameters and values.
 #[inline(always)]
-fn words_inside(bytes: &[u8], at: usize, kind: Kind, vlen: u16, limits: &Limits) -> bool
+fn words_inside(bytes: &[u8], at: usize, kind: Kind, vlen: u16, limits: Limits) -> bool
     requires { at + 4 * following kind vlen ≤ length bytes.now }
-    ensures { result ≡ words_inside limits.now.strings limits.now.types kind 0 (words (following kind vlen) bytes.now at) }
+    ensures { result ≡ words_inside limits.strings limits.types kind 0 (words (following kind vlen) bytes.now at) }
 {
     match kind {
         Kind::Struct | Kind::Union => members_inside(bytes, at, usize::from(vlen), limits),
         Kind::FuncProto => parameters_inside(bytes, at, usize::from(vlen), limits),
         Kind::Enum => values_inside(bytes, at, usize::from(vlen), limits),
-        _ => numbers_inside(bytes, at, kind, kind.following(vlen), limits),
+        Kind::Int
+        | Kind::Array
+        | Kind::Var
+        | Kind::Datasec
+        | Kind::DeclTag
+        | Kind::Enum64 => numbers_inside(bytes, at, kind, kind.following(vlen), limits),
+        _ => true,
     }
 }
 
 // Whether the names and types of a record lie inside.
 #[inline(always)]
 #[tactic(auto, unfolding(crate::specs::Records::refers_inside, crate::specs::Records::record_at))]
-fn refers_inside(bytes: &[u8], at: usize, limits: &Limits) -> bool
+fn refers_inside(bytes: &[u8], at: usize, limits: Limits) -> bool
     requires { IsRecord bytes.now at }
-    ensures { result ≡ refers_inside limits.now.strings limits.now.types (record_at bytes.now at) }
+    ensures { result ≡ refers_inside limits.strings limits.types (record_at bytes.now at) }
 {
-    let kind = known_kind(bytes, at);
-    limits.admit(Role::ToName, word(bytes, at))
-        && limits.admit(kind.rest_role(), word(bytes, at + 8))
-        && words_inside(bytes, at + RECORD, kind, vlen_at(bytes, at), limits)
+    let head = head_at(bytes, at);
+    let kind = head.kind().unwrap();
+    limits.admit(Role::ToName, head.name)
+        && limits.admit(kind.rest_role(), head.rest)
+        && words_inside(bytes, at + RECORD, kind, head.vlen(), limits)
 }
 
 /// Looks at the records that stand at these places behind a first one, and at the names and types that they
@@ -156,7 +164,7 @@ pub fn check_inside(
 {
     for place in table {
         let at = types + *place as usize;
-        if !refers_inside(bytes, at, &limits) {
+        if !refers_inside(bytes, at, limits) {
             return Err(BRule::B8.at(at));
         }
     }

@@ -31,14 +31,48 @@ pub(crate) fn vlen_at(bytes: &[u8], at: usize) -> u16
     (word(bytes, at + 4) % (1 << 16)) as u16
 }
 
-// The kind of a record that stands there.
+// The three numbers of a record.
+#[derive(Clone, Copy)]
+pub(crate) struct Head {
+    pub(crate) name: u32,
+    pub(crate) info: u32,
+    pub(crate) rest: u32,
+}
+
+impl Head {
+    ghost use Rattle.std.specs.Prelude.{◌/◌, ◌%◌, ◌^◌};
+
+    // The kind, if its number has one.
+    #[inline(always)]
+    pub(crate) fn kind(self) -> Option<Kind>
+        ensures { result ≡ kind_of (self.info / 2 ^ 24 % 32) }
+    {
+        Kind::from_number(self.info / (1 << 24) % 32)
+    }
+
+    // How many items are counted.
+    #[inline(always)]
+    pub(crate) fn vlen(self) -> u16
+        ensures { result ≡ self.info % 2 ^ 16 }
+    {
+        (self.info % (1 << 16)) as u16
+    }
+}
+
+// The three numbers of the record at a place.
 #[inline(always)]
-#[tactic(auto, unfolding(crate::specs::Records::record_at))]
-pub(crate) fn known_kind(bytes: &[u8], at: usize) -> Kind
-    requires { IsRecord bytes.now at }
-    ensures { result ≡ (record_at bytes.now at).kind }
+pub(crate) fn head_at(bytes: &[u8], at: usize) -> Head
+    requires { at + 12 ≤ length bytes.now }
+    ensures name { result.name ≡ word bytes.now at }
+    ensures info { result.info ≡ word bytes.now (at + 4) }
+    ensures rest { result.rest ≡ word bytes.now (at + 8) }
 {
-    kind_at(bytes, at).unwrap()
+    let record = &bytes[at..at + RECORD];
+    Head {
+        name: word(record, 0),
+        info: word(record, 4),
+        rest: word(record, 8),
+    }
 }
 
 // A type, without the numbers behind it.
@@ -48,13 +82,14 @@ pub(crate) fn type_at(bytes: &[u8], at: usize, id: u32) -> TypeRef
     requires { IsRecord bytes.now at }
     ensures { result ≡ type_ref id (record_at bytes.now at) }
 {
+    let head = head_at(bytes, at);
     TypeRef {
         id,
-        kind: known_kind(bytes, at),
-        flag: word(bytes, at + 4) / (1 << 31) == 1,
-        name: word(bytes, at),
-        vlen: vlen_at(bytes, at),
-        rest: word(bytes, at + 8),
+        kind: head.kind().unwrap(),
+        flag: head.info / (1 << 31) == 1,
+        name: head.name,
+        vlen: head.vlen(),
+        rest: head.rest,
     }
 }
 

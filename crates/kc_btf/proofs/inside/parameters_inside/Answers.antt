@@ -8,7 +8,7 @@ use Rattle.kc_btf.proofs.inside.parameters_inside.Goals as goal
 
 pub returns-then-not-pair_inside : goal.returns-then-not-pair_inside
 returns-then-not-pair_inside c =
-    let l = c.args.limits.now in
+    let l = c.args.limits in
     let bytes = c.args.bytes.now in
     let place = c.loop-left.place in
     let test : (is_inside l.strings l.types ToName (word bytes place) && is_inside l.strings l.types ToType (word bytes (place + 4))) ≡ false = cc in
@@ -16,7 +16,7 @@ returns-then-not-pair_inside c =
 
 pub loop-left-preserved : goal.loop-left-preserved
 loop-left-preserved c =
-    let l = c.args.limits.now in
+    let l = c.args.limits in
     let bytes = c.args.bytes.now in
     let place = c.loop-left.place in
     let test : (is_inside l.strings l.types ToName (word bytes place) && is_inside l.strings l.types ToType (word bytes (place + 4))) ≡ true = cc in
@@ -27,5 +27,5 @@ loop-left-preserved c =
 
 pub returns : goal.returns
 returns c =
-    let l = c.args.limits.now in
+    let l = c.args.limits in
     sym (inside-end l.strings l.types 0 (2 * c.loop-left.left) c.loop-left.place FuncProto c.args.bytes.now (omega arith)) ∙ c.loop-left.invariant.same

@@ -8,7 +8,7 @@ use Rattle.kc_btf.proofs.inside.values_inside.Goals as goal
 
 pub returns-then-not-admit : goal.returns-then-not-admit
 returns-then-not-admit c =
-    let l = c.args.limits.now in
+    let l = c.args.limits in
     let bytes = c.args.bytes.now in
     let place = c.loop-left.place in
     let test : (is_inside l.strings l.types ToName (word bytes place)) ≡ false = cc in
@@ -16,7 +16,7 @@ returns-then-not-admit c =
 
 pub loop-left-preserved : goal.loop-left-preserved
 loop-left-preserved c =
-    let l = c.args.limits.now in
+    let l = c.args.limits in
     let bytes = c.args.bytes.now in
     let place = c.loop-left.place in
     let test : (is_inside l.strings l.types ToName (word bytes place)) ≡ true = cc in
@@ -27,5 +27,5 @@ loop-left-preserved c =
 
 pub returns : goal.returns
 returns c =
-    let l = c.args.limits.now in
+    let l = c.args.limits in
     sym (inside-end l.strings l.types 0 (2 * c.loop-left.left) c.loop-left.place Enum c.args.bytes.now (omega arith)) ∙ c.loop-left.invariant.same

@@ -13,7 +13,7 @@ as_members strings types vlen at bytes kind is = grind (arith, union-struct stri
 
 pub returns-in-Struct : goal.returns-in-Struct
 returns-in-Struct c =
-    let l = c.args.limits.now in
+    let l = c.args.limits in
     let bytes = c.args.bytes.now in
     let compound : is_compound c.args.kind ≡ true = search rules in
     let members : c.members_inside.result ≡ words_inside l.strings l.types Struct 0 (words (3 * c.args.vlen) bytes c.args.at) = cc in
