@@ -1,5 +1,7 @@
 -- Numbers one after the other.
-use Rattle.std.proofs.Common.{◌≡◌, ℕ, suc, ◌+◌, ◌-◌, ◌*◌, ◌%◌, ◌<◌, ◌&&◌, Bool, true, false, List, [], ◌∷◌, ap, ◌∙◌, refl, arith}
+use Rattle.std.proofs.Common.{◌≡◌, ℕ, suc, ◌+◌, ◌-◌, ◌*◌, ◌%◌, ◌<◌, ◌≤◌, ◌&&◌, Bool, true, false, List, [], ◌∷◌, get_or, take, drop, ap, sym, ◌∙◌, refl, arith}
+use Rattle.std.proofs.lemmas.List.{drop-drop, drop-take, get_or-take}
+use Rattle.byteorder.specs.Endian.{little_number}
 use Rattle.kc_btf.specs.declared.kind.Kind.{Kind}
 use Rattle.kc_btf.specs.declared.kind.Kind.TheVariants.{Struct, Union, Enum, FuncProto}
 use Rattle.kc_btf.specs.declared.kind.Role.TheVariants.{ToName, ToType}
@@ -7,6 +9,21 @@ use Rattle.kc_btf.specs.Numbers.{word, words}
 use Rattle.kc_btf.specs.Role.{is_inside, role_of}
 use Rattle.kc_btf.specs.Records.{words_inside}
 use Rattle.kc_btf.proofs.MemberLemmas.{words-three}
+
+first-four : (m : ℕ) (xs : List ℕ) → 4 ≤ m → little_number 4 (take m xs) ≡ little_number 4 xs
+first-four m xs long =
+    let same : (i : ℕ) → i < m → get_or (take m xs) i 0 ≡ get_or xs i 0 = λ i less. get_or-take m xs i 0 less in
+    rw (same 0 (omega arith), same 1 (omega arith), same 2 (omega arith), same 3 (omega arith)) refl
+
+-- a number in a part of the file
+pub word-part : (bytes : List ℕ) (at n k : ℕ) → k + 4 ≤ n → word (take n (drop at bytes)) k ≡ word bytes (at + k)
+unfolding word
+word-part bytes at n k within =
+    let whole : k + (n - k) ≡ n = omega arith in
+    ap (λ m. little_number 4 (drop k (take m (drop at bytes)))) (sym whole)
+    ∙ ap (little_number 4) (drop-take k (n - k) (drop at bytes))
+    ∙ first-four (n - k) (drop k (drop at bytes)) (omega arith)
+    ∙ ap (little_number 4) (drop-drop k at bytes)
 
 -- the next of the numbers that are left
 pub words-next : (count i at : ℕ) (bytes : List ℕ) → i < count → words (count - i) bytes (at + 4 * i) ≡ word bytes (at + 4 * i) ∷ words (count - (i + 1)) bytes (at + 4 * (i + 1))

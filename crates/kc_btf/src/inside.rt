@@ -9,7 +9,7 @@ ghost use Rattle.kc_btf.specs.Answers.{FaultIs};
 
 use crate::header::word;
 use crate::kind::{Kind, Role};
-use crate::record::{RECORD, head_at};
+use crate::record::{RECORD, head_at, kind_at, vlen_at};
 use crate::stop::{BRule, BtfFault};
 
 /// How far names and types reach.
@@ -43,7 +43,7 @@ fn pair_inside(bytes: &[u8], at: usize, limits: Limits) -> bool
     requires { at + 8 ≤ length bytes.now }
     ensures { result ≡ (is_inside limits.strings limits.types Role.ToName (word bytes.now at) && is_inside limits.strings limits.types Role.ToType (word bytes.now (at + 4))) }
 {
-    let pair = &bytes[at..at + 8];
+    let pair = bytes[at..].first_chunk::<8>().unwrap();
     limits.admit(Role::ToName, word(pair, 0)) && limits.admit(Role::ToType, word(pair, 4))
 }
 
@@ -122,13 +122,7 @@ fn words_inside(bytes: &[u8], at: usize, kind: Kind, vlen: u16, limits: Limits) 
         Kind::Struct | Kind::Union => members_inside(bytes, at, usize::from(vlen), limits),
         Kind::FuncProto => parameters_inside(bytes, at, usize::from(vlen), limits),
         Kind::Enum => values_inside(bytes, at, usize::from(vlen), limits),
-        Kind::Int
-        | Kind::Array
-        | Kind::Var
-        | Kind::Datasec
-        | Kind::DeclTag
-        | Kind::Enum64 => numbers_inside(bytes, at, kind, kind.following(vlen), limits),
-        _ => true,
+        _ => numbers_inside(bytes, at, kind, kind.following(vlen), limits),
     }
 }
 
@@ -140,10 +134,10 @@ fn refers_inside(bytes: &[u8], at: usize, limits: Limits) -> bool
     ensures { result ≡ refers_inside limits.strings limits.types (record_at bytes.now at) }
 {
     let head = head_at(bytes, at);
-    let kind = head.kind().unwrap();
-    limits.admit(Role::ToName, head.name)
-        && limits.admit(kind.rest_role(), head.rest)
-        && words_inside(bytes, at + RECORD, kind, head.vlen(), limits)
+    let kind = kind_at(head, 0).unwrap();
+    limits.admit(Role::ToName, word(head, 0))
+        && limits.admit(kind.rest_role(), word(head, 8))
+        && words_inside(bytes, at + RECORD, kind, vlen_at(head, 0), limits)
 }
 
 /// Looks at the records that stand at these places behind a first one, and at the names and types that they

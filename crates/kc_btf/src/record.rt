@@ -1,5 +1,6 @@
 // The record of a type in the file: three numbers, and those that its kind has behind them.
 ghost use Rattle.std.specs.Prelude.{◌≡◌, ◌+◌, ◌≤◌, length, IfOk, OnOk, Some};
+ghost use Rattle.kc_btf.specs.Numbers.{word};
 ghost use Rattle.kc_btf.specs.Records.{kind_number_at, vlen_at, record_at, record_size, record_fault, IsRecord};
 ghost use Rattle.kc_btf.specs.Kind.{kind_of};
 ghost use Rattle.kc_btf.specs.Readers.{type_ref, array_of, int_of};
@@ -31,48 +32,15 @@ pub(crate) fn vlen_at(bytes: &[u8], at: usize) -> u16
     (word(bytes, at + 4) % (1 << 16)) as u16
 }
 
-// The three numbers of a record.
-#[derive(Clone, Copy)]
-pub(crate) struct Head {
-    pub(crate) name: u32,
-    pub(crate) info: u32,
-    pub(crate) rest: u32,
-}
-
-impl Head {
-    ghost use Rattle.std.specs.Prelude.{◌/◌, ◌%◌, ◌^◌};
-
-    // The kind, if its number has one.
-    #[inline(always)]
-    pub(crate) fn kind(self) -> Option<Kind>
-        ensures { result ≡ kind_of (self.info / 2 ^ 24 % 32) }
-    {
-        Kind::from_number(self.info / (1 << 24) % 32)
-    }
-
-    // How many items are counted.
-    #[inline(always)]
-    pub(crate) fn vlen(self) -> u16
-        ensures { result ≡ self.info % 2 ^ 16 }
-    {
-        (self.info % (1 << 16)) as u16
-    }
-}
-
-// The three numbers of the record at a place.
+// The bytes of the three numbers of the record at a place.
 #[inline(always)]
-pub(crate) fn head_at(bytes: &[u8], at: usize) -> Head
+pub(crate) fn head_at(bytes: &[u8], at: usize) -> &[u8; RECORD]
     requires { at + 12 ≤ length bytes.now }
-    ensures name { result.name ≡ word bytes.now at }
-    ensures info { result.info ≡ word bytes.now (at + 4) }
-    ensures rest { result.rest ≡ word bytes.now (at + 8) }
+    ensures name { word result.now 0 ≡ word bytes.now at }
+    ensures info { word result.now 4 ≡ word bytes.now (at + 4) }
+    ensures rest { word result.now 8 ≡ word bytes.now (at + 8) }
 {
-    let record = &bytes[at..at + RECORD];
-    Head {
-        name: word(record, 0),
-        info: word(record, 4),
-        rest: word(record, 8),
-    }
+    bytes[at..].first_chunk::<RECORD>().unwrap()
 }
 
 // A type, without the numbers behind it.
@@ -85,11 +53,11 @@ pub(crate) fn type_at(bytes: &[u8], at: usize, id: u32) -> TypeRef
     let head = head_at(bytes, at);
     TypeRef {
         id,
-        kind: head.kind().unwrap(),
-        flag: head.info / (1 << 31) == 1,
-        name: head.name,
-        vlen: head.vlen(),
-        rest: head.rest,
+        kind: kind_at(head, 0).unwrap(),
+        flag: word(head, 4) / (1 << 31) == 1,
+        name: word(head, 0),
+        vlen: vlen_at(head, 0),
+        rest: word(head, 8),
     }
 }
 
@@ -137,10 +105,11 @@ pub(crate) fn record_size(bytes: &[u8], at: usize, end: usize) -> Result<usize, 
     if end - at < RECORD {
         return Err(short);
     }
-    let Some(kind) = kind_at(bytes, at) else {
+    let head = head_at(bytes, at);
+    let Some(kind) = kind_at(head, 0) else {
         return Err(BRule::B6.at(at));
     };
-    let size = RECORD + 4 * kind.following(vlen_at(bytes, at));
+    let size = RECORD + 4 * kind.following(vlen_at(head, 0));
     if end - at < size {
         Err(short)
     } else {
