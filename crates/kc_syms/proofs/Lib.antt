@@ -1,6 +1,6 @@
 mod AddressLemmas
 mod AgreementLaws
-mod DigitLemmas
+mod DigitLanes
 mod HexBack
 mod IndexLemmas
 mod LaneLemmas

@@ -1,6 +1,7 @@
 //! The reader of System.map: which address each symbol of a kernel has.
 #![tactic(auto)]
 
+mod digits;
 mod fault;
 mod index;
 mod lanes;

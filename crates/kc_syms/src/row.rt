@@ -7,6 +7,7 @@ ghost use Rattle.kc_syms.specs.Rows.{is_digit, is_kind, is_name_byte, listed_in,
 ghost use Rattle.kc_syms.specs.Reading.{IsFirstRead, IsFirstRow, behind_kind, behind_newline, is_f, listed_from};
 ghost use Rattle.kc_syms.specs.Views.{row_text};
 
+use crate::digits::listed_in;
 use crate::lanes::name_run;
 use bstr::ByteSlice;
 
@@ -80,49 +81,6 @@ fn read_row(line: &[u8]) -> Option<Row<'_>>
     let listed = listed_in(digits)?;
     let name = name_behind(behind)?;
     Some(Row { listed, name })
-}
-
-// The address that 16 digits list: most are in the kernel's image, whose addresses begin with eight times f.
-fn listed_in(digits: &[u8; 16]) -> Option<u64>
-    ensures { result ≡ listed_in digits.now }
-{
-    let (high, low) = digits.split_at(8);
-    if are_f(high) {
-        return listed_from(0xffff_ffff, low);
-    }
-    listed_from(0, digits)
-}
-
-// All are the digit f.
-fn are_f(digits: &[u8]) -> bool
-    ensures { result ≡ list_all is_f digits.now }
-{
-    digits.iter().all(|c| *c == b'f')
-}
-
-// The address whose digits are those of a number and then these.
-fn listed_from(number: u64, digits: &[u8]) -> Option<u64>
-    requires few { length digits.now ≤ 16 }
-    requires fits { number < 16 ^ (16 - length digits.now) }
-    ensures { result ≡ listed_from number digits.now }
-{
-    let mut listed = number;
-    for c in digits {
-        listed = 16 * listed + u64::from(worth(*c)?);
-    }
-    Some(listed)
-}
-
-// What a hex digit of lower case is worth.
-fn worth(c: u8) -> Option<u8>
-    ensures value { result ≡ (if is_digit c then digit_value c else None) }
-    ensures small { IfSome result (λ digit. digit < 16) }
-{
-    match c {
-        b'0'..=b'9' => Some(c - b'0'),
-        b'a'..=b'f' => Some(c - b'a' + 10),
-        _ => None,
-    }
 }
 
 // The name behind a space, a kind and a space.
