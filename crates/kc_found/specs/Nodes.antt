@@ -3,7 +3,7 @@ use Rattle.std.specs.Prelude.{ℕ, ◌+◌, ◌%◌, ◌^◌, Bool, ◌||◌, na
 use Rattle.kc_memory.specs.declared.words.VWord.{VWord}
 use Rattle.kc_memory.specs.Stopped.{Stopped}
 use Rattle.kc_found.specs.declared.asked.Asked.{Asked}
-use Rattle.kc_found.specs.Trials.{Reader, Trial, Break, and_then, claim}
+use Rattle.kc_found.specs.Trials.{Reader, Trial, Break, and_then as ◌>>=◌, claim}
 use Rattle.kc_found.specs.Violations.{missed}
 
 -- the address of a word of a node: addresses wrap at 2^64
@@ -17,7 +17,10 @@ is_poison value = nat_eq value 0xdead000000000100 || nat_eq value 0xdead00000000
 
 -- two words, read one after the other, or the first stop
 abbrev pub both : Reader → ℕ → ℕ → Result (VWord × VWord) Stopped
-both read first second = and_then (read first) (λ v. and_then (read second) (λ w. Ok (v, w)))
+both read first second = do
+  v ← read first
+  w ← read second
+  Ok (v, w)
 
 -- two words of a node
 abbrev pub node_words : Reader → ℕ → ℕ → ℕ → Result (VWord × VWord) Stopped

@@ -20,7 +20,7 @@ use Rattle.kc_found.specs.declared.trees.RbKey.{RbKey}
 use Rattle.kc_found.specs.declared.trees.RbLinks.{RbLinks}
 use Rattle.kc_found.specs.declared.trees.RbSpot.{RbSpot}
 use Rattle.kc_found.specs.Nodes.{at_offset}
-use Rattle.kc_found.specs.Trials.{Reader, Trial, Break, Meet, and_then, broken_if, claim, judged, met}
+use Rattle.kc_found.specs.Trials.{Reader, Trial, Break, Meet, and_then as ◌>>=◌, broken_if, claim, judged, met}
 use Rattle.kc_found.specs.Violations.{Violation, breaks, breaks_field, missed}
 
 -- a memory as a walk reads it: a word at an address, and the whole number in some bits, counted from an address
@@ -39,20 +39,24 @@ pub record RbCourse : Type 0 where
 
 -- the three words of a node, or the first stop
 abbrev pub links_of : Reader → RbShape → ℕ → Result RbLinks Stopped
-links_of read shape node =
-    and_then (read (at_offset node shape.parent_color)) (λ p.
-    and_then (read (at_offset node shape.right)) (λ r.
-    and_then (read (at_offset node shape.left)) (λ l. Ok (record { parent = p; right = r; left = l }))))
+links_of read shape node = do
+  p ← read (at_offset node shape.parent_color)
+  r ← read (at_offset node shape.right)
+  l ← read (at_offset node shape.left)
+  Ok (record { parent = p; right = r; left = l })
 
 abbrev pub leftmost_of : Reader → ℕ → Option ℕ → Result (Option VWord) Stopped
 leftmost_of read start None = Ok None
-leftmost_of read start (Some offset) = and_then (read (at_offset start offset)) (λ w. Ok (Some w))
+leftmost_of read start (Some offset) = do
+  w ← read (at_offset start offset)
+  Ok (Some w)
 
 -- the word of the root and, for a cached root, the one of the first node
 abbrev pub head_of : Reader → RbShape → ℕ → Result RbHead Stopped
-head_of read shape start =
-    and_then (read (at_offset start shape.root)) (λ r.
-    and_then (leftmost_of read start shape.leftmost) (λ l. Ok (record { root = r; leftmost = l })))
+head_of read shape start = do
+  r ← read (at_offset start shape.root)
+  l ← leftmost_of read start shape.leftmost
+  Ok (record { root = r; leftmost = l })
 
 -- the element that a node stands in
 abbrev pub element_of : RbShape → ℕ → ℕ
@@ -67,7 +71,9 @@ as_key at n = record { number = n; at = at }
 
 abbrev pub key_at : Reads → ℕ → Option Bits → Result (Option RbKey) Stopped
 key_at read element None = Ok None
-key_at read element (Some b) = and_then (read.number element b) (λ n. Ok (Some (as_key (byte_of element b.bit) n)))
+key_at read element (Some b) = do
+  n ← read.number element b
+  Ok (Some (as_key (byte_of element b.bit) n))
 
 -- the key of a node's element, where the shape names one
 abbrev pub key_of : Reads → RbShape → ℕ → Result (Option RbKey) Stopped

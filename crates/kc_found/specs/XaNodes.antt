@@ -12,7 +12,7 @@ use Rattle.kc_found.specs.declared.xarrays.XaHolder.{XaHolder}
 use Rattle.kc_found.specs.declared.xarrays.XaItem.{XaItem}
 use Rattle.kc_found.specs.declared.xarrays.XaWords.{XaWords}
 use Rattle.kc_found.specs.Nodes.{at_offset}
-use Rattle.kc_found.specs.Trials.{Reader, Trial, and_then, broken_if, claim}
+use Rattle.kc_found.specs.Trials.{Reader, Trial, and_then as ◌>>=◌, broken_if, claim}
 use Rattle.kc_found.specs.Violations.{Violation, breaks, missed}
 use Rattle.kc_found.specs.XaEntries.{kind, is_sibling}
 use Rattle.kc_found.specs.XaLayouts.{XaLayout}
@@ -47,7 +47,10 @@ behind_entry read asked led va = found_by (missed asked led) (read va)
 -- the first n words from an address on
 unfoldable pub first_words : {E : Type 0} → (ℕ → Result VWord E) → ℕ → ℕ → Result (List VWord) E
 first_words read at zero = Ok []
-first_words read at (suc n) = and_then (first_words read at n) (λ ws. and_then (read (at_offset at (8 * n))) (λ w. Ok (ws ++ w ∷ [])))
+first_words read at (suc n) = do
+  ws ← first_words read at n
+  w ← read (at_offset at (8 * n))
+  Ok (ws ++ w ∷ [])
 
 -- the address of the word that has the byte at an address
 abbrev pub word_of : ℕ → ℕ
@@ -59,15 +62,15 @@ byte_in at value = value / 2 ^ (8 * (at % 8)) % 256
 
 -- the words of the node at an address, or the first that can't be read
 unfoldable pub xa_words : {E : Type 0} → (ℕ → Result VWord E) → XaLayout → ℕ → Result XaWords E
-xa_words read shape node =
-    and_then (read (at_offset node shape.parent)) (λ parent.
-    and_then (read (at_offset node shape.array)) (λ array.
-    and_then (first_words read (at_offset node shape.slots) shape.chunk) (λ slots.
-    and_then (read (word_of (at_offset node shape.shift))) (λ shift.
-    and_then (read (word_of (at_offset node shape.offset))) (λ offset.
-    and_then (read (word_of (at_offset node shape.count))) (λ count.
-    and_then (read (word_of (at_offset node shape.nr_values))) (λ values.
-    Ok (record { parent = parent; array = array; slots = slots; shift = shift; offset = offset; count = count; values = values }))))))))
+xa_words read shape node = do
+  parent ← read (at_offset node shape.parent)
+  array ← read (at_offset node shape.array)
+  slots ← first_words read (at_offset node shape.slots) shape.chunk
+  shift ← read (word_of (at_offset node shape.shift))
+  offset ← read (word_of (at_offset node shape.offset))
+  count ← read (word_of (at_offset node shape.count))
+  values ← read (word_of (at_offset node shape.nr_values))
+  Ok (record { parent = parent; array = array; slots = slots; shift = shift; offset = offset; count = count; values = values })
 
 abbrev pub shift_in : XaLayout → ℕ → XaWords → ℕ
 shift_in shape node n = byte_in (at_offset node shape.shift) n.shift.value

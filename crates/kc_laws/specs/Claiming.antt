@@ -4,7 +4,7 @@ use Rattle.std.specs.Prelude.{Result, Ok, Err, OnOk, if◌then◌else◌}
 use Rattle.std.specs.List.{IsDistinct}
 use Rattle.kc_memory.specs.declared.rule.Rule.TheVariants.{A}
 use Rattle.kc_found.specs.Taken.{is_taken, with_word}
-use Rattle.kc_found.specs.Trials.{Trial, Claim, Break, Meet, IsUnbroken, and_then, claimed_in, passed}
+use Rattle.kc_found.specs.Trials.{Trial, Claim, Break, Meet, IsUnbroken, and_then as ◌>>=◌, claimed_in, passed}
 use Rattle.kc_found.specs.Violations.{Violation}
 use Rattle.kc_laws.specs.Trials.{passed_goes, passed_is, passes}
 
@@ -41,7 +41,9 @@ distinct_takes ws d = passes {X = ℕ} (claims ws) (claims_whole ws) (subst (IsD
 
 -- a test, and what goes on after it
 abbrev tested : {X : Type 0} → Bool → Violation → List ℕ → ℕ → List (Trial X) → Result (List ℕ) Violation
-tested b v taken w ts = and_then (if b then Err v else Ok (with_word taken w)) (λ more. passed more ts)
+tested b v taken w ts = do
+  more ← if b then Err v else Ok (with_word taken w)
+  passed more ts
 
 no_err : (v : Violation) (more : List ℕ) → ◌≡◌ {A = Result (List ℕ) Violation} (Err v) (Ok more) → ⊥
 no_err v more e = subst (λ (r : Result (List ℕ) Violation). OnOk r ⊥) e tt

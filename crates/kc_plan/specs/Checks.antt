@@ -6,7 +6,7 @@ use Rattle.kc_memory.specs.declared.rule.Rule.TheVariants.{C}
 use Rattle.kc_memory.specs.declared.words.Place.{Place}
 use Rattle.kc_memory.specs.Bits.{Number}
 use Rattle.kc_memory.specs.Stopped.{Stopped}
-use Rattle.kc_memory.specs.Translation.{and_then}
+use Rattle.kc_memory.specs.Translation.{and_then as ◌>>=◌}
 use Rattle.kc_found.specs.declared.asked.Asked.{Asked}
 use Rattle.kc_found.specs.Violations.{Violation, missed}
 use Rattle.kc_plan.specs.Events.{Event, Wrong}
@@ -15,7 +15,10 @@ use Rattle.kc_plan.specs.Planned.{CheckAt}
 -- The numbers of fields, each by this reading of one, or the first stop. All are read before the check has a value.
 abbrev pub numbers_of : (NumberAt → Result Number Stopped) → List NumberAt → Result (List Number) Stopped
 numbers_of read [] = Ok []
-numbers_of read (field ∷ fields) = and_then (read field) (λ n. and_then (numbers_of read fields) (λ ns. Ok (n ∷ ns)))
+numbers_of read (field ∷ fields) = do
+  n ← read field
+  ns ← numbers_of read fields
+  Ok (n ∷ ns)
 
 -- the value of a check, where its fields have these numbers
 abbrev pub value_of : CheckAt → List Number → ℤ

@@ -5,7 +5,7 @@ use Rattle.kc_memory.specs.declared.words.Place.{Place}
 use Rattle.kc_memory.specs.Bits.{Number}
 use Rattle.kc_memory.specs.Image.{Image}
 use Rattle.kc_memory.specs.Stopped.{Stopped}
-use Rattle.kc_memory.specs.Translation.{and_then}
+use Rattle.kc_memory.specs.Translation.{and_then as ◌>>=◌}
 use Rattle.kc_layout.specs.Ends.{ByteAt, NumberAt}
 use Rattle.kc_view.specs.Pointers.{pointer, target, value_at}
 use Rattle.kc_view.specs.Typed.{bytes_on}
@@ -31,8 +31,9 @@ unless_null at p go = if nat_eq (target p.value) 0 then Ok (NullAt p.first at) e
 -- where a path leads from an address: behind the pointers at these offsets, and then so many bytes on
 unfoldable pub path_end : Image → ℕ → List ℕ → ℕ → Result PathEnd Stopped
 path_end image at [] byte = Ok (EndsAt (bytes_on at byte))
-path_end image at (offset ∷ offsets) byte =
-    and_then (pointer image at offset) (λ p. unless_null (bytes_on at offset) p (λ next. path_end image next offsets byte))
+path_end image at (offset ∷ offsets) byte = do
+  p ← pointer image at offset
+  unless_null (bytes_on at offset) p (λ next. path_end image next offsets byte)
 
 -- the number of a field of an element
 abbrev pub number_at : Image → ℕ → NumberAt → Result Number Stopped

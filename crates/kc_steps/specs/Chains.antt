@@ -12,7 +12,7 @@ use Rattle.kc_found.specs.declared.shapes.ListShape.{ListShape}
 use Rattle.kc_found.specs.FreeLists.{IsGrid, free_list}
 use Rattle.kc_found.specs.HashChains.{hash_walk}
 use Rattle.kc_found.specs.Rings.{ring_walk}
-use Rattle.kc_found.specs.Trials.{and_then}
+use Rattle.kc_found.specs.Trials.{and_then as ◌>>=◌}
 use Rattle.kc_found.specs.Violations.{Violation}
 
 abbrev pub Lists : Type 0
@@ -36,31 +36,47 @@ HashBy = Asked → HShape → ℕ → Lists → Came (List ℕ)
 
 -- without the lists
 abbrev pub alone : {A : Type 0} → Came A → Result A Violation
-alone r = and_then r (λ p. Ok p.0)
+alone r = do
+  p ← r
+  Ok p.0
 
 -- the lists alone
 abbrev pub lists_of : {A : Type 0} → Came A → Result Lists Violation
-lists_of r = and_then r (λ p. Ok p.1)
+lists_of r = do
+  p ← r
+  Ok p.1
 
 -- a chain is walked, and the lists stay
 abbrev pub ring_walked : Image → RingBy
-ring_walked image asked shape head lists = and_then (started_at asked.start (ring_walk image shape asked.audit head)) (λ ns. Ok (ns, lists))
+ring_walked image asked shape head lists = do
+  ns ← started_at asked.start (ring_walk image shape asked.audit head)
+  Ok (ns, lists)
 
 abbrev pub free_walked : Image → FreeBy
-free_walked image asked grid first lists = and_then (free_list image grid first asked) (λ os. Ok (os, lists))
+free_walked image asked grid first lists = do
+  os ← free_list image grid first asked
+  Ok (os, lists)
 
 abbrev pub hash_walked : Image → HashBy
-hash_walked image asked shape head lists = and_then (started_at asked.start (hash_walk image shape asked.audit head)) (λ ns. Ok (ns, lists))
+hash_walked image asked shape head lists = do
+  ns ← started_at asked.start (hash_walk image shape asked.audit head)
+  Ok (ns, lists)
 
 -- a chain is walked, and its list is kept behind those that were kept
 abbrev pub ring_kept : Image → RingBy
-ring_kept image asked shape head lists = and_then (started_at asked.start (ring_walk image shape asked.audit head)) (λ ns. Ok (ns, lists ++ ns ∷ []))
+ring_kept image asked shape head lists = do
+  ns ← started_at asked.start (ring_walk image shape asked.audit head)
+  Ok (ns, lists ++ ns ∷ [])
 
 abbrev pub free_kept : Image → FreeBy
-free_kept image asked grid first lists = and_then (free_list image grid first asked) (λ os. Ok (os, lists ++ os ∷ []))
+free_kept image asked grid first lists = do
+  os ← free_list image grid first asked
+  Ok (os, lists ++ os ∷ [])
 
 abbrev pub hash_kept : Image → HashBy
-hash_kept image asked shape head lists = and_then (started_at asked.start (hash_walk image shape asked.audit head)) (λ ns. Ok (ns, lists ++ ns ∷ []))
+hash_kept image asked shape head lists = do
+  ns ← started_at asked.start (hash_walk image shape asked.audit head)
+  Ok (ns, lists ++ ns ∷ [])
 
 -- the lists apart, a chain's list is that of its walk
 abbrev pub WalksRings : Image → RingBy → Type 0

@@ -10,17 +10,18 @@ use Rattle.kc_view.specs.TaskLists.{all_pass}
 use Rattle.kc_found.specs.declared.asked.Asked.{Asked}
 use Rattle.kc_found.specs.declared.xarrays.XaItem.{XaItem}
 use Rattle.kc_found.specs.Nodes.{at_offset}
-use Rattle.kc_found.specs.Trials.{and_then}
+use Rattle.kc_found.specs.Trials.{and_then as ◌>>=◌}
 use Rattle.kc_found.specs.Violations.{Violation}
 use Rattle.kc_steps.specs.Chains.{HashBy, Lists, hash_kept}
 use Rattle.kc_steps.specs.TasksBy.{passed_by}
 
 -- a process id, by its index: G1, its chain, and then G2 of each task on it
 abbrev pub pid_by : Image → HashBy → Asked → PidShape → XaItem → Lists → Result Lists Violation
-pid_by image hash asked shape item lists =
-    and_then (holds image asked G1 item.entry shape.nr item.index) (λ _.
-    and_then (hash asked shape.chain (at_offset item.entry shape.tasks) lists) (λ r.
-    and_then (all_pass (task_names image asked shape item.entry) r.0) (λ _. Ok r.1)))
+pid_by image hash asked shape item lists = do
+  _ ← holds image asked G1 item.entry shape.nr item.index
+  r ← hash asked shape.chain (at_offset item.entry shape.tasks) lists
+  _ ← all_pass (task_names image asked shape item.entry) r.0
+  Ok r.1
 
 -- the process ids that these pointers are, with the lists that are then there, or the first violation
 abbrev pub pids_by : Image → HashBy → PidShape → Asked → List XaItem → Lists → Result Lists Violation

@@ -15,7 +15,7 @@ use Rattle.kc_found.specs.declared.found.WalkStop.{WalkStop}
 use Rattle.kc_found.specs.declared.found.WalkStop.TheVariants as ends
 use Rattle.kc_found.specs.FreeLists.{low_word}
 use Rattle.kc_found.specs.Nodes.{readable}
-use Rattle.kc_found.specs.Trials.{and_then}
+use Rattle.kc_found.specs.Trials.{and_then as ◌>>=◌}
 use Rattle.kc_found.specs.Violations.{Violation, breaks_field, missed}
 
 -- a field of a struct at an address: its number, and the address of its first byte
@@ -52,9 +52,9 @@ breaks_at asked rule f expected = breaks_field asked rule f.at f.number expected
 
 -- a field holds a number, or the rule of it is broken
 abbrev pub holds : Image → Asked → Rule → ℕ → Field → ℕ → Result ⊤ Violation
-holds image asked rule at f wanted =
-    and_then (read_field image asked at f) (λ n.
-    unless (not (nat_eq (value_of n) wanted)) (breaks_at asked rule n (Some wanted)) (Ok tt))
+holds image asked rule at f wanted = do
+  n ← read_field image asked at f
+  unless (not (nat_eq (value_of n) wanted)) (breaks_at asked rule n (Some wanted)) (Ok tt)
 
 -- an inner walk's violation is one of this walk
 abbrev pub started : Violation → ℕ → Violation

@@ -11,7 +11,7 @@ use Rattle.kc_found.specs.declared.asked.Asked.{Asked}
 use Rattle.kc_found.specs.declared.xarrays.XaItem.{XaItem}
 use Rattle.kc_found.specs.HashChains.{hash_walk}
 use Rattle.kc_found.specs.Nodes.{at_offset}
-use Rattle.kc_found.specs.Trials.{and_then}
+use Rattle.kc_found.specs.Trials.{and_then as ◌>>=◌}
 use Rattle.kc_found.specs.Violations.{Violation}
 use Rattle.kc_found.specs.XaSites.{entries, xa_judged}
 
@@ -31,13 +31,14 @@ task_names image asked shape pid node = holds image asked G2 (task_of shape.link
 
 -- a process id, by its index: G1, its chain, and then G2 of each task on it
 abbrev pub pid_checked : Image → Asked → PidShape → XaItem → Result ⊤ Violation
-pid_checked image asked shape item =
-    and_then (holds image asked G1 item.entry shape.nr item.index) (λ _.
-    and_then (chain_of image asked shape item.entry) (λ nodes.
-    all_pass (task_names image asked shape item.entry) nodes))
+pid_checked image asked shape item = do
+  _ ← holds image asked G1 item.entry shape.nr item.index
+  nodes ← chain_of image asked shape item.entry
+  all_pass (task_names image asked shape item.entry) nodes
 
 -- the process ids of the table at a start, by rising number, or the first violation
 abbrev pub pid_table : Image → PidShape → Asked → Result (List ℕ) Violation
-pid_table image shape asked =
-    and_then (ids_in image asked shape) (λ items.
-    and_then (all_pass (pid_checked image asked shape) items) (λ _. Ok (entries items)))
+pid_table image shape asked = do
+  items ← ids_in image asked shape
+  _ ← all_pass (pid_checked image asked shape) items
+  Ok (entries items)

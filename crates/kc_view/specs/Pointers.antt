@@ -5,7 +5,7 @@ use Rattle.kc_layout.specs.Ends.{BitsAt}
 use Rattle.kc_memory.specs.Bits.{Number, bits}
 use Rattle.kc_memory.specs.Image.{Image}
 use Rattle.kc_memory.specs.Stopped.{Stopped}
-use Rattle.kc_memory.specs.Translation.{and_then}
+use Rattle.kc_memory.specs.Translation.{and_then as ◌>>=◌}
 use Rattle.kc_view.specs.declared.pointers.Reached.{Reached}
 use Rattle.kc_view.specs.declared.pointers.Reached.TheVariants.{Address, NullPointer}
 use Rattle.kc_view.specs.Typed.{bytes_on}
@@ -22,11 +22,15 @@ target (negsuc n) = 0
 -- the address behind the pointers at these offsets; a null pointer is followed like any other
 unfoldable pub behind : Image → ℕ → List ℕ → Result ℕ Stopped
 behind image at [] = Ok at
-behind image at (offset ∷ offsets) = and_then (pointer image at offset) (λ p. behind image (target p.value) offsets)
+behind image at (offset ∷ offsets) = do
+  p ← pointer image at offset
+  behind image (target p.value) offsets
 
 -- the number of these bits behind them
 abbrev pub value_at : Image → ℕ → List ℕ → BitsAt → Result Number Stopped
-value_at image at offsets b = and_then (behind image at offsets) (λ end. bits image end b.bit b.width b.signed)
+value_at image at offsets b = do
+  end ← behind image at offsets
+  bits image end b.bit b.width b.signed
 
 -- on from a pointer at an address, unless it is null
 abbrev pub unless_null : ℕ → Number → (ℕ → Result Reached Stopped) → Result Reached Stopped
@@ -35,4 +39,6 @@ unless_null at p go = if nat_eq (target p.value) 0 then Ok (NullPointer p.first 
 -- where the pointers at these offsets lead: to the address behind them, or to the first one that is null
 unfoldable pub reached : Image → ℕ → List ℕ → Result Reached Stopped
 reached image at [] = Ok (Address at)
-reached image at (offset ∷ offsets) = and_then (pointer image at offset) (λ p. unless_null (bytes_on at offset) p (λ next. reached image next offsets))
+reached image at (offset ∷ offsets) = do
+  p ← pointer image at offset
+  unless_null (bytes_on at offset) p (λ next. reached image next offsets)

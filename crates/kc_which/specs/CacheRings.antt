@@ -6,7 +6,7 @@ use Rattle.kc_memory.specs.Image.{Image}
 use Rattle.kc_found.specs.FreeLists.{low_word, number_in}
 use Rattle.kc_found.specs.Nodes.{at_offset}
 use Rattle.kc_found.specs.Rings.{ring_walk}
-use Rattle.kc_found.specs.Trials.{and_then}
+use Rattle.kc_found.specs.Trials.{and_then as ◌>>=◌}
 use Rattle.kc_found.specs.Violations.{Violation}
 use Rattle.kc_view.specs.declared.slub.SlubShape.{SlubShape}
 use Rattle.kc_view.specs.Caches.{count_of, node_at, slab_of}
@@ -30,19 +30,21 @@ in_partial image shape v list = through v list (nodes_on image shape v list) (λ
 
 -- a pointer of the array `node`, by its index
 abbrev pub pointer_at : Image → SlubShape → Violation → ℕ → Result ℕ Violation
-pointer_at image shape v i =
-    and_then (or_missed (asked_of v) (number_in image (node_at (asked_of v) shape i))) (λ p. Ok (low_word p.value))
+pointer_at image shape v i = do
+  p ← or_missed (asked_of v) (number_in image (node_at (asked_of v) shape i))
+  Ok (low_word p.value)
 
 -- the list behind it: a null one is passed over
 abbrev pub in_node : Image → SlubShape → Violation → ℕ → Result (Option CacheRing) Violation
-in_node image shape v i =
-    and_then (pointer_at image shape v i) (λ knode.
-    if nat_eq knode 0 then Ok None else in_partial image shape v (record { number = i; knode = knode }))
+in_node image shape v i = do
+  knode ← pointer_at image shape v i
+  if nat_eq knode 0 then Ok None else in_partial image shape v (record { number = i; knode = knode })
 
 -- the lists of all memory nodes
 abbrev pub in_cache : Image → SlubShape → Violation → Result (Option CacheRing) Violation
-in_cache image shape v =
-    and_then (count_of image (asked_of v) shape.nodes shape.node_ids) (λ n. first_of (in_node image shape v) (range_with_len 0 n))
+in_cache image shape v = do
+  n ← count_of image (asked_of v) shape.nodes shape.node_ids
+  first_of (in_node image shape v) (range_with_len 0 n)
 
 -- the list of a violation: the first that is broken, where it is by this violation
 abbrev pub cache_ring : Image → SlubShape → Violation → Option CacheRing

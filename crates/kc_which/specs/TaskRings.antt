@@ -5,7 +5,7 @@ use Rattle.std.specs.Prelude.{ℕ, nat_eq, if◌then◌else◌, List, Option, No
 use Rattle.kc_memory.specs.Image.{Image}
 use Rattle.kc_found.specs.Nodes.{at_offset}
 use Rattle.kc_found.specs.Rings.{ring_walk}
-use Rattle.kc_found.specs.Trials.{and_then}
+use Rattle.kc_found.specs.Trials.{and_then as ◌>>=◌, and_then}
 use Rattle.kc_found.specs.Violations.{Violation}
 use Rattle.kc_view.specs.declared.tasks.TaskShape.{TaskShape}
 use Rattle.kc_view.specs.Fields.{read_field, value_of}
@@ -44,8 +44,9 @@ in_threads image shape v leader signal =
     first_of (λ node. in_children image shape v (task_of shape.thread_node node)) nodes)
 
 abbrev pub in_group : Image → TaskShape → Violation → ℕ → Result (Option TaskRing) Violation
-in_group image shape v leader =
-    and_then (read_field image (asked_of v) leader shape.signal) (λ signal. in_threads image shape v leader (value_of signal))
+in_group image shape v leader = do
+  signal ← read_field image (asked_of v) leader shape.signal
+  in_threads image shape v leader (value_of signal)
 
 -- the group of the task at the start, and then those of the other leaders
 abbrev pub in_leaders : Image → TaskShape → Violation → List ℕ → Result (Option TaskRing) Violation

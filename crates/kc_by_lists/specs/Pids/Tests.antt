@@ -9,7 +9,7 @@ use Rattle.kc_found.specs.declared.asked.Asked.{Asked}
 use Rattle.kc_found.specs.declared.found.WalkStop.{WalkStop}
 use Rattle.kc_found.specs.declared.found.WalkStop.TheVariants as ends
 use Rattle.kc_found.specs.Nodes.{at_offset}
-use Rattle.kc_found.specs.Trials.{and_then}
+use Rattle.kc_found.specs.Trials.{and_then as ◌>>=◌}
 use Rattle.kc_found.specs.Violations.{Violation}
 use Rattle.kc_steps.specs.Chains.{Lists}
 use Rattle.kc_steps.specs.PidsBy.{pid_lists}
@@ -18,7 +18,9 @@ use Rattle.kc_by_lists.specs.Tests.{gives}
 
 -- the lists of the hash chains, where the table's xarray stands
 abbrev pub chain_lists : Image → PidShape → Asked → Result Lists Violation
-chain_lists image shape asked = and_then (ids_in image asked shape) (λ items. pid_lists image shape asked items)
+chain_lists image shape asked = do
+  items ← ids_in image asked shape
+  pid_lists image shape asked items
 
 -- these are the lists of a table
 unfoldable pub are_pid_lists : Image → PidShape → Asked → Lists → Bool

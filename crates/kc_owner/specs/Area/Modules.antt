@@ -5,7 +5,7 @@ use Rattle.kc_memory.specs.Image.{Image}
 use Rattle.kc_view.specs.Fields.{read_field, value_of}
 use Rattle.kc_view.specs.TaskLists.{task_of}
 use Rattle.kc_found.specs.Nodes.{at_offset}
-use Rattle.kc_found.specs.Trials.{and_then}
+use Rattle.kc_found.specs.Trials.{and_then as ◌>>=◌}
 use Rattle.kc_found.specs.Violations.{Violation}
 use Rattle.kc_owner.specs.Looked.{looked_at}
 use Rattle.kc_owner.specs.Rings.{RingParts, ring_nodes}
@@ -17,10 +17,10 @@ use Rattle.kc_owner.specs.Firsts.{byte_of, despite_any, first_of}
 
 -- the byte in a part of a module's memory, by the part's number
 abbrev pub in_part : Image → PartShape → ℕ → ℕ → ℕ → Result (Option ℕ) Violation
-in_part image shape address owner number =
-    and_then (read_field image (looked_at owner) (at_offset owner (shape.stride * number)) shape.base) (λ base.
-    and_then (read_field image (looked_at owner) (at_offset owner (shape.stride * number)) shape.size) (λ size.
-    Ok (byte_of (value_of base) (value_of size) address)))
+in_part image shape address owner number = do
+  base ← read_field image (looked_at owner) (at_offset owner (shape.stride * number)) shape.base
+  size ← read_field image (looked_at owner) (at_offset owner (shape.stride * number)) shape.size
+  Ok (byte_of (value_of base) (value_of size) address)
 
 -- a module that has the address, with its name
 abbrev pub named : Image → ModuleShape → ℕ → ℕ → InModule
@@ -28,9 +28,9 @@ named image shape owner byte = record { at = owner; name = text image shape.name
 
 -- in the first of the module's parts that has it
 abbrev pub in_module : Image → ModuleShape → ℕ → ℕ → Result (Option InModule) Violation
-in_module image shape address owner =
-    and_then (first_of (in_part image shape.parts address owner) (range_with_len 0 shape.parts.count)) (λ byte.
-    Ok (option_map (named image shape owner) byte))
+in_module image shape address owner = do
+  byte ← first_of (in_part image shape.parts address owner) (range_with_len 0 shape.parts.count)
+  Ok (option_map (named image shape owner) byte)
 
 -- in the first of the modules that has it, of those that have these nodes; where none has it, the ring's violation comes first
 abbrev pub module_by : Image → ModuleShape → ℕ → RingParts → Result (Option InModule) Violation

@@ -8,7 +8,7 @@ use Rattle.kc_memory.specs.Translation.{vword}
 use Rattle.kc_view.specs.Fields.{or_missed}
 use Rattle.kc_found.specs.FreeLists.{low_word}
 use Rattle.kc_found.specs.Nodes.{at_offset}
-use Rattle.kc_found.specs.Trials.{and_then}
+use Rattle.kc_found.specs.Trials.{and_then as ◌>>=◌}
 use Rattle.kc_found.specs.Violations.{Violation}
 use Rattle.kc_owner.specs.Looked.{looked_at}
 use Rattle.kc_owner.specs.declared.area.processors.InProcessor.{InProcessor}
@@ -27,12 +27,12 @@ in_area shape address number offset =
 
 -- a processor by its number
 abbrev pub in_processor : Image → ProcessorShape → ℕ → ℕ → Result (Option InProcessor) Violation
-in_processor image shape address number =
-    and_then (or_missed (looked_at shape.offsets) (vword image (at_offset shape.offsets (8 * number)))) (λ w.
-    Ok (in_area shape address number w.value))
+in_processor image shape address number = do
+  w ← or_missed (looked_at shape.offsets) (vword image (at_offset shape.offsets (8 * number)))
+  Ok (in_area shape address number w.value)
 
 -- the first of the kernel's processors that has it, of 8192 at most
 abbrev pub processor_at : Image → ProcessorShape → ℕ → Result (Option InProcessor) Violation
-processor_at image shape address =
-    and_then (or_missed (looked_at shape.count) (bits image shape.count 0 32 false)) (λ n.
-    first_of (in_processor image shape address) (range_with_len 0 (min (low_word n.value) 8192)))
+processor_at image shape address = do
+  n ← or_missed (looked_at shape.count) (bits image shape.count 0 32 false)
+  first_of (in_processor image shape address) (range_with_len 0 (min (low_word n.value) 8192))

@@ -6,7 +6,7 @@ use Rattle.kc_view.specs.declared.tasks.TaskShape.{TaskShape}
 use Rattle.kc_view.specs.Fields.{read_field, value_of}
 use Rattle.kc_view.specs.TaskLists.{task_list, task_of}
 use Rattle.kc_found.specs.Nodes.{at_offset}
-use Rattle.kc_found.specs.Trials.{and_then}
+use Rattle.kc_found.specs.Trials.{and_then as ◌>>=◌}
 use Rattle.kc_found.specs.Violations.{Violation}
 use Rattle.kc_owner.specs.Known.{known}
 use Rattle.kc_owner.specs.Looked.{looked_at}
@@ -19,14 +19,14 @@ use Rattle.kc_owner.specs.Firsts.{byte_of, despite, first_of}
 -- a task that has the address in its stack, with its number and its name
 abbrev pub owner : Image → StackShape → ℕ → Option ℕ → Result (Option InStack) Violation
 owner image shape task None = Ok None
-owner image shape task (Some byte) =
-    and_then (read_field image (looked_at task) task shape.tasks.pid) (λ pid.
-    Ok (Some (record { task = task; pid = value_of pid; comm = text image shape.comm.count (at_offset task shape.comm.byte); byte = byte })))
+owner image shape task (Some byte) = do
+  pid ← read_field image (looked_at task) task shape.tasks.pid
+  Ok (Some (record { task = task; pid = value_of pid; comm = text image shape.comm.count (at_offset task shape.comm.byte); byte = byte }))
 
 abbrev pub in_stack : Image → StackShape → ℕ → ℕ → Result (Option InStack) Violation
-in_stack image shape address task =
-    and_then (read_field image (looked_at task) task shape.tasks.stack) (λ stack.
-    owner image shape task (byte_of (value_of stack) shape.bytes address))
+in_stack image shape address task = do
+  stack ← read_field image (looked_at task) task shape.tasks.stack
+  owner image shape task (byte_of (value_of stack) shape.bytes address)
 
 -- the leaders of thread groups: the first task, and those of the ring that it has a node of
 abbrev pub leaders : Image → StackShape → List ℕ

@@ -5,7 +5,7 @@ use Rattle.std.specs.Prelude.{ℕ, ◌%◌, ◌^◌, Bool, nat_lt, if◌then◌e
 use Rattle.kc_memory.specs.Image.{Image}
 use Rattle.kc_view.specs.declared.slub.SlubBases.{SlubBases}
 use Rattle.kc_view.specs.Caches.{descriptor_offset, page_of}
-use Rattle.kc_found.specs.Trials.{and_then}
+use Rattle.kc_found.specs.Trials.{and_then as ◌>>=◌}
 use Rattle.kc_found.specs.Violations.{Violation}
 use Rattle.kc_owner.specs.Looked.{looked_at}
 use Rattle.kc_owner.specs.declared.object.described.Described.{Described}
@@ -23,4 +23,6 @@ described_by shape b address =
 
 -- the page whose descriptor has an address, of as many as there may be
 abbrev pub described : Image → ObjectShape → ℕ → Result (Option Described) Violation
-described image shape address = and_then (bases_at image (looked_at address) shape.slub) (λ b. Ok (described_by shape b address))
+described image shape address = do
+  b ← bases_at image (looked_at address) shape.slub
+  Ok (described_by shape b address)

@@ -7,7 +7,7 @@ use Rattle.kc_view.specs.declared.slub.SlubShape.{SlubShape}
 use Rattle.kc_view.specs.Fields.{read_field}
 use Rattle.kc_found.specs.declared.free.Grid.{Grid}
 use Rattle.kc_found.specs.FreeLists.{free_list}
-use Rattle.kc_found.specs.Trials.{and_then}
+use Rattle.kc_found.specs.Trials.{and_then as ◌>>=◌}
 use Rattle.kc_found.specs.Violations.{Violation}
 use Rattle.kc_owner.specs.declared.object.free.FreeSpot.{FreeSpot}
 use Rattle.kc_owner.specs.declared.object.spot.Spot.{Spot}
@@ -23,7 +23,7 @@ place_of objects Past = None
 
 -- how many objects a slab's free list has, and the place of this one
 abbrev pub free_spot : Image → SlubShape → Grid → ℕ → Spot → Result FreeSpot Violation
-free_spot image shape grid slab spot =
-    and_then (read_field image (looked_at slab) slab shape.freelist) (λ first.
-    and_then (free_list image grid first.number (looked_at slab)) (λ objects.
-    Ok (record { length = length objects; place = place_of objects spot })))
+free_spot image shape grid slab spot = do
+  first ← read_field image (looked_at slab) slab shape.freelist
+  objects ← free_list image grid first.number (looked_at slab)
+  Ok (record { length = length objects; place = place_of objects spot })

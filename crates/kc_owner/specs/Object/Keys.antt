@@ -3,7 +3,7 @@
 use Rattle.std.specs.Prelude.{ℕ, ◌+◌, ◌-◌, ◌%◌, ◌^◌, is_some, if◌then◌else◌, List, [], Option, Some, None, option_map, Result, Ok}
 use Rattle.std.specs.List.{filter_map}
 use Rattle.kc_memory.specs.Image.{Image}
-use Rattle.kc_found.specs.Trials.{and_then}
+use Rattle.kc_found.specs.Trials.{and_then as ◌>>=◌}
 use Rattle.kc_found.specs.Violations.{Violation}
 use Rattle.kc_owner.specs.Known.{known}
 use Rattle.kc_owner.specs.Looked.{looked_at}
@@ -52,6 +52,6 @@ keys_by image shape direct ring = record {
 }
 
 abbrev pub free_keys : Image → ObjectShape → Result FreeKeys Violation
-free_keys image shape =
-    and_then (bases_at image (looked_at shape.caches) shape.slub) (λ b.
-    Ok (keys_by image shape b.direct (ring_nodes image shape.slub.list shape.caches)))
+free_keys image shape = do
+  b ← bases_at image (looked_at shape.caches) shape.slub
+  Ok (keys_by image shape b.direct (ring_nodes image shape.slub.list shape.caches))

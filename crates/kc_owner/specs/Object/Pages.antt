@@ -8,7 +8,7 @@ use Rattle.kc_view.specs.Caches.{base_of}
 use Rattle.kc_view.specs.Fields.{read_field, value_of}
 use Rattle.kc_found.specs.declared.asked.Asked.{Asked}
 use Rattle.kc_found.specs.Nodes.{at_offset}
-use Rattle.kc_found.specs.Trials.{and_then}
+use Rattle.kc_found.specs.Trials.{and_then as ◌>>=◌}
 use Rattle.kc_found.specs.Violations.{Violation}
 use Rattle.kc_owner.specs.Looked.{looked_at}
 use Rattle.kc_owner.specs.declared.object.page.Page.{Page}
@@ -16,10 +16,10 @@ use Rattle.kc_owner.specs.declared.object.shape.ObjectShape.{ObjectShape}
 
 -- where page descriptors and physical memory begin; no memory node is looked at
 abbrev pub bases_at : Image → Asked → SlubShape → Result SlubBases Violation
-bases_at image asked shape =
-    and_then (base_of image asked shape.vmemmap) (λ v.
-    and_then (base_of image asked shape.direct) (λ d.
-    Ok (record { vmemmap = v; direct = d; nodes = 0 })))
+bases_at image asked shape = do
+  v ← base_of image asked shape.vmemmap
+  d ← base_of image asked shape.direct
+  Ok (record { vmemmap = v; direct = d; nodes = 0 })
 
 -- the number of the page that holds a physical address
 abbrev pub number_of : ℕ → ℕ
@@ -35,7 +35,7 @@ head_of descriptor compound = if nat_eq (compound % 2) 1 then compound - 1 else 
 
 -- the page that holds a physical address
 abbrev pub page_of : Image → ObjectShape → SlubBases → ℕ → Result Page Violation
-page_of image shape b pa =
-    let descriptor = descriptor_of shape.slub b (number_of pa) in
-    and_then (read_field image (looked_at descriptor) descriptor shape.compound_head) (λ c.
-    Ok (record { number = number_of pa; descriptor = descriptor; head = head_of descriptor (value_of c) }))
+page_of image shape b pa = do
+  let descriptor = descriptor_of shape.slub b (number_of pa)
+  c ← read_field image (looked_at descriptor) descriptor shape.compound_head
+  Ok (record { number = number_of pa; descriptor = descriptor; head = head_of descriptor (value_of c) })

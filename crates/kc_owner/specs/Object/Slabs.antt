@@ -13,7 +13,7 @@ use Rattle.kc_view.specs.Caches as caches
 use Rattle.kc_view.specs.Fields.{breaks_at, read_field, unless, value_of}
 use Rattle.kc_found.specs.declared.asked.Asked.{Asked}
 use Rattle.kc_found.specs.Nodes.{at_offset}
-use Rattle.kc_found.specs.Trials.{and_then}
+use Rattle.kc_found.specs.Trials.{and_then as ◌>>=◌}
 use Rattle.kc_found.specs.Violations.{Violation, breaks_field}
 use Rattle.kc_owner.specs.declared.object.cache.Cache.{Cache}
 use Rattle.kc_owner.specs.declared.object.counts.SlabCounts.{SlabCounts}
@@ -30,12 +30,12 @@ use Rattle.kc_owner.specs.Object.Spots.{spot_of}
 
 -- how many objects a slab has and how many of them are in use, with U3 of the first, and whether a processor owns it
 abbrev pub counts_of : Image → Asked → SlubShape → ℕ → Result SlabCounts Violation
-counts_of image asked shape slab =
-    and_then (read_field image asked slab shape.objects) (λ n.
-    and_then (read_field image asked slab shape.inuse) (λ u.
-    and_then (read_field image asked slab shape.frozen) (λ f.
-    unless (nat_eq (value_of n) 0 || nat_lt (value_of n) (value_of u)) (breaks_at asked U3 n None)
-    (Ok (record { objects = value_of n; inuse = value_of u; frozen = not (nat_eq (value_of f) 0) })))))
+counts_of image asked shape slab = do
+  n ← read_field image asked slab shape.objects
+  u ← read_field image asked slab shape.inuse
+  f ← read_field image asked slab shape.frozen
+  unless (nat_eq (value_of n) 0 || nat_lt (value_of n) (value_of u)) (breaks_at asked U3 n None)
+    (Ok (record { objects = value_of n; inuse = value_of u; frozen = not (nat_eq (value_of f) 0) }))
 
 -- the physical address of a slab's first byte
 abbrev pub start_of : SlubShape → SlubBases → ℕ → ℕ
@@ -58,17 +58,19 @@ slab_with image shape b slab pa cache o n =
 -- the slab of this cache, by its descriptor: U4 of the descriptor, and then how the cache's objects lie and how many the slab has
 abbrev pub slab_of : Image → ObjectShape → SlubBases → ℕ → ℕ → FieldNumber → Result Slab Violation
 slab_of image shape b slab pa cache =
-    unless (not (is_descriptor shape.slub b slab)) (breaks_field (looked_at slab) U4 slab cache.number None)
-    (and_then (objects_of image (looked_at (value_of cache)) shape.slub) (λ o.
-    and_then (counts_of image (looked_at slab) shape.slub slab) (λ n.
-    Ok (slab_with image shape b slab pa (cache_of image shape (value_of cache)) o n))))
+    unless (not (is_descriptor shape.slub b slab)) (breaks_field (looked_at slab) U4 slab cache.number None) do
+      o ← objects_of image (looked_at (value_of cache)) shape.slub
+      n ← counts_of image (looked_at slab) shape.slub slab
+      Ok (slab_with image shape b slab pa (cache_of image shape (value_of cache)) o n)
 
 -- a cache stands in the ring of all caches, by that ring's nodes
 abbrev pub is_listed : ObjectShape → List ℕ → ℕ → Bool
 is_listed shape nodes cache = list_any (λ n. nat_eq n (at_offset cache shape.cache_list)) nodes
 
 abbrev pub some_slab : Result Slab Violation → Result (Option Slab) Violation
-some_slab slab = and_then slab (λ s. Ok (Some s))
+some_slab slab = do
+  s ← slab
+  Ok (Some s)
 
 -- the slab of a head page's descriptor, by its `slab_cache` and by the ring of all caches; where that has no such cache there is none, unless it is broken
 abbrev pub slab_by : Image → ObjectShape → SlubBases → ℕ → ℕ → FieldNumber → RingParts → Result (Option Slab) Violation
@@ -77,13 +79,13 @@ slab_by image shape b head pa c ring =
 
 -- the slab of a head page's descriptor, whose `slab_cache` names a cache of the ring, also where that is broken; none where it names another address
 abbrev pub slab_at : Image → ObjectShape → SlubBases → ℕ → ℕ → Result (Option Slab) Violation
-slab_at image shape b head pa =
-    and_then (read_field image (looked_at head) head shape.slub.slab_cache) (λ c.
-    slab_by image shape b head pa c (ring_nodes image shape.slub.list shape.caches))
+slab_at image shape b head pa = do
+  c ← read_field image (looked_at head) head shape.slub.slab_cache
+  slab_by image shape b head pa c (ring_nodes image shape.slub.list shape.caches)
 
 -- what holds a physical address: its page, and of that what can be told of a slab
 abbrev pub held : Image → ObjectShape → ℕ → Result Held Violation
-held image shape pa =
-    and_then (bases_at image (looked_at pa) shape.slub) (λ b.
-    and_then (page_of image shape b pa) (λ page.
-    Ok (record { page = page; slab = slab_at image shape b page.head pa })))
+held image shape pa = do
+  b ← bases_at image (looked_at pa) shape.slub
+  page ← page_of image shape b pa
+  Ok (record { page = page; slab = slab_at image shape b page.head pa })
