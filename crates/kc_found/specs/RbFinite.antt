@@ -41,17 +41,17 @@ IsBetween unique low high (Some k) = IsOver unique low k.number.value × IsUnder
 abbrev pub count_of : Bool → ℕ
 count_of red = if red then 0 else 1
 
--- The pointer `a` leads to the tree. Its top node has the parent `q` and, where `red` is true, isn't red; each way down
--- passes `b` black nodes; and the keys lie between `low` and `high`.
+-- The pointer `at` leads to the tree. Its top node has the parent `above` and, where `red` is true, isn't red; each way down
+-- passes so many `blacks`; and the keys lie between `low` and `high`.
 abbrev pub IsRb : Reads → RbShape → Tree → ℕ → ℕ → Bool → ℕ → Option ℤ → Option ℤ → Type 0
-IsRb read shape Leaf a q red b low high = (a ≡ 0) × (b ≡ 0)
-IsRb read shape (Node n l r) a q red b low high =
-    (a ≡ n) × (nat_eq a 0 ≡ false)
-    × ((w : RbLinks) × (links_of read.word shape a ≡ Ok w) × (parent_in w.parent.value ≡ q) × ((red && is_red w.parent.value) ≡ false)
-    × ((k : Option RbKey) × (key_of read shape a ≡ Ok k) × IsBetween shape.unique low high k
-    × ((m : ℕ) × (b ≡ m + count_of (is_red w.parent.value))
-    × IsRb read shape l w.left.value a (is_red w.parent.value) m low (bound_of k)
-    × IsRb read shape r w.right.value a (is_red w.parent.value) m (bound_of k) high)))
+IsRb read shape Leaf at above red blacks low high = (at ≡ 0) × (blacks ≡ 0)
+IsRb read shape (Node node left right) at above red blacks low high =
+    (at ≡ node) × (nat_eq at 0 ≡ false)
+    × ((w : RbLinks) × (links_of read.word shape at ≡ Ok w) × (parent_in w.parent.value ≡ above) × ((red && is_red w.parent.value) ≡ false)
+    × ((key : Option RbKey) × (key_of read shape at ≡ Ok key) × IsBetween shape.unique low high key
+    × ((below : ℕ) × (blacks ≡ below + count_of (is_red w.parent.value))
+    × IsRb read shape left w.left.value at (is_red w.parent.value) below low (bound_of key)
+    × IsRb read shape right w.right.value at (is_red w.parent.value) below (bound_of key) high)))
 
 -- the physical addresses of a node's words
 abbrev pub pas : RbLinks → List ℕ

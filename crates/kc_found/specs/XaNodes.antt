@@ -122,15 +122,23 @@ is_count shape count slots = if shape.idr then (nat_le (filled slots) count && n
 abbrev pub is_odd_count : XaLayout → ℕ → List VWord → Bool
 is_odd_count shape values slots = has_sibling shape.chunk slots || nat_eq values (odd slots)
 
+-- A rule of a byte of a node, which is in a word: whether it holds of the byte, and what is expected there.
+abbrev pub byte_rule : Asked → Rule → ℕ → VWord → (ℕ → Bool) → Option ℕ → List (Trial XaItem)
+byte_rule asked rule at w holds expected = broken_if (not (holds (byte_in at w.value))) (breaks_in asked rule at w expected)
+
+-- a rule of a word, which is to have this value
+abbrev pub word_rule : Asked → Rule → VWord → ℕ → List (Trial XaItem)
+word_rule asked rule w expected = broken_if (not (nat_eq w.value expected)) (breaks asked rule w (Some expected))
+
 -- the rules of the node at an address
 unfoldable pub xa_rules : XaLayout → Asked → Option XaHolder → ℕ → XaWords → List (Trial XaItem)
 xa_rules shape asked holder node n =
-    broken_if (not (is_shift shape.chunk holder (byte_in (at_offset node shape.shift) n.shift.value))) (breaks_in asked X1 (at_offset node shape.shift) n.shift (shift_wanted shape.chunk holder))
-    ++ (broken_if (not (is_slot holder (byte_in (at_offset node shape.offset) n.offset.value))) (breaks_in asked X2 (at_offset node shape.offset) n.offset (slot_wanted holder))
-    ++ (broken_if (not (nat_eq n.parent.value (parent_wanted holder))) (breaks asked X3 n.parent (Some (parent_wanted holder)))
-    ++ (broken_if (not (nat_eq n.array.value asked.start)) (breaks asked X4 n.array (Some asked.start))
-    ++ (broken_if (not (is_count shape (byte_in (at_offset node shape.count) n.count.value) n.slots)) (breaks_in asked X5 (at_offset node shape.count) n.count (Some (filled n.slots)))
-    ++ broken_if (not (is_odd_count shape (byte_in (at_offset node shape.nr_values) n.values.value) n.slots)) (breaks_in asked X6 (at_offset node shape.nr_values) n.values (Some (odd n.slots)))))))
+    byte_rule asked X1 (at_offset node shape.shift) n.shift (is_shift shape.chunk holder) (shift_wanted shape.chunk holder)
+    ++ (byte_rule asked X2 (at_offset node shape.offset) n.offset (is_slot holder) (slot_wanted holder)
+    ++ (word_rule asked X3 n.parent (parent_wanted holder)
+    ++ (word_rule asked X4 n.array asked.start
+    ++ (byte_rule asked X5 (at_offset node shape.count) n.count (λ count. is_count shape count n.slots) (Some (filled n.slots))
+    ++ byte_rule asked X6 (at_offset node shape.nr_values) n.values (λ values. is_odd_count shape values n.slots) (Some (odd n.slots))))))
 
 -- the words of a node that are taken
 abbrev pub xa_claims : Asked → XaWords → List (Trial XaItem)

@@ -12,7 +12,8 @@ use Rattle.kc_layout.specs.declared.place.Hops.{Hops}
 use Rattle.kc_layout.specs.Ends.{BitsAt, NumberAt}
 use Rattle.kc_layout.specs.HopList.{hop_list}
 use Rattle.kc_layout.specs.Views.{bits_view, number_view}
-use Rattle.kc_kinds.specs.Members.{are_bits, bits_from, bits_if, field_of, no_hops}
+use Rattle.kc_kinds.specs.KeptLaws.{are_bits, bits_if, no_hops}
+use Rattle.kc_kinds.specs.Members.{bits_from, field_of}
 
 are_kept : (b : Bits) → are_bits (bits_view b) ≡ true
 are_kept b =

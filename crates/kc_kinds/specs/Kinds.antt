@@ -1,6 +1,6 @@
 -- The table of the kinds of audits: their names, what they ask of the keys, what they need of a kernel, and where their
 -- words stand. A new kind has a line in each.
-use Rattle.std.specs.Prelude.{ℕ, List, Bool, true, false, codes, Option, Some, None, option_map, if◌then◌else◌}
+use Rattle.std.specs.Prelude.{ℕ, List, [], ◌∷◌, Bool, true, false, codes, Option, Some, None, option_map, if◌then◌else◌}
 use Rattle.std.specs.Str.{bytes_eq}
 use Rattle.kc_btf.specs.Btf.{Types}
 use Rattle.kc_kinds.specs.declared.kind.Kind.{Kind}
@@ -20,17 +20,25 @@ use Rattle.kc_kinds.specs.Slabs.{slub_row, slub_words}
 use Rattle.kc_kinds.specs.Tasks.{task_row, task_words}
 use Rattle.kc_kinds.specs.Xarray.{xarray_words}
 
+-- the names of the kinds
+abbrev pub sorts : List (List ℕ × Sort)
+sorts =
+    (codes "ring", sort.Ring)
+    ∷ (codes "hlist", sort.Hlist)
+    ∷ (codes "rbtree", sort.Rbtree)
+    ∷ (codes "xarray", sort.Xarray)
+    ∷ (codes "slub", sort.Slub)
+    ∷ (codes "tasks", sort.Tasks)
+    ∷ (codes "pids", sort.Pids)
+    ∷ []
+
 -- the kind with a name
+abbrev pub sort_in : List (List ℕ × Sort) → List ℕ → Option Sort
+sort_in [] text = None
+sort_in (row ∷ rows) text = if bytes_eq text row.0 then Some row.1 else sort_in rows text
+
 abbrev pub sort_of : List ℕ → Option Sort
-sort_of text =
-    if bytes_eq text (codes "ring") then Some sort.Ring
-    else (if bytes_eq text (codes "hlist") then Some sort.Hlist
-    else (if bytes_eq text (codes "rbtree") then Some sort.Rbtree
-    else (if bytes_eq text (codes "xarray") then Some sort.Xarray
-    else (if bytes_eq text (codes "slub") then Some sort.Slub
-    else (if bytes_eq text (codes "tasks") then Some sort.Tasks
-    else (if bytes_eq text (codes "pids") then Some sort.Pids
-    else None))))))
+sort_of = sort_in sorts
 
 -- what a kind asks of the keys that aren't for all kinds
 abbrev pub needs_of : Sort → Needs

@@ -1,5 +1,6 @@
 pub mod Hlist
 pub mod Inside
+pub mod KeptLaws
 pub mod Kernels
 pub mod Kinds
 pub mod Members

@@ -1,19 +1,16 @@
 -- What the kinds find in a kernel's types.
-use Rattle.std.specs.Prelude.{◌≡◌, ℕ, ◌^◌, ◌/◌, ◌%◌, nat_lt, nat_le, true, false, List, [], ◌∷◌, Bool, ◌&&◌, ◌||◌, ◌==◌, Option, Some, None, option_map, option_and_then, Result, Ok, Err, if◌then◌else◌}
-use Rattle.std.proofs.Common.{refl}
-use Rattle.std.proofs.lemmas.Bool.{and_parts, leb-true, ltb-true}
-use Rattle.std.proofs.lemmas.List.Elements.{All-cons, All-nil}
+use Rattle.std.specs.Prelude.{ℕ, ◌/◌, ◌%◌, false, List, [], ◌∷◌, Bool, ◌&&◌, ◌||◌, ◌==◌, Option, Some, None, option_map, option_and_then, refl, Result, Ok, Err, if◌then◌else◌}
 use Rattle.kc_word.specs.declared.bits.Bits.{Bits}
 use Rattle.kc_btf.specs.declared.types.ArrayOf.{ArrayOf}
 use Rattle.kc_btf.specs.declared.types.TypeRef.{TypeRef}
 use Rattle.kc_btf.specs.Btf.{Types}
 use Rattle.kc_layout.specs.declared.fault.PathFault.{PathFault}
 use Rattle.kc_layout.specs.declared.place.Field.{Field}
-use Rattle.kc_layout.specs.declared.place.Hops.{Hops}
 use Rattle.kc_layout.specs.Bare.{array_under, compound_under}
 use Rattle.kc_layout.specs.Ends.{BitsAt, ByteAt, NumberAt, field, located}
 use Rattle.kc_layout.specs.Find.{find}
 use Rattle.kc_layout.specs.Views.{bits_view}
+use Rattle.kc_kinds.specs.KeptLaws.{are_bits, bits_if, no_hops}
 use Rattle.kc_kinds.specs.declared.row.Own.{Own}
 
 -- what follows from a part that is there
@@ -91,39 +88,9 @@ array_at types wanted (Ok place) = option_and_then (array_if types wanted place.
 abbrev pub array_in : Types → Option ℕ → Option ℕ → List ℕ → Option ℕ
 array_in types wanted id name = option_and_then (λ id. array_at types wanted (located types id name)) id
 
--- bits as the code keeps them: below bit 2^36, 1 to 64 of them. Those that types give are so.
-abbrev pub are_bits : BitsAt → Bool
-are_bits bits = nat_lt bits.bit (2 ^ 36) && (nat_le 1 bits.width && nat_le bits.width 64)
-
-abbrev pub bits_if : (bits : BitsAt) (are : Bool) → are_bits bits ≡ are → Option Bits
-bits_if bits false is = None
-bits_if bits true is = Some (record {
-  bit = bits.bit;
-  width = bits.width;
-  signed = bits.signed;
-  near = ltb-true bits.bit (2 ^ 36) (and_parts (nat_lt bits.bit (2 ^ 36)) (nat_le 1 bits.width && nat_le bits.width 64) is).0;
-  some = leb-true 1 bits.width (and_parts (nat_le 1 bits.width) (nat_le bits.width 64) (and_parts (nat_lt bits.bit (2 ^ 36)) (nat_le 1 bits.width && nat_le bits.width 64) is).1).0;
-  word = leb-true bits.width 64 (and_parts (nat_le 1 bits.width) (nat_le bits.width 64) (and_parts (nat_lt bits.bit (2 ^ 36)) (nat_le 1 bits.width && nat_le bits.width 64) is).1).1;
-})
-
+-- bits as the code keeps them, of those that it can
 abbrev pub bits_from : BitsAt → Option Bits
 bits_from bits = bits_if bits (are_bits bits) refl
-
--- no pointers to follow, and a number to which none lead, as the code keeps them
-abbrev pub no_hops : Hops
-no_hops = record {
-  count = 0;
-  a = 0;
-  b = 0;
-  c = 0;
-  d = 0;
-  few = leb-true 0 4 refl;
-  beyond =
-      All-cons (λ offset. offset ≡ 0) 0 (0 ∷ 0 ∷ 0 ∷ []) refl
-      (All-cons (λ offset. offset ≡ 0) 0 (0 ∷ 0 ∷ []) refl
-      (All-cons (λ offset. offset ≡ 0) 0 (0 ∷ []) refl
-      (All-cons (λ offset. offset ≡ 0) 0 [] refl (All-nil (λ offset. offset ≡ 0)))));
-}
 
 abbrev pub field_of : NumberAt → List ℕ → Option Field
 field_of number [] = option_map (λ bits. record { hops = no_hops; bits = bits; ty = number.ty }) (bits_from number.bits)
