@@ -7,7 +7,9 @@ use Rattle.kc_memory.specs.Image.{Image}
 use Rattle.kc_memory.specs.Stopped.{Stopped}
 use Rattle.kc_memory.specs.Translation.{and_then as ◌>>=◌}
 use Rattle.kc_layout.specs.Ends.{ByteAt, NumberAt}
-use Rattle.kc_view.specs.Pointers.{pointer, target, value_at}
+use Rattle.kc_view.specs.declared.pointers.Reached.{Reached}
+use Rattle.kc_view.specs.declared.pointers.Reached.TheVariants.{Address, NullPointer}
+use Rattle.kc_view.specs.Pointers.{reached, value_at}
 use Rattle.kc_view.specs.Typed.{bytes_on}
 use Rattle.kc_found.specs.declared.asked.Asked.{Asked}
 use Rattle.kc_found.specs.Violations.{Violation, missed}
@@ -24,16 +26,15 @@ pub data PathEnd : Type 0 where
   EndsAt : ℕ → PathEnd
   NullAt : Place → ℕ → PathEnd
 
--- on from a pointer at an address, unless it is null
-abbrev pub unless_null : ℕ → Number → (ℕ → Result PathEnd Stopped) → Result PathEnd Stopped
-unless_null at p go = if nat_eq (target p.value) 0 then Ok (NullAt p.first at) else go (target p.value)
+abbrev pub bytes_after : ℕ → Reached → PathEnd
+bytes_after byte (Address at) = EndsAt (bytes_on at byte)
+bytes_after byte (NullPointer place at) = NullAt place at
 
 -- where a path leads from an address: behind the pointers at these offsets, and then so many bytes on
 unfoldable pub path_end : Image → ℕ → List ℕ → ℕ → Result PathEnd Stopped
-path_end image at [] byte = Ok (EndsAt (bytes_on at byte))
-path_end image at (offset ∷ offsets) byte = do
-  p ← pointer image at offset
-  unless_null (bytes_on at offset) p (λ next. path_end image next offsets byte)
+path_end image at hops byte = do
+  there ← reached image at hops
+  Ok (bytes_after byte there)
 
 -- the number of a field of an element
 abbrev pub number_at : Image → ℕ → NumberAt → Result Number Stopped

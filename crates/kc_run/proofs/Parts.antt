@@ -1,9 +1,8 @@
 -- Parts of a run, one after the other, and where an audit's path leads, whatever goes along.
-use Rattle.std.proofs.Common.{◌≡◌, ℕ, ◌+◌, Bool, true, false, nat_eq, List, [], ◌∷◌, drop, slice_get, Option, Some, None, refl, sym, ◌∙◌, ap}
+use Rattle.std.proofs.Common.{◌≡◌, ℕ, ◌+◌, true, List, [], drop, slice_get, Option, Some, None, refl, sym, ◌∙◌, ap}
 use Rattle.std.specs.Prelude.{Result, Ok, Err}
 use Rattle.kc_memory.specs.declared.space.Stop.{Stop}
 use Rattle.kc_memory.specs.declared.space.Stop.TheVariants as stops
-use Rattle.kc_memory.specs.Bits.{Number}
 use Rattle.kc_memory.specs.Image.{Image}
 use Rattle.kc_memory.specs.Space.{AnswersAs}
 use Rattle.kc_memory.specs.Stopped.{Stopped}
@@ -14,12 +13,14 @@ use Rattle.kc_layout.specs.Views.{byte_view}
 use Rattle.kc_view.specs.declared.view.Led.{Led}
 use Rattle.kc_view.specs.declared.view.Led.TheVariants.{At, Null}
 use Rattle.kc_view.specs.Paths.{followed, led}
-use Rattle.kc_view.specs.Pointers.{pointer, reached, target}
+use Rattle.kc_view.specs.declared.pointers.Reached.{Reached}
+use Rattle.kc_view.specs.declared.pointers.Reached.TheVariants.{Address, NullPointer}
+use Rattle.kc_view.specs.Pointers.{reached}
 use Rattle.kc_view.specs.Typed.{Typed}
 use Rattle.kc_found.specs.declared.found.WalkStop.{WalkStop}
 use Rattle.kc_plan.specs.Kept.{are_later}
 use Rattle.kc_plan.specs.Planned.{AuditAt}
-use Rattle.kc_plan.specs.Seen.{PathEnd, EndsAt, NullAt, path_end, path_of, root_of, roots}
+use Rattle.kc_plan.specs.Seen.{PathEnd, EndsAt, NullAt, bytes_after, path_end, path_of, root_of, roots}
 use Rattle.kc_run.specs.Parts.{Begins, Enter, Follows, Part, Relation, in_order, roots_part}
 use Rattle.kc_run.proofs.Going.{drop_at, roots_at}
 
@@ -62,23 +63,13 @@ end_of (Ok (Null place at)) = Ok (NullAt place at)
 end_of (Err s) = Err s
 
 end_behind : (i : Image) (view : Typed) (to : Located) (at : ℕ) (hops : List ℕ) → end_of (and_then (reached i at hops) (λ end. Ok (led view to end))) ≡ path_end i at hops to.byte
-unfolding end_of reached path_end
-end_behind i view to at [] = refl
-end_behind i view to at (offset ∷ offsets) = by_pointer (pointer i at offset) refl (λ next. end_behind i view to next offsets)
+unfolding end_of path_end
+end_behind i view to at hops = by_end (reached i at hops)
   where
-    Behind : Type 0
-    Behind = (next : ℕ) → end_of (and_then (reached i next offsets) (λ end. Ok (led view to end))) ≡ path_end i next offsets to.byte
-
-    Here : Type 0
-    Here = end_of (and_then (reached i at (offset ∷ offsets)) (λ end. Ok (led view to end))) ≡ path_end i at (offset ∷ offsets) to.byte
-
-    by_null : (p : Number) → pointer i at offset ≡ Ok p → Behind → (null : Bool) → nat_eq (target p.value) 0 ≡ null → Here
-    by_null p is behind true null = rw (is, null) refl
-    by_null p is behind false null = rw (is, null) (behind (target p.value))
-
-    by_pointer : (r : Result Number Stopped) → pointer i at offset ≡ r → Behind → Here
-    by_pointer (Err s) is behind = rw is refl
-    by_pointer (Ok p) is behind = by_null p is behind (nat_eq (target p.value) 0) refl
+    by_end : (r : Result Reached Stopped) → end_of (and_then r (λ end. Ok (led view to end))) ≡ and_then r (λ there. Ok (bytes_after to.byte there))
+    by_end (Ok (Address next)) = refl
+    by_end (Ok (NullPointer place next)) = refl
+    by_end (Err s) = refl
 
 abbrev pub end_seen : Result Led Stop → Result PathEnd Stop
 end_seen (Ok (At view)) = Ok (EndsAt view.at)

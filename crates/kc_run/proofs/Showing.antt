@@ -10,7 +10,9 @@ use Rattle.kc_memory.specs.Stopped.{Stopped}
 use Rattle.kc_layout.specs.Ends.{NumberAt}
 use Rattle.kc_expr.specs.Values.{is_true}
 use Rattle.kc_view.specs.Laws.{ValuesStand}
-use Rattle.kc_view.specs.Pointers.{pointer, target}
+use Rattle.kc_view.specs.declared.pointers.Reached.{Reached}
+use Rattle.kc_view.specs.declared.pointers.Reached.TheVariants.{NullPointer}
+use Rattle.kc_view.specs.Pointers.{pointer, reached, target, unless_null}
 use Rattle.kc_view.specs.Typed.{bytes_on}
 use Rattle.kc_memory.specs.Translation.{and_then}
 use Rattle.kc_found.specs.declared.asked.Asked.{Asked}
@@ -19,7 +21,7 @@ use Rattle.kc_plan.specs.Checks.{checked, numbers_of, value_of, words_of}
 use Rattle.kc_plan.specs.Events.{Event, Walk, Wrong, first_wrong, verdict_of}
 use Rattle.kc_plan.specs.Planned.{AuditAt, CheckAt}
 use Rattle.kc_kinds.specs.Structures.{nodes_of}
-use Rattle.kc_plan.specs.Seen.{PathEnd, EndsAt, NullAt, world, path_end, path_of, is_optional, unless_null, container_of, in_turn, below, checks_seen, number_at, at_element, walked, entered, seen, roots, all_seen}
+use Rattle.kc_plan.specs.Seen.{PathEnd, EndsAt, NullAt, world, path_end, path_of, is_optional, bytes_after, container_of, in_turn, below, checks_seen, number_at, at_element, walked, entered, seen, roots, all_seen}
 use Rattle.kc_plan.specs.Roots.{reached_from, root_seen, verdict_among}
 use Rattle.kc_plan.specs.Verdicts.{verdict_places}
 use Rattle.kc_run.specs.Laws.{KindPlacesStand, RootVerdictsStand, VerdictsStand}
@@ -51,21 +53,28 @@ EndStands image (Ok (EndsAt start)) = ⊤
 EndStands image (Ok (NullAt place at)) = StandsIn image place
 EndStands image (Err s) = AllStandIn image (entry_places s.pa s.entry)
 
-on_stands : (image : Image) (at : ℕ) (r : Result Number Stopped) (go : ℕ → Result PathEnd Stopped) → AllStandIn image (number_places r) → ((next : ℕ) → EndStands image (go next)) → EndStands image (and_then r (λ p. unless_null at p go))
+abbrev ended : ℕ → Result Reached Stopped → Result PathEnd Stopped
+ended byte r = and_then r (λ there. Ok (bytes_after byte there))
+
+on_stands : (image : Image) (byte at : ℕ) (r : Result Number Stopped) (go : ℕ → Result Reached Stopped) → AllStandIn image (number_places r) → ((next : ℕ) → EndStands image (ended byte (go next))) → EndStands image (ended byte (and_then r (λ p. unless_null at p go)))
 unfolding EndStands
-on_stands image at (Err s) go here next = here
-on_stands image at (Ok p) go here next = by_null (nat_eq (target p.value) 0)
+on_stands image byte at (Err s) go here next = here
+on_stands image byte at (Ok p) go here next = by_null (nat_eq (target p.value) 0)
   where
-    by_null : (null : Bool) → EndStands image (if null then Ok (NullAt p.first at) else go (target p.value))
+    by_null : (null : Bool) → EndStands image (ended byte (if null then Ok (NullPointer p.first at) else go (target p.value)))
     by_null true = here.0
     by_null false = next (target p.value)
 
+reached_stands : NumbersStand → (image : Image) (byte at : ℕ) (hops : List ℕ) → EndStands image (ended byte (reached image at hops))
+unfolding EndStands reached
+reached_stands numbers image byte at [] = tt
+reached_stands numbers image byte at (offset ∷ offsets) =
+    on_stands image byte (bytes_on at offset) (pointer image at offset) (λ next. reached image next offsets)
+    (numbers image (bytes_on at offset) 0 64 false) (λ next. reached_stands numbers image byte next offsets)
+
 end_stands : NumbersStand → (image : Image) (at : ℕ) (hops : List ℕ) (byte : ℕ) → EndStands image (path_end image at hops byte)
-unfolding EndStands path_end
-end_stands numbers image at [] byte = tt
-end_stands numbers image at (offset ∷ offsets) byte =
-    on_stands image (bytes_on at offset) (pointer image at offset) (λ next. path_end image next offsets byte)
-    (numbers image (bytes_on at offset) 0 64 false) (λ next. end_stands numbers image next offsets byte)
+unfolding path_end
+end_stands numbers image at hops byte = reached_stands numbers image byte at hops
 
 -- what numbers, fields and walks show
 pub record PlaceLaws : Type 0 where

@@ -4,7 +4,6 @@ use Rattle.std.specs.Prelude.{Result, Ok, Err, IfSome, if◌then◌else◌}
 use Rattle.std.proofs.lemmas.List.{drop_all}
 use Rattle.kc_memory.specs.declared.space.Stop.TheVariants as stops
 use Rattle.kc_memory.specs.declared.words.Place.{Place}
-use Rattle.kc_memory.specs.Bits.{Number}
 use Rattle.kc_memory.specs.Image.{Image}
 use Rattle.kc_memory.specs.Space.{AnswersAs}
 use Rattle.kc_memory.specs.Stopped.{Stopped}
@@ -15,12 +14,14 @@ use Rattle.kc_layout.specs.Views.{byte_view}
 use Rattle.kc_view.specs.declared.view.Led.{Led}
 use Rattle.kc_view.specs.declared.view.Led.TheVariants.{At, Null}
 use Rattle.kc_view.specs.Paths.{followed, led}
-use Rattle.kc_view.specs.Pointers.{pointer, reached, target}
+use Rattle.kc_view.specs.declared.pointers.Reached.{Reached}
+use Rattle.kc_view.specs.declared.pointers.Reached.TheVariants.{Address, NullPointer}
+use Rattle.kc_view.specs.Pointers.{reached}
 use Rattle.kc_view.specs.Typed.{Typed}
 use Rattle.kc_found.specs.Trials.{and_then}
 use Rattle.kc_plan.specs.Kept.{are_later}
 use Rattle.kc_plan.specs.Planned.{AuditAt}
-use Rattle.kc_plan.specs.Seen.{PathEnd, EndsAt, NullAt, container_of, is_optional, path_end, path_of, root_of, roots}
+use Rattle.kc_plan.specs.Seen.{PathEnd, EndsAt, NullAt, bytes_after, container_of, is_optional, path_end, path_of, root_of, roots}
 use Rattle.kc_run.specs.Tally.{added}
 use Rattle.kc_cert.specs.Text.Drops.{drop_at}
 use Rattle.kc_cert.specs.declared.text.certificate.CertStep.{CertStep}
@@ -119,23 +120,13 @@ end_of (Ok (Null place at)) = Ok (NullAt place at)
 end_of (Err s) = Err s
 
 end_behind : (i : Image) (view : Typed) (to : Located) (at : ℕ) (hops : List ℕ) → end_of (memory.and_then (reached i at hops) (λ end. Ok (led view to end))) ≡ path_end i at hops to.byte
-unfolding reached path_end
-end_behind i view to at [] = refl
-end_behind i view to at (offset ∷ offsets) = by_pointer (pointer i at offset) refl (λ next. end_behind i view to next offsets)
+unfolding path_end
+end_behind i view to at hops = by_end (reached i at hops)
   where
-    Behind : Type 0
-    Behind = (next : ℕ) → end_of (memory.and_then (reached i next offsets) (λ end. Ok (led view to end))) ≡ path_end i next offsets to.byte
-
-    Here : Type 0
-    Here = end_of (memory.and_then (reached i at (offset ∷ offsets)) (λ end. Ok (led view to end))) ≡ path_end i at (offset ∷ offsets) to.byte
-
-    by_null : (p : Number) → pointer i at offset ≡ Ok p → Behind → (null : Bool) → nat_eq (target p.value) 0 ≡ null → Here
-    by_null p is behind true null = rw (is, null) refl
-    by_null p is behind false null = rw (is, null) (behind (target p.value))
-
-    by_pointer : (r : Result Number Stopped) → pointer i at offset ≡ r → Behind → Here
-    by_pointer (Err s) is behind = rw is refl
-    by_pointer (Ok p) is behind = by_null p is behind (nat_eq (target p.value) 0) refl
+    by_end : (r : Result Reached Stopped) → end_of (memory.and_then r (λ end. Ok (led view to end))) ≡ memory.and_then r (λ there. Ok (bytes_after to.byte there))
+    by_end (Ok (Address next)) = refl
+    by_end (Ok (NullPointer place next)) = refl
+    by_end (Err s) = refl
 
 -- an audit's path, from a base
 entering : (i : Image) (audits : List AuditAt) (count : ℕ) (a : AuditAt) (view : Typed) (to : Located) (n base : ℕ) (p : Progress) (there : Result Led Stopped) → slice_get audits n ≡ Some a → are_later 0 count audits ≡ true → view.at ≡ base → byte_view to ≡ path_of a.start → followed i view to ≡ there →
