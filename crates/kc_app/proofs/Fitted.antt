@@ -19,7 +19,7 @@ use Rattle.kc_command.specs.declared.ends.status.Status.TheVariants as status
 use Rattle.kc_command.specs.declared.ends.status.Status.TheVariants.{SinkFailed}
 use Rattle.kc_command.specs.Ends.Answers.{OnStoreIn, Prints, PrintsOf, Runs, ending, written_by}
 use Rattle.kc_command.specs.Ends.Asked.{Asked, asked_files, word_in}
-use Rattle.kc_command.specs.Ends.Ending.{fails, parts, tells}
+use Rattle.kc_command.specs.Ends.EndingLaws.{fails, parts, tells}
 use Rattle.kc_command.specs.Ends.Ends.{IsWritten, TookLine, TookOut}
 use Rattle.kc_command.specs.Ends.Output.{Ends, ended, output_of, word_files}
 use Rattle.kc_command.specs.Ends.Status.{At, is_answer, number}

@@ -20,7 +20,7 @@ use Rattle.kc_view.specs.declared.tasks.TaskShape.{TaskShape}
 use Rattle.kc_view.specs.declared.tasks.ThreadGroup.{ThreadGroup}
 use Rattle.kc_view.specs.Fields.{FieldIs, breaks_at, holds, or_missed, read_field, started_at, unless, value_of}
 use Rattle.kc_view.specs.PidTables.{task_names}
-use Rattle.kc_view.specs.Steps.{field_is, missed_ok, started_ok}
+use Rattle.kc_view.specs.StepLaws.{field_is, missed_ok, started_ok}
 use Rattle.kc_view.specs.TaskLists.{all_pass, among_checked, group_of, shared_checked, stack_checked, task_of, thread_head}
 use Rattle.kc_found.specs.declared.asked.Asked.{Asked}
 use Rattle.kc_found.specs.declared.shapes.ListShape.{ListShape}

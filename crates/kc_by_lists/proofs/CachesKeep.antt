@@ -25,7 +25,7 @@ use Rattle.kc_steps.specs.CachesBy.{cache_by, counts_by, free_by, knode_by, list
 use Rattle.kc_steps.specs.Chains.{Lists}
 use Rattle.kc_steps.specs.Given.{free_given, ring_given}
 use Rattle.kc_by_lists.specs.Laws.{asked_by}
-use Rattle.kc_by_lists.specs.Keeping.{Keeps, holds_keeps, if_keeps, missed_keeps, read_keeps, same_keeps, taken_keeps, then_keeps, unless_keeps}
+use Rattle.kc_by_lists.specs.KeepLaws.{Keeps, holds_keeps, if_keeps, missed_keeps, read_keeps, same_keeps, taken_keeps, then_keeps, unless_keeps}
 
 base_keeps : (image : Image) (a b : Asked) (base : Base) → Keeps (base_of image a base) (base_of image b base)
 base_keeps image a b (Is n) = same_keeps (Ok n)

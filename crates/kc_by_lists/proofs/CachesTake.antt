@@ -10,17 +10,17 @@ use Rattle.kc_view.specs.declared.slub.SlubBases.{SlubBases}
 use Rattle.kc_view.specs.declared.slub.SlabObjects.{SlabObjects}
 use Rattle.kc_view.specs.Caches.{bases_of, node_at, objects_of, slab_of}
 use Rattle.kc_view.specs.Fields.{holds, or_missed, read_field}
-use Rattle.kc_view.specs.Steps.{unless_ok}
+use Rattle.kc_view.specs.StepLaws.{unless_ok}
 use Rattle.kc_found.specs.declared.asked.Asked.{Asked}
 use Rattle.kc_found.specs.declared.free.Grid.{Grid}
 use Rattle.kc_found.specs.declared.shapes.ListShape.{ListShape}
 use Rattle.kc_found.specs.FreeLists.{low_word, number_in}
 use Rattle.kc_found.specs.Nodes.{at_offset}
-use Rattle.kc_found.specs.Trials.{ok_after}
+use Rattle.kc_found.specs.TrialLaws.{ok_after}
 use Rattle.kc_steps.specs.CachesBy.{cache_by, knode_by, list_by, node_by, nodes_by, slab_by, slabs_by}
 use Rattle.kc_steps.specs.Chains.{Came, FreeBy, Lists, RingBy}
 use Rattle.kc_by_lists.specs.Apart.{cache_nodes, nodes_apart}
-use Rattle.kc_by_lists.specs.Same.{ok_is}
+use Rattle.kc_by_lists.specs.SameLaws.{ok_is}
 
 -- a chain's list is the first one
 abbrev pub RingsTake : RingBy → Type 0

@@ -4,7 +4,7 @@ use Rattle.std.specs.Prelude.{Ok, Err, IfSome}
 use Rattle.std.proofs.lemmas.List.{append_cancel_left, length-take-le, take-append-drop}
 use Rattle.std.proofs.lemmas.Option.{get_or_from_slice_get, slice_get_within}
 use Rattle.std.proofs.Math.Seq.{drop-cons, take-suc, take-length}
-use Rattle.kc_memory.specs.Among.{bounded}
+use Rattle.kc_memory.specs.AmongLaws.{bounded}
 use Rattle.kc_memory.specs.Bits.{Number}
 use Rattle.kc_memory.specs.Held.{word_count}
 use Rattle.kc_memory.specs.Image.{Image, Physical}
@@ -16,7 +16,8 @@ use Rattle.kc_found.specs.Chains.{ChainOf, chain_sites, chain_trials, chain_walk
 use Rattle.kc_found.specs.FreeLists.{free_chain, free_first, free_next, free_site, number_in, pointer_at}
 use Rattle.kc_found.specs.Going.{AreChains, IsChain, Reached, Reaches}
 use Rattle.kc_found.specs.Nodes.{readable}
-use Rattle.kc_found.specs.Trials.{Meet, met, ok_after, passed}
+use Rattle.kc_found.specs.Trials.{Meet, met, passed}
+use Rattle.kc_found.specs.TrialLaws.{ok_after}
 use Rattle.kc_found.specs.Walks.{TakesAs}
 use Rattle.kc_laws.specs.Chains.{told_begins, told_ends, told_goes, told_goes_broken}
 use Rattle.kc_laws.specs.Trials.{met-append, passed_is, unbroken_parts}
@@ -25,7 +26,7 @@ use Rattle.kc_found.specs.declared.test.TestStop.{TestStop}
 use Rattle.kc_found.specs.declared.test.TestStop.TheVariants.{Unfit}
 use Rattle.kc_found.specs.Tests.{TellsAs, test_stop_of}
 use Rattle.kc_by_lists.specs.Tests.{is_free_list, nobody}
-use Rattle.kc_by_lists.specs.Same.{false_by, free_list_is, no_err, ok_is}
+use Rattle.kc_by_lists.specs.SameLaws.{false_by, free_list_is, no_err, ok_is}
 
 at_site : {S : Type 0} (k : ChainOf S) (left : ℕ) (s : S) → k.ends s ≡ false → chain_trials k (suc left) s ≡ k.site s ++ from_there (k.next s) (λ t. Meet (k.element s) ∷ chain_trials k left t)
 unfolding chain_trials

@@ -26,7 +26,7 @@ use Rattle.kc_by_lists.specs.Laws.{CacheListsAreKept, CacheListsAreUsedUp, Cache
 use Rattle.kc_by_lists.specs.Tests.{are_cache_lists, are_task_lists, is_free_list, nobody}
 use Rattle.kc_by_lists.proofs.CachesKeep.{cache_keeps}
 use Rattle.kc_by_lists.proofs.CachesTake.{FreeTakes, RingsTake, cache_takes, parts_are}
-use Rattle.kc_by_lists.specs.Same.{cache_lists_are, free_list_is, no_err, ok_is, task_lists_are}
+use Rattle.kc_by_lists.specs.SameLaws.{cache_lists_are, free_list_is, no_err, ok_is, task_lists_are}
 use Rattle.kc_by_lists.proofs.TasksKeep.{tasks_all_keep}
 use Rattle.kc_by_lists.proofs.TasksTake.{tasks_all_take}
 

@@ -16,7 +16,7 @@ use Rattle.kc_steps.specs.Chains.{Came, Lists}
 use Rattle.kc_steps.specs.Given.{ring_given}
 use Rattle.kc_steps.specs.TasksBy.{children_by, gathered_by, leader_by, passed_by, tasks_all_by, tasks_by, thread_by, threads_by}
 use Rattle.kc_by_lists.specs.Laws.{asked_by}
-use Rattle.kc_by_lists.specs.Keeping.{Keeps, all_keep, holds_keeps, if_keeps, missed_keeps, passed_keep, read_keeps, same_keeps, stop_keeps, taken_keeps, then_keeps, unless_keeps}
+use Rattle.kc_by_lists.specs.KeepLaws.{Keeps, all_keep, holds_keeps, if_keeps, missed_keeps, passed_keep, read_keeps, same_keeps, stop_keeps, taken_keeps, then_keeps, unless_keeps}
 
 abbrev RingTest : Type 0
 RingTest = ListShape → ℕ → List ℕ → Bool

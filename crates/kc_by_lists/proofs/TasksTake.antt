@@ -10,13 +10,13 @@ use Rattle.kc_view.specs.Fields.{holds}
 use Rattle.kc_view.specs.TaskLists.{all_pass, among_checked, group_of, shared_checked, stack_checked, task_of, thread_head}
 use Rattle.kc_found.specs.declared.asked.Asked.{Asked}
 use Rattle.kc_found.specs.Nodes.{at_offset}
-use Rattle.kc_found.specs.Trials.{ok_after}
+use Rattle.kc_found.specs.TrialLaws.{ok_after}
 use Rattle.kc_found.specs.Violations.{Violation}
 use Rattle.kc_steps.specs.Chains.{Came, Lists, RingBy}
 use Rattle.kc_steps.specs.TasksBy.{children_by, gathered_by, leader_by, passed_by, tasks_all_by, tasks_by, thread_by}
 use Rattle.kc_by_lists.specs.Apart.{nodes_apart, task_nodes}
 use Rattle.kc_by_lists.proofs.CachesTake.{Gives, Passes, RingsTake, give_all, give_both, give_first, parts_are, pass_over}
-use Rattle.kc_by_lists.specs.Same.{ok_is}
+use Rattle.kc_by_lists.specs.SameLaws.{ok_is}
 
 tasks_take : (ring : RingBy) → RingsTake ring → (asked : Asked) (shape : TaskShape) (head offset : ℕ) (lists rest : Lists) (tasks : List ℕ) → tasks_by ring asked shape head offset lists ≡ Ok (tasks, rest) →
     (ns : List ℕ) × (tasks ≡ map (task_of offset) ns) × (lists ≡ ns ∷ rest)

@@ -1,7 +1,7 @@
 pub mod Apart
 pub mod Ends
-pub mod Keeping
+pub mod KeepLaws
 pub mod Laws
-pub mod Same
+pub mod SameLaws
 pub mod Tests
 pub mod Pids

@@ -5,7 +5,7 @@ use Rattle.std.proofs.lemmas.Bool.{and_parts, eqb-true}
 use Rattle.kc_memory.specs.Image.{Image}
 use Rattle.kc_memory.specs.Stopped.{Stopped}
 use Rattle.kc_found.specs.declared.verdict.AuditCount.{AuditCount}
-use Rattle.kc_found.specs.Trials.{ok_after}
+use Rattle.kc_found.specs.TrialLaws.{ok_after}
 use Rattle.kc_plan.specs.Planned.{AuditAt}
 use Rattle.kc_plan.specs.Seen.{PathEnd, EndsAt, NullAt, container_of, is_optional, path_end, path_of, roots}
 use Rattle.kc_run.specs.Tally.{added, zeros}

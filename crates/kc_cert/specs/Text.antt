@@ -1,3 +1,3 @@
 pub mod CertTexts
-pub mod Drops
+pub mod DropLaws
 pub mod Readings

@@ -1,6 +1,6 @@
 pub mod Answers
 pub mod Asked
-pub mod Ending
+pub mod EndingLaws
 pub mod Ends
 pub mod Failures
 pub mod Last

@@ -6,7 +6,7 @@ use Rattle.kc_memory.specs.Held.{held, word_count}
 use Rattle.kc_found.specs.Chains.{ChainOf, from_there, chain_trials, chain_sites}
 use Rattle.kc_found.specs.Trials.{Trial, Meet, and_then, passed, met, judged, claimed_in}
 use Rattle.kc_found.specs.Violations.{Violation}
-use Rattle.kc_memory.specs.Among.{AllAmong, bounded}
+use Rattle.kc_memory.specs.AmongLaws.{AllAmong, bounded}
 use Rattle.kc_found.proofs.Passed.{distinct_none, passed_distinct, passed_is, passed_goes, passed_stops, met-append}
 use Rattle.kc_found.specs.Going.{IsChain, Reached}
 

@@ -7,7 +7,7 @@ use Rattle.kc_memory.specs.Held.{held, word_count}
 use Rattle.kc_found.specs.Chains.{ChainOf, from_there, chain_trials, chain_sites}
 use Rattle.kc_found.specs.Trials.{Meet, and_then, passed, met, judged, claimed_in, IsUnbroken}
 use Rattle.kc_found.specs.Violations.{Violation}
-use Rattle.kc_memory.specs.Among.{AllAmong, among_append, bounded}
+use Rattle.kc_memory.specs.AmongLaws.{AllAmong, among_append, bounded}
 use Rattle.kc_found.proofs.Passed.{passed_is, passes, met-append, claimed_in-append, unbroken_parts, unbroken_whole}
 use Rattle.kc_found.specs.Going.{IsChain}
 use Rattle.kc_found.proofs.Reached.{at_end, at_site}

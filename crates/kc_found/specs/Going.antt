@@ -8,7 +8,7 @@ use Rattle.kc_found.specs.Trials.{passed, met, claimed_in, IsUnbroken}
 use Rattle.std.specs.Prelude.{Result, ⊤}
 use Rattle.kc_found.specs.declared.found.WalkStop.{WalkStop}
 use Rattle.kc_found.specs.Walks.{WalksAs}
-use Rattle.kc_memory.specs.Among.{AllAmong}
+use Rattle.kc_memory.specs.AmongLaws.{AllAmong}
 
 -- what is so of each kind of chain, in a memory
 pub record IsChain {S : Type 0} (physical : Physical) (k : ChainOf S) : Type 0 where

@@ -1,4 +1,4 @@
-pub mod AnyAudit
+pub mod AnyAuditLaws
 pub mod Blocks
 pub mod Chains
 pub mod Counts
@@ -19,6 +19,7 @@ pub mod Rings
 pub mod Showing
 pub mod Taken
 pub mod Tests
+pub mod TrialLaws
 pub mod Trials
 pub mod Violations
 pub mod Walks
@@ -26,7 +27,7 @@ pub mod XaEntries
 pub mod XaLayouts
 pub mod XaNodes
 pub mod XaSites
-pub use Rattle.kc_memory.specs.Among
+pub use Rattle.kc_memory.specs.AmongLaws
 pub use Rattle.kc_memory.specs.Bits
 pub use Rattle.kc_memory.specs.Frames
 pub use Rattle.kc_memory.specs.Held

@@ -6,7 +6,7 @@ use Rattle.std.specs.Set.{is_member}
 use Rattle.kc_found.specs.Taken.{is_taken}
 use Rattle.kc_found.specs.Trials.{Trial, claimed_in, IsUnbroken, Reader}
 use Rattle.kc_memory.specs.declared.words.VWord.{VWord}
-use Rattle.kc_memory.specs.Among.{AllAmong}
+use Rattle.kc_memory.specs.AmongLaws.{AllAmong}
 
 -- none of some words was taken
 abbrev pub AreNew : List ℕ → List ℕ → Type 0

@@ -1,7 +1,6 @@
 -- What a walk of a ring, a hash chain, a tree, an xarray or a free list tries, in its order, and the first violation: a
 -- list of trials, those of its first site, then those of the next one, and so on. The walks of slab caches and of tasks
 -- are steps one after the other (`and_then`), and such walks are among them.
-use Rattle.std.proofs.Common.{refl, subst}
 use Rattle.std.specs.Prelude.{◌≡◌, ℕ, Bool, List, [], ◌∷◌, None, if◌then◌else◌, Result, Ok, Err, OnOk, ⊤}
 use Rattle.kc_memory.specs.declared.words.VWord.{VWord}
 use Rattle.kc_memory.specs.declared.rule.Rule.TheVariants.{A}
@@ -33,11 +32,6 @@ claim asked w = Claim w.pa (breaks asked A w None)
 abbrev pub and_then : {A B E : Type 0} → Result A E → (A → Result B E) → Result B E
 and_then (Ok a) go = go a
 and_then (Err e) go = Err e
-
--- two steps came to something: so did the first
-pub ok_after : {A B E : Type 0} (r : Result A E) (f : A → Result B E) (x : B) → and_then r f ≡ Ok x → (y : A) × (r ≡ Ok y) × (f y ≡ Ok x)
-ok_after (Ok y) f x e = (y, refl, e)
-ok_after {A} {B} {E} (Err m) f x e = absurd (subst (λ (r : Result B E). OnOk r ⊥) e tt)
 
 -- the words taken after one more, by rising address, or its violation
 abbrev pub claimed : List ℕ → ℕ → Violation → Result (List ℕ) Violation

@@ -12,7 +12,8 @@ use Rattle.kc_found.specs.declared.asked.Asked.{Asked}
 use Rattle.kc_found.specs.declared.free.Grid.{Grid}
 use Rattle.kc_found.specs.FreeLists.{low_word}
 use Rattle.kc_found.specs.Nodes.{at_offset, readable}
-use Rattle.kc_found.specs.Trials.{and_then, ok_after}
+use Rattle.kc_found.specs.Trials.{and_then}
+use Rattle.kc_found.specs.TrialLaws.{ok_after}
 use Rattle.kc_found.specs.Violations.{Violation, missed}
 use Rattle.kc_guard.specs.declared.byte.WrongByte.{WrongByte}
 use Rattle.kc_guard.specs.declared.guards.GuardRun.{GuardRun}

@@ -7,7 +7,7 @@ use Rattle.kc_found.specs.declared.asked.Asked.{Asked}
 use Rattle.kc_found.specs.Nodes.{both, readable, two_taken}
 use Rattle.kc_found.specs.Trials.{Reader, met, claimed_in, IsUnbroken}
 use Rattle.kc_found.specs.Violations.{Violation}
-use Rattle.kc_memory.specs.Among.{AllAmong}
+use Rattle.kc_memory.specs.AmongLaws.{AllAmong}
 use Rattle.kc_found.specs.Passing.{ReadsAmong}
 use Rattle.kc_found.specs.Pairs.{tested_pair, GoodPair}
 use Rattle.kc_found.proofs.Pairs as pairs

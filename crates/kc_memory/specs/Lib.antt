@@ -1,4 +1,4 @@
-pub mod Among
+pub mod AmongLaws
 pub mod Bits
 pub mod Frames
 pub mod Held

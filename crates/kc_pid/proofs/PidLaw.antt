@@ -7,22 +7,23 @@ use Rattle.kc_view.specs.declared.pids.PidShape.{PidShape}
 use Rattle.kc_view.specs.Fields.{FieldIs, holds, started_at}
 use Rattle.kc_view.specs.FinitePids.{IsPid, NoPids, Pids}
 use Rattle.kc_view.specs.PidTables.{chain_of, ids_in, pid_checked, pid_table, task_names}
-use Rattle.kc_view.specs.Steps.{held, holding, started_ok, then_is}
+use Rattle.kc_view.specs.StepLaws.{held, holding, started_ok, then_is}
 use Rattle.kc_view.specs.TaskLists.{all_pass, task_of}
-use Rattle.kc_found.specs.AnyAudit.{same_xarray}
+use Rattle.kc_found.specs.AnyAuditLaws.{same_xarray}
 use Rattle.kc_found.specs.declared.asked.Asked.{Asked}
 use Rattle.kc_found.specs.declared.found.WalkStop.{WalkStop}
 use Rattle.kc_found.specs.declared.found.WalkStop.TheVariants as ends
 use Rattle.kc_found.specs.declared.xarrays.XaItem.{XaItem}
 use Rattle.kc_found.specs.HashChains.{hash_walk}
 use Rattle.kc_found.specs.Nodes.{at_offset}
-use Rattle.kc_found.specs.Trials.{and_then, ok_after}
+use Rattle.kc_found.specs.Trials.{and_then}
+use Rattle.kc_found.specs.TrialLaws.{ok_after}
 use Rattle.kc_found.specs.Violations.{Violation}
 use Rattle.kc_found.specs.Walks.{OnBroken, WalksAs}
 use Rattle.kc_found.specs.XaSites.{entries, xa_judged}
 use Rattle.kc_list.specs.Laws.{HashChainsAreWalked}
 use Rattle.kc_xa.specs.Laws.{XarraysAreWalked}
-use Rattle.kc_steps.specs.Passing.{passed, passing}
+use Rattle.kc_steps.specs.PassLaws.{passed, passing}
 use Rattle.kc_pid.specs.Laws.{PidsAreWalked}
 
 -- what the laws of hash chains and xarrays say

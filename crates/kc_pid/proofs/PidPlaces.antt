@@ -7,7 +7,7 @@ use Rattle.kc_view.specs.declared.pids.PidShape.{PidShape}
 use Rattle.kc_view.specs.Fields.{holds}
 use Rattle.kc_view.specs.Laws.{ValuesStand}
 use Rattle.kc_view.specs.PidTables.{chain_of, ids_in, pid_checked, pid_table, task_names}
-use Rattle.kc_view.specs.Steps.{Shows, holds_shows, shown_by, shows_all, started_shows, then_shows}
+use Rattle.kc_view.specs.StepLaws.{Shows, holds_shows, shown_by, shows_all, started_shows, then_shows}
 use Rattle.kc_view.specs.TaskLists.{all_pass, task_of}
 use Rattle.kc_found.specs.declared.asked.Asked.{Asked}
 use Rattle.kc_found.specs.declared.xarrays.XaItem.{XaItem}
@@ -16,7 +16,7 @@ use Rattle.kc_found.specs.Nodes.{at_offset}
 use Rattle.kc_found.specs.XaSites.{entries, xa_judged}
 use Rattle.kc_list.specs.Laws.{HashPlacesStand}
 use Rattle.kc_xa.specs.Laws.{XarrayPlacesStand}
-use Rattle.kc_steps.specs.Passing.{all_show}
+use Rattle.kc_steps.specs.PassLaws.{all_show}
 use Rattle.kc_pid.specs.Laws.{PidPlacesStand}
 use Rattle.kc_pid.proofs.PidLaw.{all_checked}
 

@@ -19,7 +19,7 @@ use Rattle.kc_found.specs.Trials.{Trial, Break, Meet, and_then, broken_if, passe
 use Rattle.kc_found.specs.Violations.{Violation, breaks, missed}
 use Rattle.kc_found.specs.Passing.{ReadsAmong}
 use Rattle.kc_laws.specs.Trials.{distinct_none, passed_distinct, passed_is, passed_goes, passed_stops, met-append}
-use Rattle.kc_memory.specs.Among.{AllAmong, bounded}
+use Rattle.kc_memory.specs.AmongLaws.{AllAmong, bounded}
 use Rattle.kc_rb.specs.declared.walk.Task.{Task}
 use Rattle.kc_rb.specs.declared.walk.Task.TheVariants.{Visit, Give}
 use Rattle.kc_rb.specs.Faults.{or_else, null_fault, end_fault}

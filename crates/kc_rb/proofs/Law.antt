@@ -22,7 +22,7 @@ use Rattle.kc_found.specs.Walks.{OnBroken}
 use Rattle.kc_found.specs.Passing.{ReadsAmong}
 use Rattle.kc_laws.specs.Words.{reads_held}
 use Rattle.kc_laws.specs.Trials.{passed_is, passes, claimed_in-append, unbroken_parts, unbroken_whole}
-use Rattle.kc_memory.specs.Among.{AllAmong, among_append, bounded}
+use Rattle.kc_memory.specs.AmongLaws.{AllAmong, among_append, bounded}
 use Rattle.kc_rb.proofs.Descent.{tail, trials_are, met_trials, claimed_first, at_null}
 use Rattle.kc_rb.proofs.Growth.{Grown, grown, regrown, no_null, opened, IsLong, split_claims}
 use Rattle.kc_rb.proofs.Rise.{RbIs}

@@ -10,7 +10,7 @@ use Rattle.kc_found.specs.declared.shapes.RbShape.{RbShape}
 use Rattle.kc_found.specs.declared.trees.RbKey.{RbKey}
 use Rattle.kc_found.specs.RbFinite.{Tree, Leaf, Node, inorder, IsRb, RbTree, IsOver, IsUnder, IsBetween, AreRising, keys_in, key_value}
 use Rattle.kc_found.specs.RbTrees.{Reads, reads_of, key_of, key_at, as_key, byte_of, element_of, is_red}
-use Rattle.kc_found.specs.Trials.{ok_after}
+use Rattle.kc_found.specs.TrialLaws.{ok_after}
 
 keys_append : (read : Reads) (shape : RbShape) (ns ms : List ℕ) → keys_in read shape (ns ++ ms) ≡ keys_in read shape ns ++ keys_in read shape ms
 keys_append read shape [] ms = refl

@@ -18,7 +18,7 @@ use Rattle.kc_found.specs.Trials.{Trial, passed, judged}
 use Rattle.kc_found.specs.Violations.{missed}
 use Rattle.kc_found.specs.Walks.{WalksAs, WithinSteps}
 use Rattle.kc_laws.specs.Words.{reads_held}
-use Rattle.kc_memory.specs.Among.{bounded}
+use Rattle.kc_memory.specs.AmongLaws.{bounded}
 use Rattle.kc_rb.specs.declared.walk.Task.{Task}
 use Rattle.kc_rb.specs.declared.walk.Task.TheVariants.{Visit, Give}
 use Rattle.kc_rb.specs.Faults.{StopIs, or_else, null_fault, end_fault}

@@ -10,9 +10,10 @@ use Rattle.kc_found.specs.declared.trees.RbLinks.{RbLinks}
 use Rattle.kc_found.specs.Nodes.{at_offset}
 use Rattle.kc_found.specs.RbTrees.{links_of, head_of, leftmost_of}
 use Rattle.kc_found.specs.RbFinite.{pas, pas_of, head_words, leftmost_word}
-use Rattle.kc_found.specs.Trials.{Reader, and_then, ok_after}
+use Rattle.kc_found.specs.Trials.{Reader, and_then}
+use Rattle.kc_found.specs.TrialLaws.{ok_after}
 use Rattle.kc_found.specs.Passing.{ReadsAmong}
-use Rattle.kc_memory.specs.Among.{AllAmong}
+use Rattle.kc_memory.specs.AmongLaws.{AllAmong}
 
 abbrev links_by : VWord → VWord → VWord → RbLinks
 links_by p r l = record { parent = p; right = r; left = l }

@@ -17,13 +17,14 @@ use Rattle.kc_view.specs.declared.slub.SlubShape.{SlubShape}
 use Rattle.kc_view.specs.Caches.{grid_of, is_descriptor}
 use Rattle.kc_view.specs.Fields.{FieldIs, breaks_at, field_of, or_missed, read_field, value_of}
 use Rattle.kc_view.specs.Laws.{ValuesStand}
-use Rattle.kc_view.specs.Steps.{Shows, field_shows, missed_ok, number_stands, shows_all, then_shows, unless_ok, unless_shows}
+use Rattle.kc_view.specs.StepLaws.{Shows, field_shows, missed_ok, number_stands, shows_all, then_shows, unless_ok, unless_shows}
 use Rattle.kc_found.specs.declared.asked.Asked.{Asked}
 use Rattle.kc_found.specs.declared.free.Grid.{Grid}
 use Rattle.kc_found.specs.FiniteLists.{FreeChain}
 use Rattle.kc_found.specs.FreeLists.{IsGrid, free_list, number_in}
 use Rattle.kc_found.specs.Nodes.{readable}
-use Rattle.kc_found.specs.Trials.{and_then, ok_after}
+use Rattle.kc_found.specs.Trials.{and_then}
+use Rattle.kc_found.specs.TrialLaws.{ok_after}
 use Rattle.kc_found.specs.Violations.{Violation, breaks_field}
 use Rattle.kc_owner.specs.Looked.{looked_at}
 use Rattle.kc_owner.specs.Object.Pages.{descriptor_of}

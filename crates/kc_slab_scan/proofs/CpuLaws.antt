@@ -20,7 +20,7 @@ use Rattle.kc_view.specs.declared.slub.SlubShape.{SlubShape}
 use Rattle.kc_view.specs.Caches.{grid_of, is_descriptor}
 use Rattle.kc_view.specs.Fields.{breaks_at, field_of, holds, or_missed, read_field, value_of}
 use Rattle.kc_view.specs.Laws.{ValuesStand}
-use Rattle.kc_view.specs.Steps.{Shows, field_shows, holds_shows, number_stands, shows_all, then_shows, unless_shows, word_shows}
+use Rattle.kc_view.specs.StepLaws.{Shows, field_shows, holds_shows, number_stands, shows_all, then_shows, unless_shows, word_shows}
 use Rattle.kc_found.specs.declared.asked.Asked.{Asked}
 use Rattle.kc_found.specs.declared.free.Grid.{Grid}
 use Rattle.kc_found.specs.FreeLists.{free_list}

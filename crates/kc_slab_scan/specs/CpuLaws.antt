@@ -4,7 +4,7 @@ use Rattle.std.specs.List.{AllByRecursion}
 use Rattle.kc_memory.specs.declared.words.Place.{Place}
 use Rattle.kc_memory.specs.Image.{Image}
 use Rattle.kc_memory.specs.Places.{AllStandIn}
-use Rattle.kc_view.specs.Steps.{Shows}
+use Rattle.kc_view.specs.StepLaws.{Shows}
 use Rattle.kc_owner.specs.declared.object.shape.ObjectShape.{ObjectShape}
 use Rattle.kc_slab_page.specs.Caches.{Caches}
 use Rattle.kc_slab_scan.specs.declared.cpus.Cpu.{Cpu}

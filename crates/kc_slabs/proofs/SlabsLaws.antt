@@ -13,11 +13,12 @@ use Rattle.kc_view.specs.declared.slub.SlubBases.{SlubBases}
 use Rattle.kc_view.specs.declared.slub.SlubShape.{SlubShape}
 use Rattle.kc_view.specs.Caches.{base_of}
 use Rattle.kc_view.specs.Fields.{or_missed}
-use Rattle.kc_view.specs.Steps.{Shows, shows_all, then_shows, word_shows}
+use Rattle.kc_view.specs.StepLaws.{Shows, shows_all, then_shows, word_shows}
 use Rattle.kc_found.specs.declared.asked.Asked.{Asked}
 use Rattle.kc_found.specs.declared.shapes.ListShape.{ListShape}
 use Rattle.kc_found.specs.Rings.{ring_walk}
-use Rattle.kc_found.specs.Trials.{and_then, ok_after}
+use Rattle.kc_found.specs.Trials.{and_then}
+use Rattle.kc_found.specs.TrialLaws.{ok_after}
 use Rattle.kc_found.specs.Violations.{Violation}
 use Rattle.kc_list.specs.Laws.{RingPlacesStand}
 use Rattle.kc_owner.specs.Looked.{looked_at}

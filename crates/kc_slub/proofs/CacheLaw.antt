@@ -18,7 +18,7 @@ use Rattle.kc_view.specs.declared.slub.Base.{Base}
 use Rattle.kc_view.specs.declared.slub.Base.TheVariants.{At, Is}
 use Rattle.kc_view.specs.declared.slub.SlubShape.{SlubShape}
 use Rattle.kc_view.specs.Fields.{FieldIs, breaks_at, holds, or_missed, read_field, started_at, unless, value_of}
-use Rattle.kc_view.specs.Steps.{field_is, field_read, held, holding, is_some, missed_ok, some_of, started_ok, then_is, unless_is, unless_ok}
+use Rattle.kc_view.specs.StepLaws.{field_is, field_read, held, holding, is_some, missed_ok, some_of, started_ok, then_is, unless_is, unless_ok}
 use Rattle.kc_found.specs.declared.asked.Asked.{Asked}
 use Rattle.kc_found.specs.declared.found.WalkStop.{WalkStop}
 use Rattle.kc_found.specs.declared.found.WalkStop.TheVariants as ends
@@ -28,7 +28,8 @@ use Rattle.kc_found.specs.FiniteLists as lists
 use Rattle.kc_found.specs.FreeLists.{free_list, low_word, number_in}
 use Rattle.kc_found.specs.Nodes.{at_offset}
 use Rattle.kc_found.specs.Rings.{ring_walk}
-use Rattle.kc_found.specs.Trials.{and_then, ok_after}
+use Rattle.kc_found.specs.Trials.{and_then}
+use Rattle.kc_found.specs.TrialLaws.{ok_after}
 use Rattle.kc_found.specs.Violations.{Violation}
 use Rattle.kc_found.specs.Walks.{OnBroken, WalksAs}
 use Rattle.kc_list.specs.Laws.{RingsAreWalked}

@@ -16,7 +16,7 @@ use Rattle.kc_view.specs.declared.slub.Base.TheVariants.{At, Is}
 use Rattle.kc_view.specs.declared.slub.SlubShape.{SlubShape}
 use Rattle.kc_view.specs.Fields.{breaks_at, holds, or_missed, read_field, value_of}
 use Rattle.kc_view.specs.Laws.{ValuesStand}
-use Rattle.kc_view.specs.Steps.{Shows, field_shows, holds_shows, number_stands, shown_by, shows_all, started_shows, then_shows, unless_shows, word_shows}
+use Rattle.kc_view.specs.StepLaws.{Shows, field_shows, holds_shows, number_stands, shown_by, shows_all, started_shows, then_shows, unless_shows, word_shows}
 use Rattle.kc_found.specs.declared.asked.Asked.{Asked}
 use Rattle.kc_found.specs.declared.free.Grid.{Grid}
 use Rattle.kc_found.specs.FreeLists.{free_list, low_word, number_in}

@@ -10,7 +10,7 @@ use Rattle.kc_memory.specs.Held.{held}
 use Rattle.kc_memory.specs.Image.{Image}
 use Rattle.kc_memory.specs.Stopped.{Stopped}
 use Rattle.kc_memory.specs.Translation.{and_then, vword}
-use Rattle.kc_memory.specs.Among.{AllAmong}
+use Rattle.kc_memory.specs.AmongLaws.{AllAmong}
 use Rattle.kc_laws.specs.Words.{found_is_held}
 use Rattle.kc_found.specs.declared.asked.Asked.{Asked}
 use Rattle.kc_found.specs.declared.free.FreeLed.{FreeLed}

@@ -2,7 +2,7 @@
 use Rattle.std.proofs.Common.{◌≡◌, ℕ, zero, suc, ◌+◌, ◌-◌, ◌≤◌, nat_eq, Bool, true, false, List, [], ◌∷◌, ◌++◌, length, refl, ◌∙◌, sym, subst, arith}
 use Rattle.std.proofs.lemmas.Bool.{or_parts, ltb-false}
 use Rattle.std.specs.Option.{unwrap_or}
-use Rattle.kc_view.specs.Steps.{unless_ok}
+use Rattle.kc_view.specs.StepLaws.{unless_ok}
 use Rattle.std.specs.Prelude.{Result, Ok, Err, Some, None, not, nat_lt, ◌||◌, if◌then◌else◌}
 use Rattle.kc_memory.specs.declared.rule.Rule.TheVariants.{U1, U2, U3, U4, U6, U7}
 use Rattle.kc_memory.specs.Bits.{Number}
@@ -17,7 +17,8 @@ use Rattle.kc_found.specs.declared.asked.Asked.{Asked}
 use Rattle.kc_found.specs.declared.free.Grid.{Grid}
 use Rattle.kc_found.specs.FreeLists.{IsGrid, low_word, number_in}
 use Rattle.kc_found.specs.Nodes.{at_offset}
-use Rattle.kc_found.specs.Trials.{and_then, ok_after}
+use Rattle.kc_found.specs.Trials.{and_then}
+use Rattle.kc_found.specs.TrialLaws.{ok_after}
 use Rattle.kc_found.specs.Violations.{Violation, breaks_field}
 use Rattle.kc_steps.specs.CachesBy.{cache_by, cache_lists, counts_by, free_by, knode_by, list_by, node_by, nodes_by, slab_by, slabs_by}
 use Rattle.kc_steps.specs.Chains.{Came, FreeBy, Lists, RingBy, TakesFree, TakesRings, free_kept, ring_kept}

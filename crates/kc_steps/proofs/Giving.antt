@@ -3,7 +3,7 @@ use Rattle.std.proofs.Common.{◌≡◌, ℕ, Bool, true, false, List, ◌∷◌
 use Rattle.std.specs.Prelude.{Result, Ok, Err, OnOk, if◌then◌else◌}
 use Rattle.kc_memory.specs.declared.rule.Rule.TheVariants.{H1, L1, U5}
 use Rattle.kc_view.specs.Fields.{started_at}
-use Rattle.kc_view.specs.Steps.{started_ok}
+use Rattle.kc_view.specs.StepLaws.{started_ok}
 use Rattle.kc_found.specs.FreeLists.{low_word}
 use Rattle.kc_found.specs.HashChains.{hash_walk}
 use Rattle.kc_found.specs.Rings.{ring_walk}

@@ -11,7 +11,8 @@ use Rattle.kc_found.specs.declared.shapes.ListShape.{ListShape}
 use Rattle.kc_found.specs.FreeLists.{IsGrid, free_list}
 use Rattle.kc_found.specs.HashChains.{hash_walk}
 use Rattle.kc_found.specs.Rings.{ring_walk}
-use Rattle.kc_found.specs.Trials.{and_then, ok_after}
+use Rattle.kc_found.specs.Trials.{and_then}
+use Rattle.kc_found.specs.TrialLaws.{ok_after}
 use Rattle.kc_found.specs.Violations.{Violation}
 use Rattle.kc_steps.specs.Chains.{Came, FreeBy, HashBy, Lists, RingBy, TakesFree, TakesHashes, TakesRings, alone, free_kept, hash_kept, lists_of, ring_kept}
 use Rattle.kc_steps.specs.TasksBy.{passed_by}

@@ -2,6 +2,6 @@ pub mod CachesBy
 pub mod Chains
 pub mod Given
 pub mod Laws
-pub mod Passing
+pub mod PassLaws
 pub mod PidsBy
 pub mod TasksBy

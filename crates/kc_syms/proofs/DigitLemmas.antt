@@ -4,7 +4,7 @@ use Rattle.std.proofs.Math.Nat.{pow-le-pow_right}
 use Rattle.std.proofs.Math.ListN.{drop_of_length-le}
 use Rattle.std.specs.List.{list_all}
 use Rattle.kc_word.specs.Hex.{digit_value, hex_from, hex_number}
-use Rattle.kc_word.specs.HexDigits.{hex_from-bad, hex_from-cons, hex_from-nil}
+use Rattle.kc_word.specs.HexLaws.{hex_from-bad, hex_from-cons, hex_from-nil}
 use Rattle.std.proofs.lemmas.Bool.Decides.{nat_tests}
 use Rattle.std.proofs.lemmas.List.{length-take-le, take-append-drop}
 use Rattle.kc_syms.specs.Reading.{is_f, listed_from}

@@ -5,7 +5,7 @@ use Rattle.std.proofs.lemmas.Bool.Decides.{nat_tests}
 use Rattle.std.proofs.lemmas.List.Folds.{list_all-append}
 use Rattle.std.specs.List.{list_all}
 use Rattle.kc_word.specs.Hex.{digit_value, digits_of, hex_digit, hex_digits, hex_from, hex_number}
-use Rattle.kc_word.specs.HexDigits.{hex_from-cons}
+use Rattle.kc_word.specs.HexLaws.{hex_from-cons}
 use Rattle.kc_syms.specs.Rows.{is_digit}
 
 -- both of two tests hold

@@ -12,7 +12,7 @@ use Rattle.kc_syms.specs.declared.symbols.Symbols.{Symbols}
 use Rattle.kc_syms.specs.Answers.{IsAnswer, IsAnswerBySpelling, IsFirstBad}
 use Rattle.kc_syms.specs.Rows.{RowText, is_digit, is_kind, is_name_byte, lines, listed_in, name_behind, name_in, row_before, row_of, row_with, rows, rows_from}
 use Rattle.kc_syms.specs.Spelling.{IsKind, IsNameByte, SpellAll, Spells, SpellsNone}
-use Rattle.kc_word.specs.HexDigits.{HexReadsBack, length-hex_digits}
+use Rattle.kc_word.specs.HexLaws.{HexReadsBack, length-hex_digits}
 use Rattle.kc_syms.proofs.HexBack.{both, digits_are, written}
 
 -- a choice that gives something

@@ -12,7 +12,7 @@ use Rattle.kc_found.specs.Violations.{Violation}
 use Rattle.kc_found.specs.Walks.{WalksAs}
 use Rattle.kc_view.specs.TaskLists.{task_of}
 use Rattle.kc_steps.specs.Chains.{Came, Lists, alone}
-use Rattle.kc_steps.specs.Passing.{here}
+use Rattle.kc_steps.specs.PassLaws.{here}
 use Rattle.kc_steps.specs.TasksBy.{gathered_by}
 
 pub one_more : (ns : List ℕ) (k n : ℕ) → slice_get ns k ≡ Some n → take (k + 1) ns ≡ take k ns ++ n ∷ []

@@ -10,21 +10,22 @@ use Rattle.kc_memory.specs.Stopped.{Stopped}
 use Rattle.kc_memory.specs.Translation.{vword}
 use Rattle.kc_view.specs.declared.tasks.TaskShape.{TaskShape}
 use Rattle.kc_view.specs.Fields.{FieldIs, breaks_at, holds, or_missed, read_field, started_at, unless, value_of}
-use Rattle.kc_view.specs.Steps.{equal_of, field_is, field_read, held, holding, missed_ok, of_equal, started_ok, then_is, unless_is, unless_ok}
+use Rattle.kc_view.specs.StepLaws.{equal_of, field_is, field_read, held, holding, missed_ok, of_equal, started_ok, then_is, unless_is, unless_ok}
 use Rattle.kc_found.specs.declared.asked.Asked.{Asked}
 use Rattle.kc_found.specs.declared.found.WalkStop.{WalkStop}
 use Rattle.kc_found.specs.declared.found.WalkStop.TheVariants as ends
 use Rattle.kc_found.specs.FiniteLists as lists
 use Rattle.kc_found.specs.Nodes.{at_offset}
 use Rattle.kc_found.specs.Rings.{ring_walk}
-use Rattle.kc_found.specs.Trials.{and_then, ok_after}
+use Rattle.kc_found.specs.Trials.{and_then}
+use Rattle.kc_found.specs.TrialLaws.{ok_after}
 use Rattle.kc_found.specs.Violations.{Violation, breaks}
 use Rattle.kc_found.specs.Walks.{OnBroken, WalksAs}
 use Rattle.kc_list.specs.Laws.{RingsAreWalked}
 use Rattle.kc_laws.specs.Lists.{first_of, some_word}
 use Rattle.kc_view.specs.declared.tasks.ThreadGroup.{ThreadGroup}
 use Rattle.kc_view.specs.FiniteTasks.{AreGroups, AreOn, IsGroup, IsStack, IsThread, NoTasks, Tasks}
-use Rattle.kc_steps.specs.Passing.{passed, passing}
+use Rattle.kc_steps.specs.PassLaws.{passed, passing}
 use Rattle.kc_task.specs.Laws.{HeadIsRead, TasksAreWalked}
 use Rattle.kc_view.specs.TaskLists.{all_pass, among_checked, children_checked, end_checked, gathered, group_of, is_among, leader_checked, shared_checked, stack_checked, stack_end, task_list, task_of, tasks_on, tgid_checked, thread_checked, thread_head, threads_checked}
 

@@ -8,14 +8,14 @@ use Rattle.kc_memory.specs.Translation.{vword}
 use Rattle.kc_view.specs.declared.tasks.TaskShape.{TaskShape}
 use Rattle.kc_view.specs.Fields.{breaks_at, holds, or_missed, read_field, started_at, value_of}
 use Rattle.kc_view.specs.Laws.{ValuesStand}
-use Rattle.kc_view.specs.Steps.{Shows, field_shows, holds_shows, number_stands, shown_by, shows_all, started_shows, then_shows, unless_shows, word_shows, word_stands}
+use Rattle.kc_view.specs.StepLaws.{Shows, field_shows, holds_shows, number_stands, shown_by, shows_all, started_shows, then_shows, unless_shows, word_shows, word_stands}
 use Rattle.kc_found.specs.declared.asked.Asked.{Asked}
 use Rattle.kc_found.specs.Nodes.{at_offset}
 use Rattle.kc_found.specs.Rings.{ring_walk}
 use Rattle.kc_found.specs.Violations.{Violation, breaks}
 use Rattle.kc_list.specs.Laws.{RingPlacesStand}
 use Rattle.kc_view.specs.declared.tasks.ThreadGroup.{ThreadGroup}
-use Rattle.kc_steps.specs.Passing.{all_show}
+use Rattle.kc_steps.specs.PassLaws.{all_show}
 use Rattle.kc_task.specs.Laws.{TaskPlacesStand}
 use Rattle.kc_view.specs.TaskLists.{all_pass, among_checked, children_checked, end_checked, gathered, group_of, is_among, leader_checked, shared_checked, stack_checked, stack_end, task_list, task_of, tasks_on, tgid_checked, thread_checked, thread_head}
 

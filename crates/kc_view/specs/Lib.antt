@@ -8,7 +8,7 @@ pub mod Laws
 pub mod Paths
 pub mod PidTables
 pub mod Pointers
-pub mod Steps
+pub mod StepLaws
 pub mod TaskLists
 pub mod Typed
 pub mod Words

@@ -18,7 +18,8 @@ use Rattle.kc_found.specs.FreeLists.{free_chain, free_first, free_list, free_sit
 use Rattle.kc_found.specs.FreeLists as free
 use Rattle.kc_memory.specs.Held.{word_count}
 use Rattle.kc_found.specs.Taken.{is_taken, with_word}
-use Rattle.kc_found.specs.Trials.{Trial, Break, Claim, Meet, and_then, broken_if, claimed, ok_after, passed}
+use Rattle.kc_found.specs.Trials.{Trial, Break, Claim, Meet, and_then, broken_if, claimed, passed}
+use Rattle.kc_found.specs.TrialLaws.{ok_after}
 use Rattle.kc_found.specs.Violations.{Violation, breaks, breaks_field, places_by}
 use Rattle.kc_view.specs.declared.fields.FieldNumber.{FieldNumber}
 use Rattle.kc_view.specs.declared.slub.Base.{Base}

@@ -4,7 +4,7 @@ use Rattle.std.proofs.Math.Nat.{div-add-mod, mul_assoc, pow-le-pow_right}
 use Rattle.std.proofs.Math.ListN.{drop_of_length-le}
 use Rattle.std.proofs.lemmas.List.{length-append, append-nil, drop-set}
 use Rattle.std.proofs.lemmas.Bool.Decides.{nat_tests}
-use Rattle.kc_word.specs.HexDigits.{hex_from-bad, hex_from-cons, hex_from-nil, length-hex_digits}
+use Rattle.kc_word.specs.HexLaws.{hex_from-bad, hex_from-cons, hex_from-nil, length-hex_digits}
 use Rattle.kc_word.specs.Hex.{hex_digit, hex_digits, hex_from, digit_value, digits_of, hex_number}
 
 -- a digit is worth what it was printed for

@@ -1,5 +1,5 @@
 pub mod Answers
 pub mod Decimal
 pub mod Hex
-pub mod HexDigits
+pub mod HexLaws
 pub mod Numbers

@@ -18,7 +18,7 @@ use Rattle.kc_found.specs.declared.xarrays.XaHolder.{XaHolder}
 use Rattle.kc_found.specs.declared.xarrays.XaItem.{XaItem}
 use Rattle.kc_found.specs.declared.xarrays.XaNode.{XaNode}
 use Rattle.kc_found.specs.declared.xarrays.XaWords.{XaWords}
-use Rattle.kc_memory.specs.Among.{AllAmong}
+use Rattle.kc_memory.specs.AmongLaws.{AllAmong}
 use Rattle.kc_memory.specs.Held.{held}
 use Rattle.kc_memory.specs.Image.{Image}
 use Rattle.kc_memory.specs.declared.rule.Rule.{Rule}

@@ -11,7 +11,7 @@ use Rattle.kc_found.specs.declared.asked.Asked.{Asked}
 use Rattle.kc_found.specs.declared.found.WalkStop.{WalkStop}
 use Rattle.kc_found.specs.declared.xarrays.XaItem.{XaItem}
 use Rattle.kc_found.specs.declared.xarrays.XaNode.{XaNode}
-use Rattle.kc_memory.specs.Among.{bounded}
+use Rattle.kc_memory.specs.AmongLaws.{bounded}
 use Rattle.kc_memory.specs.Held.{word_count}
 use Rattle.kc_memory.specs.Image.{Image}
 use Rattle.kc_memory.specs.declared.words.VWord.{VWord}

@@ -15,7 +15,7 @@ use Rattle.kc_found.specs.declared.xarrays.XaHolder.{XaHolder}
 use Rattle.kc_found.specs.declared.xarrays.XaItem.{XaItem}
 use Rattle.kc_found.specs.declared.xarrays.XaNode.{XaNode}
 use Rattle.kc_found.specs.declared.xarrays.XaWords.{XaWords}
-use Rattle.kc_memory.specs.Among.{AllAmong, among_append}
+use Rattle.kc_memory.specs.AmongLaws.{AllAmong, among_append}
 use Rattle.kc_memory.specs.Held.{held}
 use Rattle.kc_memory.specs.Image.{Image}
 use Rattle.kc_memory.specs.declared.words.VWord.{VWord}

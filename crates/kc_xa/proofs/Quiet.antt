@@ -1,7 +1,8 @@
 -- What the trials of a node's own words claim and meet.
 use Rattle.std.proofs.Common.{◌≡◌, ℕ, zero, suc, ◌*◌, nat_eq, Bool, true, false, List, [], ◌∷◌, ◌++◌, map, Option, Some, refl, ◌∙◌, ap, append-nil}
 use Rattle.std.specs.Prelude.{Result, Ok, Err, not}
-use Rattle.kc_found.specs.Trials.{ok_after, Trial, broken_if, claim, and_then, met, claimed_in}
+use Rattle.kc_found.specs.Trials.{Trial, broken_if, claim, and_then, met, claimed_in}
+use Rattle.kc_found.specs.TrialLaws.{ok_after}
 use Rattle.kc_laws.specs.Trials.{met-append, claimed_in-append}
 use Rattle.kc_found.specs.FiniteXarrays.{own}
 use Rattle.kc_found.specs.Nodes.{at_offset}
@@ -12,7 +13,7 @@ use Rattle.kc_found.specs.declared.asked.Asked.{Asked}
 use Rattle.kc_found.specs.declared.xarrays.XaHolder.{XaHolder}
 use Rattle.kc_found.specs.declared.xarrays.XaItem.{XaItem}
 use Rattle.kc_found.specs.declared.xarrays.XaWords.{XaWords}
-use Rattle.kc_memory.specs.Among.{AllAmong, among_append}
+use Rattle.kc_memory.specs.AmongLaws.{AllAmong, among_append}
 use Rattle.kc_laws.specs.Words.{found_is_held}
 use Rattle.kc_memory.specs.Held.{held}
 use Rattle.kc_memory.specs.Image.{Image}

@@ -1,7 +1,8 @@
 -- The indexes of an xarray's pointers rise.
 use Rattle.std.proofs.Common.{◌≡◌, ℕ, zero, suc, ◌+◌, ◌-◌, ◌*◌, ◌%◌, ◌^◌, ◌<◌, ◌≤◌, nat_eq, Bool, true, false, List, [], ◌∷◌, ◌++◌, length, Option, None, Some, refl, sym, ◌∙◌, ap, arith, length-append, ◌⊎◌, inl, inr}
 use Rattle.std.specs.Prelude.{Result, Ok, Err, IfSome, IfOk, ◌&&◌, ◌||◌, IsTrue}
-use Rattle.kc_found.specs.Trials.{ok_after, Reader, and_then}
+use Rattle.kc_found.specs.Trials.{Reader, and_then}
+use Rattle.kc_found.specs.TrialLaws.{ok_after}
 use Rattle.kc_found.specs.FiniteXarrays.{Tree, NodeHolds, MayStand, item_of, IsTree, items, Top, IsTop, top_items, XArray, RisesFrom, End, Leaf, Down, Bare, Root}
 use Rattle.kc_found.specs.Nodes.{at_offset}
 use Rattle.kc_found.specs.XaEntries.{kind}

@@ -20,7 +20,8 @@ use Rattle.kc_found.specs.declared.xarrays.XaNode.{XaNode}
 use Rattle.kc_found.specs.declared.xarrays.XaWords.{XaWords}
 use Rattle.kc_found.specs.FiniteXarrays.{holder_of}
 use Rattle.kc_found.specs.Nodes.{at_offset}
-use Rattle.kc_found.specs.Trials.{Trial, and_then, broken_if, claim, ok_after}
+use Rattle.kc_found.specs.Trials.{Trial, and_then, broken_if, claim}
+use Rattle.kc_found.specs.TrialLaws.{ok_after}
 use Rattle.kc_found.specs.Violations.{Violation, breaks, missed}
 use Rattle.kc_found.specs.XaEntries.{kind, slot_fault, head_fault, fit}
 use Rattle.kc_found.specs.XaLayouts.{XaLayout}

@@ -15,7 +15,7 @@ use Rattle.kc_found.specs.declared.asked.Asked.{Asked}
 use Rattle.kc_found.specs.declared.found.WalkStop.{WalkStop}
 use Rattle.kc_found.specs.declared.xarrays.XaEntry.TheVariants.{Node}
 use Rattle.kc_found.specs.declared.xarrays.XaItem.{XaItem}
-use Rattle.kc_memory.specs.Among.{AllAmong, among_append, bounded}
+use Rattle.kc_memory.specs.AmongLaws.{AllAmong, among_append, bounded}
 use Rattle.kc_memory.specs.Held.{held, word_count}
 use Rattle.kc_memory.specs.Image.{Image}
 use Rattle.kc_memory.specs.Translation.{vword}

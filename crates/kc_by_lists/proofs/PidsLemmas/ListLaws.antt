@@ -9,14 +9,15 @@ use Rattle.kc_memory.specs.Translation.{vword}
 use Rattle.kc_view.specs.declared.pids.PidShape.{PidShape}
 use Rattle.kc_view.specs.Fields.{holds, started_at}
 use Rattle.kc_view.specs.PidTables.{ids_in, pid_checked, pid_table, task_names}
-use Rattle.kc_view.specs.Steps.{started_ok, then_is}
+use Rattle.kc_view.specs.StepLaws.{started_ok, then_is}
 use Rattle.kc_view.specs.TaskLists.{all_pass, task_of}
 use Rattle.kc_found.specs.declared.asked.Asked.{Asked}
 use Rattle.kc_found.specs.declared.shapes.HShape.{HShape}
 use Rattle.kc_found.specs.declared.xarrays.XaItem.{XaItem}
 use Rattle.kc_found.specs.HashChains.{hash_walk}
 use Rattle.kc_found.specs.Nodes.{at_offset}
-use Rattle.kc_found.specs.Trials.{and_then, ok_after}
+use Rattle.kc_found.specs.Trials.{and_then}
+use Rattle.kc_found.specs.TrialLaws.{ok_after}
 use Rattle.kc_found.specs.XaSites.{entries, xa_judged}
 use Rattle.kc_list.specs.Laws.{HashChainsAreWalked}
 use Rattle.kc_steps.specs.Chains.{HashBy, Lists, TakesHashes, hash_kept}
@@ -29,8 +30,8 @@ use Rattle.kc_xa.specs.Listed.Entries.{is_xarray, items_in, pointers}
 use Rattle.kc_xa.specs.Listed.Laws.{ItemsAreWalked, OnlyWalksPass, PointersAreFew, WalksPass, XarraysPassOnce, met_pointers}
 use Rattle.kc_by_lists.specs.Apart.{numbers}
 use Rattle.kc_by_lists.specs.Laws.{asked_by}
-use Rattle.kc_by_lists.specs.Keeping.{Keeps, all_keep, holds_keeps, passed_keep, same_keeps, then_keeps}
-use Rattle.kc_by_lists.specs.Same.{gives_is, lists_same, ok_is}
+use Rattle.kc_by_lists.specs.KeepLaws.{Keeps, all_keep, holds_keeps, passed_keep, same_keeps, then_keeps}
+use Rattle.kc_by_lists.specs.SameLaws.{gives_is, lists_same, ok_is}
 use Rattle.kc_by_lists.specs.Pids.Laws.{FewPidNodes, PidListsAreKept, PidListsAreOne, PidListsAreUsedUp, PidListsGive, PidsHaveLists}
 use Rattle.kc_by_lists.specs.Pids.Tests.{are_pid_lists, chain_lists, pid_nodes}
 

@@ -4,7 +4,7 @@ use Rattle.std.specs.Prelude.{Result, Ok, Err}
 use Rattle.kc_memory.specs.Image.{Image}
 use Rattle.kc_view.specs.declared.pids.PidShape.{PidShape}
 use Rattle.kc_view.specs.PidTables.{ids_in, pid_checked}
-use Rattle.kc_view.specs.Steps.{started_ok}
+use Rattle.kc_view.specs.StepLaws.{started_ok}
 use Rattle.kc_view.specs.TaskLists.{all_pass}
 use Rattle.kc_found.specs.declared.asked.Asked.{Asked}
 use Rattle.kc_found.specs.declared.found.WalkStop.{WalkStop}

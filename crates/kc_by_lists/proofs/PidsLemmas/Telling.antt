@@ -16,7 +16,7 @@ use Rattle.kc_found.specs.declared.test.TestStop.{TestStop}
 use Rattle.kc_found.specs.declared.test.TestStop.TheVariants.{Unfit, Fault, NoMemory}
 use Rattle.kc_found.specs.Tests.{TellsAs}
 use Rattle.kc_xa.specs.Listed.Entries.{is_xarray, items_in}
-use Rattle.kc_by_lists.specs.Same.{false_by, no_err, ok_is}
+use Rattle.kc_by_lists.specs.SameLaws.{false_by, no_err, ok_is}
 use Rattle.kc_by_lists.specs.Pids.Laws.{PidListsAreUsedUp}
 use Rattle.kc_by_lists.specs.Pids.Tests.{are_pid_lists}
 use Rattle.kc_by_lists.proofs.PidsLemmas.ListLaws.{by_test, table_of}

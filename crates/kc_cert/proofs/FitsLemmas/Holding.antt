@@ -5,7 +5,7 @@ use Rattle.std.proofs.lemmas.List.{drop_all}
 use Rattle.kc_memory.specs.Image.{Image}
 use Rattle.kc_plan.specs.Planned.{AuditAt}
 use Rattle.kc_plan.specs.Seen.{container_of}
-use Rattle.kc_cert.specs.Text.Drops.{drop_at}
+use Rattle.kc_cert.specs.Text.DropLaws.{drop_at}
 use Rattle.kc_found.specs.declared.test.TestStop.{TestStop}
 use Rattle.kc_found.specs.declared.test.TestStop.TheVariants.{Unfit, Fault, NoMemory}
 use Rattle.kc_found.specs.Tests.{TellsAs}

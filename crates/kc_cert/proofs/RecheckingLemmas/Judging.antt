@@ -23,7 +23,7 @@ use Rattle.kc_plan.specs.Kept.{are_later}
 use Rattle.kc_plan.specs.Planned.{AuditAt}
 use Rattle.kc_plan.specs.Seen.{PathEnd, EndsAt, NullAt, bytes_after, container_of, is_optional, path_end, path_of, root_of, roots}
 use Rattle.kc_run.specs.Tally.{added}
-use Rattle.kc_cert.specs.Text.Drops.{drop_at}
+use Rattle.kc_cert.specs.Text.DropLaws.{drop_at}
 use Rattle.kc_cert.specs.declared.text.certificate.CertStep.{CertStep}
 use Rattle.kc_cert.specs.declared.rechecking.nest.StepCursor.{StepCursor}
 use Rattle.kc_found.specs.declared.test.TestStop.{TestStop}

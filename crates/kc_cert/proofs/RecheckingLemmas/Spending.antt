@@ -1,6 +1,6 @@
 -- What is left of a certificate.
 use Rattle.std.proofs.Common.{◌≡◌, ℕ, ◌+◌, ◌*◌, ◌-◌, ◌<◌, ◌≤◌, List, length, drop, slice_get, Some, ap, arith}
-use Rattle.kc_cert.specs.Text.Drops.{drop_at}
+use Rattle.kc_cert.specs.Text.DropLaws.{drop_at}
 use Rattle.kc_cert.specs.declared.text.certificate.CertStep.{CertStep}
 use Rattle.kc_kinds.specs.declared.kind.Kind.{Kind}
 use Rattle.kc_cert.specs.Rechecking.Answers.{cost}

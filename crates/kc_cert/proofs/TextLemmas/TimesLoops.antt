@@ -11,7 +11,7 @@ use Rattle.kc_cert.specs.declared.text.read.TextStop.{TextStop}
 use Rattle.kc_cert.specs.declared.text.read.TextStop.TheVariants.{At, NoMemory}
 use Rattle.kc_text.specs.Counted.{counted, put, times}
 use Rattle.kc_cert.specs.Text.Readings.{AddsAll, AddsOne}
-use Rattle.kc_cert.specs.Text.Drops.{drop_at}
+use Rattle.kc_cert.specs.Text.DropLaws.{drop_at}
 
 module _ {X : Type 0} (f : Format X) where
   -- behind these values

@@ -8,7 +8,7 @@ use Rattle.kc_memory.specs.Bits.{Number, bits}
 use Rattle.kc_memory.specs.Image.{Image}
 use Rattle.kc_memory.specs.Translation.{vword}
 use Rattle.kc_view.specs.Fields.{FieldIs, or_missed, read_field, value_of}
-use Rattle.kc_view.specs.Steps.{field_is, missed_ok}
+use Rattle.kc_view.specs.StepLaws.{field_is, missed_ok}
 use Rattle.kc_view.specs.TaskLists.{task_list, task_of}
 use Rattle.kc_found.specs.FreeLists.{low_word}
 use Rattle.kc_found.specs.Nodes.{at_offset}

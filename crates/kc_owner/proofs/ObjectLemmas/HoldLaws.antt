@@ -15,7 +15,7 @@ use Rattle.kc_view.specs.declared.slub.SlubBases.{SlubBases}
 use Rattle.kc_view.specs.declared.slub.SlubShape.{SlubShape}
 use Rattle.kc_view.specs.Caches.{grid_of, is_descriptor, objects_of, optional_of}
 use Rattle.kc_view.specs.Fields.{breaks_at, read_field, value_of}
-use Rattle.kc_view.specs.Steps.{field_is}
+use Rattle.kc_view.specs.StepLaws.{field_is}
 use Rattle.kc_found.specs.declared.asked.Asked.{Asked}
 use Rattle.kc_found.specs.declared.free.Grid.{Grid}
 use Rattle.kc_found.specs.FreeLists.{IsGrid, free_list}

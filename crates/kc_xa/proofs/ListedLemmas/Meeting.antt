@@ -4,7 +4,7 @@ use Rattle.std.specs.Prelude.{Result, Ok}
 use Rattle.std.specs.Option.{unwrap_or}
 use Rattle.std.proofs.lemmas.Bool.{cond-false, cond-true}
 use Rattle.kc_memory.specs.declared.words.VWord.{VWord}
-use Rattle.kc_found.specs.AnyAudit.{same_xarray}
+use Rattle.kc_found.specs.AnyAuditLaws.{same_xarray}
 use Rattle.kc_found.specs.declared.xarrays.XaEntry.{XaEntry}
 use Rattle.kc_found.specs.declared.xarrays.XaEntry.TheVariants.{Nothing, Pointer, Odd, Node, Zero, Sibling, Bad}
 use Rattle.kc_found.specs.declared.xarrays.XaItem.{XaItem}

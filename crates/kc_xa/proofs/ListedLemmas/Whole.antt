@@ -18,7 +18,7 @@ use Rattle.kc_xa.specs.Listed.Laws.{OnlyWalksPass, OnlyXarraysPass, WalksPass, X
 use Rattle.kc_xa.proofs.ListedLemmas.Growing.{grove}
 use Rattle.kc_xa.proofs.ListedLemmas.Planting.{planted}
 use Rattle.kc_xa.proofs.ListedLemmas.Pointing.{top_pointers}
-use Rattle.kc_found.specs.AnyAudit.{course, same_xarray}
+use Rattle.kc_found.specs.AnyAuditLaws.{course, same_xarray}
 use Rattle.kc_xa.proofs.ListedLemmas.Standing.{Stand, StandsAt, all_words, numbers}
 
 found_ok : {A : Type 0} (stop : Stopped → Violation) (r : Result A Stopped) (x : A) → found_by stop r ≡ Ok x → r ≡ Ok x

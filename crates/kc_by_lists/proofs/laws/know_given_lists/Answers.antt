@@ -1,5 +1,5 @@
 use Rattle.kc_by_lists.proofs.GivenLaws.{cache_lists_are_kept, cache_lists_are_used_up, cache_lists_give, caches_have_lists, chains_tested, few_cache_nodes, few_task_nodes, known, task_lists_are_kept, task_lists_are_used_up, task_lists_give, tasks_have_lists}
-use Rattle.kc_by_lists.specs.Same.{cache_lists_are, task_lists_are}
+use Rattle.kc_by_lists.specs.SameLaws.{cache_lists_are, task_lists_are}
 use Rattle.kc_by_lists.proofs.laws.know_given_lists.Goals as goal
 
 pub returns-clause-chains : goal.returns-clause-chains

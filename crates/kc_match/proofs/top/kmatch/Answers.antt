@@ -1,6 +1,6 @@
 use Rattle.std.proofs.Common.{map}
 use Rattle.std.specs.String.{string_bytes}
-use Rattle.kc_command.specs.Ends.Ending.{fails, parts, tells}
+use Rattle.kc_command.specs.Ends.EndingLaws.{fails, parts, tells}
 use Rattle.kc_match.specs.Match.{match_asks, match_written, usage_text}
 use Rattle.kc_match.proofs.top.kmatch.Goals as goal
 

@@ -1,7 +1,7 @@
 use Rattle.std.proofs.Common.{◌<◌, ◌≤◌, length, rules, arith, ◌∙◌}
 use Rattle.kc_memory.specs.Stays.{stays_on}
 use Rattle.kc_view.specs.PidTables.{task_names}
-use Rattle.kc_steps.specs.Passing.{pass_stop, pass_go, pass_end}
+use Rattle.kc_steps.specs.PassLaws.{pass_stop, pass_go, pass_end}
 use Rattle.kc_pid.proofs.pid.check_tasks.Goals as goal
 
 pub returns-in-Err-clause-exact : goal.returns-in-Err-clause-exact

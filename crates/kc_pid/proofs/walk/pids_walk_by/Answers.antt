@@ -1,6 +1,6 @@
 use Rattle.std.proofs.Common.{rules, arith, ◌∙◌}
 use Rattle.kc_memory.specs.Stays.{stays_on}
-use Rattle.kc_steps.specs.Passing.{left_stop, left_go, left_end}
+use Rattle.kc_steps.specs.PassLaws.{left_stop, left_go, left_end}
 use Rattle.kc_steps.specs.PidsBy.{pid_by}
 use Rattle.kc_pid.proofs.walk.pids_walk_by.Goals as goal
 

@@ -1,6 +1,6 @@
 use Rattle.std.proofs.Common.{map}
 use Rattle.std.specs.String.{string_bytes}
-use Rattle.kc_command.specs.Ends.Ending.{fails, parts, tells}
+use Rattle.kc_command.specs.Ends.EndingLaws.{fails, parts, tells}
 use Rattle.kc_slabs.specs.Slabs.{slabs_asks, slabs_written, usage_text}
 use Rattle.kc_slabs.proofs.top.kslab.Goals as goal
 

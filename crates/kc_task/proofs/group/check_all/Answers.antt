@@ -1,7 +1,7 @@
 use Rattle.std.proofs.Common.{◌<◌, ◌≤◌, length, rules, arith, ◌∙◌}
 use Rattle.kc_memory.specs.Stays.{stays_on}
 use Rattle.kc_steps.specs.TasksBy.{thread_by}
-use Rattle.kc_steps.specs.Passing.{left_stop, left_go, left_end}
+use Rattle.kc_steps.specs.PassLaws.{left_stop, left_go, left_end}
 use Rattle.kc_task.proofs.group.check_all.Goals as goal
 
 pub returns-in-Err-clause-exact : goal.returns-in-Err-clause-exact

@@ -2,7 +2,7 @@ use Rattle.std.proofs.Common.{◌<◌, ◌≤◌, length, rules, arith, ◌∙�
 use Rattle.kc_memory.specs.Stays.{stays_on}
 use Rattle.kc_memory.specs.declared.rule.Rule.TheVariants.{T5}
 use Rattle.kc_view.specs.Fields.{holds}
-use Rattle.kc_steps.specs.Passing.{pass_stop, pass_go, pass_end}
+use Rattle.kc_steps.specs.PassLaws.{pass_stop, pass_go, pass_end}
 use Rattle.kc_task.proofs.thread.check_parents.Goals as goal
 
 pub returns-in-Err-clause-exact : goal.returns-in-Err-clause-exact

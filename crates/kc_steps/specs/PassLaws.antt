@@ -6,11 +6,12 @@ use Rattle.std.proofs.lemmas.Option.{slice_get_within, get_or_from_slice_get}
 use Rattle.std.proofs.Math.Seq.{drop-cons}
 use Rattle.std.proofs.Math.ListN.{drop_of_length-le}
 use Rattle.kc_memory.specs.Image.{Image}
-use Rattle.kc_view.specs.Steps.{Shows, then_is, then_shows}
+use Rattle.kc_view.specs.StepLaws.{Shows, then_is, then_shows}
 use Rattle.kc_view.specs.TaskLists.{all_pass}
 use Rattle.kc_found.specs.declared.found.WalkStop.{WalkStop}
 use Rattle.kc_found.specs.declared.found.WalkStop.TheVariants as ends
-use Rattle.kc_found.specs.Trials.{and_then, ok_after}
+use Rattle.kc_found.specs.Trials.{and_then}
+use Rattle.kc_found.specs.TrialLaws.{ok_after}
 use Rattle.kc_found.specs.Violations.{Violation}
 use Rattle.kc_found.specs.Walks.{WalksAs}
 use Rattle.kc_steps.specs.Chains.{Lists}

@@ -6,15 +6,16 @@ use Rattle.kc_memory.specs.Image.{Image}
 use Rattle.kc_memory.specs.Stopped.{Stopped}
 use Rattle.kc_layout.specs.declared.place.Field.{Field}
 use Rattle.kc_view.specs.Fields.{field_of, holds, or_missed, read_field, unless}
-use Rattle.kc_view.specs.Steps.{unless_is, unless_ok}
+use Rattle.kc_view.specs.StepLaws.{unless_is, unless_ok}
 use Rattle.kc_view.specs.TaskLists.{all_pass}
 use Rattle.kc_found.specs.declared.asked.Asked.{Asked}
-use Rattle.kc_found.specs.Trials.{and_then, ok_after}
+use Rattle.kc_found.specs.Trials.{and_then}
+use Rattle.kc_found.specs.TrialLaws.{ok_after}
 use Rattle.kc_found.specs.Violations.{Violation, missed}
 use Rattle.kc_steps.specs.Chains.{Lists}
 use Rattle.kc_steps.specs.Given.{taken_if}
 use Rattle.kc_steps.specs.TasksBy.{passed_by}
-use Rattle.kc_by_lists.specs.Same.{no_err}
+use Rattle.kc_by_lists.specs.SameLaws.{no_err}
 
 -- where the one comes to something, so does the other
 abbrev pub Keeps : {A : Type 0} → Result A Violation → Result A Violation → Type 0
