@@ -1,7 +1,7 @@
 -- What a walk of a ring, a hash chain, a tree, an xarray or a free list tries, in its order, and the first violation: a
 -- list of trials, those of its first site, then those of the next one, and so on. The walks of slab caches and of tasks
 -- are steps one after the other (`and_then`), and such walks are among them.
-use Rattle.std.specs.Prelude.{◌≡◌, ℕ, Bool, List, [], ◌∷◌, None, if◌then◌else◌, Result, Ok, Err, OnOk, ⊤}
+use Rattle.std.specs.Prelude.{ℕ, Bool, List, [], ◌∷◌, None, if◌then◌else◌, Result, Ok, Err, ⊤}
 use Rattle.kc_memory.specs.declared.words.VWord.{VWord}
 use Rattle.kc_memory.specs.declared.rule.Rule.TheVariants.{A}
 use Rattle.kc_memory.specs.Stopped.{Stopped}
