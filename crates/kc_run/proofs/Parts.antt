@@ -1,5 +1,5 @@
 -- Parts of a run, one after the other, and where an audit's path leads, whatever goes along.
-use Rattle.std.proofs.Common.{◌≡◌, ℕ, ◌+◌, true, List, [], drop, slice_get, Option, Some, None, refl, sym, ◌∙◌, ap}
+use Rattle.std.proofs.Common.{◌≡◌, ℕ, ◌+◌, true, List, [], ◌∷◌, drop, slice_get, Option, Some, None, refl, sym, ◌∙◌, ap}
 use Rattle.std.specs.Prelude.{Result, Ok, Err}
 use Rattle.kc_memory.specs.declared.space.Stop.{Stop}
 use Rattle.kc_memory.specs.declared.space.Stop.TheVariants as stops
