@@ -28,7 +28,7 @@ abbrev pub free_by : Image → FreeBy → Asked → SlubShape → SlubBases → 
 free_by image free asked shape b o slab objects inuse lists = do
   f ← read_field image asked slab shape.freelist
   unless (not (is_descriptor shape b slab)) (breaks_field asked U4 slab f.number None)
-    (list_by free asked (grid_of shape b o slab objects) slab (objects - value_of inuse) inuse f.number lists)
+      (list_by free asked (grid_of shape b o slab objects) slab (objects - value_of inuse) inuse f.number lists)
 
 -- a slab, from its numbers of objects on: U3 of `objects`
 abbrev pub counts_by : Image → FreeBy → Asked → SlubShape → SlubBases → SlabObjects → ℕ → Lists → Came ℕ
@@ -36,7 +36,7 @@ counts_by image free asked shape b o slab lists = do
   n ← read_field image asked slab shape.objects
   u ← read_field image asked slab shape.inuse
   unless (nat_eq (value_of n) 0 || nat_lt (value_of n) (value_of u)) (breaks_at asked U3 n None)
-    (free_by image free asked shape b o slab (value_of n) u lists)
+      (free_by image free asked shape b o slab (value_of n) u lists)
 
 -- a slab whole: U1 of `slab_cache` and U2 of `frozen` come first
 abbrev pub slab_by : Image → FreeBy → Asked → SlubShape → SlubBases → SlabObjects → ℕ → Lists → Came ℕ

@@ -60,7 +60,7 @@ objects_of image asked shape = do
   r ← optional_of image asked shape.random
   p ← optional_of image asked shape.left_pad
   unless (nat_eq (value_of s) 0 || nat_lt (value_of s) (value_of o + 8)) (breaks_at asked U3 s None)
-    (Ok (record { size = value_of s; offset = value_of o; random = r; left_pad = unwrap_or p 0 }))
+      (Ok (record { size = value_of s; offset = value_of o; random = r; left_pad = unwrap_or p 0 }))
 
 -- how far a slab's descriptor lies in the array of descriptors
 abbrev pub descriptor_offset : SlubBases → ℕ → ℕ
@@ -96,7 +96,7 @@ abbrev pub free_checked : Image → Asked → SlubShape → SlubBases → SlabOb
 free_checked image asked shape b o slab objects inuse = do
   f ← read_field image asked slab shape.freelist
   unless (not (is_descriptor shape b slab)) (breaks_field asked U4 slab f.number None)
-    (list_checked image asked (grid_of shape b o slab objects) slab (objects - value_of inuse) inuse f.number)
+      (list_checked image asked (grid_of shape b o slab objects) slab (objects - value_of inuse) inuse f.number)
 
 -- step 5, of the numbers of objects: U3 of `objects`
 abbrev pub counts_checked : Image → Asked → SlubShape → SlubBases → SlabObjects → ℕ → Result ℕ Violation
@@ -104,7 +104,7 @@ counts_checked image asked shape b o slab = do
   n ← read_field image asked slab shape.objects
   u ← read_field image asked slab shape.inuse
   unless (nat_eq (value_of n) 0 || nat_lt (value_of n) (value_of u)) (breaks_at asked U3 n None)
-    (free_checked image asked shape b o slab (value_of n) u)
+      (free_checked image asked shape b o slab (value_of n) u)
 
 -- step 5 whole: U1 of `slab_cache` and U2 of `frozen` come first
 abbrev pub slab_checked : Image → Asked → SlubShape → SlubBases → SlabObjects → ℕ → Result ℕ Violation

@@ -35,7 +35,7 @@ counts_of image asked shape slab = do
   u ← read_field image asked slab shape.inuse
   f ← read_field image asked slab shape.frozen
   unless (nat_eq (value_of n) 0 || nat_lt (value_of n) (value_of u)) (breaks_at asked U3 n None)
-    (Ok (record { objects = value_of n; inuse = value_of u; frozen = not (nat_eq (value_of f) 0) }))
+      (Ok (record { objects = value_of n; inuse = value_of u; frozen = not (nat_eq (value_of f) 0) }))
 
 -- the physical address of a slab's first byte
 abbrev pub start_of : SlubShape → SlubBases → ℕ → ℕ
